@@ -1,0 +1,2 @@
+//! The law over all runs: the histories of a store in one configuration are linear.
+#![tactic(auto)]
