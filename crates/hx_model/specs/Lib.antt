@@ -12,6 +12,7 @@ pub mod SessionSteps
 pub mod Runs
 pub mod Schedule
 pub mod Steady
+pub mod Built
 pub mod Histories
 pub mod Legal
 pub mod Linear

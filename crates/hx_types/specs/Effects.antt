@@ -1,5 +1,5 @@
 -- What an operation does to an object: the table of effects of HyperDex's operations; defaults and answers are this project's choice.
-use Rattle.std.specs.Prelude.{ℕ, ◌-◌, Bool, true, false, ◌&&◌, List, [], ◌∷◌, map, ℤ, if◌then◌else◌, ◌==◌, slice_get, slice_set, int_le, Option, None, Some}
+use Rattle.std.specs.Prelude.{ℕ, ◌-◌, Bool, true, false, ◌&&◌, List, [], ◌∷◌, map, ℤ, if◌then◌else◌, ◌==◌, slice_get, slice_set, int_le, unwrap_or, Option, None, Some}
 use Rattle.std.specs.List.{list_all}
 use Rattle.hx_types.specs.declared.calls.Answer.{Answer}
 use Rattle.hx_types.specs.declared.values.Assign.{Assign}
@@ -42,9 +42,13 @@ same_value (a_value.Int m) (a_value.Int n) = same_int m n
 abbrev pub value_at : List ℕ → List Value → ℕ → Option Value
 value_at key object attribute = if attribute == 0 then Some (a_value.Text key) else slice_get object (attribute - 1)
 
+-- the tested attribute has the tested value
+abbrev pub test_holds : List Value → Assign → Bool
+test_holds object t = when_some (slice_get object (t.attribute - 1)) false (same_value t.value)
+
 -- each tested attribute has the tested value
 abbrev pub tests_hold : List Value → List Assign → Bool
-tests_hold object tests = list_all (λ (t : Assign). when_some (slice_get object (t.attribute - 1)) false (same_value t.value)) tests
+tests_hold object tests = list_all (test_holds object) tests
 
 -- a write of an object that is there
 abbrev pub changed_to : Option (List Value) → Effect
@@ -54,17 +58,27 @@ changed_to object = record { object = object; answer = an_answer.Done; changes =
 abbrev pub left_as : Option (List Value) → Answer → Effect
 left_as object answer = record { object = object; answer = answer; changes = false }
 
+-- a get: the object as it is
+abbrev pub got : Option (List Value) → Effect
+got None = left_as None an_answer.NotFound
+got (Some old) = left_as (Some old) (an_answer.Found old)
+
+abbrev pub deleted : Option (List Value) → Effect
+deleted None = left_as None an_answer.NotFound
+deleted (Some old) = changed_to None
+
+-- a conditional put: written where the object is there and all tests hold
+abbrev pub put_where : Option (List Value) → List Assign → List Assign → Effect
+put_where None tests sets = left_as None an_answer.NotFound
+put_where (Some old) tests sets =
+    if tests_hold old tests then changed_to (Some (written old sets)) else left_as (Some old) an_answer.CmpFail
+
 -- the object after the operation, its answer, and whether it changes
 abbrev pub effect_of : Space → Option (List Value) → Op → Effect
-effect_of space None (Put key sets) = changed_to (Some (written (defaults space) sets))
-effect_of space (Some old) (Put key sets) = changed_to (Some (written old sets))
-effect_of space None (Get key) = left_as None an_answer.NotFound
-effect_of space (Some old) (Get key) = left_as (Some old) (an_answer.Found old)
-effect_of space None (Del key) = left_as None an_answer.NotFound
-effect_of space (Some old) (Del key) = changed_to None
-effect_of space None (Cput key tests sets) = left_as None an_answer.NotFound
-effect_of space (Some old) (Cput key tests sets) =
-    if tests_hold old tests then changed_to (Some (written old sets)) else left_as (Some old) an_answer.CmpFail
+effect_of space old (Put key sets) = changed_to (Some (written (unwrap_or old (defaults space)) sets))
+effect_of space old (Get key) = got old
+effect_of space old (Del key) = deleted old
+effect_of space old (Cput key tests sets) = put_where old tests sets
 effect_of space old (Search terms) = left_as old an_answer.NotFound
 effect_of space old (Stop server) = left_as old an_answer.NotFound
 effect_of space old (Add server region) = left_as old an_answer.NotFound

@@ -1,8 +1,14 @@
-//! Values, operations, messages and entries of the store.
+//! Values, operations, messages and entries of the store, and the definitions that they share.
+//!
+//! Every type but [`Text`] and [`Sequence`] is plain, with public fields. [`Exact`] copies a value,
+//! [`Same`] compares two; [`effect`] is what an operation does to an object, and [`first_config`]
+//! the configuration that every actor knows at the start.
 #![tactic(auto)]
 
 mod calls;
 mod configs;
+mod copies;
+mod effects;
 mod errors;
 mod histories;
 mod lists;
@@ -11,6 +17,7 @@ mod names;
 mod results;
 mod snapshots;
 mod spaces;
+mod starting;
 mod texts;
 mod traces;
 mod updates;
@@ -18,6 +25,8 @@ mod values;
 
 pub use calls::{Answer, Caller, Calls, Op, Row, Rows, Sessions};
 pub use configs::{Config, Member, Members, RegionLists};
+pub use copies::{Exact, Same};
+pub use effects::effect;
 pub use errors::Memory;
 pub use histories::{Item, Items, Record, Records, Searched, Searches};
 pub use lists::Sequence;
@@ -28,6 +37,7 @@ pub use names::{
 pub use results::{Acked, Decision, Effect, Hop, Offer, Planned};
 pub use snapshots::{Kept, Mark, Marks, Snapshot, Touch, Touches};
 pub use spaces::{Attribute, Attributes, Axes, Axis, Kind, Space, Subspaces};
+pub use starting::first_config;
 pub use texts::Text;
 pub use traces::{Entry, Input, Note, Notes, Script, Step, Steps, Trace};
 pub use updates::{Place, Places, Update, Updates};

@@ -1,0 +1,99 @@
+ghost use Rattle.std.specs.Prelude.{◌≡◌, ◌≤◌, ◌+◌, IfOk, map};
+ghost use Rattle.std.specs.List.{All};
+ghost use Rattle.hx_types.specs.Configs.{first_config, first_member};
+ghost use Rattle.hx_types.specs.Spaces.{ArePart, IsSpace};
+ghost use Rattle.hx_types.specs.Subspaces.{region_count, size_of};
+ghost use Rattle.hx_types.specs.Words.{below};
+ghost use Rattle.hx_types.specs.declared.spaces.Axis.{Axis};
+
+use crate::configs::{Config, Member, Members, RegionLists};
+use crate::errors::Memory;
+use crate::names::{Epoch, ServerId, ServerList};
+use crate::spaces::{Axis, Space};
+use std::alloc::Global;
+
+/// The configuration of epoch 1, which every actor knows at the start.
+///
+/// It has all servers of the space. Each region stands on as many servers as the space tolerates
+/// failures and one more, counted round from the region's number, all of them ready. This layout
+/// is this project's choice.
+pub fn first_config(alloc: Global, space: &Space) -> Result<Config, Memory>
+    requires { IsSpace space.now }
+    ensures { IfOk result (λ config. config ≡ first_config space.now) }
+{
+    let servers = all_servers(alloc, space.servers)?;
+    let regions = all_regions(alloc, space)?;
+    Ok(Config {
+        epoch: Epoch(1),
+        servers,
+        regions,
+    })
+}
+
+#[tactic(auto, using(crate::proofs::Counting::map_below_next))]
+fn all_servers(alloc: Global, count: u32) -> Result<ServerList, Memory>
+    requires { count ≤ 16 }
+    ensures { IfOk result (λ servers. servers ≡ map (λ n. record { 0 = n + 1 }) (below count)) }
+{
+    let mut servers = ServerList::new(alloc);
+    for place in 0..count {
+        servers.push(ServerId(place + 1))?;
+    }
+    Ok(servers)
+}
+
+#[tactic(auto, using(crate::proofs::Counting::map_below_next))]
+fn all_regions(alloc: Global, space: &Space) -> Result<RegionLists, Memory>
+    requires { IsSpace space.now }
+    ensures { IfOk result (λ regions. regions ≡ map (λ g. map (first_member space.now g) (below (space.now.tolerate + 1))) (below (region_count space.now))) }
+{
+    let mut regions = RegionLists::new(alloc);
+    for region in 0..count_regions(space) {
+        let members = first_members(alloc, space, region)?;
+        regions.push(members)?;
+    }
+    Ok(regions)
+}
+
+#[tactic(auto, using(crate::proofs::Counting::map_below_next))]
+fn first_members(alloc: Global, space: &Space, region: u32) -> Result<Members, Memory>
+    requires space { IsSpace space.now }
+    requires region { region ≤ 4096 }
+    ensures { IfOk result (λ members. members ≡ map (first_member space.now region) (below (space.now.tolerate + 1))) }
+{
+    let mut members = Members::new(alloc);
+    for place in 0..space.tolerate + 1 {
+        let server = ServerId((region + place) % space.servers + 1);
+        members.push(Member {
+            server,
+            ready: true,
+        })?;
+    }
+    Ok(members)
+}
+
+/// How many regions the space has, those of the key subspace among them.
+fn count_regions(space: &Space) -> u32
+    requires { IsSpace space.now }
+    ensures exact { result ≡ region_count space.now }
+    ensures few { result ≤ 4096 }
+{
+    let mut count = space.key_parts;
+    for axes in space.subspaces.as_slice() {
+        count += size(axes.as_slice());
+    }
+    count
+}
+
+/// How many regions a subspace of these axes has.
+#[tactic(auto, using(crate::proofs::Counting::parts_of_rest, crate::proofs::Counting::small_rest))]
+fn size(axes: &[Axis]) -> u32
+    requires parts { All (λ (a : Axis). ArePart a.parts) axes.now }
+    requires few { size_of axes.now ≤ 4096 }
+    ensures { result ≡ size_of axes.now }
+{
+    match axes.split_first() {
+        None => 1,
+        Some((first, rest)) => first.parts * size(rest),
+    }
+}
