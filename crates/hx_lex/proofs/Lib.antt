@@ -1,0 +1,10 @@
+pub mod Digits
+pub mod Inside
+pub mod Content
+pub mod Steps
+pub mod Sound
+pub mod Words
+pub mod Numerals
+pub mod Standing
+pub mod Parts
+pub mod Examples

@@ -1,0 +1,7 @@
+pub mod Answers
+pub mod Letters
+pub mod Numbers
+pub mod Quotes
+pub mod Pieces
+pub mod Lines
+pub mod Spelling
