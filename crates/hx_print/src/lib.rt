@@ -1,0 +1,19 @@
+//! The plain text of scripts and of their parts, in this project's own script language.
+//!
+//! A part is appended to bytes by its `put_` function; the `print` functions give it alone. They
+//! fail for want of memory alone, and after that the bytes may end in the front of a part. No
+//! contract says that there is memory, so the tests show each call succeed.
+#![tactic(auto)]
+
+mod calls;
+mod scripts;
+mod spaces;
+mod texts;
+
+pub use calls::{print_op, put_op};
+pub use scripts::{print, put_actor, put_post_name};
+pub use spaces::{print_space, put_space};
+pub use texts::{print_text, put_bytes, put_named, put_number, put_text};
+
+#[cfg(test)]
+mod tests;

@@ -1,0 +1,144 @@
+//! Whole scripts.
+
+ghost use Rattle.std.specs.Prelude.{◌≡◌, ◌++◌, IfOk, OnOk};
+ghost use Rattle.std.specs.List.{flat_map};
+ghost use Rattle.hx_print.specs.Printing.{actor_text, call_line, post_name, script_text, session_text, sessions_text, step_line, step_text, steps_text};
+
+use crate::calls::put_op;
+use crate::spaces::put_space;
+use crate::texts::{put_bytes, put_number};
+use hx_types::{Actor, Calls, Memory, Op, PostId, Script, Sessions, Space, Step, Steps};
+use std::alloc::Global;
+
+#[tactic(auto, unfolding(crate::specs::Printing::call_line))]
+fn put_calls(alloc: Global, out: &mut Vec<u8>, space: &Space, calls: &[Op]) -> Result<(), Memory>
+    ensures { OnOk result
+        (out.new.items ≡ out.old.items ++ flat_map (call_line space.now) calls.now) }
+{
+    for op in calls {
+        put_op(alloc, out, space, op)?;
+        put_bytes(out, b"\n")?;
+    }
+    Ok(())
+}
+
+#[tactic(auto, unfolding(crate::specs::Printing::session_text))]
+fn put_session(
+    alloc: Global,
+    out: &mut Vec<u8>,
+    space: &Space,
+    number: u64,
+    calls: &Calls,
+) -> Result<(), Memory>
+    ensures { OnOk result
+        (out.new.items ≡ out.old.items ++ session_text space.now number calls.now) }
+{
+    put_bytes(out, b"session ")?;
+    put_number(alloc, out, number)?;
+    put_bytes(out, b"\n")?;
+    put_calls(alloc, out, space, calls.as_slice())
+}
+
+#[tactic(auto, unfolding(crate::specs::Printing::sessions_text))]
+fn put_sessions(
+    alloc: Global,
+    out: &mut Vec<u8>,
+    space: &Space,
+    sessions: &Sessions,
+) -> Result<(), Memory>
+    ensures { OnOk result
+        (out.new.items ≡ out.old.items ++ sessions_text space.now 1 sessions.now) }
+{
+    let mut number = 1;
+    let mut rest = sessions.as_slice();
+    'sessions: while let Some((calls, after)) = rest.split_first() {
+        put_session(alloc, out, space, number, calls)?;
+        number += 1;
+        rest = after;
+    }
+    Ok(())
+}
+
+/// Appends `c`, or `s` or `u` with the number of the server or session.
+#[tactic(auto, unfolding(crate::specs::Printing::actor_text))]
+pub fn put_actor(alloc: Global, out: &mut Vec<u8>, actor: &Actor) -> Result<(), Memory>
+    ensures { OnOk result (out.new.items ≡ out.old.items ++ actor_text actor.now) }
+{
+    match actor {
+        Actor::Coordinator => put_bytes(out, b"c"),
+        Actor::Server(server) => {
+            put_bytes(out, b"s")?;
+            put_number(alloc, out, u64::from(server.0))
+        }
+        Actor::Session(session) => {
+            put_bytes(out, b"u")?;
+            put_number(alloc, out, u64::from(session.0))
+        }
+    }
+}
+
+/// Appends the entry and the place of a post with a dot between them.
+#[tactic(auto, unfolding(crate::specs::Printing::post_name))]
+pub fn put_post_name(alloc: Global, out: &mut Vec<u8>, id: &PostId) -> Result<(), Memory>
+    ensures { OnOk result (out.new.items ≡ out.old.items ++ post_name id.now) }
+{
+    put_number(alloc, out, id.entry)?;
+    put_bytes(out, b".")?;
+    put_number(alloc, out, u64::from(id.place))
+}
+
+#[tactic(auto, unfolding(crate::specs::Printing::step_text))]
+fn put_step(alloc: Global, out: &mut Vec<u8>, step: &Step) -> Result<(), Memory>
+    ensures { OnOk result (out.new.items ≡ out.old.items ++ step_text step.now) }
+{
+    match step {
+        Step::Deliver(id) => {
+            put_bytes(out, b"deliver ")?;
+            put_post_name(alloc, out, id)
+        }
+        Step::Tick(actor) => {
+            put_bytes(out, b"tick ")?;
+            put_actor(alloc, out, actor)
+        }
+        Step::Halt(actor) => {
+            put_bytes(out, b"halt ")?;
+            put_actor(alloc, out, actor)
+        }
+    }
+}
+
+#[tactic(auto, unfolding(crate::specs::Printing::step_line))]
+fn put_step_lines(alloc: Global, out: &mut Vec<u8>, steps: &[(u64, Step)]) -> Result<(), Memory>
+    ensures { OnOk result (out.new.items ≡ out.old.items ++ flat_map step_line steps.now) }
+{
+    for (_, step) in steps {
+        put_step(alloc, out, step)?;
+        put_bytes(out, b"\n")?;
+    }
+    Ok(())
+}
+
+#[tactic(auto, unfolding(crate::specs::Printing::steps_text))]
+fn put_steps(alloc: Global, out: &mut Vec<u8>, steps: &Steps) -> Result<(), Memory>
+    ensures { OnOk result (out.new.items ≡ out.old.items ++ steps_text steps.now) }
+{
+    if steps.is_empty() {
+        return Ok(());
+    }
+    put_bytes(out, b"steps\n")?;
+    put_step_lines(alloc, out, steps.as_slice())
+}
+
+/// The plain text of a script. The line numbers of its steps aren't part of it, and where there
+/// are no steps the line `steps` is left out.
+#[tactic(auto, unfolding(crate::specs::Printing::script_text))]
+pub fn print(alloc: Global, script: &Script) -> Result<Vec<u8>, Memory>
+    ensures { IfOk result (λ bytes. bytes.items ≡ script_text script.now) }
+{
+    let mut out = Vec::new(alloc);
+    put_bytes(&mut out, b"hx 1\n")?;
+    put_space(alloc, &mut out, &script.space)?;
+    put_sessions(alloc, &mut out, &script.space, &script.sessions)?;
+    put_steps(alloc, &mut out, &script.steps)?;
+    Ok(out)
+}
