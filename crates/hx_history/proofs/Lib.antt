@@ -1,0 +1,9 @@
+pub mod Lists
+pub mod Newest
+pub mod Telling
+pub mod ByEvents
+pub mod Listing
+pub mod Notes
+pub mod Rows
+pub mod Recorded
+pub mod Places

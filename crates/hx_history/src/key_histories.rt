@@ -1,0 +1,97 @@
+ghost use Rattle.std.specs.Prelude.{◌≡◌, ◌++◌, ℕ, List, [], map, reverse, filter, OnOk, IfOk};
+ghost use Rattle.std.specs.BTreeMap.{get_by};
+ghost use Rattle.std.specs.Cmp.Lexicographic.{slice_cmp};
+ghost use Rattle.std.specs.Ordering.{nat_cmp};
+ghost use Rattle.std.specs.Option.{option_map_or};
+ghost use Rattle.std.specs.Str.{bytes_eq};
+ghost use Rattle.hx_model.specs.Histories.{history_of};
+ghost use Rattle.hx_history.specs.Events.{event_view, history_by, is_at, key_of};
+ghost use Rattle.hx_history.specs.Listed.{AreHistories, listed_of};
+
+use crate::noted::{Event, events};
+use crate::placing::history_from;
+use hx_types::{Items, Memory, Same, Script, Sequence, Text, Trace};
+use std::alloc::Global;
+use std::collections::BTreeMap;
+
+/// The history of a key: its items, the oldest first.
+#[derive(Drop)]
+pub struct KeyHistory {
+    pub key: Text,
+    pub items: Items,
+}
+
+/// Histories in byte order of keys.
+pub type Histories = Sequence<KeyHistory>;
+
+type Groups<'a> = BTreeMap<&'a str, Vec<Event<'a>>>;
+
+/// The events of one key.
+fn events_at<'a>(alloc: Global, events: &[Event<'a>], key: &Text) -> Result<Vec<Event<'a>>, Memory>
+    ensures { IfOk result (λ found. found.items ≡ filter (λ e. is_at key.now (event_view e)) events.now) }
+{
+    let mut found = Vec::new(alloc);
+    for event in events {
+        if event.key().same(key) {
+            found.push(*event)?;
+        }
+    }
+    Ok(found)
+}
+
+/// The history of a key.
+#[tactic(auto, using(crate::proofs::ByEvents::history_found))]
+pub fn history(alloc: Global, script: &Script, trace: &Trace, key: &Text) -> Result<Items, Memory>
+    ensures { IfOk result (λ items. items ≡ reverse (history_of script.now key.now (reverse trace.now))) }
+{
+    let all = events(alloc, script, trace)?;
+    let found = events_at(alloc, &all, key)?;
+    let items = history_from(alloc, script, &found)?;
+    Ok(items)
+}
+
+/// The events of each key.
+fn groups<'a>(alloc: Global, events: &[Event<'a>]) -> Result<Groups<'a>, Memory>
+    ensures { IfOk result (λ groups. (q : List ℕ) → option_map_or (λ g. g.items) (get_by (λ k. slice_cmp nat_cmp q k.now) groups) [] ≡ filter (λ e. bytes_eq q (key_of (event_view e))) events.now) }
+{
+    let mut groups = Groups::new(alloc);
+    for event in events {
+        groups
+            .entry(event.key().as_str())?
+            .or_default()
+            .push(*event)?;
+    }
+    Ok(groups)
+}
+
+/// Adds the history of a key, unless it has no item.
+fn push_history(
+    alloc: Global,
+    listed: &mut Histories,
+    script: &Script,
+    key: &str,
+    events: &[Event<'_>],
+) -> Result<(), Memory>
+    ensures { OnOk result (listed.new ≡ listed.old ++ listed_of key.now (history_by script.now (map event_view events.now))) }
+{
+    let items = history_from(alloc, script, events)?;
+    if items.is_empty() {
+        return Ok(());
+    }
+    let key = Text::from_str(alloc, key)?;
+    listed.push(KeyHistory { key, items })?;
+    Ok(())
+}
+
+/// The histories of all keys that have one with items.
+pub fn histories(alloc: Global, script: &Script, trace: &Trace) -> Result<Histories, Memory>
+    ensures { IfOk result (λ listed. AreHistories script.now (reverse trace.now) listed) }
+{
+    let all = events(alloc, script, trace)?;
+    let groups = groups(alloc, &all)?;
+    let mut listed = Histories::new(alloc);
+    for (key, events) in groups.iter() {
+        push_history(alloc, &mut listed, script, key, events)?;
+    }
+    Ok(listed)
+}

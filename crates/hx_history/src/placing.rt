@@ -1,0 +1,123 @@
+ghost use Rattle.std.specs.Prelude.{◌≡◌, ◌+◌, ◌<◌, ◌≤◌, ◌++◌, ℕ, List, [], map, reverse, filter, length, replicate, slice_get, IfOk, OnOk};
+ghost use Rattle.std.specs.List.{AllWithin};
+ghost use Rattle.std.specs.List.Sorted.{IsNonDecreasingBy};
+ghost use Rattle.hx_model.specs.Histories.{write_item};
+ghost use Rattle.hx_history.specs.Events.{event_view, history_by, is_in_place, item_on, read_view, told, updates_at, version_at};
+
+use crate::lines::{line_of, reads_of, writes_of};
+use crate::noted::{Event, Read, call_of};
+use hx_types::{Exact, Item, Items, Memory, Object, Script, Update};
+use std::alloc::Global;
+
+/// How many writes have at most this version.
+fn rank(writes: &[&Update], version: u64) -> usize
+    requires { IsNonDecreasingBy version_at writes.now }
+    ensures bound { result ≤ length writes.now }
+    ensures below { AllWithin (λ u. version_at u ≤ version) writes.now 0 result }
+    ensures above { AllWithin (λ u. version < version_at u) writes.now result (length writes.now) }
+{
+    writes.partition_point(|update| update.version.0 <= version)
+}
+
+/// So many empty lists of gets.
+fn no_reads<'a>(alloc: Global, count: usize) -> Result<Vec<Vec<Read<'a>>>, Memory>
+    ensures { IfOk result (λ places. map (λ reads. reads.items) places.items ≡ replicate count []) }
+{
+    let mut places = Vec::new(alloc);
+    for _made in 0..count {
+        places.push(Vec::new(alloc))?;
+    }
+    Ok(places)
+}
+
+/// The gets before all writes, and those after each write up to the next, in the order of their ends.
+fn places_of<'a>(
+    alloc: Global,
+    writes: &[&Update],
+    reads: &[Read<'a>],
+) -> Result<Vec<Vec<Read<'a>>>, Memory>
+    requires { IsNonDecreasingBy version_at writes.now }
+    ensures len { IfOk result (λ places. length places.items ≡ length writes.now + 1) }
+    ensures each { IfOk result (λ places. (p : ℕ) → p ≤ length writes.now → slice_get (map (λ reads. reads.items) places.items) p ≡ Some (filter (is_in_place writes.now p) reads.now)) }
+{
+    let mut places = no_reads(alloc, writes.len() + 1)?;
+    for read in reads {
+        let place = rank(writes, read.version.0);
+        places[place].push(*read)?;
+    }
+    Ok(places)
+}
+
+/// Adds gets of an object.
+fn push_reads(
+    alloc: Global,
+    items: &mut Items,
+    reads: &[Read<'_>],
+    object: &Option<Object>,
+) -> Result<(), Memory>
+    ensures { OnOk result (items.new ≡ items.old ++ map (item_on object.now) (map read_view reads.now)) }
+{
+    for read in reads {
+        items.push(Item {
+            version: read.version,
+            caller: read.caller,
+            op: read.op.copy(alloc)?,
+            answer: read.answer.copy(alloc)?,
+            object: object.copy(alloc)?,
+        })?;
+    }
+    Ok(())
+}
+
+/// Adds a write.
+fn push_write(
+    alloc: Global,
+    items: &mut Items,
+    script: &Script,
+    update: &Update,
+) -> Result<(), Memory>
+    ensures { OnOk result (items.new ≡ items.old ++ write_item script.now update.now) }
+{
+    let Some(op) = call_of(script, update.caller) else {
+        return Ok(());
+    };
+    items.push(Item {
+        version: update.version,
+        caller: update.caller,
+        op: op.copy(alloc)?,
+        answer: update.answer.copy(alloc)?,
+        object: update.object.copy(alloc)?,
+    })?;
+    Ok(())
+}
+
+/// The gets and writes of a key in order.
+fn arrange(
+    alloc: Global,
+    script: &Script,
+    writes: &[&Update],
+    reads: &[Read<'_>],
+) -> Result<Items, Memory>
+    requires { IsNonDecreasingBy version_at writes.now }
+    ensures { IfOk result (λ items. items ≡ told script.now (map read_view reads.now) None (reverse (updates_at writes.now))) }
+{
+    let places = places_of(alloc, writes, reads)?;
+    let mut items = Items::new(alloc);
+    push_reads(alloc, &mut items, &places[0], &None)?;
+    for (place, update) in writes.iter().enumerate() {
+        push_write(alloc, &mut items, script, update)?;
+        push_reads(alloc, &mut items, &places[place + 1], &update.object)?;
+    }
+    Ok(items)
+}
+
+/// The history of the key that these events are of.
+#[tactic(auto, using(crate::proofs::Newest::standing))]
+pub fn history_from(alloc: Global, script: &Script, events: &[Event<'_>]) -> Result<Items, Memory>
+    ensures { IfOk result (λ items. items ≡ history_by script.now (map event_view events.now)) }
+{
+    let line = line_of(alloc, events)?;
+    let writes = writes_of(alloc, &line)?;
+    let reads = reads_of(alloc, events)?;
+    arrange(alloc, script, &writes, &reads)
+}

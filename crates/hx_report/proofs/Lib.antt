@@ -1,0 +1,4 @@
+pub mod LostRegions
+pub mod Numbered
+pub mod OneServer
+pub mod Reports

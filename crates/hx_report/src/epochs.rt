@@ -1,0 +1,124 @@
+//! The lines of epochs.
+
+ghost use Rattle.std.specs.Prelude.{◌≡◌, ◌++◌, map, reverse, IfOk, OnOk};
+ghost use Rattle.std.specs.List.{flat_map};
+ghost use Rattle.hx_types.specs.Configs.{any_ready, is_lost};
+ghost use Rattle.hx_types.specs.Spaces.{IsSpace};
+ghost use Rattle.hx_report.specs.Reporting.{entry_lines, epoch_line, epochs_text, lost_numbers, lost_text, note_lines, server_numbers, servers_text};
+
+use crate::objects::put_numbers;
+use hx_print::{put_bytes, put_number};
+use hx_types::{Config, Entry, Member, Memory, Note, Notes, Script, Trace, first_config};
+use std::alloc::Global;
+
+fn server_numbers(alloc: Global, config: &Config) -> Result<Vec<u64>, Memory>
+    ensures { IfOk result (λ numbers. numbers.items ≡ server_numbers config.now) }
+{
+    let mut numbers = Vec::new(alloc);
+    for server in config.servers.as_slice() {
+        numbers.push(u64::from(server.0))?;
+    }
+    Ok(numbers)
+}
+
+fn any_ready(members: &[Member]) -> bool
+    ensures { result ≡ any_ready members.now }
+{
+    members.iter().any(|member| member.ready)
+}
+
+/// Whether the region has no ready member.
+fn is_lost(config: &Config, region: usize) -> bool
+    ensures { result ≡ is_lost config.now (record { 0 = region }) }
+{
+    match config.regions.get(region) {
+        Some(members) => !any_ready(members.as_slice()),
+        None => true,
+    }
+}
+
+#[tactic(auto, using(crate::proofs::LostRegions::lost_next, crate::proofs::LostRegions::kept_next))]
+fn lost_numbers(alloc: Global, config: &Config) -> Result<Vec<u64>, Memory>
+    ensures { IfOk result (λ numbers. numbers.items ≡ lost_numbers config.now) }
+{
+    let mut numbers = Vec::new(alloc);
+    for region in 0..config.regions.len() {
+        if is_lost(config, region) {
+            numbers.push(region as u64)?;
+        }
+    }
+    Ok(numbers)
+}
+
+#[tactic(auto, unfolding(crate::specs::Reporting::servers_text))]
+fn put_servers(alloc: Global, out: &mut Vec<u8>, config: &Config) -> Result<(), Memory>
+    ensures { OnOk result (out.new.items ≡ out.old.items ++ servers_text config.now) }
+{
+    let numbers = server_numbers(alloc, config)?;
+    put_bytes(out, b" servers ")?;
+    put_numbers(alloc, out, &numbers)
+}
+
+#[tactic(auto, unfolding(crate::specs::Reporting::lost_text))]
+fn put_lost(alloc: Global, out: &mut Vec<u8>, config: &Config) -> Result<(), Memory>
+    ensures { OnOk result (out.new.items ≡ out.old.items ++ lost_text config.now) }
+{
+    let numbers = lost_numbers(alloc, config)?;
+    put_bytes(out, b" lost ")?;
+    put_numbers(alloc, out, &numbers)
+}
+
+#[tactic(auto, unfolding(crate::specs::Reporting::epoch_line))]
+fn put_epoch(alloc: Global, out: &mut Vec<u8>, config: &Config) -> Result<(), Memory>
+    ensures { OnOk result (out.new.items ≡ out.old.items ++ epoch_line config.now) }
+{
+    put_bytes(out, b"epoch ")?;
+    put_number(alloc, out, config.epoch.0)?;
+    put_servers(alloc, out, config)?;
+    put_lost(alloc, out, config)?;
+    put_bytes(out, b"\n")
+}
+
+#[tactic(auto, unfolding(crate::specs::Reporting::note_lines))]
+fn put_note(alloc: Global, out: &mut Vec<u8>, note: &Note) -> Result<(), Memory>
+    ensures { OnOk result (out.new.items ≡ out.old.items ++ note_lines note.now) }
+{
+    match note {
+        Note::Issued { config } => put_epoch(alloc, out, config),
+        _ => Ok(()),
+    }
+}
+
+fn put_notes(alloc: Global, out: &mut Vec<u8>, notes: &Notes) -> Result<(), Memory>
+    ensures { OnOk result (out.new.items ≡ out.old.items ++ flat_map note_lines notes.now) }
+{
+    for note in notes.as_slice() {
+        put_note(alloc, out, note)?;
+    }
+    Ok(())
+}
+
+fn put_issued(alloc: Global, out: &mut Vec<u8>, trace: &[Entry]) -> Result<(), Memory>
+    ensures { OnOk result (out.new.items ≡ out.old.items ++ flat_map entry_lines trace.now) }
+{
+    for entry in trace {
+        put_notes(alloc, out, &entry.notes)?;
+    }
+    Ok(())
+}
+
+/// Appends the lines of epoch 1 and of the epochs that were issued in the trace.
+#[tactic(auto, unfolding(crate::specs::Reporting::epochs_text))]
+pub fn put_epochs(
+    alloc: Global,
+    out: &mut Vec<u8>,
+    script: &Script,
+    trace: &Trace,
+) -> Result<(), Memory>
+    requires { IsSpace script.now.space }
+    ensures { OnOk result
+        (out.new.items ≡ out.old.items ++ epochs_text script.now (reverse trace.now)) }
+{
+    put_epoch(alloc, out, &first_config(alloc, &script.space)?)?;
+    put_issued(alloc, out, trace.as_slice())
+}

@@ -1,0 +1,10 @@
+pub mod Places
+pub mod Serving
+pub mod Slotting
+pub mod Calling
+pub mod Advancing
+pub mod Numbering
+pub mod Storing
+pub mod Draining
+pub mod Starting
+pub mod SmallScript

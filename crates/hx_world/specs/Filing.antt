@@ -1,0 +1,22 @@
+-- How the names of the posts that wait are kept.
+use Rattle.std.specs.Prelude.{ℕ, zero, suc, ◌+◌, List, [], ◌∷◌, ◌++◌, drop}
+use Rattle.hx_types.specs.declared.messages.PostId.{PostId}
+use Rattle.hx_types.specs.declared.traces.Entry.{Entry}
+use Rattle.hx_types.specs.declared.traces.Input.{Input}
+use Rattle.hx_types.specs.declared.traces.Input.TheVariants.{Tick, Halt, Deliver}
+use Rattle.hx_model.specs.Schedule.{names_from}
+
+-- the names of so many posts of an entry, from this place on
+abbrev pub names_counted : ℕ → ℕ → ℕ → List PostId
+names_counted entry place zero = []
+names_counted entry place (suc count) = record { entry = entry; place = place } ∷ names_counted entry (place + 1) count
+
+-- a delivery takes the first of the names
+abbrev pub still_waiting : Input → List PostId → List PostId
+still_waiting Tick names = names
+still_waiting Halt names = names
+still_waiting (Deliver id from message) names = drop 1 names
+
+-- the names that wait after one more entry, with so many entries before it
+abbrev pub names_after : ℕ → Entry → List PostId → List PostId
+names_after entries e names = still_waiting e.input names ++ names_from (entries + 1) 0 e.outputs

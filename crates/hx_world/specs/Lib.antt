@@ -1,0 +1,11 @@
+pub use Rattle.hx_types.specs.Effects
+pub use Rattle.hx_model.specs.Built
+pub use Rattle.hx_model.specs.Runs
+pub use Rattle.hx_model.specs.Schedule
+pub use Rattle.hx_model.specs.Steady
+pub mod Examples
+pub mod Filing
+pub mod Invariant
+pub mod Slots
+pub mod Steps
+pub mod Worlds
