@@ -1,13 +1,14 @@
 #!/usr/bin/env bash
 # Times `hx replay` on scripts of 1,024, 4,096 and 16,384 calls over 256 keys, and on one hot key.
 # It prints seconds (the best of three) and the ratio of neighbours, which stays below 5 where the
-# keys are spread: four times the calls take about four times as long. One hot key keeps a list of
-# all its updates today, so its ratio may be larger.
+# keys are spread: four times the calls take about four times as long at most. It prints the greatest
+# memory of the largest run too, which stays below 64 bytes for each byte of script plus 64 MiB.
 set -eu
 top=$(cd "$(dirname "${BASH_SOURCE[0]}")/.." && pwd)
 work=$(mktemp -d)
 trap 'rm -rf "$work"' EXIT
 "$top/hx" --version >"$work/version"
+program=$top/crates/hx_tool/out/hx_tool
 
 # script CALLS KEYS: one session that puts and gets in turn
 script() {
@@ -21,18 +22,18 @@ script() {
   }'
 }
 
-# seconds FILE: the best of three runs, and the greatest memory in KiB
+# seconds FILE: the best of three runs
 seconds() {
   local best='' taken
   for _ in 1 2 3; do
-    taken=$( { /usr/bin/env bash -c 'TIMEFORMAT=%R; time "$0" replay <"$1" >"$2"' "$top/hx" "$1" "$work/report"; } 2>&1 )
+    taken=$( { /usr/bin/env bash -c 'TIMEFORMAT=%R; time "$0" replay <"$1" >"$2"' "$program" "$1" "$work/report"; } 2>&1 )
     if [ -z "$best" ] || awk -v a="$taken" -v b="$best" 'BEGIN { exit !(a < b) }'; then best=$taken; fi
   done
   printf '%s' "$best"
 }
 
 for keys in 256 1; do
-  [ "$keys" = 1 ] && printf 'one hot key, which keeps the list of all its updates:\n' || printf '%s keys:\n' "$keys"
+  [ "$keys" = 1 ] && printf 'one hot key:\n' || printf '%s keys:\n' "$keys"
   before=''
   for calls in 1024 4096 16384; do
     script "$calls" "$keys" >"$work/script.hx"
@@ -46,3 +47,14 @@ for keys in 256 1; do
     before=$now
   done
 done
+
+script 16384 256 >"$work/script.hx"
+python3 - "$program" "$work/script.hx" <<'EOT'
+import os, resource, subprocess, sys
+program, script = sys.argv[1:]
+with open(script) as text, open(os.devnull, "w") as nothing:
+    subprocess.run([program, "replay"], stdin=text, stdout=nothing, check=True)
+used = resource.getrusage(resource.RUSAGE_CHILDREN).ru_maxrss * 1024
+allowed = 64 * os.path.getsize(script) + 64 * 1024 * 1024
+print(f"memory of 16384 calls: {used} bytes, {used / allowed:.2f} of what is allowed")
+EOT

@@ -1,0 +1,5 @@
+pub mod Sizes
+pub mod Places
+pub mod Subspaces
+pub mod Matches
+pub mod Examples

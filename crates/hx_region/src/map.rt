@@ -1,0 +1,152 @@
+ghost use Rattle.std.specs.Prelude.{◌≡◌, ◌<◌, [], ◌∷◌, IfOk};
+ghost use Rattle.hx_model.specs.Regions.{key_region, meets, place_of};
+ghost use Rattle.hx_region.specs.Spans.{IsRegionIn, subspace_count};
+ghost use Rattle.hx_types.specs.Spaces.{IsSpace};
+ghost use Rattle.hx_types.specs.Subspaces.{axes_of, first_region, region_count, size_of};
+
+use crate::rows::{row, row_meets, size};
+use hx_types::{Axes, Axis, Exact, Memory, Object, RegionId, Space, Terms, Text};
+use std::alloc::Global;
+use std::marker::Model;
+
+/// A subspace: its first region, how many it has, and its axes.
+#[derive(Drop)]
+struct Cut {
+    first: u32,
+    size: u32,
+    axes: Axes,
+}
+
+/// The regions of one space, at most 4,096. Contracts see it as that space.
+#[derive(Drop)]
+pub struct RegionMap {
+    space: Space,
+    cuts: Vec<Cut>,
+    regions: u32,
+}
+
+impl Model for RegionMap {
+    ghost use Rattle.hx_types.specs.declared.spaces.Space.{Space};
+
+    ghost Value = { Space };
+
+    ghost use Rattle.hx_region.specs.Cuts.{IsTable};
+
+    ghost view = { λ m. m.space };
+
+    ghost invariant = { λ m. IsTable m.space m.cuts.items m.regions };
+}
+
+impl RegionMap {
+    /// The map of a space. It keeps a copy of the space and a table of its subspaces.
+    pub fn new(alloc: Global, space: &Space) -> Result<RegionMap, Memory>
+        requires { IsSpace space.now }
+        ensures { IfOk result (λ map. map ≡ space.now) }
+    {
+        let mut cuts = Vec::new(alloc);
+        cuts.push(Cut {
+            first: 0,
+            size: space.key_parts,
+            axes: key_axes(alloc, space.key_parts)?,
+        })?;
+        let mut regions = space.key_parts;
+        for axes in space.subspaces.as_slice() {
+            let size = size(axes.as_slice());
+            let axes = axes.copy(alloc)?;
+            cuts.push(Cut {
+                first: regions,
+                size,
+                axes,
+            })?;
+            regions += size;
+        }
+        let space = space.copy(alloc)?;
+        Ok(RegionMap {
+            space,
+            cuts,
+            regions,
+        })
+    }
+
+    /// How many regions the space has, those of the key subspace among them.
+    pub fn regions(&self) -> u32
+        ensures { result ≡ region_count self.now }
+    {
+        self.regions
+    }
+
+    /// How many subspaces the space has, the key's (subspace 0) among them.
+    pub fn subspaces(&self) -> u32
+        ensures { result ≡ subspace_count self.now }
+    {
+        self.cuts.len() as u32
+    }
+
+    /// The first region of a subspace, and how many it has.
+    pub fn span(&self, s: u32) -> (RegionId, u32)
+        requires { s < subspace_count self.now }
+        ensures first { result.0.0 ≡ first_region self.now s }
+        ensures size { result.1 ≡ size_of (axes_of self.now s) }
+    {
+        let cut = self.cut(s);
+        (RegionId(cut.first), cut.size)
+    }
+
+    /// The region of a key in the key subspace. Its hash is the only work.
+    pub fn of_key(&self, key: &Text) -> RegionId
+        ensures place { result ≡ key_region self.now key.now }
+        ensures within { IsRegionIn self.now 0 result }
+    {
+        RegionId(hx_hash::text_cell(key.as_bytes(), self.space.key_parts))
+    }
+
+    /// The region of a key and object in a subspace, found in one step an axis of the subspace.
+    pub fn of_object(&self, s: u32, key: &Text, object: &Object) -> RegionId
+        requires { s < subspace_count self.now }
+        ensures place { result ≡ place_of self.now s key.now object.now }
+        ensures within { IsRegionIn self.now s result }
+    {
+        let cut = self.cut(s);
+        let row = row(&self.space, cut.axes.as_slice(), key, object);
+        RegionId(cut.first + row)
+    }
+
+    /// Whether on each axis of the region's subspace the region's cell is the cell of some value
+    /// that meets the terms: the cell of an equality's value, or a cell from that of a range's
+    /// lower end to that of its higher end. No region past the last one meets any terms.
+    ///
+    /// One step a subspace finds the region's own; then each axis looks at each term.
+    pub fn meets(&self, region: RegionId, terms: &Terms) -> bool
+        ensures { result ≡ meets self.now region terms.now }
+    {
+        for cut in &self.cuts {
+            if region.0 < cut.first + cut.size {
+                let axes = cut.axes.as_slice();
+                let row = region.0 - cut.first;
+                return row_meets(&self.space, axes, row, cut.size, terms.as_slice());
+            }
+        }
+        false
+    }
+
+    fn cut(&self, s: u32) -> &Cut
+        requires { s < subspace_count self.now }
+        ensures first { result.now.first ≡ first_region self.now s }
+        ensures size { result.now.size ≡ size_of (axes_of self.now s) }
+        ensures axes { result.now.axes ≡ axes_of self.now s }
+    {
+        &self.cuts[s as usize]
+    }
+}
+
+/// The one axis of the key subspace.
+fn key_axes(alloc: Global, parts: u32) -> Result<Axes, Memory>
+    ensures { IfOk result (λ axes. axes ≡ record { attribute = 0; parts = parts } ∷ []) }
+{
+    let mut axes = Axes::new(alloc);
+    axes.push(Axis {
+        attribute: 0,
+        parts,
+    })?;
+    Ok(axes)
+}
