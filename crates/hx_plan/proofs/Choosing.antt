@@ -1,0 +1,23 @@
+-- Regions gathered and candidates compared one after another.
+use Rattle.std.proofs.Common.{◌≡◌, ℕ, ◌+◌, Bool, cond, List, [], ◌∷◌, ◌++◌, map, Option, None, refl, ap, ◌∙◌}
+use Rattle.std.specs.List.{filter}
+use Rattle.std.proofs.lemmas.List.Elements.{filter-append}
+use Rattle.hx_types.specs.declared.configs.Config.{Config}
+use Rattle.hx_types.specs.Words.{below}
+use Rattle.hx_types.proofs.Counting.{map_below_next}
+use Rattle.hx_model.specs.Planning.{QueryRegions, chosen, fewer_of}
+
+-- one more is tested
+pub filter_below_next : {A : Type 0} (test : A → Bool) (f : ℕ → A) (n : ℕ)
+    → filter test (map f (below (n + 1))) ≡ filter test (map f (below n)) ++ cond (test (f n)) (f n ∷ []) []
+filter_below_next test f n = ap (filter test) (map_below_next f n) ∙ filter-append test (map f (below n)) (f n ∷ [])
+
+-- the last candidate is compared with the best of those before it
+pub chosen_end : (config : Config) (best : Option QueryRegions) (qs : List QueryRegions) (q : QueryRegions)
+    → chosen config best (qs ++ q ∷ []) ≡ fewer_of config q (chosen config best qs)
+chosen_end config best [] q = refl
+chosen_end config best (x ∷ qs) q = chosen_end config (fewer_of config x best) qs q
+
+pub chosen_next : (config : Config) (f : ℕ → QueryRegions) (n : ℕ)
+    → chosen config None (map f (below (n + 1))) ≡ fewer_of config (f n) (chosen config None (map f (below n)))
+chosen_next config f n = ap (chosen config None) (map_below_next f n) ∙ chosen_end config None (map f (below n)) (f n)

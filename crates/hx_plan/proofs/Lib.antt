@@ -1,0 +1,4 @@
+pub mod Choosing
+pub mod Listing
+pub mod Planned
+pub mod Examples

@@ -1,0 +1,17 @@
+pub mod Spelled
+pub mod Takes
+pub mod Assigning
+pub mod Asking
+pub mod Cutting
+pub mod Digits
+pub mod Lists
+pub mod Lines
+mod Examples
+mod Yields
+mod Once
+mod Naming
+mod FittingCalls
+mod Sections
+mod FittingCuts
+mod SoundLines
+mod SoundTexts

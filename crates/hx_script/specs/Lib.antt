@@ -1,0 +1,11 @@
+pub mod Toks
+pub mod Readers
+pub mod Parts
+pub mod Keywords
+pub mod Words
+pub mod Values
+pub mod Cuts
+pub mod Actors
+pub mod Calls
+pub mod Grammar
+pub mod Texts

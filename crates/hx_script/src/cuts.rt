@@ -1,0 +1,118 @@
+//! How a subspace cuts the values of some attributes.
+
+ghost use Rattle.std.specs.Prelude.{◌≡◌, ◌≤◌, ◌+◌, ◌*◌, IfOk, length};
+ghost use Rattle.hx_script.specs.Readers.{Reads};
+ghost use Rattle.hx_script.specs.Cuts.{has_axis, free_axis, parts, axis, next_axis, more_axes, subspace};
+
+use crate::errors::{Reason, Stop};
+use crate::line::{Line, Until};
+use crate::words::{declared_number, named};
+use hx_types::{Axes, Axis, Space};
+use std::alloc::Global;
+
+/// The axes of a subspace as far as they were read, and how many regions they make.
+#[derive(Drop)]
+pub(crate) struct Cut {
+    pub(crate) axes: Axes,
+    pub(crate) size: u32,
+}
+
+fn has_axis(axes: &Axes, attribute: u32) -> bool
+    ensures { result ≡ has_axis axes.now attribute }
+{
+    axes.as_slice()
+        .iter()
+        .any(|axis| axis.attribute == attribute)
+}
+
+/// A declared attribute that isn't an axis yet, by its name.
+#[tactic(auto, unfolding(crate::specs::Cuts::free_axis))]
+fn free_axis(space: &Space, axes: &Axes, line: &mut Line<'_>) -> Result<u32, Stop>
+    requires few { length space.now.attributes ≤ 16 }
+    ensures { Reads (λ a. a) result line.new (free_axis space.now axes.now line.old) }
+{
+    let word = named(line)?;
+    let attribute = declared_number(space, word)?;
+    if has_axis(axes, attribute) {
+        return Err(Stop::Fault(Reason::Twice));
+    }
+    if axes.len() >= 4 {
+        return Err(Stop::Fault(Reason::Limit));
+    }
+    Ok(attribute)
+}
+
+/// Into how many parts, where the other axes make `size` regions and `regions` stand before.
+#[tactic(auto, unfolding(crate::specs::Cuts::parts))]
+fn parts(regions: u32, size: u32, line: &mut Line<'_>) -> Result<u32, Stop>
+    ensures reads { Reads (λ n. n) result line.new (parts regions size line.old) }
+    ensures within { IfOk result (λ n. regions + size * n ≤ 4096) }
+{
+    let parts = line.number_in(1, 256)?;
+    let all = u64::from(regions) + u64::from(size) * u64::from(parts);
+    if all > 4096 {
+        return Err(Stop::Fault(Reason::Limit));
+    }
+    Ok(parts)
+}
+
+/// One more axis.
+#[tactic(auto, unfolding(crate::specs::Cuts::axis))]
+fn axis(space: &Space, regions: u32, cut: Cut, line: &mut Line<'_>) -> Result<Cut, Stop>
+    requires few { length space.now.attributes ≤ 16 }
+    ensures reads { Reads (λ c. c) result line.new (axis space.now regions cut line.old) }
+    ensures within { IfOk result (λ c. regions + c.size ≤ 4096) }
+{
+    let Cut { mut axes, size } = cut;
+    let attribute = free_axis(space, &axes, line)?;
+    let parts = parts(regions, size, line)?;
+    axes.push(Axis { attribute, parts })?;
+    let size = size * parts;
+    Ok(Cut { axes, size })
+}
+
+/// One more axis behind a comma.
+#[tactic(auto, unfolding(crate::specs::Cuts::next_axis))]
+fn next_axis(space: &Space, regions: u32, cut: Cut, line: &mut Line<'_>) -> Result<Cut, Stop>
+    requires few { length space.now.attributes ≤ 16 }
+    ensures reads { Reads (λ c. c) result line.new (next_axis space.now regions cut line.old) }
+    ensures within { IfOk result (λ c. regions + c.size ≤ 4096) }
+{
+    line.sign(b",")?;
+    axis(space, regions, cut, line)
+}
+
+/// More axes behind those that are there, up to the end of the line.
+#[tactic(auto, using(crate::proofs::Cutting::cut_goes_on, crate::proofs::Cutting::axis_shrinks, crate::proofs::Cutting::cut_ends))]
+fn more_axes(space: &Space, regions: u32, before: Cut, line: &mut Line<'_>) -> Result<Cut, Stop>
+    requires few { length space.now.attributes ≤ 16 }
+    requires room { regions + before.size ≤ 4096 }
+    ensures reads { Reads (λ c. c) result line.new (more_axes space.now regions before line.old) }
+    ensures within { IfOk result (λ c. regions + c.size ≤ 4096) }
+{
+    let mut cut = before;
+    'axes: while !line.is_at(Until::End) {
+        cut = next_axis(space, regions, cut, line)?;
+    }
+    Ok(cut)
+}
+
+/// All axes of a subspace, in a space that has so many regions before it.
+#[tactic(auto, unfolding(crate::specs::Cuts::subspace))]
+pub(crate) fn subspace(
+    alloc: Global,
+    space: &Space,
+    regions: u32,
+    line: &mut Line<'_>,
+) -> Result<Cut, Stop>
+    requires few { length space.now.attributes ≤ 16 }
+    ensures reads { Reads (λ c. c) result line.new (subspace space.now regions line.old) }
+    ensures within { IfOk result (λ c. regions + c.size ≤ 4096) }
+{
+    let none = Cut {
+        axes: Axes::new(alloc),
+        size: 1,
+    };
+    let first = axis(space, regions, none, line)?;
+    more_axes(space, regions, first, line)
+}

@@ -1,0 +1,61 @@
+//! Scripts as text: a space, what each session calls, and the first steps.
+//!
+//! The language is this project's own, a line for each thing that is said. Words, numbers, texts
+//! and signs are those of `hx_lex`. In the tables N stands for a name (a word other than `if` and
+//! `set`, of at most 32 bytes), I for a number, T for a text of at most 1,024 bytes, V for a number
+//! or a text, A for an actor (`c`, or `s` or `u` with its number, as `s1`).
+//!
+//! | line | how often | rules |
+//! |---|---|---|
+//! | `hx 1` | once | |
+//! | `space N` | once | |
+//! | `key N I` | once | the key's name, and 1 to 256 parts |
+//! | `string N`, `int N I I` | 0 to 16 in all | names differ from each other and the key's; the first number is at most the second |
+//! | `subspace N I, N I, ..` | 0 to 8 | 1 to 4 declared attributes, each once, with 1 to 256 parts; 4,096 regions in all |
+//! | `servers I` | once | 1 to 16 |
+//! | `tolerate I` | once | 0 to 4, below the servers |
+//! | `session I` | 0 to 16 | numbers 1, 2, 3 in order; each is followed by its calls, 16,384 in all |
+//! | `steps` | 0 or 1 | followed by its steps, at most 65,536 |
+//!
+//! | call or step | |
+//! |---|---|
+//! | `put T` and then `N=V` .. | |
+//! | `get T`, `del T` | |
+//! | `cput T if N=V .. set N=V ..` | one test and one assignment at least |
+//! | `search` and then `N=V` or `N=I..I` .. | here the key's name is known too |
+//! | `stop I`, `add I I` | a server; a server and a region |
+//! | `deliver I.I` | the entry and place of a post |
+//! | `tick A`, `halt A` | |
+//!
+//! Each attribute stands at most once in each group of assignments, tests, terms or axes. Lines end
+//! with a newline, the last may lack it. A line without tokens is skipped, but counted.
+//!
+//! The first faulty line is refused. In it a fault of the tokens comes first; then the tokens are
+//! taken from left to right, and at each the first [`Reason`] in the order Order, Unknown, Twice,
+//! TypeOf, Bounds, Limit counts. A count that is full already is Limit at the line's first word.
+//! `specs/Grammar.antt` and the files below it say the same, a definition for each line, and [`read`]
+//! gives exactly that. [`scripts_are_valid`] says that each such script is within the limits, and
+//! that each of its calls fits its space.
+//!
+//! No contract says that there is memory, so a `read` that always answered `Memory` would be
+//! proved. The tests show it succeed.
+#![tactic(auto)]
+
+mod actors;
+mod cuts;
+mod draft;
+mod errors;
+mod keyword;
+mod laws;
+mod line;
+mod ops;
+mod reading;
+mod values;
+mod words;
+
+pub use errors::{Reason, ScriptError};
+pub use laws::scripts_are_valid;
+pub use reading::read;
+
+#[cfg(test)]
+mod tests;
