@@ -1,4 +1,7 @@
 //! Records and histories of a trace.
+//!
+//! No contract says that there is memory, so a function that always answered `Memory` would be
+//! proved. The tests show each succeed.
 #![tactic(auto)]
 
 mod key_histories;

@@ -1,4 +1,8 @@
 //! The program `hx`: it reads a script, runs it, and writes the report.
+//!
+//! `top::hyperstore` is the call that `main` makes, and its contract the theorem. No contract says
+//! that there is memory, so a program that always ended for want of it would be proved: a test shows
+//! a report being written.
 #![tactic(auto)]
 
 mod outcomes;

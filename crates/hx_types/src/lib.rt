@@ -3,6 +3,10 @@
 //! Every type but [`Text`] and [`Sequence`] is plain, with public fields. [`Exact`] copies a value,
 //! [`Same`] compares two; [`effect`] is what an operation does to an object, and [`first_config`]
 //! the configuration that every actor knows at the start.
+//!
+//! No contract says that there is memory, so a function that always answered [`Memory`] would be
+//! proved. The tests of the crates above make scripts, effects, configurations and copies, and show
+//! that each can succeed.
 #![tactic(auto)]
 
 mod calls;
