@@ -2,7 +2,8 @@
 //!
 //! `top::hyperstore` is the call that `main` makes, and its contract the theorem. No contract says
 //! that there is memory, so a program that always ended for want of it would be proved: a test shows
-//! a report being written.
+//! a report being written. The functions of `program` have no clause: they hand the words and
+//! streams of the process on, of which no contract can speak.
 #![tactic(auto)]
 
 mod outcomes;
