@@ -1,8 +1,8 @@
 //! Values, operations, messages and entries of the store, and the definitions that they share.
 //!
 //! Every type but [`Text`] and [`Sequence`] is plain, with public fields. [`Exact`] copies a value,
-//! [`Same`] compares two; [`effect`] is what an operation does to an object, and [`first_config`]
-//! the configuration that every actor knows at the start.
+//! [`Same`] compares two; [`fits`] tells whether an operation belongs to a space, [`effect`] is what
+//! it does to an object, and [`first_config`] the configuration that every actor knows at the start.
 //!
 //! No contract says that there is memory, so a function that always answered [`Memory`] would be
 //! proved. The tests of the crates above make scripts, effects, configurations and copies, and show
@@ -14,6 +14,7 @@ mod configs;
 mod copies;
 mod effects;
 mod errors;
+mod fitting;
 mod histories;
 mod lists;
 mod messages;
@@ -23,6 +24,7 @@ mod snapshots;
 mod spaces;
 mod starting;
 mod texts;
+mod totals;
 mod traces;
 mod updates;
 mod values;
@@ -32,6 +34,7 @@ pub use configs::{Config, Member, Members, RegionLists};
 pub use copies::{Exact, Same};
 pub use effects::effect;
 pub use errors::Memory;
+pub use fitting::fits;
 pub use histories::{Item, Items, Record, Records, Searched, Searches};
 pub use lists::Sequence;
 pub use messages::{Message, Post, PostId, Posts};
@@ -43,6 +46,7 @@ pub use snapshots::{Kept, Mark, Marks, Snapshot, Touch, Touches};
 pub use spaces::{Attribute, Attributes, Axes, Axis, Kind, Space, Subspaces};
 pub use starting::first_config;
 pub use texts::Text;
+pub use totals::Totals;
 pub use traces::{Entry, Input, Note, Notes, Script, Step, Steps, Trace};
 pub use updates::{Place, Places, Update, Updates};
 pub use values::{Assign, Assigns, Object, Term, Terms, Value};

@@ -73,7 +73,7 @@ fn first_members(alloc: Global, space: &Space, region: u32) -> Result<Members, M
 }
 
 /// How many regions the space has, those of the key subspace among them.
-fn count_regions(space: &Space) -> u32
+pub fn count_regions(space: &Space) -> u32
     requires { IsSpace space.now }
     ensures exact { result ≡ region_count space.now }
     ensures few { result ≤ 4096 }

@@ -1,0 +1,180 @@
+ghost use Rattle.std.specs.Prelude.{◌≡◌, ◌↔◌, ◌<◌, ◌≤◌, ◌≢◌, IsTrue, length, map};
+ghost use Rattle.std.specs.List.{All};
+ghost use Rattle.hx_types.specs.Spaces.{AllDiffer, AssignFits, AssignsFit, Fits, IsAttribute, IsIntKind, IsOfKind, IsRegionOf, IsServerOf, KeyFits, TermFits, TermsFit, attribute_of};
+ghost use Rattle.hx_types.specs.Subspaces.{kind_at};
+ghost use Rattle.hx_types.specs.declared.values.Assign.{Assign};
+ghost use Rattle.hx_types.specs.declared.values.Term.{Term};
+ghost use Rattle.hx_types.specs.Spaces.{IsSpace};
+
+use crate::calls::Op;
+use crate::names::{RegionId, ServerId};
+use crate::spaces::{Kind, Space};
+use crate::starting::count_regions;
+use crate::texts::Text;
+use crate::values::{Assign, Term, Value};
+
+/// The greatest length of a text in bytes.
+const LONGEST_TEXT: usize = 1024;
+
+/// Whether an operation belongs to a space.
+///
+/// Every attribute that it names is declared (in a search the key, attribute 0, too), and stands
+/// once in each group of assignments, tests or terms; every value is of its attribute's kind; no
+/// text has more than 1,024 bytes and no range has its first number above its second; a
+/// conditional put has a test and an assignment at least; servers and regions exist. A number may
+/// lie outside its attribute's range. The limits are this project's choice.
+pub fn fits(space: &Space, op: &Op) -> bool
+    requires { IsSpace space.now }
+    ensures { IsTrue result ↔ Fits space.now op.now }
+{
+    match op {
+        Op::Put { key, sets } => key_fits(key) && assigns_fit(space, sets.as_slice()),
+        Op::Get { key } | Op::Del { key } => key_fits(key),
+        Op::Cput { key, tests, sets } => {
+            key_fits(key)
+                && assigns_fit(space, tests.as_slice())
+                && assigns_fit(space, sets.as_slice())
+                && !tests.is_empty()
+                && !sets.is_empty()
+        }
+        Op::Search { terms } => terms_fit(space, terms.as_slice()),
+        Op::Stop { server } => is_server_of(space, *server),
+        Op::Add { server, region } => {
+            is_server_of(space, *server) && is_region_of(space, *region)
+        }
+    }
+}
+
+fn key_fits(key: &Text) -> bool
+    ensures { IsTrue result ↔ KeyFits key.now }
+{
+    key.len() <= LONGEST_TEXT
+}
+
+fn is_server_of(space: &Space, server: ServerId) -> bool
+    ensures { IsTrue result ↔ IsServerOf space.now server }
+{
+    0 < server.0 && server.0 <= space.servers
+}
+
+fn is_region_of(space: &Space, region: RegionId) -> bool
+    requires { IsSpace space.now }
+    ensures { IsTrue result ↔ IsRegionOf space.now region }
+{
+    region.0 < count_regions(space)
+}
+
+fn is_of_kind(kind: Kind, value: &Value) -> bool
+    ensures { IsTrue result ↔ IsOfKind kind value.now }
+{
+    match (kind, value) {
+        (Kind::Text, Value::Text(text)) => text.len() <= LONGEST_TEXT,
+        (Kind::Int { .. }, Value::Int(_)) => true,
+        _ => false,
+    }
+}
+
+fn assign_fits(space: &Space, assign: &Assign) -> bool
+    ensures { IsTrue result ↔ AssignFits space.now assign.now }
+{
+    if assign.attribute == 0 {
+        return false;
+    }
+    match space.attributes.get(assign.attribute as usize - 1) {
+        Some(declared) => is_of_kind(declared.kind, &assign.value),
+        None => false,
+    }
+}
+
+fn assigns_fit(space: &Space, assigns: &[Assign]) -> bool
+    ensures { IsTrue result ↔ AssignsFit space.now assigns.now }
+{
+    assigns.iter().all(|assign| assign_fits(space, assign)) && assigned_once(assigns)
+}
+
+/// Whether no attribute stands twice.
+fn assigned_once(assigns: &[Assign]) -> bool
+    ensures { IsTrue result ↔ AllDiffer (map (λ (a : Assign). a.attribute) assigns.now) }
+{
+    match assigns.split_first() {
+        None => true,
+        Some((first, rest)) => lacks_assign(rest, first.attribute) && assigned_once(rest),
+    }
+}
+
+fn lacks_assign(assigns: &[Assign], attribute: u32) -> bool
+    ensures { IsTrue result ↔ All (λ (a : Assign). a.attribute ≢ attribute) assigns.now }
+{
+    assigns.iter().all(|assign| assign.attribute != attribute)
+}
+
+fn terms_fit(space: &Space, terms: &[Term]) -> bool
+    ensures { IsTrue result ↔ TermsFit space.now terms.now }
+{
+    terms.iter().all(|term| term_fits(space, term)) && asked_once(terms)
+}
+
+fn term_fits(space: &Space, term: &Term) -> bool
+    ensures { IsTrue result ↔ TermFits space.now term.now }
+{
+    match term {
+        Term::Equal { attribute, value } => {
+            is_attribute(space, *attribute) && is_of_kind(kind_of(space, *attribute), value)
+        }
+        Term::Range { attribute, lo, hi } => {
+            is_attribute(space, *attribute) && is_int_kind(kind_of(space, *attribute)) && *lo <= *hi
+        }
+    }
+}
+
+fn is_attribute(space: &Space, attribute: u32) -> bool
+    ensures { IsTrue result ↔ IsAttribute space.now attribute }
+{
+    attribute as usize <= space.attributes.len()
+}
+
+fn is_int_kind(kind: Kind) -> bool
+    ensures { IsTrue result ↔ IsIntKind kind }
+{
+    match kind {
+        Kind::Text => false,
+        Kind::Int { .. } => true,
+    }
+}
+
+/// The kind of an attribute: text for the key and for one that isn't declared.
+fn kind_of(space: &Space, attribute: u32) -> Kind
+    ensures { result ≡ kind_at space.now attribute }
+{
+    if attribute == 0 {
+        return Kind::Text;
+    }
+    match space.attributes.get(attribute as usize - 1) {
+        Some(declared) => declared.kind,
+        None => Kind::Text,
+    }
+}
+
+/// Whether nothing is asked twice of an attribute.
+fn asked_once(terms: &[Term]) -> bool
+    ensures { IsTrue result ↔ AllDiffer (map attribute_of terms.now) }
+{
+    match terms.split_first() {
+        None => true,
+        Some((first, rest)) => lacks_term(rest, attribute_of(first)) && asked_once(rest),
+    }
+}
+
+fn lacks_term(terms: &[Term], attribute: u32) -> bool
+    ensures { IsTrue result ↔ All (λ (t : Term). attribute_of t ≢ attribute) terms.now }
+{
+    terms.iter().all(|term| attribute_of(term) != attribute)
+}
+
+fn attribute_of(term: &Term) -> u32
+    ensures { result ≡ attribute_of term.now }
+{
+    match term {
+        Term::Equal { attribute, .. } | Term::Range { attribute, .. } => *attribute,
+    }
+}
