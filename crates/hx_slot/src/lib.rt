@@ -1,0 +1,6 @@
+//! Stub.
+#![tactic(auto)]
+
+mod slots;
+
+pub use slots::Slot;
