@@ -1,0 +1,108 @@
+ghost use Rattle.std.specs.Prelude.{◌≡◌, ◌<◌, ◌++◌, map, IfOk, OnOk, IsTrue};
+ghost use Rattle.std.specs.List.{flat_map};
+ghost use Rattle.std.specs.Option.{option_copied, option_map};
+ghost use Rattle.hx_chain.specs.Crossing.{crossed, place_for, places_in};
+ghost use Rattle.hx_model.specs.Places.{declared_subspaces, places_of};
+ghost use Rattle.hx_model.specs.Regions.{place_of};
+ghost use Rattle.hx_model.specs.Slots.{top_of, touches_of};
+ghost use Rattle.hx_region.specs.Spans.{subspace_count};
+
+use hx_region::RegionMap;
+use hx_slot::Slot;
+use hx_types::{Memory, Object, Place, Places, RegionId, Text};
+use std::alloc::Global;
+
+/// The places through which an update of a key goes from one object to another, in the order of
+/// its chain (HyperDex's value-dependent chaining).
+///
+/// The key region comes first. Where the update changes, each declared subspace follows in order
+/// with the region of the old object and after it that of the new one if it differs; an absent
+/// object has no region. An update goes to the new region last, so that a search finds the old
+/// object until the new one is there. A place's `after` is the slot's last version with a place in
+/// that region (0 for none), in the key region its top; `keeps` is whether the new object lies
+/// there. The order within a subspace, `after` and `keeps` are this project's choice.
+pub fn places(
+    alloc: Global,
+    map: &RegionMap,
+    key: &Text,
+    old: Option<&Object>,
+    new: Option<&Object>,
+    changes: bool,
+    slot: &Slot,
+) -> Result<Places, Memory>
+    requires marks { IsTrue slot.now.state.marks }
+    ensures { IfOk result (λ places. places ≡ places_of map.now key.now (option_copied old.entry) (option_copied new.entry) changes (top_of slot.now.state) (touches_of slot.now.state)) }
+{
+    let mut places = Places::new(alloc);
+    places.push(Place {
+        region: map.of_key(key),
+        after: slot.top(),
+        keeps: new.is_some(),
+    })?;
+    if changes {
+        add_declared(&mut places, map, key, old, new, slot)?;
+    }
+    Ok(places)
+}
+
+/// Adds the places in the declared subspaces, one subspace after another.
+fn add_declared(
+    places: &mut Places,
+    map: &RegionMap,
+    key: &Text,
+    old: Option<&Object>,
+    new: Option<&Object>,
+    slot: &Slot,
+) -> Result<(), Memory>
+    requires marks { IsTrue slot.now.state.marks }
+    ensures { OnOk result (places.new ≡ places.old ++ flat_map (places_in map.now key.now (option_copied old.entry) (option_copied new.entry) (touches_of slot.now.state)) (declared_subspaces map.now)) }
+{
+    for s in 1..map.subspaces() {
+        let before = region_of(map, s, key, old);
+        let after = region_of(map, s, key, new);
+        add_between(places, before, after, slot)?;
+    }
+    Ok(())
+}
+
+/// The region of an object in a subspace: none where it is absent.
+fn region_of(map: &RegionMap, s: u32, key: &Text, object: Option<&Object>) -> Option<RegionId>
+    requires { s < subspace_count map.now }
+    ensures { result ≡ option_map (place_of map.now s key.now) (option_copied object.entry) }
+{
+    match object {
+        Some(object) => Some(map.of_object(s, key, object)),
+        None => None,
+    }
+}
+
+/// Adds the region before an update, and after it the one after the update if it differs.
+fn add_between(
+    places: &mut Places,
+    before: Option<RegionId>,
+    after: Option<RegionId>,
+    slot: &Slot,
+) -> Result<(), Memory>
+    requires marks { IsTrue slot.now.state.marks }
+    ensures { OnOk result (places.new ≡ places.old ++ map (place_for after (touches_of slot.now.state)) (crossed before after)) }
+{
+    if let Some(region) = before {
+        places.push(place_in(region, after, slot))?;
+    }
+    if let Some(region) = after && before != after {
+        places.push(place_in(region, after, slot))?;
+    }
+    Ok(())
+}
+
+/// The place in a region of an update whose new object lies in such a region.
+fn place_in(region: RegionId, kept: Option<RegionId>, slot: &Slot) -> Place
+    requires marks { IsTrue slot.now.state.marks }
+    ensures { result ≡ place_for kept (touches_of slot.now.state) region }
+{
+    Place {
+        region,
+        after: slot.touched(region),
+        keeps: kept == Some(region),
+    }
+}
