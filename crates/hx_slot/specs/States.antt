@@ -1,7 +1,14 @@
 -- What contracts see of a slot.
-use Rattle.std.specs.Prelude.{ℕ, ◌<◌, length}
+use Rattle.std.specs.Prelude.{ℕ, ◌<◌, length, List, Option}
+use Rattle.std.specs.Borrow.{Bor}
+use Rattle.std.specs.Option.{option_map}
+use Rattle.hx_types.specs.declared.calls.Answer.{Answer}
+use Rattle.hx_types.specs.declared.calls.Row.{Row}
 use Rattle.hx_types.specs.declared.names.RegionId.{RegionId}
+use Rattle.hx_types.specs.declared.names.Version.{Version}
+use Rattle.hx_types.specs.declared.snapshots.Mark.{Mark}
 use Rattle.hx_types.specs.declared.updates.Update.{Update}
+use Rattle.hx_types.specs.declared.values.Value.{Value}
 use Rattle.hx_model.specs.Neighbours.{place_number}
 use Rattle.hx_model.specs.Slots.{KeyState}
 
@@ -14,3 +21,18 @@ pub record SlotState : Type 0 where
 -- the update has a place in the region
 abbrev pub IsPlacedIn : RegionId → Update → Type 0
 IsPlacedIn g u = place_number g u.places < length u.places
+
+-- a row without its key
+abbrev pub object_at : Option Row → Option (Version × List Value)
+object_at row = option_map (λ (r : Row). (r.version, r.object)) row
+
+-- a mark without its session
+abbrev pub call_at : Option Mark → Option (ℕ × Version × Answer)
+call_at mark = option_map (λ (m : Mark). (m.number, m.version, m.answer)) mark
+
+-- what is lent of them
+abbrev pub object_seen : Option (Version × Bor (List Value)) → Option (Version × List Value)
+object_seen lent = option_map (λ (o : Version × Bor (List Value)). (o.0, o.1.now)) lent
+
+abbrev pub call_seen : Option (ℕ × Version × Bor Answer) → Option (ℕ × Version × Answer)
+call_seen lent = option_map (λ (c : ℕ × Version × Bor Answer). (c.0, c.1, c.2.now)) lent

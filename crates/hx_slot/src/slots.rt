@@ -1,12 +1,15 @@
-ghost use Rattle.std.specs.Prelude.{◌≡◌, ◌<◌, ◌≤◌, ◌+◌, IfOk, OnOk, length, slice_get, true};
-ghost use Rattle.std.specs.Option.{option_copied};
-ghost use Rattle.std.specs.List.{list_any, find};
-ghost use Rattle.hx_model.specs.Neighbours.{place_number};
-ghost use Rattle.hx_model.specs.Slots.{acknowledged, ack_answer, follows, is_pending, moved, moved_all, new_state, offer_answer, offered, pending_of, settled, top_of, Acknowledge};
-ghost use Rattle.std.specs.List.{All};
+ghost use Rattle.std.specs.Prelude.{◌≡◌, ◌<◌, ◌≤◌, ◌+◌, ◌==◌, length, slice_get, true, IsTrue, IfOk, OnOk, IfSome, [], None};
+ghost use Rattle.std.specs.List.{All, list_any, find};
 ghost use Rattle.hx_types.specs.declared.updates.Place.{Place};
+ghost use Rattle.hx_types.specs.declared.updates.Update.{Update as Updated};
+ghost use Rattle.hx_model.specs.Neighbours.{place_number};
+ghost use Rattle.hx_model.specs.Slots.{acknowledged, ack_answer, follows, is_pending, moved, moved_all, object_of, offer_answer, offered, settled, Acknowledge};
+ghost use Rattle.std.specs.Option.{option_copied};
+ghost use Rattle.hx_model.specs.Slots.{latest_of, mark_among, mark_of, new_state, pending_of, top_of, touches_of};
+ghost use Rattle.hx_model.specs.Places.{touched_in};
+ghost use Rattle.hx_slot.specs.States.{IsPlacedIn, call_at, call_seen, object_at, object_seen};
 
-use hx_types::{Acked, Memory, Offer, RegionId, Text, Update, Version};
+use hx_types::{Acked, Offer, Answer, Kept, Mark, Marks, Memory, Object, RegionId, SessionId, Text, Touch, Touches, Update, Version};
 use std::alloc::Global;
 use std::marker::Model;
 
@@ -18,16 +21,16 @@ pub struct Slot {
     never: Never,
     region: RegionId,
     marks: bool,
-    key: Text,
+    kept: Kept,
 }
 
 impl Model for Slot {
-    ghost use Rattle.hx_model.specs.Slots.{new_state};
     ghost use Rattle.hx_slot.specs.States.{SlotState};
+    ghost use Rattle.hx_model.specs.Slots.{state_of_kept};
 
     ghost Value = { SlotState };
 
-    ghost view = { λ s. record { region = s.region; state = new_state s.marks s.key; spare = 0 } };
+    ghost view = { λ s. record { region = s.region; state = state_of_kept s.marks s.kept; spare = 0 } };
 }
 
 impl Slot {
@@ -86,5 +89,104 @@ impl Slot {
         ensures spare { self.old.spare ≤ self.new.spare }
     {
         match self.never {}
+    }
+
+    pub fn object(&self) -> Option<(Version, &Object)>
+        ensures object { object_seen result ≡ object_at (object_of self.now.region self.now.state) }
+    {
+        match self.never {}
+    }
+
+    pub fn early_count(&self) -> u32
+        ensures { result ≡ length self.now.state.early }
+    {
+        match self.never {}
+    }
+
+    pub fn turn(&self, top: Version) -> Option<&Update>
+        ensures turn { option_copied result ≡ find (follows self.now.region top.0) self.now.state.early }
+        ensures later { IfSome (option_copied result) (λ (u : Updated). top.0 < u.version.0) }
+        ensures placed { IfSome (option_copied result) (IsPlacedIn self.now.region) }
+        ensures few { IfSome (option_copied result) (λ (u : Updated). length u.places ≤ 17) }
+    {
+        match self.never {}
+    }
+
+    pub fn is_acknowledged(&self, version: Version) -> bool
+        ensures { result ≡ list_any (λ v. v == version.0) self.now.state.acked }
+    {
+        match self.never {}
+    }
+
+    pub fn key(&self) -> &Text
+        ensures { result.now ≡ self.now.state.base.key }
+    {
+        &self.kept.key
+    }
+
+    pub fn keeps_marks(&self) -> bool
+        ensures { result ≡ self.now.state.marks }
+    {
+        self.marks
+    }
+
+    pub fn floor(&self) -> Version
+        ensures floor { result.0 ≡ self.now.state.floor }
+        ensures below { result.0 ≤ top_of self.now.state }
+    {
+        self.kept.floor
+    }
+
+    pub fn top(&self) -> Version
+        ensures top { result.0 ≡ top_of self.now.state }
+        ensures above { self.now.state.floor ≤ result.0 }
+    {
+        self.kept.floor
+    }
+
+    pub fn latest(&self) -> Option<&Object>
+        ensures { option_copied result ≡ latest_of self.now.region self.now.state }
+    {
+        match &self.kept.object {
+            Some(row) => Some(&row.object),
+            None => None,
+        }
+    }
+
+    pub fn touched(&self, region: RegionId) -> Version
+        requires { IsTrue self.now.state.marks }
+        ensures { result.0 ≡ touched_in region (touches_of self.now.state) }
+    {
+        match self.never {}
+    }
+
+    pub fn mark(&self, session: SessionId) -> Option<(u32, Version, &Answer)>
+        requires { IsTrue self.now.state.marks }
+        ensures { call_seen result ≡ call_at (mark_of session self.now.state) }
+    {
+        match self.never {}
+    }
+
+    pub fn pending_count(&self) -> u32
+        ensures { result ≡ length (pending_of self.now.state) }
+    {
+        let _region = self.region;
+        0
+    }
+
+    pub fn region(&self) -> RegionId
+        ensures { result ≡ self.now.region }
+    {
+        self.region
+    }
+
+    pub fn pending(&self, i: u32) -> Option<&Update>
+        ensures pending { option_copied result ≡ slice_get (pending_of self.now.state) i }
+        ensures place { IfSome (option_copied result) (IsPlacedIn self.now.region) }
+        ensures few { IfSome (option_copied result) (λ (u : Updated). length u.places ≤ 17) }
+    {
+        let _i = i;
+        let _region = self.region;
+        None
     }
 }
