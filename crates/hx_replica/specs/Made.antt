@@ -1,5 +1,5 @@
 -- What a step makes of one slot: its posts and notes, and the change by which the slot makes the step's moves.
-use Rattle.std.specs.Prelude.{◌≡◌, ℕ, ◌<◌, ◌≤◌, ◌==◌, ◌||◌, Bool, ⊤, List, [], ◌∷◌, ◌++◌, length, take}
+use Rattle.std.specs.Prelude.{◌≡◌, ℕ, ◌<◌, ◌≤◌, ◌==◌, ◌||◌, Bool, true, ⊤, ◌^◌, IsSome, List, [], ◌∷◌, ◌++◌, length, take}
 use Rattle.std.specs.Borrow.{Bor}
 use Rattle.std.specs.List.{All, flat_map, list_any, prefix_len}
 use Rattle.hx_types.specs.declared.calls.Caller.{Caller}
@@ -13,7 +13,9 @@ use Rattle.hx_types.specs.declared.updates.Place.{Place}
 use Rattle.hx_types.specs.declared.updates.Update.{Update}
 use Rattle.hx_types.specs.declared.messages.Message.TheVariants as a_message
 use Rattle.hx_types.specs.declared.names.Actor.TheVariants.{Coordinator, Server, Session}
+use Rattle.hx_types.specs.declared.spaces.Space.{Space}
 use Rattle.hx_types.specs.Effects.{key_of}
+use Rattle.hx_model.specs.Regions.{key_region}
 use Rattle.hx_types.specs.Words.{provided, when_some}
 use Rattle.hx_model.specs.ServerSteps.{SlotStep, Spot as ModelSpot, accepting, ack_step, by_posts, call_step, end_marks, move_posts, next_at, passed_on, prev_at, told_to, update_step}
 use Rattle.hx_model.specs.Neighbours.{is_end}
@@ -112,3 +114,17 @@ pub record IsAccepted (spot : ModelSpot) (s : KeyState) (u : Update) (posts : Li
   pub posts_are : posts ≡ flat_map (move_posts spot) (accepting spot s (offered spot.region s u))
   pub ends_are : acknowledging ends ≡ end_marks spot (taken (offered spot.region s u))
   pub pending : ArePending (moved_all (offered spot.region s u) s) ends
+
+abbrev pub IsSessionActor : Actor → Type 0
+IsSessionActor Coordinator = ⊥
+IsSessionActor (Server s) = ⊥
+IsSessionActor (Session u) = ⊤
+
+-- what a slot of a region is asked: a call by a session on its key at a key region where it keeps marks, an update with a place there, or an acknowledgement
+abbrev pub IsSlotInput : Space → RegionId → KeyState → Actor → Message → Type 0
+IsSlotInput space g s from (a_message.Call epoch number op) =
+    IsSessionActor from × IsSome (key_of op) × (s.marks ≡ true) × (g ≡ key_region space s.base.key) × (s.base.key ≡ key_in (a_message.Call epoch number op)) × (top_of s ≤ 2 ^ 62)
+IsSlotInput space g s from (a_message.Update epoch h u) =
+    IsPlacedIn g u × (length u.places ≤ 17) × All (λ (p : Place). p.after.0 < u.version.0) u.places
+IsSlotInput space g s from (a_message.Ack epoch h key version) = ⊤
+IsSlotInput space g s from other = ⊥
