@@ -1,1 +1,3 @@
 pub mod Placed
+pub mod Finding
+pub mod Starting

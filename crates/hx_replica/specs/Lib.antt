@@ -1,3 +1,6 @@
-pub mod Servers
 pub mod Made
+pub mod Replicas
+pub mod Hearing
+pub mod Servers
+pub mod Inside
 pub mod Plans

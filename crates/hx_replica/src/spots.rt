@@ -15,6 +15,7 @@ use hx_types::{
 use std::alloc::Global;
 
 /// Where a slot stands: at a server's replica of a region, in a configuration.
+#[derive(Drop)]
 pub struct Spot<'a> {
     pub space: &'a Space,
     pub map: &'a RegionMap,
