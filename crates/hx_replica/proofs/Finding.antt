@@ -19,7 +19,7 @@ abbrev number_of : Replica → ℕ
 number_of r = r.region.0
 
 -- what is above the first region
-higher : (r : Replica) (rest : List Replica) (j : ℕ) (d : Replica) → AscendByRegion (r ∷ rest) → j < length rest → r.region.0 < (get_or rest j d).region.0
+pub higher : (r : Replica) (rest : List Replica) (j : ℕ) (d : Replica) → AscendByRegion (r ∷ rest) → j < length rest → r.region.0 < (get_or rest j d).region.0
 higher r rest j d h l =
     let e = get_or-map number_of rest j d 0 l in
     let n = length-map rest number_of in

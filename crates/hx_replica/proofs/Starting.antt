@@ -13,7 +13,7 @@ use Rattle.hx_types.specs.Spaces.{IsAscending}
 use Rattle.hx_types.specs.Subspaces.{region_count}
 use Rattle.hx_types.specs.Words.{below}
 use Rattle.hx_types.proofs.Counting.{map_below_next}
-use Rattle.hx_model.specs.ServerSteps.{Replica as ReplicaState, listed_regions}
+use Rattle.hx_model.specs.ServerSteps.{Replica as ReplicaState, ServerState, listed_regions, server_at_start}
 use Rattle.hx_replica.specs.declared.replicas.Replica.{Replica}
 use Rattle.hx_replica.specs.Replicas.{AreReplicas, AscendByRegion, IsReplicaIn, first_replica, views_of}
 
@@ -97,3 +97,11 @@ length_below (suc n) = length_push (below n) n ∙ ap (λ (k : ℕ). k + 1) (len
 -- the first configuration has a list for each region
 pub first_count : (space : Space) → region_count space ≡ length (first_config space).regions
 first_count space = sym (length-map (below (region_count space)) _ ∙ length_below (region_count space))
+
+-- the server's state at the start
+pub first_state : (space : Space) (s : ServerId) (config : Config) (rs : List Replica) → config ≡ first_config space → rs ≡ map (first_replica space) (listed_regions config s)
+    → record { id = s; config = config; sealed = false; halted = false; replicas = views_of rs } ≡ server_at_start space s
+first_state space s config rs c r =
+    let with_views : List ReplicaState → ServerState = λ views. record { id = s; config = config; sealed = false; halted = false; replicas = views } in
+    let at_start : Config → ServerState = λ k. record { id = s; config = k; sealed = false; halted = false; replicas = map (λ (g : RegionId). record { region = g; installed = true; states = [] }) (listed_regions k s) } in
+    ap with_views (ap views_of r ∙ first_views space (listed_regions config s)) ∙ ap at_start c
