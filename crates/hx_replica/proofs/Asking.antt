@@ -1,5 +1,5 @@
 -- What a server asks of a slot when it takes a message.
-use Rattle.std.proofs.Common.{◌≡◌, ℕ, suc, ◌+◌, ◌<◌, ◌≤◌, ◌^◌, Bool, true, false, not, ◌&&◌, cond, List, [], ◌∷◌, length, Option, None, Some, refl, ap, sym, ◌∙◌, subst, arith, inl, inr}
+use Rattle.std.proofs.Common.{◌≡◌, ℕ, suc, ◌+◌, ◌<◌, ◌≤◌, ◌^◌, Bool, true, false, not, ◌&&◌, ◌||◌, cond, List, [], ◌∷◌, length, Option, None, Some, refl, ap, sym, ◌∙◌, subst, arith, inl, inr}
 use Rattle.std.specs.Prelude.{IsSome}
 use Rattle.std.specs.List.{AllByRecursion, slice_get}
 use Rattle.std.specs.Option.{option_map}
@@ -60,16 +60,17 @@ state_small marks key (s ∷ rest) h =
 
 found_in_list : (g : RegionId) (rs : List Replica) (r : Replica) → replica_of g rs ≡ Some r → IsIn r rs
 found_in_list g [] r e = absurd cc
-found_in_list g (x ∷ rest) r =
+found_in_list g (x ∷ rest) r e =
     cond_both (same_region x.region g) (Some x) (replica_of g rest) (λ (o : Option Replica). o ≡ Some r → IsIn r (x ∷ rest))
-    (λ t e. inl (sym (same_Some x r e)))
-    (λ t e. inr (found_in_list g rest r e))
+    (λ t k. inl (sym (same_Some x r k)))
+    (λ t k. inr (found_in_list g rest r k))
+    e
 
 pub placed : (g : RegionId) (places : List Place) → has_place_in g places ≡ true → place_number g places < length places
 placed g [] e = absurd (false≢true e)
 placed g (p ∷ rest) e = by (same_region p.region g) (placed g rest) e
   where
-    by : (t : Bool) → (has_place_in g rest ≡ true → place_number g rest < length rest) → cond t true (has_place_in g rest) ≡ true → cond t 0 (place_number g rest + 1) < suc (length rest)
+    by : (t : Bool) → (has_place_in g rest ≡ true → place_number g rest < length rest) → (t || has_place_in g rest) ≡ true → cond t 0 (place_number g rest + 1) < suc (length rest)
     by true more e = omega arith
     by false more e = let h = more e in omega (arith, h)
 

@@ -29,10 +29,11 @@ same_number a b e = let f : ℕ → RegionId = λ n. record { 0 = n } in ap f (e
 -- the replica that is found of a region is the region's
 pub found_region : (g : RegionId) (rs : List Replica) (r : Replica) → replica_of g rs ≡ Some r → r.region ≡ g
 found_region g [] r e = absurd cc
-found_region g (x ∷ rest) r =
+found_region g (x ∷ rest) r e =
     cond_both (same_region x.region g) (Some x) (replica_of g rest) (λ (o : Option Replica). o ≡ Some r → r.region ≡ g)
-    (λ t e. ap (λ (y : Replica). y.region) (sym (same_Some x r e)) ∙ same_number x.region g t)
-    (λ t e. found_region g rest r e)
+    (λ t k. ap (λ (y : Replica). y.region) (sym (same_Some x r k)) ∙ same_number x.region g t)
+    (λ t k. found_region g rest r k)
+    e
 
 unless_some : (b : Bool) (o : Option Replica) (r : Replica) → cond b None o ≡ Some r → o ≡ Some r
 unless_some true o r e = absurd cc
