@@ -1,9 +1,11 @@
-ghost use Rattle.std.specs.Prelude.{◌≡◌, ◌<◌, ◌≤◌, IfOk, IfNone, IfSome, OnOk, Some, slice_get};
+ghost use Rattle.std.specs.Prelude.{◌≡◌, ◌<◌, ◌≤◌, IfOk, IfNone, IfSome, IsSomeAnd, OnOk, Some, None, slice_get};
 ghost use Rattle.std.specs.Option.{option_map};
 ghost use Rattle.hx_types.specs.Effects.{key_of};
 ghost use Rattle.hx_types.specs.Spaces.{IsServerOf, IsSpace};
+ghost use Rattle.hx_types.specs.Subspaces.{is_key_region};
 ghost use Rattle.hx_types.specs.Words.{when_some};
-ghost use Rattle.hx_model.specs.ServerSteps.{hearing, if_installed, server_at_start, server_step};
+ghost use Rattle.hx_model.specs.ServerSteps.{Replica as ReplicaState, hearing, if_installed, replica_of, server_at_start, server_step, state_in};
+ghost use Rattle.hx_model.specs.Slots.{new_state};
 ghost use Rattle.hx_replica.specs.Hearing.{heard, leading};
 ghost use Rattle.hx_store.specs.Stores.{HasRoom, state_at};
 ghost use Rattle.hx_replica.specs.Made.{IsMade, IsSlotInput, key_in, slot_step_of, spot_seen};
@@ -16,6 +18,7 @@ use crate::replicas::{Replica, change_slot, first_replicas, place_of};
 use crate::rows::step_slot;
 use crate::spots::Spot;
 use hx_region::RegionMap;
+use hx_slot::Slot;
 use hx_store::Store;
 use hx_types::{
     Actor, Config, Entry, Epoch, Exact, Input, Memory, Message, Op, RegionId, ServerId, Space,
@@ -121,6 +124,24 @@ impl Server {
             change_slot(&mut replica.store, &key, change);
         }
         entry
+    }
+
+    /// Whether the server has halted.
+    pub fn halted(&self) -> bool
+        ensures { result ≡ self.now.state.halted }
+    {
+        self.halted
+    }
+
+    /// The slot of a key at the server's replica of a region. There is none where there is no such
+    /// replica, and there may be none where the slot is as an empty one.
+    pub fn slot(&self, region: RegionId, key: &Text) -> Option<&Slot>
+        ensures state { IfSome result (λ slot. IsSomeAnd (replica_of region self.now.state.replicas) (λ (r : ReplicaState). slot.now.state ≡ state_in self.now.space r key.now)) }
+        ensures region { IfSome result (λ slot. slot.now.region ≡ region) }
+        ensures none { IfNone result (IfSome (replica_of region self.now.state.replicas) (λ (r : ReplicaState). state_in self.now.space r key.now ≡ new_state (is_key_region self.now.space region) key.now)) }
+    {
+        let replica = place_of(self.replicas.as_slice(), region)?;
+        self.replicas[replica].store.slot(key)
     }
 
     /// The replica that hears a message on a key, if one does.
