@@ -1,16 +1,18 @@
 -- What contracts see of a server in which one replica's store was put in place of another.
-use Rattle.std.proofs.Common.{◌≡◌, ℕ, ◌<◌, ◌≤◌, List, [], ◌∷◌, length, map, get_or, set, Option, Some, Result, Ok, Err, refl, ap, sym, ◌∙◌, subst, IfOk, OnOk, arith}
-use Rattle.std.specs.Prelude.{IsSomeAnd}
+use Rattle.std.proofs.Common.{◌≡◌, ℕ, ◌<◌, ◌≤◌, List, [], ◌∷◌, length, map, get_or, set, Option, None, Some, Result, Ok, Err, refl, ap, sym, ◌∙◌, subst, IfOk, OnOk, arith}
+use Rattle.std.specs.Prelude.{Bool, IfNone, IfSome, IsSomeAnd}
 use Rattle.std.specs.List.{AllByRecursion, slice_get}
+use Rattle.std.specs.Option.{option_map}
 use Rattle.std.proofs.lemmas.List.{get_or-map, length-map}
 use Rattle.std.proofs.lemmas.Option.{same_Some, slice_get-get_or, slice_get_within}
 use Rattle.hx_types.specs.declared.messages.Message.{Message}
 use Rattle.hx_types.specs.declared.names.Actor.{Actor}
+use Rattle.hx_types.specs.declared.names.RegionId.{RegionId}
 use Rattle.hx_types.specs.declared.spaces.Space.{Space}
 use Rattle.hx_types.specs.declared.traces.Input.{Input}
 use Rattle.hx_types.specs.Subspaces.{is_key_region}
-use Rattle.hx_model.specs.ServerSteps.{Replica as ReplicaState, ServerState, server_step, spot_of, state_in}
-use Rattle.hx_model.specs.Slots.{KeyState}
+use Rattle.hx_model.specs.ServerSteps.{Replica as ReplicaState, ServerState, replica_of, server_step, state_in}
+use Rattle.hx_model.specs.Slots.{KeyState, new_state, state_among}
 use Rattle.hx_store.specs.Stores.{HasRoom, Room, StoreState, after_moves, room_in, state_at}
 use Rattle.hx_replica.specs.declared.made.SlotChange.{SlotChange}
 use Rattle.hx_replica.specs.declared.made.SlotMade.{SlotMade}
@@ -25,6 +27,8 @@ use Rattle.hx_replica.specs.Replicas.{IsReplicaIn, rooms_of, view_of, views_of}
 use Rattle.hx_replica.specs.Servers.{ServerValue}
 use Rattle.hx_replica.proofs.Asking.{AreMarked}
 use Rattle.hx_replica.proofs.Changing.{below_views, changed_views, put, put_there, replica_at, state_is, view_at}
+use Rattle.hx_replica.proofs.Hearing.{found_region}
+use Rattle.hx_replica.proofs.Planning.{found_there}
 
 -- the server's slots keep marks at key regions
 pub marked_inside : (i : Inside) (v : ServerValue) → value_of i ≡ v → IsServer i → AreMarked v
@@ -101,3 +105,38 @@ changed_state i v input place key slot y store seen is h l at states =
 -- the place is one of a replica
 pub change_within : (i : Inside) (v : ServerValue) (input : Input) (place : ℕ) (key : List ℕ) (slot : SlotChange) → value_of i ≡ v → IsChangeOn v input place key slot → place < length i.replicas.items
 change_within i v input place key slot seen h = within i v place seen (slice_get_within v.state.replicas place h.replica h.found)
+
+-- the replica that was found of a region, and its store
+pub record IsHere (i : Inside) (v : ServerValue) (g : RegionId) (y : Replica) : Type 0 where
+  pub found : replica_of g v.state.replicas ≡ Some (view_of y)
+  pub region : y.store.region ≡ g
+  pub state : (key : List ℕ) → state_at y.store key ≡ state_in v.space (view_of y) key
+  pub empty : (key : List ℕ) → new_state y.store.marks key ≡ new_state (is_key_region v.space g) key
+
+pub is_here : (i : Inside) (v : ServerValue) (g : RegionId) (place : ℕ) (y : Replica) → value_of i ≡ v → IsServer i → y ≡ get_or i.replicas.items place y
+    → Some (slice_get (views_of i.replicas.items) place) ≡ option_map (λ (r : ReplicaState). Some r) (replica_of g (views_of i.replicas.items)) → IsHere i v g y
+is_here i v g place y seen is at found =
+    let rs = i.replicas.items in
+    let there = found_there (views_of rs) place (replica_of g (views_of rs)) found in
+    let l : place < length rs = below_views rs place there.replica there.at_place in
+    let same : view_of y ≡ there.replica = ap view_of at ∙ view_at rs place y there.replica there.at_place in
+    let holds : IsReplicaIn i.space y = subst (IsReplicaIn i.space) (sym at) (replica_at i.space rs place y is.replicas_are.each l) in
+    let region : y.region ≡ g = ap (λ (r : ReplicaState). r.region) same ∙ found_region g (views_of rs) there.replica there.is in
+    let space : i.space ≡ v.space = ap (λ (x : ServerValue). x.space) seen in
+    let marks : y.store.marks ≡ is_key_region v.space y.region = holds.marks ∙ ap (λ (x : Space). is_key_region x y.region) space in
+    record {
+      found = ap (λ (x : ServerValue). replica_of g x.state.replicas) (sym seen) ∙ there.is ∙ ap (λ (r : ReplicaState). Some r) (sym same);
+      region = holds.region ∙ region;
+      state = λ key. ap (λ (b : Bool). state_among b key y.store.states) marks;
+      empty = λ key. ap (λ (b : Bool). new_state b key) (marks ∙ ap (is_key_region v.space) region);
+    }
+
+pub at_some : {A : Type 0} (P : A → Type 0) (o : Option A) (x : A) → o ≡ Some x → P x → IsSomeAnd o P
+at_some P o x e p = subst (λ (z : Option _). IsSomeAnd z P) (sym e) p
+
+pub if_none_then : {A P Q : Type 0} (o : Option A) → (P → Q) → IfNone o P → IfNone o Q
+if_none_then None f p = f p
+if_none_then (Some x) f p = tt
+
+pub if_there : {A : Type 0} (P : A → Type 0) (o : Option A) (x : A) → o ≡ Some x → P x → IfSome o P
+if_there P o x e p = subst (λ (z : Option _). IfSome z P) (sym e) p
