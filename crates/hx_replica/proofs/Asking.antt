@@ -1,6 +1,5 @@
 -- What a server asks of a slot when it takes a message.
 use Rattle.std.proofs.Common.{◌≡◌, ℕ, suc, ◌+◌, ◌<◌, ◌≤◌, ◌^◌, Bool, true, false, not, ◌&&◌, ◌||◌, cond, List, [], ◌∷◌, length, Option, None, Some, refl, ap, sym, ◌∙◌, subst, arith, inl, inr}
-use Rattle.std.specs.Prelude.{IsSome}
 use Rattle.std.specs.List.{AllByRecursion, slice_get}
 use Rattle.std.specs.Option.{option_map}
 use Rattle.std.proofs.lemmas.Bool.{and_parts, cond_both, false≢true}
@@ -17,7 +16,7 @@ use Rattle.hx_types.specs.declared.updates.Place.{Place}
 use Rattle.hx_types.specs.declared.messages.Message.TheVariants as a_message
 use Rattle.hx_types.specs.declared.names.Actor.TheVariants.{Coordinator, Server, Session}
 use Rattle.hx_types.specs.declared.traces.Input.TheVariants.{Deliver}
-use Rattle.hx_types.specs.Configs.{is_lost, leads}
+use Rattle.hx_types.specs.Configs.{is_lost}
 use Rattle.hx_types.specs.Effects.{key_of}
 use Rattle.hx_types.specs.Posts.{goes_between, has_place_in}
 use Rattle.hx_types.specs.Subspaces.{is_key_region}
@@ -26,7 +25,7 @@ use Rattle.hx_model.proofs.States.{eq_of_same_text}
 use Rattle.hx_model.specs.Neighbours.{place_number}
 use Rattle.hx_model.specs.Regions.{key_region}
 use Rattle.hx_model.specs.ServerSteps.{Replica, ServerState, hearing, replica_of, state_in}
-use Rattle.hx_model.specs.Slots.{KeyState, new_state, state_among, top_of}
+use Rattle.hx_model.specs.Slots.{KeyState, state_among, top_of}
 use Rattle.hx_slot.specs.States.{IsPlacedIn}
 use Rattle.hx_replica.specs.Hearing.{heard, leading}
 use Rattle.hx_replica.specs.Made.{IsSessionActor, IsSlotInput, key_in}

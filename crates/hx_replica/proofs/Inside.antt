@@ -1,5 +1,5 @@
 -- What contracts see of a server in which one replica's store was put in place of another.
-use Rattle.std.proofs.Common.{◌≡◌, ℕ, ◌<◌, ◌≤◌, List, [], ◌∷◌, length, map, get_or, set, Option, None, Some, Result, Ok, Err, refl, ap, sym, ◌∙◌, subst, IfOk, OnOk, arith}
+use Rattle.std.proofs.Common.{◌≡◌, ℕ, ◌<◌, ◌≤◌, List, [], length, get_or, set, Option, None, Some, Result, Ok, Err, ap, sym, ◌∙◌, subst, OnOk, arith}
 use Rattle.std.specs.Prelude.{Bool, IfNone, IfSome, IsSomeAnd}
 use Rattle.std.specs.List.{AllByRecursion, slice_get}
 use Rattle.std.specs.Option.{option_map}
@@ -22,7 +22,7 @@ use Rattle.hx_replica.specs.declared.replicas.Replica.{Replica}
 use Rattle.hx_replica.specs.declared.servers.Server.TheInside.{Inside}
 use Rattle.hx_replica.specs.Inside.{IsServer, value_of}
 use Rattle.hx_replica.specs.Made.{IsMade, IsSlotInput, key_in, moves_by, slot_step_of}
-use Rattle.hx_replica.specs.Plans.{CanStep, HasRoomAt, IsChange, IsChangeOn, IsMadeAt}
+use Rattle.hx_replica.specs.Plans.{CanStep, IsChange, IsChangeOn}
 use Rattle.hx_replica.specs.Replicas.{IsReplicaIn, rooms_of, view_of, views_of}
 use Rattle.hx_replica.specs.Servers.{ServerValue}
 use Rattle.hx_replica.proofs.Asking.{AreMarked}

@@ -1,6 +1,6 @@
 -- The plan of a delivery is that of the server's step.
-use Rattle.std.proofs.Common.{◌≡◌, ℕ, ◌≤◌, Bool, true, false, cond, List, [], Option, None, Some, refl, ap, sym, ◌∙◌, subst}
-use Rattle.std.specs.List.{AllByRecursion, slice_get}
+use Rattle.std.proofs.Common.{◌≡◌, ℕ, List, [], Option, None, Some, refl, ap, sym, ◌∙◌, subst}
+use Rattle.std.specs.List.{slice_get}
 use Rattle.std.specs.Option.{option_map}
 use Rattle.std.proofs.lemmas.Bool.{cond-false}
 use Rattle.hx_types.specs.declared.messages.Message.{Message}
@@ -14,7 +14,6 @@ use Rattle.hx_types.specs.declared.traces.Input.{Input}
 use Rattle.hx_types.specs.declared.traces.Note.{Note}
 use Rattle.hx_types.specs.declared.names.Actor.TheVariants.{Server}
 use Rattle.hx_types.specs.declared.traces.Input.TheVariants.{Deliver}
-use Rattle.hx_types.specs.Subspaces.{is_key_region}
 use Rattle.hx_model.specs.Runs.{entry_of}
 use Rattle.hx_model.specs.ServerSteps.{Replica, ServerState, ServerStep, at_slot, message_step, server_step, spot_of, state_in, unmoved, with_slot}
 use Rattle.hx_model.specs.Slots.{KeyState, Move, moved_all}

@@ -3,7 +3,7 @@ use Rattle.std.proofs.Common.{◌≡◌, ℕ, zero, suc, ◌+◌, ◌<◌, Bool,
 use Rattle.std.specs.List.{All, AllByRecursion, filter}
 use Rattle.std.proofs.lemmas.Bool.{cond_both}
 use Rattle.std.proofs.lemmas.List.{append-nil, length-map, length_push, map_push}
-use Rattle.std.proofs.lemmas.List.Elements.{All-nil, All-cons, All-head, All-push, All-tail, All-weaker, filter-append}
+use Rattle.std.proofs.lemmas.List.Elements.{All-nil, All-head, All-push, All-tail, All-weaker, filter-append}
 use Rattle.hx_types.specs.declared.configs.Config.{Config}
 use Rattle.hx_types.specs.declared.names.RegionId.{RegionId}
 use Rattle.hx_types.specs.declared.names.ServerId.{ServerId}
@@ -15,7 +15,7 @@ use Rattle.hx_types.specs.Words.{below}
 use Rattle.hx_types.proofs.Counting.{map_below_next}
 use Rattle.hx_model.specs.ServerSteps.{Replica as ReplicaState, ServerState, listed_regions, server_at_start}
 use Rattle.hx_replica.specs.declared.replicas.Replica.{Replica}
-use Rattle.hx_replica.specs.Replicas.{AreReplicas, AscendByRegion, IsReplicaIn, first_replica, views_of}
+use Rattle.hx_replica.specs.Replicas.{AreReplicas, IsReplicaIn, first_replica, views_of}
 
 -- the regions below a number that pass
 abbrev pub passing : (RegionId → Bool) → ℕ → List RegionId

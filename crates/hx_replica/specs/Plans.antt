@@ -5,7 +5,7 @@ use Rattle.hx_types.specs.declared.names.Actor.{Actor}
 use Rattle.hx_types.specs.declared.spaces.Space.{Space}
 use Rattle.hx_types.specs.declared.traces.Input.{Input}
 use Rattle.hx_model.specs.ServerSteps.{Replica, ServerState, server_step, spot_of, state_in, with_slot}
-use Rattle.hx_model.specs.Slots.{KeyState, moved_all}
+use Rattle.hx_model.specs.Slots.{moved_all}
 use Rattle.hx_store.specs.Stores.{Room, room_in}
 use Rattle.hx_replica.specs.declared.made.SlotChange.{SlotChange}
 use Rattle.hx_replica.specs.declared.made.SlotMade.{SlotMade}

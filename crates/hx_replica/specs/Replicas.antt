@@ -1,5 +1,5 @@
 -- The replicas of a server, in ascending order of regions.
-use Rattle.std.specs.Prelude.{◌≡◌, ℕ, true, List, [], map}
+use Rattle.std.specs.Prelude.{◌≡◌, true, List, [], map}
 use Rattle.std.specs.List.{AllByRecursion}
 use Rattle.hx_types.specs.declared.names.RegionId.{RegionId}
 use Rattle.hx_types.specs.declared.spaces.Space.{Space}

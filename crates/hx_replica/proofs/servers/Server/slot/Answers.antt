@@ -1,9 +1,6 @@
-use Rattle.std.proofs.Common.{ap, subst, sym, ◌∙◌}
-use Rattle.std.specs.Option.{IfNone, IfSome, option_map}
-use Rattle.std.specs.List.{slice_get}
+use Rattle.std.proofs.Common.{sym, ◌∙◌}
 use Rattle.std.proofs.lemmas.Option.{IfSome_then}
-use Rattle.hx_model.specs.ServerSteps.{Replica as ReplicaState, replica_of}
-use Rattle.hx_replica.specs.Replicas.{views_of}
+use Rattle.hx_model.specs.ServerSteps.{replica_of}
 use Rattle.hx_replica.proofs.Inside.{at_some, if_none_then, if_there, is_here}
 use Rattle.hx_replica.proofs.servers.Server.slot.Goals as goal
 
