@@ -1,0 +1,10 @@
+pub mod Lists
+pub mod Objects
+pub mod Slots
+pub mod Placed
+pub mod Hops
+pub mod Assigned
+pub mod ServerPosts
+pub mod ServerSteps
+pub mod Plans
+pub mod SessionSteps
