@@ -8,3 +8,5 @@ pub mod ServerPosts
 pub mod ServerSteps
 pub mod Plans
 pub mod SessionSteps
+pub mod Lengths
+pub mod Runs
