@@ -1,5 +1,5 @@
 -- What a leader assigns to a write that fits is an update of the space.
-use Rattle.std.proofs.Common.{◌≡◌, ℕ, ◌+◌, ◌≤◌, inl, inr, Bool, List, [], ◌∷◌, length, Option, Some, None, refl, sym, ap, ◌∙◌, subst, arith, leb, ltb, eqb}
+use Rattle.std.proofs.Common.{◌≡◌, ℕ, ◌≤◌, inl, inr, Bool, List, Option, Some, None, refl, sym, subst, arith, leb, ltb, eqb}
 use Rattle.std.proofs.lemmas.Bool.{cond_both}
 use Rattle.hx_types.specs.declared.calls.Caller.{Caller}
 use Rattle.hx_types.specs.declared.calls.Op.{Op}
@@ -10,7 +10,6 @@ use Rattle.hx_types.specs.declared.results.Decision.{Decision}
 use Rattle.hx_types.specs.declared.results.Effect.{Effect}
 use Rattle.hx_types.specs.declared.snapshots.Mark.{Mark}
 use Rattle.hx_types.specs.declared.spaces.Space.{Space}
-use Rattle.hx_types.specs.declared.traces.Note.{Note}
 use Rattle.hx_types.specs.declared.updates.Place.{Place}
 use Rattle.hx_types.specs.declared.updates.Update.{Update}
 use Rattle.hx_types.specs.declared.values.Value.{Value}
@@ -24,8 +23,8 @@ use Rattle.hx_types.specs.Posts.{AnswerUpTo, IsSessionOf}
 use Rattle.hx_model.specs.Regions.{key_region}
 use Rattle.hx_model.specs.Places.{places_of}
 use Rattle.hx_model.specs.Slots.{KeyState, kept_row, latest_of, mark_of, object_in, top_of, touches_of}
-use Rattle.hx_model.specs.Leading.{StuckAt, assigned, by_mark, decide, first_lost, fresh, granted, refusal, stuck_of, unless_lost}
-use Rattle.hx_model.specs.ServerSteps.{SlotStep, Spot, decided, write_step}
+use Rattle.hx_model.specs.Leading.{StuckAt, assigned, by_mark, decide, fresh, granted, refusal, stuck_of}
+use Rattle.hx_model.specs.ServerSteps.{Spot, decided, write_step}
 use Rattle.hx_steady.proofs.Lists.{when_some_both}
 use Rattle.hx_steady.proofs.Lines.{Lawful, in-line, top-line}
 use Rattle.hx_steady.proofs.Moves.{Leads}
@@ -33,7 +32,7 @@ use Rattle.hx_steady.proofs.Regions.{places-not-lost}
 use Rattle.hx_steady.proofs.Leader.{leading, leads-parts}
 use Rattle.hx_sound.proofs.Objects.{effect-sound, fits-key}
 use Rattle.hx_sound.proofs.Slots.{kept-update, touches-by}
-use Rattle.hx_sound.proofs.Placed.{ArePlaced, placed}
+use Rattle.hx_sound.proofs.Placed.{placed}
 
 -- an update of the space, of a session that exists; its answer names no version and no epoch
 pub record IsProper (space : Space) (sessions : ℕ) (u : Update) : Type 0 where

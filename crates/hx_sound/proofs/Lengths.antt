@@ -1,5 +1,5 @@
 -- The line of a key has at most one update an entry, and what stands in it was noted.
-use Rattle.std.proofs.Common.{◌≡◌, ℕ, ◌+◌, ◌-◌, ◌≤◌, ◌⊎◌, inl, inr, List, [], ◌∷◌, length, refl, sym, ap, ◌∙◌, subst, arith}
+use Rattle.std.proofs.Common.{◌≡◌, ℕ, ◌-◌, ◌≤◌, ◌⊎◌, inl, inr, List, [], ◌∷◌, length, refl, sym, ap, ◌∙◌, subst, arith}
 use Rattle.std.proofs.lemmas.Bool.{cond_both}
 use Rattle.hx_types.specs.declared.names.Actor.{Actor}
 use Rattle.hx_types.specs.declared.names.SessionId.{SessionId}

@@ -5,6 +5,10 @@ pub mod Placed
 pub mod Hops
 pub mod Assigned
 pub mod ServerPosts
+pub mod Servers
+pub mod Updates
+pub mod Searches
+pub mod Calls
 pub mod ServerSteps
 pub mod Plans
 pub mod SessionSteps

@@ -1,10 +1,10 @@
 -- What holds of all items of a list, of lists place by place, and of numbers that differ.
-use Rattle.std.proofs.Common.{◌≡◌, ℕ, zero, suc, ◌+◌, ◌*◌, ◌-◌, ◌<◌, ◌≤◌, ◌≢◌, inl, inr, List, [], ◌∷◌, ◌++◌, map, length, Option, Some, None, refl, sym, ap, ◌∙◌, subst, arith}
-use Rattle.std.specs.List.{All, AllZip, flat_map, slice_get, slice_set}
+use Rattle.std.proofs.Common.{◌≡◌, ℕ, zero, suc, ◌≢◌, inl, inr, List, [], ◌∷◌, ◌++◌, map, Some, refl}
+use Rattle.std.specs.List.{All, AllZip, slice_get, slice_set}
 use Rattle.std.proofs.lemmas.List.Elements.{All-cons, All-nil}
-use Rattle.hx_types.specs.Words.{IsIn, below}
+use Rattle.hx_types.specs.Words.{IsIn}
 use Rattle.hx_types.specs.Spaces.{AllDiffer}
-use Rattle.hx_steady.proofs.Lists.{all-in, in-append, in-flat_map, in-map}
+use Rattle.hx_steady.proofs.Lists.{all-in, in-append}
 
 -- what holds of each holds of all
 pub all-of : {A : Type 0} (P : A → Type 0) (xs : List A) → ((x : A) → IsIn x xs → P x) → All P xs

@@ -1,22 +1,20 @@
 -- The places of an update: regions of the space, none twice, the key's first, at most 17 of them, each after a lower version.
-use Rattle.std.proofs.Common.{◌≡◌, ℕ, zero, suc, ◌+◌, ◌*◌, ◌<◌, ◌≤◌, ◌≢◌, inl, inr, Bool, true, false, not, List, [], ◌∷◌, ◌++◌, map, length, Option, Some, None, refl, sym, ap, ◌∙◌, subst, arith}
+use Rattle.std.proofs.Common.{◌≡◌, ℕ, zero, suc, ◌+◌, ◌*◌, ◌<◌, ◌≤◌, ◌≢◌, inl, inr, Bool, true, false, not, List, [], ◌∷◌, ◌++◌, map, length, Option, Some, None, refl, sym, ◌∙◌, subst, arith}
 use Rattle.std.specs.List.{All, flat_map}
-use Rattle.std.proofs.lemmas.Bool.{cond_both, eqb-false}
+use Rattle.std.proofs.lemmas.Bool.{eqb-false}
 use Rattle.std.proofs.lemmas.List.{length-append, length-map, map-append}
-use Rattle.std.proofs.lemmas.List.Elements.{All-cons}
 use Rattle.hx_types.specs.declared.names.RegionId.{RegionId}
 use Rattle.hx_types.specs.declared.snapshots.Touch.{Touch}
 use Rattle.hx_types.specs.declared.spaces.Space.{Space}
 use Rattle.hx_types.specs.declared.updates.Place.{Place}
 use Rattle.hx_types.specs.declared.values.Value.{Value}
 use Rattle.hx_types.specs.Words.{IsIn, below, provided, same_region}
-use Rattle.hx_types.specs.Subspaces.{subspaces_of}
 use Rattle.hx_types.specs.Spaces.{AllDiffer, BeginsAtKey, IsRegionOf, IsSpace}
 use Rattle.hx_model.specs.Regions.{key_region, place_of}
-use Rattle.hx_model.specs.Places.{declared_subspaces, key_place, place_after, places_of, regions_between, touched_in}
+use Rattle.hx_model.specs.Places.{declared_subspaces, key_place, place_after, places_of, regions_between}
 use Rattle.hx_region.specs.Spans.{IsRegionIn, subspace_count}
 use Rattle.hx_region.proofs.Subspaces.{disjoint, places_belong, within}
-use Rattle.hx_steady.proofs.Lists.{all-in, in-append, in-below, in-flat_map, in-map, in-provided}
+use Rattle.hx_steady.proofs.Lists.{all-in, in-below, in-flat_map, in-map}
 use Rattle.hx_steady.proofs.Regions.{between-places}
 use Rattle.hx_sound.proofs.Lists.{all-of, differ-append}
 use Rattle.hx_sound.proofs.Slots.{TouchedBy, touched-by}

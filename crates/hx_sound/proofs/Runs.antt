@@ -1,8 +1,7 @@
 -- In every run in one configuration what is posted is sound.
-use Rattle.std.proofs.Common.{◌≡◌, ℕ, ◌+◌, ◌<◌, ◌≤◌, inl, inr, true, false, List, [], ◌∷◌, length, Option, Some, None, refl, sym, ap, ◌∙◌, subst, arith, eqb, leb, ltb}
+use Rattle.std.proofs.Common.{◌≡◌, ℕ, ◌+◌, ◌≤◌, inl, inr, true, false, List, [], ◌∷◌, length, Option, Some, None, refl, sym, ap, ◌∙◌, subst, arith, eqb, leb, ltb}
 use Rattle.std.specs.Prelude.{⊤, slice_get}
 use Rattle.std.proofs.lemmas.Bool.{cond_both, and_parts, eqb-true, leb-true, ltb-true, false≢true}
-use Rattle.hx_types.specs.declared.messages.Message.{Message}
 use Rattle.hx_types.specs.declared.messages.Post.{Post}
 use Rattle.hx_types.specs.declared.messages.PostId.{PostId}
 use Rattle.hx_types.specs.declared.names.Actor.{Actor}
@@ -20,10 +19,10 @@ use Rattle.hx_types.specs.Configs.{first_config}
 use Rattle.hx_types.specs.Spaces.{IsServerOf}
 use Rattle.hx_types.specs.Posts.{IsSessionOf, IsSoundPost}
 use Rattle.hx_types.specs.Fitting.{IsScript}
-use Rattle.hx_model.specs.Slots.{KeyState, no_kept, top_above, top_of}
+use Rattle.hx_model.specs.Slots.{KeyState, no_kept, top_above}
 use Rattle.hx_model.specs.ServerSteps.{Replica, ServerState, listed_regions, server_at_start, server_step}
 use Rattle.hx_model.specs.CoordinatorSteps.{CoordinatorState, CoordinatorStep, coordinator_step}
-use Rattle.hx_model.specs.SessionSteps.{SessionStep, session_step}
+use Rattle.hx_model.specs.SessionSteps.{session_step}
 use Rattle.hx_model.specs.Runs.{IsRun, IsStep, MayTake, entry_at, entry_of, is_actor, made_of, post_named, server_of, session_of}
 use Rattle.hx_model.specs.Histories.{line_notes, line_of}
 use Rattle.hx_model.specs.Steady.{HasNoHalts, IsFixed, is_halt}
@@ -37,6 +36,7 @@ use Rattle.hx_steady.proofs.Kept.{ServerStill, Still, delivered-sent, lines}
 use Rattle.hx_steady.proofs.Entries.{still-run}
 use Rattle.hx_sound.specs.Sound.{PostsAreSound, ServersRun, VersionsAreSmall}
 use Rattle.hx_sound.proofs.Assigned.{IsProper}
+use Rattle.hx_sound.proofs.Servers.{AreBare, DoesWell, Relies}
 use Rattle.hx_sound.proofs.ServerSteps as server
 use Rattle.hx_sound.proofs.SessionSteps as session
 use Rattle.hx_sound.proofs.Lengths.{few-run, in-notes, session-line}
@@ -49,7 +49,7 @@ EntriesAreSound script (x ∷ older) = ((p : Post) → IsIn p x.outputs → IsSo
 -- what every run in one configuration keeps beside what stands still
 pub record KeptSound (script : Script) (trace : List Entry) : Type 0 where
   pub proper : (key : List ℕ) (u : Update) → IsIn u (line_of key trace) → IsProper script.space (length script.sessions) u
-  pub bare : (s : ServerId) → server.AreBare (server_of script s trace).replicas
+  pub bare : (s : ServerId) → AreBare (server_of script s trace).replicas
   pub own : (u : SessionId) → session.IsOwn script u (session_of script u trace)
   pub posts : EntriesAreSound script trace
 
@@ -102,9 +102,9 @@ module _ (script : Script) (valid : IsScript script) (fixed : IsFixed script) (o
 
   -- what a server's step does
   server-well : (s : ServerId) → IsServerOf script.space s → (input : Input) → MayTake older (Server s) input → is_halt input ≡ false
-      → server.DoesWell script.space (length script.sessions) (length older + 1) (server_step script.space (server_of script s older) input)
+      → DoesWell script.space (length script.sessions) (length older + 1) (server_step script.space (server_of script s older) input)
   server-well s exists input take calm =
-      subst (λ (st : ServerState). server.DoesWell script.space (length script.sessions) (length older + 1) (server_step script.space st input)) (sym state.state) (by input take calm)
+      subst (λ (st : ServerState). DoesWell script.space (length script.sessions) (length older + 1) (server_step script.space st input)) (sym state.state) (by input take calm)
     where
       state : ServerStill script (lines older) s (server_of script s older)
       state = still.servers s
@@ -115,18 +115,18 @@ module _ (script : Script) (valid : IsScript script) (fixed : IsFixed script) (o
       stands : Stands script.space s state.replicas (lines older)
       stands = record { lawful = still.lawful; still = state.still; leads = λ key l. subst (Leads key (line_of key older)) (lead-before key l) (still.leads key) }
 
-      relies : server.Relies script.space (length script.sessions) (length older + 1) s state.replicas (lines older)
+      relies : Relies script.space (length script.sessions) (length older + 1) s state.replicas (lines older)
       relies = record {
         valid = valid.space;
         exists = exists;
         stands = stands;
-        bare = subst (λ (st : ServerState). server.AreBare st.replicas) state.state (kept.bare s);
+        bare = subst (λ (st : ServerState). AreBare st.replicas) state.state (kept.bare s);
         proper = kept.proper;
         few = λ key. (let f = few key in omega (arith, f));
       }
 
       by : (input : Input) → MayTake older (Server s) input → is_halt input ≡ false
-          → server.DoesWell script.space (length script.sessions) (length older + 1) (server_step script.space (standing script.space s state.replicas) input)
+          → DoesWell script.space (length script.sessions) (length older + 1) (server_step script.space (standing script.space s state.replicas) input)
       by Tick take calm = server.tick-good script.space (length script.sessions) (length older + 1) s state.replicas (lines older) relies
       by Halt take calm = absurd (false≢true (sym calm))
       by (Deliver id from m) take calm =
@@ -144,11 +144,11 @@ module _ (script : Script) (valid : IsScript script) (fixed : IsFixed script) (o
           | inl j ↦ kept.proper key u j
           | inr j ↦ well.notes u j
         ];
-        bare = λ x. cond_both (same_server s x) (server_step script.space (server_of script x older) input).state (server_of script x older) (λ (st : ServerState). server.AreBare st.replicas)
+        bare = λ x. cond_both (same_server s x) (server_step script.space (server_of script x older) input).state (server_of script x older) (λ (st : ServerState). AreBare st.replicas)
             (
             λ t. let e = eqb-true s.0 x.0 t in
             let q : s ≡ x = λ j. record { 0 = e j } in
-            subst (λ (y : ServerId). server.AreBare (server_step script.space (server_of script y older) input).state.replicas) q well.bare
+            subst (λ (y : ServerId). AreBare (server_step script.space (server_of script y older) input).state.replicas) q well.bare
             )
             (λ t. kept.bare x);
         own = kept.own;

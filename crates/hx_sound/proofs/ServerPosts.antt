@@ -1,6 +1,6 @@
 -- What a server of the first configuration posts of an update of the space is sound.
-use Rattle.std.proofs.Common.{◌≡◌, ℕ, ◌+◌, ◌<◌, ◌≤◌, inl, inr, Bool, true, ◌||◌, List, [], ◌∷◌, Option, Some, None, refl, sym, ap, ◌∙◌, subst, arith}
-use Rattle.std.specs.List.{flat_map, list_any, slice_get}
+use Rattle.std.proofs.Common.{◌≡◌, ℕ, ◌+◌, ◌≤◌, inl, inr, Bool, true, List, [], ◌∷◌, Option, refl, sym, ap, ◌∙◌, subst, arith}
+use Rattle.std.specs.List.{flat_map, list_any}
 use Rattle.std.proofs.lemmas.Bool.{eq-eqb, or_left, or_right}
 use Rattle.hx_types.specs.declared.calls.Answer.{Answer}
 use Rattle.hx_types.specs.declared.calls.Caller.{Caller}
@@ -12,16 +12,13 @@ use Rattle.hx_types.specs.declared.results.Hop.{Hop}
 use Rattle.hx_types.specs.declared.spaces.Space.{Space}
 use Rattle.hx_types.specs.declared.updates.Place.{Place}
 use Rattle.hx_types.specs.declared.updates.Update.{Update}
-use Rattle.hx_types.specs.declared.messages.Message.TheVariants as a_message
-use Rattle.hx_types.specs.declared.names.Actor.TheVariants.{Server, Session}
 use Rattle.hx_types.specs.declared.results.Hop.TheVariants.{At, End, Blocked}
 use Rattle.hx_types.specs.Words.{IsIn, same_region, when_some}
-use Rattle.hx_types.specs.Configs.{first_config}
 use Rattle.hx_types.specs.Spaces.{IsRegionOf, IsServerOf, IsSpace}
 use Rattle.hx_types.specs.Posts.{Bounds, IsSessionOf, IsSoundAnswer, IsSoundPost, IsSoundUpdate, has_place_in}
 use Rattle.hx_model.specs.Neighbours.{place_number, region_at}
 use Rattle.hx_model.specs.Slots.{Acknowledge, Commit, Forget, Hold, Move, Take}
-use Rattle.hx_model.specs.ServerSteps.{Spot, ack_to, move_posts, next_at, prev_at, reply, told_to, update_to}
+use Rattle.hx_model.specs.ServerSteps.{ack_to, move_posts, next_at, prev_at, reply, told_to, update_to}
 use Rattle.hx_steady.proofs.Lists.{all-in, in-flat_map, in-slice_get}
 use Rattle.hx_steady.proofs.Moves.{AllKnown, Known}
 use Rattle.hx_steady.proofs.Turns.{spot_in}
@@ -54,8 +51,7 @@ module _ (space : Space) (valid : IsSpace space) (sessions n : ℕ) (s : ServerI
   reached-region : (u : Update) (x : ServerId) (m : ℕ) → IsSoundUpdate bounds u → Reaches space u.places x m → IsRegionOf space (region_at u.places m) × (has_place_in (region_at u.places m) u.places ≡ true)
   reached-region u x m sound r =
       let i = in-slice_get u.places m r.place r.at in
-      subst (λ (h : RegionId). IsRegionOf space h × (has_place_in h u.places ≡ true)) (sym (region-reached space u.places x m r))
-      (
+      subst (λ (h : RegionId). IsRegionOf space h × (has_place_in h u.places ≡ true)) (sym (region-reached space u.places x m r)) (
         all-in (λ (p : Place). IsRegionOf space p.region) u.places r.place sound.of_space.regions i,
         any-of (λ (p : Place). same_region p.region r.place.region) u.places r.place i (eq-eqb r.place.region.0 r.place.region.0 refl),
       )

@@ -1,6 +1,6 @@
 -- Each step of a session in the first configuration posts what is sound.
-use Rattle.std.proofs.Common.{◌≡◌, ℕ, zero, suc, ◌+◌, ◌<◌, ◌≤◌, inl, inr, Bool, true, false, List, [], ◌∷◌, map, length, Option, Some, None, refl, sym, ap, ◌∙◌, subst, arith, cond}
-use Rattle.std.specs.List.{All, slice_get}
+use Rattle.std.proofs.Common.{◌≡◌, ℕ, zero, suc, ◌+◌, ◌≤◌, inl, inr, Bool, true, false, List, [], ◌∷◌, map, length, Option, Some, None, refl, sym, ap, ◌∙◌, subst, arith, cond}
+use Rattle.std.specs.List.{All}
 use Rattle.std.proofs.lemmas.Bool.{cond_both, false≢true}
 use Rattle.hx_types.specs.declared.calls.Answer.{Answer}
 use Rattle.hx_types.specs.declared.calls.Op.{Op}
