@@ -1,0 +1,9 @@
+pub mod Says
+pub mod Numbers
+pub mod Quotes
+pub mod Names
+pub mod Reading
+pub mod Drafts
+pub mod Heads
+pub mod Attributes
+pub mod Subspaces
