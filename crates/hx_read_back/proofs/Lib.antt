@@ -7,3 +7,9 @@ pub mod Drafts
 pub mod Heads
 pub mod Attributes
 pub mod Subspaces
+pub mod Assignments
+pub mod Terms
+pub mod Calls
+pub mod Steps
+pub mod Sections
+pub mod Whole
