@@ -13,3 +13,7 @@ pub mod Calls
 pub mod Steps
 pub mod Sections
 pub mod Whole
+pub mod Told
+pub mod ToldCalls
+pub mod ToldLines
+pub mod ToldTexts
