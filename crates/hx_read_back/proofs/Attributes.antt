@@ -1,6 +1,6 @@
 -- The lines of attributes are read again.
 use Rattle.std.proofs.Common.{◌≡◌, ℕ, ℤ, ◌+◌, ◌<◌, ◌≤◌, Bool, true, false, List, [], ◌∷◌, ◌++◌, map, length, Ok, refl, sym, ap, ◌∙◌, subst, arith, append_assoc, T}
-use Rattle.std.specs.Prelude.{codes, ◌||◌, ◌≤ℤ◌, int_le, FitsSigned}
+use Rattle.std.specs.Prelude.{codes, ◌≤ℤ◌, int_le, FitsSigned}
 use Rattle.std.specs.List.{All, list_any, flat_map}
 use Rattle.std.specs.Fmt.{signed_decimal}
 use Rattle.std.specs.Int.{w64}
@@ -17,7 +17,7 @@ use Rattle.hx_types.specs.Spaces.{IsName, IsKind, NamesDiffer, IsSpace}
 use Rattle.hx_print.specs.Printing.{string_line, int_line, bounds_text, kind_line, attribute_line as attribute_text}
 use Rattle.hx_script.specs.Grammar.{line_of_toks, command, attribute_line, string_attribute, int_attribute}
 use Rattle.hx_script.specs.Readers.{number_from}
-use Rattle.hx_script.specs.Toks.{Tok, Word, Number}
+use Rattle.hx_script.specs.Toks.{Word, Number}
 use Rattle.hx_script.specs.Words.{named, new_name, is_declared}
 use Rattle.hx_read_back.specs.Sayable.{BoundsAreSayable}
 use Rattle.hx_read_back.proofs.Drafts.{attributing}

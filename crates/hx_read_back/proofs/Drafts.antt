@@ -1,5 +1,5 @@
 -- Drafts of a script, as far as its print was read.
-use Rattle.std.proofs.Common.{ℕ, List, [], ◌∷◌, ◌++◌}
+use Rattle.std.proofs.Common.{ℕ, List, []}
 use Rattle.hx_types.specs.declared.calls.Op.{Op}
 use Rattle.hx_types.specs.declared.spaces.Attribute.{Attribute}
 use Rattle.hx_types.specs.declared.spaces.Axis.{Axis}

@@ -17,3 +17,4 @@ pub mod Told
 pub mod ToldCalls
 pub mod ToldLines
 pub mod ToldTexts
+mod Examples

@@ -1,6 +1,6 @@
 -- Names and the numbers of attributes, found again.
-use Rattle.std.proofs.Common.{◌≡◌, ◌≢◌, ℕ, zero, suc, ◌+◌, ◌-◌, ◌<◌, ◌≤◌, Bool, true, false, eqb, List, [], ◌∷◌, ◌++◌, map, length, Option, Some, None, Result, Ok, refl, sym, ap, ◌∙◌, subst, arith}
-use Rattle.std.specs.Prelude.{◌&&◌, ◌||◌, ◌==◌, nat_le, codes, slice_get}
+use Rattle.std.proofs.Common.{◌≡◌, ◌≢◌, ℕ, zero, suc, ◌+◌, ◌-◌, ◌<◌, ◌≤◌, Bool, true, false, eqb, List, [], ◌∷◌, ◌++◌, map, length, Some, Ok, refl, sym, subst, arith}
+use Rattle.std.specs.Prelude.{◌||◌, ◌==◌, nat_le, codes, slice_get}
 use Rattle.std.specs.List.{All, list_all, list_any, position_or_len}
 use Rattle.std.specs.Str.{bytes_eq}
 use Rattle.std.proofs.lemmas.Bool.{ne_eqb, le-leb, lt-ltb}
@@ -12,8 +12,7 @@ use Rattle.hx_types.specs.declared.spaces.Attribute.{Attribute}
 use Rattle.hx_types.specs.declared.spaces.Space.{Space}
 use Rattle.hx_types.specs.Spaces.{AllDiffer, NamesDiffer, is_word, IsName, IsKind, IsSpace}
 use Rattle.hx_print.specs.Printing.{name_of}
-use Rattle.hx_script.specs.declared.errors.Reason.{Reason}
-use Rattle.hx_script.specs.Words.{may_name, place_of, declared_number, known_number}
+use Rattle.hx_script.specs.Words.{may_name, declared_number, known_number}
 
 -- a word that is a name where one is wanted
 pub record IsNamed (w : List ℕ) : Type 0 where

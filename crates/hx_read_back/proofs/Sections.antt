@@ -1,5 +1,5 @@
 -- The sessions are read again, and the steps behind them.
-use Rattle.std.proofs.Common.{◌≡◌, ℕ, ℤ, pos, ◌+◌, ◌^◌, ◌<◌, ◌≤◌, true, false, List, [], ◌∷◌, ◌++◌, length, Ok, refl, sym, ap, ◌∙◌, subst, arith, append_assoc, inl, inr}
+use Rattle.std.proofs.Common.{◌≡◌, ℕ, pos, ◌+◌, ◌<◌, ◌≤◌, List, [], ◌∷◌, ◌++◌, length, Ok, refl, sym, subst, arith, append_assoc, inl, inr}
 use Rattle.std.specs.Prelude.{codes, ◌⊎◌, sum_by}
 use Rattle.std.specs.List.{All, flat_map}
 use Rattle.std.specs.Fmt.{decimal}
@@ -19,14 +19,14 @@ use Rattle.hx_script.specs.declared.draft.Section.TheVariants as sections
 use Rattle.hx_script.specs.Grammar.{line_of_toks, command, session_line, steps_line}
 use Rattle.hx_script.specs.Readers.{number_in}
 use Rattle.hx_script.specs.Texts.{read_lines}
-use Rattle.hx_script.specs.Toks.{Tok, Word, Number}
+use Rattle.hx_script.specs.Toks.{Word, Number}
 use Rattle.hx_read_back.specs.Again.{on_lines_from}
 use Rattle.hx_read_back.specs.Sayable.{CallIsSayable, StepIsSayable}
 use Rattle.hx_read_back.proofs.Calls.{calls_read}
 use Rattle.hx_read_back.proofs.Drafts.{calling, stepping}
 use Rattle.hx_read_back.proofs.Heads.{word_number}
 use Rattle.hx_read_back.proofs.Reading.{ReadsTo, line_reads}
-use Rattle.hx_read_back.proofs.Says.{Says, nil_says, word_says}
+use Rattle.hx_read_back.proofs.Says.{nil_says, word_says}
 use Rattle.hx_read_back.proofs.Steps.{with_steps, steps_read}
 
 -- the section of a draft in which a session may come, or the steps, or the end

@@ -1,6 +1,6 @@
 -- The lines of steps are read again.
-use Rattle.std.proofs.Common.{◌≡◌, ℕ, ℤ, pos, ◌+◌, ◌^◌, ◌<◌, ◌≤◌, Bool, true, false, eqb, leb, List, [], ◌∷◌, ◌++◌, length, get_or, Ok, refl, sym, ap, ◌∙◌, subst, arith, append_assoc}
-use Rattle.std.specs.Prelude.{codes, ◌&&◌, ◌||◌, ◌==◌, nat_le, int_le}
+use Rattle.std.proofs.Common.{◌≡◌, ℕ, pos, ◌+◌, ◌^◌, ◌<◌, ◌≤◌, Bool, true, false, eqb, leb, List, [], ◌∷◌, ◌++◌, length, get_or, Ok, refl, sym, subst, arith, append_assoc}
+use Rattle.std.specs.Prelude.{codes, ◌&&◌, ◌||◌, ◌==◌, int_le}
 use Rattle.std.specs.List.{All, list_all, flat_map}
 use Rattle.std.specs.Fmt.{decimal}
 use Rattle.std.proofs.lemmas.Bool.{ne_eqb, leb-true, le-leb, lt-ltb}
@@ -19,14 +19,14 @@ use Rattle.hx_types.specs.declared.traces.Script.{Script}
 use Rattle.hx_types.specs.declared.traces.Step.{Step}
 use Rattle.hx_types.specs.declared.traces.Step.TheVariants.{Deliver, Tick, Halt}
 use Rattle.hx_print.specs.Printing.{actor_text, post_name, step_text, step_line as line_text}
-use Rattle.hx_script.specs.Actors.{is_decimal, actor_word, actor}
+use Rattle.hx_script.specs.Actors.{is_decimal, actor}
 use Rattle.hx_script.specs.Calls.{deliver, tick, halt}
 use Rattle.hx_script.specs.Grammar.{line_of_toks, command, step_line}
 use Rattle.hx_script.specs.Readers.{natural, number_in}
 use Rattle.hx_script.specs.Texts.{read_lines}
 use Rattle.hx_script.specs.Toks.{Tok, Word, Number, Sign}
 use Rattle.hx_read_back.specs.Again.{on_lines_from}
-use Rattle.hx_read_back.specs.Sayable.{IsUpTo, IsActorOf, IsPostName, StepIsSayable}
+use Rattle.hx_read_back.specs.Sayable.{IsActorOf, IsPostName, StepIsSayable}
 use Rattle.hx_read_back.proofs.Drafts.{stepping}
 use Rattle.hx_read_back.proofs.Numbers.{number_says, decimal_digits, decimal_value}
 use Rattle.hx_read_back.proofs.Reading.{ReadsTo, line_reads}

@@ -1,7 +1,7 @@
 -- The terms of a search are read again.
-use Rattle.std.proofs.Common.{◌≡◌, ℕ, ℤ, ◌+◌, ◌≤◌, Bool, true, false, List, [], ◌∷◌, ◌++◌, map, length, Ok, refl, sym, ap, ◌∙◌, subst, append_assoc}
-use Rattle.std.specs.Prelude.{codes, ◌≤ℤ◌, int_le, FitsSigned}
-use Rattle.std.specs.List.{All, flat_map}
+use Rattle.std.proofs.Common.{◌≡◌, ℕ, ℤ, Bool, true, false, List, [], ◌∷◌, ◌++◌, map, Ok, refl, sym, ap, ◌∙◌, subst, append_assoc}
+use Rattle.std.specs.Prelude.{codes, FitsSigned}
+use Rattle.std.specs.List.{All}
 use Rattle.std.specs.Fmt.{signed_decimal}
 use Rattle.std.specs.Int.{w64}
 use Rattle.std.proofs.lemmas.List.{append-nil}
@@ -13,19 +13,18 @@ use Rattle.hx_types.specs.declared.spaces.Kind.TheVariants as kinds
 use Rattle.hx_types.specs.declared.spaces.Space.{Space}
 use Rattle.hx_types.specs.declared.values.Term.{Term}
 use Rattle.hx_types.specs.declared.values.Term.TheVariants.{Equal, Range}
-use Rattle.hx_types.specs.declared.values.Value.{Value}
 use Rattle.hx_types.specs.declared.values.Value.TheVariants as values
 use Rattle.hx_types.specs.Spaces.{IsIntKind, AllDiffer, attribute_of, TermFits, TermsFit, IsSpace}
 use Rattle.hx_types.specs.Subspaces.{kind_at}
 use Rattle.hx_print.specs.Printing.{name_of, range_text, term_text, terms_text, named_text}
 use Rattle.hx_script.specs.declared.line.Until.TheVariants as until
 use Rattle.hx_script.specs.Readers.{number_from, is_at, repeat}
-use Rattle.hx_script.specs.Toks.{Tok, Word, Number, Text, Sign}
-use Rattle.hx_script.specs.Values.{is_of, is_short, value, has_term, free_known, range, is_dots, rest_of_term, term, one_more_term}
+use Rattle.hx_script.specs.Toks.{Tok, Word, Number, Sign}
+use Rattle.hx_script.specs.Values.{is_of, value, has_term, free_known, range, is_dots, term, one_more_term}
 use Rattle.hx_script.specs.Words.{named}
 use Rattle.hx_script.proofs.Asking.{terms_go_on, terms_end}
-use Rattle.hx_read_back.specs.Sayable.{IsSayable, TermIsSayable}
-use Rattle.hx_read_back.proofs.Assignments.{tok_of_value, named_toks, named_says, of_kind}
+use Rattle.hx_read_back.specs.Sayable.{TermIsSayable}
+use Rattle.hx_read_back.proofs.Assignments.{named_toks, named_says, of_kind}
 use Rattle.hx_read_back.proofs.Attributes.{in_order}
 use Rattle.hx_read_back.proofs.Names.{none_before, IsKnownAs, known}
 use Rattle.hx_read_back.proofs.Numbers.{signed_says}

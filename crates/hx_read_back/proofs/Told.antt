@@ -1,6 +1,6 @@
 -- What a reader gives where it succeeds, on tokens whose texts and numbers can be said.
 use Rattle.std.proofs.Common.{◌≡◌, ℕ, ℤ, pos, negsuc, zero, suc, ◌^◌, ◌<◌, ◌≤◌, Bool, true, false, cond, List, [], ◌∷◌, length, Result, Ok, Err, refl, subst}
-use Rattle.std.specs.Prelude.{◌&&◌, nat_le, int_le, FitsSigned}
+use Rattle.std.specs.Prelude.{nat_le, int_le, FitsSigned}
 use Rattle.std.specs.Int.{w64}
 use Rattle.std.proofs.lemmas.Bool.{leb-true}
 use Rattle.hx_lex.specs.Spelling.{IsText}

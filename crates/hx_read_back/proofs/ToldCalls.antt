@@ -1,6 +1,6 @@
 -- Calls and steps that are read can be said.
-use Rattle.std.proofs.Common.{◌≡◌, ℕ, ℤ, ◌+◌, ◌-◌, ◌*◌, ◌^◌, ◌<◌, ◌≤◌, Bool, true, false, cond, eqb, List, [], ◌∷◌, ◌++◌, length, Result, Ok, Err, refl, subst, arith}
-use Rattle.std.specs.Prelude.{◌&&◌, ◌==◌, codes, int_le, nat_le, not, FitsSigned}
+use Rattle.std.proofs.Common.{◌≡◌, ℕ, ℤ, ◌-◌, ◌^◌, ◌<◌, ◌≤◌, Bool, true, false, cond, List, [], ◌∷◌, ◌++◌, length, Result, Ok, Err, refl, subst, arith}
+use Rattle.std.specs.Prelude.{◌&&◌, ◌==◌, codes, nat_le, not, FitsSigned}
 use Rattle.std.specs.List.{All}
 use Rattle.std.specs.Int.{w64}
 use Rattle.std.proofs.lemmas.Bool.{leb-true}
@@ -30,7 +30,7 @@ use Rattle.hx_script.specs.declared.line.Until.{Until}
 use Rattle.hx_script.specs.declared.line.Until.TheVariants as until
 use Rattle.hx_script.specs.Actors.{is_decimal, number_word, actor_word, actor}
 use Rattle.hx_script.specs.Calls.{put, get, del, cput, search_call, stop, add, call, deliver, tick, halt, step}
-use Rattle.hx_script.specs.Readers.{on_ok, Reader}
+use Rattle.hx_script.specs.Readers.{on_ok}
 use Rattle.hx_script.specs.Toks.{Tok, Word, Number, Text, Sign}
 use Rattle.hx_script.specs.Values.{short_text, is_of, is_short, any_value, value, has_assign, free_attribute, assign, one_more, more_assigns, some_assigns, has_term, free_known, range, is_dots, range_or_equal, rest_of_term, term, one_more_term, all_terms}
 use Rattle.hx_script.specs.Words.{may_name, named, declared_number, known_number}

@@ -1,8 +1,8 @@
--- What the script language can say: its texts stand between quotes, its numbers are of 64 bits, and it names actors and posts.
-use Rattle.std.specs.Prelude.{ℕ, ◌^◌, ◌<◌, ◌≤◌, List, length, ⊤}
+-- What the script language can say. The limits of a script (`IsScript`) tell nothing of the bytes of its texts, of the
+-- size of its numbers and of its steps, and a definition may have any there.
+use Rattle.std.specs.Prelude.{ℕ, ◌^◌, ◌<◌, ◌≤◌, List, length, FitsSigned, ⊤}
 use Rattle.std.specs.List.{All}
 use Rattle.std.specs.Int.{w64}
-use Rattle.std.specs.Prelude.{FitsSigned}
 use Rattle.hx_types.specs.declared.calls.Op.{Op}
 use Rattle.hx_types.specs.declared.calls.Op.TheVariants.{Put, Get, Del, Cput, Search, Stop, Add}
 use Rattle.hx_types.specs.declared.messages.PostId.{PostId}
@@ -56,7 +56,7 @@ IsActorOf servers sessions Coordinator = ⊤
 IsActorOf servers sessions (Server s) = IsUpTo servers s.0
 IsActorOf servers sessions (Session u) = IsUpTo sessions u.0
 
--- the entry of a post is a number token, and its place is of 32 bits
+-- the entry of a post is said by a number, and its place is of 32 bits
 pub record IsPostName (id : PostId) : Type 0 where
   pub entry : id.entry < 2 ^ 63
   pub place : id.place < 2 ^ 32

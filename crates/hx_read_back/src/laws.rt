@@ -8,13 +8,17 @@ ghost use Rattle.hx_print.specs.Printing.{script_text};
 ghost use Rattle.hx_read_back.specs.Again.{on_printed_lines};
 ghost use Rattle.hx_read_back.specs.Sayable.{IsSayableScript};
 
-/// The print of a script is read as that script.
+/// The print of a script is read as that script, each step on its line of the print.
+///
+/// This holds of each script within the limits that the language can say, and so of each that was
+/// read from some text, whatever its blanks, comments and numbers of lines were.
 pub fn prints_are_read_back()
-    ensures each { (s : Script) → IsScript s → IsSayableScript s → script_of (script_text s) ≡ Ok (on_printed_lines s) }
+    ensures sayable { (s : Script) → IsScript s → IsSayableScript s → script_of (script_text s) ≡ Ok (on_printed_lines s) }
     ensures read { (text : List ℕ) (s : Script) → script_of text ≡ Ok s → script_of (script_text s) ≡ Ok (on_printed_lines s) }
+    ensures said { (text : List ℕ) (s : Script) → script_of text ≡ Ok s → IsSayableScript s }
 {}
 
-/// Printing what is read back gives the same text again.
-pub fn printing_again_is_same()
+/// The numbers of the steps' lines don't stand in a print: what is read back is printed the same.
+pub fn prints_are_alike()
     ensures { (s : Script) → script_text (on_printed_lines s) ≡ script_text s }
 {}

@@ -1,13 +1,13 @@
-use Rattle.std.proofs.Common.{◌≡◌, ℕ, List, Ok}
-use Rattle.hx_types.specs.declared.traces.Script.{Script}
-use Rattle.hx_script.specs.Texts.{script_of}
 use Rattle.hx_script.proofs.SoundTexts.{text_sound}
 use Rattle.hx_read_back.proofs.ToldTexts.{text_told}
 use Rattle.hx_read_back.proofs.Whole.{reads_back}
 use Rattle.hx_read_back.proofs.laws.prints_are_read_back.Goals as goal
 
-pub returns-clause-each : goal.returns-clause-each
-returns-clause-each c = reads_back
+pub returns-clause-sayable : goal.returns-clause-sayable
+returns-clause-sayable c = reads_back
 
 pub returns-clause-read : goal.returns-clause-read
 returns-clause-read c = λ text s e. reads_back s (text_sound text s e) (text_told text s e)
+
+pub returns-clause-said : goal.returns-clause-said
+returns-clause-said c = text_told
