@@ -17,4 +17,5 @@ pub mod Told
 pub mod ToldCalls
 pub mod ToldLines
 pub mod ToldTexts
+pub mod Only
 mod Examples

@@ -10,10 +10,12 @@ ghost use Rattle.hx_read_back.specs.Sayable.{IsSayableScript};
 
 /// The print of a script is read as that script, each step on its line of the print.
 ///
-/// This holds of each script within the limits that the language can say, and so of each that was
-/// read from some text, whatever its blanks, comments and numbers of lines were.
+/// This holds of each script within the limits that the language can say, and of no other. So it
+/// holds of each that was read from some text, whatever the blanks, comments and empty lines there
+/// were.
 pub fn prints_are_read_back()
     ensures sayable { (s : Script) → IsScript s → IsSayableScript s → script_of (script_text s) ≡ Ok (on_printed_lines s) }
+    ensures no_other { (s : Script) → script_of (script_text s) ≡ Ok (on_printed_lines s) → IsScript s × IsSayableScript s }
     ensures read { (text : List ℕ) (s : Script) → script_of text ≡ Ok s → script_of (script_text s) ≡ Ok (on_printed_lines s) }
     ensures said { (text : List ℕ) (s : Script) → script_of text ≡ Ok s → IsSayableScript s }
 {}
