@@ -37,7 +37,7 @@ abbrev pub tok_of_value : Value → Tok
 tok_of_value (values.Text t) = Text t
 tok_of_value (values.Int n) = Number n
 
-pub value_says : (v : Value) (ts : List Tok) (rest : List ℕ) → IsSayable v → begins_with is_digit rest ≡ false → Says ts rest → Says (tok_of_value v ∷ ts) (value_text v ++ rest)
+value_says : (v : Value) (ts : List Tok) (rest : List ℕ) → IsSayable v → begins_with is_digit rest ≡ false → Says ts rest → Says (tok_of_value v ∷ ts) (value_text v ++ rest)
 unfolding value_text
 value_says (values.Text t) ts rest is stop h = text_says t ts rest is h
 value_says (values.Int n) ts rest is stop h = signed_says n ts rest is stop h

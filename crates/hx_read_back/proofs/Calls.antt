@@ -52,9 +52,6 @@ call_toks s (Search terms) = Word (codes "search") ∷ terms_toks s terms
 call_toks s (Stop server) = Word (codes "stop") ∷ Number (pos server.0) ∷ []
 call_toks s (Add server region) = Word (codes "add") ∷ Number (pos server.0) ∷ Number (pos region.0) ∷ []
 
-key_says : (w key : List ℕ) → IsText key → Says (Text key ∷ []) (quoted key ++ [])
-key_says w key is = text_says key [] [] is nil_says
-
 put_parts : (p q t : List ℕ) → (p ++ q ++ t) ++ [] ≡ p ++ (q ++ (t ++ []))
 put_parts p q t = simp append_assoc
 

@@ -29,10 +29,10 @@ a_word (b ∷ rest) e =
     let first : is_lower b ≡ true = and_left (is_lower b) (list_all is_word_part rest) e in
     record { letter = first; parts = rw (letter_is_part b first) (and_right (is_lower b) (list_all is_word_part rest) e) }
 
-pub bytes_same : (a : List ℕ) → bytes_eq a a ≡ true
+bytes_same : (a : List ℕ) → bytes_eq a a ≡ true
 bytes_same a = (bytes_eq-Decides a a).1 refl
 
-pub bytes_apart : (a b : List ℕ) → a ≢ b → bytes_eq a b ≡ false
+bytes_apart : (a b : List ℕ) → a ≢ b → bytes_eq a b ≡ false
 bytes_apart a b apart = by_test (bytes_eq a b) refl
   where
     by_test : (t : Bool) → bytes_eq a b ≡ t → bytes_eq a b ≡ false
@@ -48,7 +48,7 @@ a_name w is = record {
 
 -- ---- items of a list
 
-pub all_at : {A : Type 0} (P : A → Type 0) (xs : List A) (i : ℕ) (x : A) → All P xs → slice_get xs i ≡ Some x → P x
+all_at : {A : Type 0} (P : A → Type 0) (xs : List A) (i : ℕ) (x : A) → All P xs → slice_get xs i ≡ Some x → P x
 all_at P [] i x all e = absurd cc
 all_at P (y ∷ xs) zero x all e = subst P (some_is y x e) (All-head P y xs all)
   where
@@ -103,7 +103,7 @@ first_named (y ∷ xs) (suc i) x d e =
     let n : 1 + i ≡ suc i = omega arith in
     rw (s, first_named xs i x d.1 e) n
 
-pub some_at : {A : Type 0} (xs : List A) (i : ℕ) → i < length xs → (x : A) × (slice_get xs i ≡ Some x)
+some_at : {A : Type 0} (xs : List A) (i : ℕ) → i < length xs → (x : A) × (slice_get xs i ≡ Some x)
 some_at [] i lt = absurd (omega arith)
 some_at (x ∷ xs) zero lt = (x, refl)
 some_at (x ∷ xs) (suc i) lt = some_at xs i (omega (arith, lt))
@@ -116,7 +116,7 @@ pub record IsAt (space : Space) (a : ℕ) (x : Attribute) : Type 0 where
   pub some : 0 < a
   pub here : slice_get space.attributes (a - 1) ≡ Some x
 
-pub attribute_at : (space : Space) (a : ℕ) → 0 < a → a ≤ length space.attributes → (x : Attribute) × IsAt space a x
+attribute_at : (space : Space) (a : ℕ) → 0 < a → a ≤ length space.attributes → (x : Attribute) × IsAt space a x
 attribute_at space a low high =
     let s = some_at space.attributes (a - 1) (omega (arith, low, high)) in
     (s.0, record { some = low; here = s.1 })

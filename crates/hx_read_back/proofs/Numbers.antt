@@ -59,7 +59,7 @@ minus_said (b ∷ bs) ts rest all some fits stop h at =
     let d : drop (length ds + 1) (45 ∷ (ds ++ rest)) ≡ rest = rw k (drop_at ds rest (length ds) refl) in
     says_piece at 45 (ds ++ rest) p ts (minus_piece at b (bs ++ rest) (and_left (is_digit b) (list_all is_digit bs) all) ∙ number_whole_minus at ds rest all stop fits) (omega arith) (rw d (h (at + (length ds + 1))))
 
-pub own : IsNumeralModel (λ ds. all_ascii_digits ds ≡ true) value
+own : IsNumeralModel (λ ds. all_ascii_digits ds ≡ true) value
 own = numerals_by_fold (λ ds. all_ascii_digits ds ≡ true) tells_all_ascii_digits value_from (search rules)
 
 all_are : (ds : List ℕ) → all_ascii_digits ds ≡ true → list_all is_digit ds ≡ true

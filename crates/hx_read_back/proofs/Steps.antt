@@ -1,6 +1,6 @@
 -- The lines of steps are read again.
 use Rattle.std.proofs.Common.{◌≡◌, ℕ, pos, ◌+◌, ◌^◌, ◌<◌, ◌≤◌, Bool, true, false, eqb, leb, List, [], ◌∷◌, ◌++◌, length, get_or, Ok, refl, sym, subst, arith, append_assoc}
-use Rattle.std.specs.Prelude.{codes, ◌&&◌, ◌||◌, ◌==◌, int_le}
+use Rattle.std.specs.Prelude.{codes, ◌||◌, ◌==◌, int_le}
 use Rattle.std.specs.List.{All, list_all, flat_map}
 use Rattle.std.specs.Fmt.{decimal}
 use Rattle.std.proofs.lemmas.Bool.{ne_eqb, leb-true, le-leb, lt-ltb}
@@ -8,7 +8,7 @@ use Rattle.std.proofs.lemmas.Fmt.{decimal_nonempty, first_decimal}
 use Rattle.std.proofs.lemmas.List.{append-nil, length-append}
 use Rattle.std.proofs.lemmas.List.Concat.{flat_map-cons}
 use Rattle.std.proofs.lemmas.List.Elements.{All-head, All-tail}
-use Rattle.hx_lex.specs.Letters.{is_digit, is_word_part, begins_with, IsWord}
+use Rattle.hx_lex.specs.Letters.{is_lower, is_digit, is_word_part, begins_with, IsWord}
 use Rattle.hx_lex.proofs.Content.{and_left, and_right}
 use Rattle.hx_types.specs.declared.calls.Op.{Op}
 use Rattle.hx_types.specs.declared.messages.PostId.{PostId}
@@ -34,16 +34,16 @@ use Rattle.hx_read_back.proofs.Says.{Says, nil_says, word_says, word_and_blank, 
 
 -- ---- actors
 
-decimal_is : (ds : List ℕ) → list_all is_digit ds ≡ true → 0 < length ds → 48 < get_or ds 0 0 → is_decimal ds ≡ true
-decimal_is [] all some high = absurd (omega arith)
-decimal_is (b ∷ bs) all some high = rw (all, le-leb 49 b (omega (arith, high))) refl
+no_leading_zero : (ds : List ℕ) → list_all is_digit ds ≡ true → 0 < length ds → 48 < get_or ds 0 0 → is_decimal ds ≡ true
+no_leading_zero [] all some high = absurd (omega arith)
+no_leading_zero (b ∷ bs) all some high = rw (all, le-leb 49 b (omega (arith, high))) refl
 
--- the digits of a number from 1
-is_one : (n : ℕ) → 0 < n → n < 2 ^ 64 → is_decimal (decimal n) ≡ true
-is_one n low small = decimal_is (decimal n) (decimal_digits n small) (decimal_nonempty n small) (first_decimal n low small)
+-- a number from 1 is printed as an actor wants it
+numbered_plainly : (n : ℕ) → 0 < n → n < 2 ^ 64 → is_decimal (decimal n) ≡ true
+numbered_plainly n low small = no_leading_zero (decimal n) (decimal_digits n small) (decimal_nonempty n small) (first_decimal n low small)
 
 digit_is_part : (b : ℕ) → is_digit b ≡ true → is_word_part b ≡ true
-digit_is_part b h = either (leb 97 b && leb b 122) (is_digit b) (b == 95) h
+digit_is_part b h = either (is_lower b) (is_digit b) (b == 95) h
   where
     either : (p q r : Bool) → q ≡ true → (p || q || r) ≡ true
     either true q r h = refl
@@ -54,7 +54,7 @@ digits_are_parts : (ds : List ℕ) → list_all is_digit ds ≡ true → list_al
 digits_are_parts [] all = refl
 digits_are_parts (b ∷ bs) all = rw (digit_is_part b (and_left (is_digit b) (list_all is_digit bs) all)) (digits_are_parts bs (and_right (is_digit b) (list_all is_digit bs) all))
 
-letter_and_digits : (b n : ℕ) → begins_with (λ c. leb 97 c && leb c 122) (b ∷ []) ≡ true → is_word_part b ≡ true → n < 2 ^ 64 → IsWord (b ∷ decimal n)
+letter_and_digits : (b n : ℕ) → is_lower b ≡ true → is_word_part b ≡ true → n < 2 ^ 64 → IsWord (b ∷ decimal n)
 letter_and_digits b n letter part small = record { letter = letter; parts = rw part (digits_are_parts (decimal n) (decimal_digits n small)) }
 
 few : (most n : ℕ) → most ≤ 16 → n ≤ most → n < 2 ^ 63
@@ -74,10 +74,10 @@ unfolding actor actor_text
 actor_again servers sessions Coordinator ts f g is = refl
 actor_again servers sessions (Server s) ts f g is =
     let small = small_too s.0 (few servers s.0 f is.1) in
-    rw (is_one s.0 is.0 small, decimal_value s.0 small, le-leb 1 s.0 is.0, le-leb s.0 servers is.1) refl
+    rw (numbered_plainly s.0 is.0 small, decimal_value s.0 small, le-leb 1 s.0 is.0, le-leb s.0 servers is.1) refl
 actor_again servers sessions (Session u) ts f g is =
     let small = small_too u.0 (few sessions u.0 g is.1) in
-    rw (is_one u.0 is.0 small, decimal_value u.0 small, le-leb 1 u.0 is.0, le-leb u.0 sessions is.1) refl
+    rw (numbered_plainly u.0 is.0 small, decimal_value u.0 small, le-leb 1 u.0 is.0, le-leb u.0 sessions is.1) refl
 
 -- ---- what a step says
 

@@ -107,7 +107,7 @@ pub tells_fixed : (s : List ℕ) → Tells (fixed s) Any
 tells_fixed s = record { at = fixed_at s }
 
 -- what was checked holds
-pub tells_true : (b : Bool) (r : Reason) → Tells (check b r) (λ u. b ≡ true)
+tells_true : (b : Bool) (r : Reason) → Tells (check b r) (λ u. b ≡ true)
 tells_true true r = tells_give {Q = λ u. true ≡ true} tt refl
 tells_true false r = tells_refuse r
 
