@@ -1,1 +1,5 @@
 pub mod Placed
+pub mod Turns
+pub mod Offers
+pub mod Granted
+pub mod Acked

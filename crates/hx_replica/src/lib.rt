@@ -4,6 +4,7 @@
 mod accepting;
 mod made;
 mod plans;
+mod rows;
 mod servers;
 mod settling;
 mod spots;

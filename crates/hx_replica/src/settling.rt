@@ -2,6 +2,7 @@ ghost use Rattle.std.specs.Prelude.{◌≡◌, ◌≤◌, ◌++◌, ◌==◌, If
 ghost use Rattle.std.specs.Borrow.{Bor};
 ghost use Rattle.std.specs.List.{All, flat_map, list_any, prefix_len};
 ghost use Rattle.hx_model.specs.Slots.{pending_of};
+ghost use Rattle.hx_types.specs.declared.names.Version.{Version as Numbered};
 ghost use Rattle.hx_types.specs.declared.updates.Update.{Update as Updated};
 ghost use Rattle.hx_replica.specs.Made.{IsHere, seen, settled_among, settles, spot_seen, told_of};
 
@@ -10,11 +11,24 @@ use hx_slot::Slot;
 use hx_types::{Memory, Posts, Update, Version};
 use std::alloc::Global;
 
+fn is_among(versions: &[Version], version: Version) -> bool
+    ensures { result ≡ list_any (λ (v : Numbered). v.0 == version.0) versions.now }
+{
+    versions.iter().any(|other| other.0 == version.0)
+}
+
 /// Whether a version is acknowledged, or one of those that are being acknowledged.
 fn is_settled(slot: &Slot, ends: &[Version], version: Version) -> bool
     ensures { result ≡ settles slot.now.state.acked ends.now version }
 {
-    ends.iter().any(|end| end.0 == version.0) || slot.is_acknowledged(version)
+    is_among(ends, version) || slot.is_acknowledged(version)
+}
+
+/// Whether an update of the line has the version.
+pub fn is_pending(line: &[&Update], version: Version) -> bool
+    ensures { result ≡ list_any (λ (b : Bor Updated). b.now.version.0 == version.0) line.now }
+{
+    line.iter().any(|update| update.version.0 == version.0)
 }
 
 /// How many updates at the front of a line are acknowledged.
@@ -68,14 +82,23 @@ pub fn line_of<'a>(
     ensures line { IfOk result (λ line. seen line.items ≡ pending_of slot.now.state ++ seen taken.now) }
     ensures here { IfOk result (λ line. All (IsHere slot.now.region) line.items) }
 {
-    let mut line = Vec::new(alloc);
-    for i in 0..slot.pending_count() {
-        if let Some(update) = slot.pending(i) {
-            line.push(update)?;
-        }
-    }
+    let mut line = pending_line(alloc, slot)?;
     for update in taken {
         line.push(*update)?;
+    }
+    Ok(line)
+}
+
+fn pending_line<'a>(alloc: Global, slot: &'a Slot) -> Result<Vec<&'a Update>, Memory>
+    ensures line { IfOk result (λ line. seen line.items ≡ pending_of slot.now.state) }
+    ensures here { IfOk result (λ line. All (IsHere slot.now.region) line.items) }
+{
+    let mut line = Vec::new(alloc);
+    for i in 0..slot.pending_count() {
+        match slot.pending(i) {
+            Some(update) => line.push(update)?,
+            None => unreachable!(),
+        }
     }
     Ok(line)
 }
