@@ -105,16 +105,18 @@ slot_input space s from (a_message.Call epoch number op) r h sound small e marke
     (
       from_session from (Server s.id) epoch number op sound.sound.between,
       h,
-      state_marks marks key r.states marked ∙ c.1,
-      c.0 ∙ ap (key_region space) (sym (state_key marks key r.states)),
+      record {
+        marks = state_marks marks key r.states marked ∙ c.1;
+        region = c.0 ∙ ap (key_region space) (sym (state_key marks key r.states));
+        small = state_small marks key r.states (small r (found_in_list r.region s.replicas r c.2));
+      },
       state_key marks key r.states,
-      state_small marks key r.states (small r (found_in_list r.region s.replicas r c.2)),
     )
 slot_input space s from (a_message.Update epoch g u) r h sound small e marked =
     let is : r.region ≡ g = found_region g s.replicas r (hearing_found s epoch g r (installed_some (hearing s epoch g) r e)) in
     let m = sound.sound.message in
     (subst (λ (x : RegionId). IsPlacedIn x u) (sym is) (placed g u.places m.3), m.2.of_space.few, m.2.of_space.after)
-slot_input space s from (a_message.Ack epoch g key version) r h sound small e marked = tt
+slot_input space s from (a_message.Ack epoch g key version) r h sound small e marked = state_key (is_key_region space r.region) key r.states
 slot_input space s from other r h sound small e marked = absurd cc
 
 -- the slots of each replica keep marks at a key region

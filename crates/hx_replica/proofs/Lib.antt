@@ -1,4 +1,8 @@
 pub mod Placed
+pub mod Turns
+pub mod Offers
+pub mod Granted
+pub mod Acked
 pub mod Finding
 pub mod Starting
 pub mod Hearing

@@ -120,11 +120,17 @@ IsSessionActor Coordinator = ⊥
 IsSessionActor (Server s) = ⊥
 IsSessionActor (Session u) = ⊤
 
+-- the slot of a key at its leader, with room for a further version
+pub record IsLeading (space : Space) (g : RegionId) (s : KeyState) : Type 0 where
+  pub marks : s.marks ≡ true
+  pub region : g ≡ key_region space s.base.key
+  pub small : top_of s ≤ 2 ^ 62
+
 -- what a slot of a region is asked: a call by a session on its key at a key region where it keeps marks, an update with a place there, or an acknowledgement
 abbrev pub IsSlotInput : Space → RegionId → KeyState → Actor → Message → Type 0
 IsSlotInput space g s from (a_message.Call epoch number op) =
-    IsSessionActor from × IsSome (key_of op) × (s.marks ≡ true) × (g ≡ key_region space s.base.key) × (s.base.key ≡ key_in (a_message.Call epoch number op)) × (top_of s ≤ 2 ^ 62)
+    IsSessionActor from × IsSome (key_of op) × IsLeading space g s × (s.base.key ≡ key_in (a_message.Call epoch number op))
 IsSlotInput space g s from (a_message.Update epoch h u) =
     IsPlacedIn g u × (length u.places ≤ 17) × All (λ (p : Place). p.after.0 < u.version.0) u.places
-IsSlotInput space g s from (a_message.Ack epoch h key version) = ⊤
+IsSlotInput space g s from (a_message.Ack epoch h key version) = s.base.key ≡ key
 IsSlotInput space g s from other = ⊥

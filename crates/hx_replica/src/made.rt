@@ -1,6 +1,7 @@
-ghost use Rattle.std.specs.Prelude.{◌≡◌, [], ◌∷◌};
+ghost use Rattle.std.specs.Prelude.{◌≡◌, [], ◌∷◌, IfOk};
+ghost use Rattle.hx_replica.specs.declared.made.SlotChange.TheVariants.{Open};
 
-use hx_types::{Notes, Posts, Update, Version};
+use hx_types::{Memory, Notes, Post, Posts, Update, Version};
 use std::alloc::Global;
 
 /// How a slot makes its part of a step.
@@ -30,11 +31,22 @@ pub struct SlotMade {
 pub fn staying(alloc: Global, posts: Posts) -> SlotMade
     ensures posts { result.posts ≡ posts }
     ensures notes { result.notes ≡ [] }
-    ensures change { result.change ≡ SlotChange.Open }
+    ensures change { result.change ≡ Open }
 {
     SlotMade {
         posts,
         notes: Notes::new(alloc),
         change: SlotChange::Open,
     }
+}
+
+/// The slot stays, and this is the only post.
+pub fn saying(alloc: Global, post: Post) -> Result<SlotMade, Memory>
+    ensures posts { IfOk result (λ made. made.posts ≡ post ∷ []) }
+    ensures notes { IfOk result (λ made. made.notes ≡ []) }
+    ensures change { IfOk result (λ made. made.change ≡ Open) }
+{
+    let mut posts = Posts::new(alloc);
+    posts.push(post)?;
+    Ok(staying(alloc, posts))
 }

@@ -238,6 +238,7 @@ fn step_store(
     message: &Message,
 ) -> Result<SlotMade, Memory>
     requires map { spot.now.map.now ≡ spot.now.space.now }
+    requires space { IsSpace spot.now.space.now }
     requires region { store.now.region ≡ spot.now.region }
     requires room { HasRoom key.now 0 store.now }
     requires input { IsSlotInput spot.now.space.now spot.now.region (state_at store.now key.now) from message.now }

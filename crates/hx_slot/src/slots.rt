@@ -2,6 +2,7 @@ ghost use Rattle.std.specs.Prelude.{◌≡◌, ◌<◌, ◌≤◌, ◌+◌, ◌=
 ghost use Rattle.std.specs.List.{All, list_any, find};
 ghost use Rattle.hx_types.specs.declared.updates.Place.{Place};
 ghost use Rattle.hx_types.specs.declared.updates.Update.{Update as Updated};
+ghost use Rattle.hx_types.specs.declared.snapshots.Touch.{Touch as Touched};
 ghost use Rattle.hx_model.specs.Neighbours.{place_number};
 ghost use Rattle.hx_model.specs.Slots.{acknowledged, ack_answer, follows, is_pending, moved, moved_all, object_of, offer_answer, offered, settled, Acknowledge};
 ghost use Rattle.std.specs.Option.{option_copied};
@@ -140,8 +141,9 @@ impl Slot {
     pub fn top(&self) -> Version
         ensures top { result.0 ≡ top_of self.now.state }
         ensures above { self.now.state.floor ≤ result.0 }
+        ensures touches { All (λ (t : Touched). t.version.0 ≤ result.0) (touches_of self.now.state) }
     {
-        self.kept.floor
+        match self.never {}
     }
 
     pub fn latest(&self) -> Option<&Object>
