@@ -1,0 +1,4 @@
+pub mod States
+pub mod Entries
+pub mod Tabled
+pub mod Invariant

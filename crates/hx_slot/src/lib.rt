@@ -1,0 +1,12 @@
+//! The state of one key at one replica.
+#![tactic(auto)]
+
+mod entries;
+mod line;
+mod marks;
+mod rooms;
+mod slots;
+mod tables;
+mod touches;
+
+pub use slots::Slot;
