@@ -12,7 +12,7 @@ use Rattle.hx_types.specs.Words.{same_region, when_some}
 use Rattle.hx_model.specs.Neighbours.{place_number}
 use Rattle.hx_model.specs.Slots.{kept_after, kept_row, pending_above, place_in, row_of, top_above, upto}
 use Rattle.hx_slot.specs.declared.entries.Taken.{Taken}
-use Rattle.hx_slot.specs.Entries.{Ascends, IsPlaceOf, last_version, newest_first, row_by, row_over}
+use Rattle.hx_slot.specs.Entries.{Ascends, IsPlaced, last_version, newest_first, row_by, row_over}
 use Rattle.hx_slot.specs.Invariant.{IsLine}
 use Rattle.hx_slot.specs.States.{IsPlacedIn}
 use Rattle.hx_slot.proofs.Regions.{UpdatesUpTo}
@@ -104,13 +104,13 @@ upto-line {base = base} {ts = ts} {c = c} {floor = floor} line =
     ∙ all_upto floor (committed_of c ts) (top-committed base floor (take c ts) line.floor_is)
 
 -- the row after the updates
-kept_by : (g : RegionId) (t : Taken) (row : Option Row) → IsPlaceOf g t.update t.place → kept_after g t.update row ≡ row_by t row
+kept_by : (g : RegionId) (t : Taken) (row : Option Row) → place_in g t.update.places ≡ Some t.place → kept_after g t.update row ≡ row_by t row
 kept_by g t row e = ap (λ (o : Option Place). cond (when_some o false (λ (p : Place). p.keeps)) (cond t.update.changes (row_of t.update) row) None) e
 
-pub kept_row-newest_first : (g : RegionId) (base : Option Row) (o : List Update) (ts : List Taken) → AllByRecursion (λ (t : Taken). IsPlaceOf g t.update t.place) ts → kept_row g base (newest_first o ts) ≡ row_over (kept_row g base o) ts
+pub kept_row-newest_first : (g : RegionId) (base : Option Row) (o : List Update) (ts : List Taken) → AllByRecursion (λ (t : Taken). IsPlaced g t.update t.place) ts → kept_row g base (newest_first o ts) ≡ row_over (kept_row g base o) ts
 kept_row-newest_first g base o [] h = refl
 kept_row-newest_first g base o (t ∷ rest) h =
-    kept_row-newest_first g base (t.update ∷ o) rest h.1 ∙ ap (λ (row : Option Row). row_over row rest) (kept_by g t (kept_row g base o) h.0)
+    kept_row-newest_first g base (t.update ∷ o) rest h.1 ∙ ap (λ (row : Option Row). row_over row rest) (kept_by g t (kept_row g base o) h.0.place)
 
 -- no accepted version is above the highest
 pub newest_first-upto : (v : ℕ) (o : List Update) (ts : List Taken) (w : ℕ) → UpdatesUpTo v o → Ascends w ts → last_version w ts ≤ v → UpdatesUpTo v (newest_first o ts)
@@ -140,9 +140,9 @@ place_number-within g (q ∷ rest) p =
     (λ b e. subst (λ n. n < length (q ∷ rest)) (sym (cond-true (same_region q.region g) 0 (place_number g rest + 1) b)) (omega arith))
     (λ b e. let l = place_number-within g rest p e in subst (λ n. n < length (q ∷ rest)) (sym (cond-false (same_region q.region g) 0 (place_number g rest + 1) b)) (omega (arith, l)))
 
-pub placed-within : (g : RegionId) (ts : List Taken) → AllByRecursion (λ (t : Taken). IsPlaceOf g t.update t.place) ts → AllByRecursion (IsPlacedIn g) (map update_of ts)
+pub placed-within : (g : RegionId) (ts : List Taken) → AllByRecursion (λ (t : Taken). IsPlaced g t.update t.place) ts → AllByRecursion (IsPlacedIn g) (map update_of ts)
 placed-within g [] h = tt
-placed-within g (t ∷ rest) h = (place_number-within g t.update.places t.place h.0, placed-within g rest h.1)
+placed-within g (t ∷ rest) h = (place_number-within g t.update.places t.place h.0.place, placed-within g rest h.1)
 
 pub by_recursion-drop : {A : Type 0} (P : A → Type 0) (n : ℕ) (xs : List A) → AllByRecursion P xs → AllByRecursion P (drop n xs)
 by_recursion-drop P zero xs h = h

@@ -25,15 +25,15 @@ abbrev pub Ascends : ℕ → List Taken → Type 0
 Ascends v [] = ⊤
 Ascends v (t ∷ rest) = (v < t.update.version.0) × Ascends t.update.version.0 rest
 
--- the place is the update's in the region
-abbrev pub IsPlaceOf : RegionId → Update → Place → Type 0
-IsPlaceOf g u p = place_in g u.places ≡ Some p
+-- the place is the update's in the region, one of few
+pub record IsPlaced (g : RegionId) (u : Update) (p : Place) : Type 0 where
+  pub place : place_in g u.places ≡ Some p
+  pub few : length u.places ≤ 17
 
 -- an update with its place in the region, after a lower version
 pub record IsHeld (g : RegionId) (p : Placed) : Type 0 where
-  pub place : IsPlaceOf g p.update p.place
+  pub placed : IsPlaced g p.update p.place
   pub after : p.place.after.0 < p.update.version.0
-  pub few : length p.update.places ≤ 17
 
 -- the object is set by an update that keeps and changes, and removed by one that doesn't keep
 abbrev pub row_by : Taken → Option Row → Option Row

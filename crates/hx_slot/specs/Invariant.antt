@@ -9,9 +9,9 @@ use Rattle.hx_slot.specs.declared.entries.Placed.{Placed}
 use Rattle.hx_slot.specs.declared.entries.Taken.{Taken}
 use Rattle.hx_slot.specs.declared.slots.Slot.TheInside.{Inside}
 use Rattle.hx_slot.specs.declared.tables.Tables.{Tables}
-use Rattle.hx_slot.specs.Entries.{Ascends, IsHeld, IsPlaceOf, last_version, newest_first}
+use Rattle.hx_slot.specs.Entries.{Ascends, IsHeld, IsPlaced, last_version, newest_first}
 use Rattle.hx_slot.specs.States.{IsOrderly, SlotState}
-use Rattle.hx_slot.specs.Tabled.{AreMarks}
+use Rattle.hx_slot.specs.Tabled.{AreMarks, HasTableRoom}
 
 abbrev pub versions_of : List Version → List ℕ
 versions_of versions = map (λ (v : Version). v.0) versions
@@ -38,7 +38,7 @@ seen a =
 -- versions ascend from that of the base, each update has its place, and the first ones are committed
 pub record IsLine (g : RegionId) (base : ℕ) (accepted : List Taken) (committed floor : ℕ) : Type 0 where
   pub ascends : Ascends base accepted
-  pub placed : AllByRecursion (λ (t : Taken). IsPlaceOf g t.update t.place) accepted
+  pub placed : AllByRecursion (λ (t : Taken). IsPlaced g t.update t.place) accepted
   pub within : committed ≤ length accepted
   pub floor_is : floor ≡ last_version base (take committed accepted)
 
@@ -65,18 +65,13 @@ pub record AreTables (accepted : List Taken) (tables : Tables) : Type 0 where
   pub marks : AreMarks accepted tables.newest.items (marks_after [] (newest_first [] accepted))
   pub touches : tables.touches.items ≡ touches_after [] (newest_first [] accepted)
 
--- an update brings one mark and at most 17 touches
-pub record HasTableRoom (tables : Tables) (updates : ℕ) : Type 0 where
-  pub marks : vec_len tables.newest + updates ≤ vec_capacity tables.newest
-  pub touches : vec_len tables.touches + 17 * updates ≤ vec_capacity tables.touches
-
 -- there is room for the updates that may still come and for the acknowledgements of all
 pub record HasRoom (a : Inside) : Type 0 where
   pub accepted : vec_len a.accepted + coming a ≤ vec_capacity a.accepted
   pub early : coming a ≤ vec_capacity a.early
   pub pending : (vec_len a.accepted - a.committed) + coming a ≤ vec_capacity a.acked
   pub acked : vec_len a.acked + count_unacked (pending_in a) + coming a ≤ vec_capacity a.acked
-  pub few : vec_len a.accepted + coming a < 2 ^ 32
+  pub few : vec_len a.accepted + coming a + 1 < 2 ^ 32
 
 pub record IsSlot (a : Inside) : Type 0 where
   pub line : IsLine a.region a.base.floor.0 a.accepted.items a.committed a.floor.0

@@ -7,11 +7,15 @@ use Rattle.hx_types.specs.declared.calls.Answer.{Answer}
 use Rattle.hx_types.specs.declared.calls.Row.{Row}
 use Rattle.hx_types.specs.declared.names.RegionId.{RegionId}
 use Rattle.hx_types.specs.declared.names.Version.{Version}
+use Rattle.hx_types.specs.declared.results.Acked.{Acked}
+use Rattle.hx_types.specs.declared.results.Offer.{Offer}
 use Rattle.hx_types.specs.declared.snapshots.Kept.{Kept}
 use Rattle.hx_types.specs.declared.snapshots.Mark.{Mark}
 use Rattle.hx_types.specs.declared.snapshots.Touch.{Touch}
 use Rattle.hx_types.specs.declared.updates.Update.{Update}
 use Rattle.hx_types.specs.declared.values.Value.{Value}
+use Rattle.hx_types.specs.declared.results.Acked.TheVariants as an_ack
+use Rattle.hx_types.specs.declared.results.Offer.TheVariants.{Accepted, Known, Early}
 use Rattle.hx_types.specs.Spaces.{IsAscending}
 use Rattle.hx_model.specs.Neighbours.{place_number}
 use Rattle.hx_model.specs.Slots.{KeyState}
@@ -25,6 +29,10 @@ pub record SlotState : Type 0 where
 -- the update has a place in the region
 abbrev pub IsPlacedIn : RegionId → Update → Type 0
 IsPlacedIn g u = place_number g u.places < length u.places
+
+-- the update has few places
+abbrev pub HasFewPlaces : Update → Type 0
+HasFewPlaces u = length u.places ≤ 17
 
 abbrev pub IsRowUpTo : ℕ → Option Row → Type 0
 IsRowUpTo floor None = ⊤
@@ -52,3 +60,14 @@ object_seen lent = option_map (λ (o : Version × Bor (List Value)). (o.0, o.1.n
 
 abbrev pub call_seen : Option (ℕ × Version × Bor Answer) → Option (ℕ × Version × Answer)
 call_seen lent = option_map (λ (c : ℕ × Version × Bor Answer). (c.0, c.1, c.2.now)) lent
+
+-- how many updates an offer made pending, and how many an acknowledgement committed
+abbrev pub accepted_count : Offer → ℕ
+accepted_count (Accepted n) = n
+accepted_count Known = 0
+accepted_count Early = 0
+
+abbrev pub committed_count : Acked → ℕ
+committed_count (an_ack.Committed n) = n
+committed_count an_ack.Kept = 0
+committed_count an_ack.Unknown = 0

@@ -1,5 +1,5 @@
 -- Tables of the newest mark of each session and of the last touch of each region.
-use Rattle.std.specs.Prelude.{◌≡◌, ℕ, zero, suc, ◌<◌, ⊤, List, [], ◌∷◌, map, if◌then◌else◌, nat_lt, Option, None, Some, slice_get}
+use Rattle.std.specs.Prelude.{◌≡◌, ℕ, zero, suc, ◌<◌, ⊤, List, [], ◌∷◌, map, if◌then◌else◌, nat_lt, Option, None, Some, slice_get, vec_capacity, vec_len, ◌+◌, ◌*◌, ◌≤◌}
 use Rattle.std.specs.Option.{option_map}
 use Rattle.hx_types.specs.declared.names.RegionId.{RegionId}
 use Rattle.hx_types.specs.declared.names.SessionId.{SessionId}
@@ -9,6 +9,7 @@ use Rattle.hx_types.specs.Spaces.{IsAscending}
 use Rattle.hx_types.specs.Words.{same_region, same_session, when_some}
 use Rattle.hx_model.specs.Slots.{mark_by}
 use Rattle.hx_slot.specs.declared.entries.Taken.{Taken}
+use Rattle.hx_slot.specs.declared.tables.Tables.{Tables}
 
 abbrev pub AscendByRegion : List Touch → Type 0
 AscendByRegion touches = IsAscending (map (λ (t : Touch). t.region.0) touches)
@@ -65,3 +66,8 @@ abbrev pub newer_of : Option Mark → Option Mark → Option Mark
 newer_of None older = older
 newer_of (Some m) None = Some m
 newer_of (Some m) (Some x) = if nat_lt m.number x.number then Some x else Some m
+
+-- an update brings one mark and at most 17 touches
+pub record HasTableRoom (tables : Tables) (updates : ℕ) : Type 0 where
+  pub marks : vec_len tables.newest + updates ≤ vec_capacity tables.newest
+  pub touches : vec_len tables.touches + 17 * updates ≤ vec_capacity tables.touches

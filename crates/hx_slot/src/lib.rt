@@ -1,6 +1,7 @@
 //! The state of one key at one replica.
 #![tactic(auto)]
 
+mod early;
 mod entries;
 mod line;
 mod marks;

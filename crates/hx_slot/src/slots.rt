@@ -1,8 +1,9 @@
-ghost use Rattle.std.specs.Prelude.{◌≡◌, ℕ, ◌<◌, ◌≤◌, IfSome, IsTrue, length, slice_get};
+ghost use Rattle.std.specs.Prelude.{◌≡◌, ℕ, ◌+◌, ◌<◌, ◌≤◌, IfSome, IsTrue, OnOk, length, slice_get, vec_capacity, vec_len};
 ghost use Rattle.std.specs.List.{find, list_any};
 ghost use Rattle.std.specs.Option.{option_copied};
 ghost use Rattle.hx_model.specs.Places.{touched_in};
 ghost use Rattle.hx_model.specs.Slots.{follows, latest_of, mark_of, new_state, object_of, pending_of, top_of, touches_of};
+ghost use Rattle.hx_slot.specs.Rooms.{IsGrown};
 ghost use Rattle.hx_slot.specs.States.{IsPlacedIn, call_at, call_seen, object_at, object_seen};
 ghost use Rattle.hx_types.specs.declared.calls.Answer.{Answer};
 ghost use Rattle.hx_types.specs.declared.names.Version.{Version};
@@ -11,9 +12,10 @@ ghost use Rattle.hx_types.specs.declared.updates.Update.{Update};
 use crate::entries::{Placed, Taken};
 use crate::line::{last_version, only_object, rest_of, row_over, update_at, version_and_object};
 use crate::marks::{mark_of, newer, newest_of};
+use crate::rooms::grow;
 use crate::tables::Tables;
 use crate::touches::last_touch;
-use hx_types::{Answer, Kept, Marks, Object, RegionId, SessionId, Text, Touches, Update, Version};
+use hx_types::{Answer, Kept, Marks, Memory, Object, RegionId, SessionId, Text, Touches, Update, Version};
 use std::alloc::Global;
 use std::marker::Model;
 
@@ -41,7 +43,8 @@ pub struct Slot {
 }
 
 impl Model for Slot {
-    ghost use Rattle.hx_slot.specs.States.{SlotState};
+    ghost use Rattle.hx_slot.specs.Rooms.{IsGrown};
+ghost use Rattle.hx_slot.specs.States.{SlotState};
 
     ghost Value = { SlotState };
 
@@ -186,4 +189,57 @@ impl Slot {
             region,
         )
     }
+
+    /// Makes room for n offers, none of which then takes memory. A slot holds fewer than
+    /// 4,294,967,295 updates; where it would hold more, that is [`Memory`] too.
+    pub fn reserve(&mut self, n: u32) -> Result<(), Memory>
+        ensures region { self.new.region ≡ self.old.region }
+        ensures state { self.new.state ≡ self.old.state }
+        ensures room { OnOk result (n ≤ self.new.spare) }
+        ensures spare { self.old.spare ≤ self.new.spare }
+    {
+        if n <= self.spare {
+            return Ok(());
+        }
+        let coming = self.early.len() + n as usize;
+        if self.accepted.len() + coming >= u32::MAX as usize {
+            return Err(Memory);
+        }
+        let acks = self.accepted.len() - self.committed + coming;
+        make_room(
+            &mut self.accepted,
+            coming,
+            &mut self.early,
+            n as usize,
+            &mut self.acked,
+            acks,
+        )?;
+        if self.marks {
+            self.tables.reserve(coming)?;
+        }
+        self.spare = n;
+        Ok(())
+    }
+}
+
+/// Makes room for more of each list.
+fn make_room(
+    accepted: &mut Vec<Taken>,
+    more_accepted: usize,
+    early: &mut Vec<Placed>,
+    more_early: usize,
+    acked: &mut Vec<Version>,
+    more_acked: usize,
+) -> Result<(), Memory>
+    ensures accepted { IsGrown accepted.old accepted.new }
+    ensures early { IsGrown early.old early.new }
+    ensures acked { IsGrown acked.old acked.new }
+    ensures accepted_room { OnOk result (vec_len accepted.new + more_accepted ≤ vec_capacity accepted.new) }
+    ensures early_room { OnOk result (vec_len early.new + more_early ≤ vec_capacity early.new) }
+    ensures acked_room { OnOk result (vec_len acked.new + more_acked ≤ vec_capacity acked.new) }
+{
+    grow(accepted, more_accepted)?;
+    grow(early, more_early)?;
+    grow(acked, more_acked)?;
+    Ok(())
 }
