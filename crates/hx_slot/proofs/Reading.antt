@@ -1,9 +1,9 @@
 -- What a slot is read by gives the folds of its state.
 use Rattle.std.proofs.Common.{◌≡◌, ℕ, ◌-◌, ◌<◌, ◌≤◌, true, List, [], map, take, length, Option, Some, None, ap, sym, ◌∙◌, arith}
-use Rattle.std.specs.List.{AllByRecursion}
+use Rattle.std.specs.List.{All, AllByRecursion}
 use Rattle.std.specs.Option.{IfSome, unwrap_or}
 use Rattle.std.proofs.lemmas.List.{length-drop, length-map}
-use Rattle.std.proofs.lemmas.List.Elements.{All-weaker, recursion_from_All}
+use Rattle.std.proofs.lemmas.List.Elements.{All-from_recursion, All-weaker, recursion_from_All}
 use Rattle.hx_types.specs.declared.calls.Answer.{Answer}
 use Rattle.hx_types.specs.declared.names.RegionId.{RegionId}
 use Rattle.hx_types.specs.declared.names.SessionId.{SessionId}
@@ -68,15 +68,19 @@ pub touched-seen : (a : Inside) → IsSlot a → a.marks ≡ true → (g : Regio
 touched-seen a h m g =
     ap (λ (ts : List Touch). unwrap_or (touch_among g ts) (touched_in g a.base.touches)) (h.tables m).touches ∙ touched-over g a.base.touches (newest_first [] a.accepted.items)
 
-pub touched-below : (a : Inside) → IsSlot a → (g : RegionId) → touched_in g (touches_of (seen a).state) ≤ top_of (seen a).state
-touched-below a h g =
+-- no touch is above the top
+touches-upto : (a : Inside) → IsSlot a → AllByRecursion (λ (t : Touch). t.version.0 ≤ top_of (seen a).state) (touches_of (seen a).state)
+touches-upto a h =
     let b = base-upto a h in
-    touched-upto (top_of (seen a).state) g (touches_of (seen a).state)
-    (
     touches_after-upto (top_of (seen a).state) a.base.touches (newest_first [] a.accepted.items)
     (recursion_from_All (λ (t : Touch). t.version.0 ≤ top_of (seen a).state) a.base.touches (All-weaker (λ (t : Touch). t.version.0 ≤ a.base.floor.0) (λ (t : Touch). t.version.0 ≤ top_of (seen a).state) (λ t l. omega (arith, b)) a.base.touches h.base.touches))
     (updates-upto a h)
-    )
+
+pub touches-below : (a : Inside) → IsSlot a → All (λ (t : Touch). t.version.0 ≤ top_of (seen a).state) (touches_of (seen a).state)
+touches-below a h = All-from_recursion (λ (t : Touch). t.version.0 ≤ top_of (seen a).state) (touches_of (seen a).state) (touches-upto a h)
+
+pub touched-below : (a : Inside) → IsSlot a → (g : RegionId) → touched_in g (touches_of (seen a).state) ≤ top_of (seen a).state
+touched-below a h g = touched-upto (top_of (seen a).state) g (touches_of (seen a).state) (touches-upto a h)
 
 pub mark-seen : (a : Inside) → IsSlot a → a.marks ≡ true → (session : SessionId) → newer_of (mark_found session a.accepted.items a.tables.newest.items) (mark_among session a.base.marks) ≡ mark_of session (seen a).state
 mark-seen a h m session =

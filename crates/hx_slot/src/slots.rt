@@ -10,6 +10,7 @@ ghost use Rattle.hx_slot.specs.States.{HasFewPlaces, IsLater, IsPlacedIn, accept
 ghost use Rattle.hx_types.specs.declared.calls.Answer.{Answer};
 ghost use Rattle.hx_types.specs.declared.names.Version.{Version};
 ghost use Rattle.hx_types.specs.declared.updates.Place.{Place};
+ghost use Rattle.hx_types.specs.declared.snapshots.Touch.{Touch as Touched};
 ghost use Rattle.hx_types.specs.declared.updates.Update.{Update};
 
 use crate::acks::{
@@ -138,6 +139,7 @@ impl Slot {
     pub fn top(&self) -> Version
         ensures top { result.0 ≡ top_of self.now.state }
         ensures above { self.now.state.floor ≤ result.0 }
+        ensures touches { All (λ (t : Touched). t.version.0 ≤ result.0) (touches_of self.now.state) }
     {
         last_version(self.base.floor, self.accepted.as_slice())
     }
