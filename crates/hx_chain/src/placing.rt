@@ -17,10 +17,12 @@ use std::alloc::Global;
 ///
 /// The key region comes first. Where the update changes, each declared subspace follows in order
 /// with the region of the old object and after it that of the new one if it differs; an absent
-/// object has no region. An update goes to the new region last, so that a search finds the old
-/// object until the new one is there. A place's `after` is the slot's last version with a place in
-/// that region (0 for none), in the key region its top; `keeps` is whether the new object lies
-/// there. The order within a subspace, `after` and `keeps` are this project's choice.
+/// object has no region. Acknowledgements come back along the chain, so the new region keeps the
+/// new object before the old region lets the old one go.
+///
+/// A place's `after` is the slot's last version with a place in that region (0 for none), in the
+/// key region its top; `keeps` is whether the new object is there and lies in the region. The order
+/// of the places, `after` and `keeps` are this project's choice.
 pub fn places(
     alloc: Global,
     map: &RegionMap,
@@ -89,7 +91,9 @@ fn add_between(
     if let Some(region) = before {
         places.push(place_in(region, after, slot))?;
     }
-    if let Some(region) = after && before != after {
+    if let Some(region) = after
+        && before != after
+    {
         places.push(place_in(region, after, slot))?;
     }
     Ok(())
