@@ -1,0 +1,5 @@
+pub mod States
+pub mod Entries
+pub mod Tabled
+pub mod Rooms
+pub mod Invariant

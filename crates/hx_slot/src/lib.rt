@@ -1,0 +1,13 @@
+//! The state of one key at one replica.
+#![tactic(auto)]
+
+mod early;
+mod entries;
+mod line;
+mod marks;
+mod rooms;
+mod slots;
+mod tables;
+mod touches;
+
+pub use slots::Slot;
