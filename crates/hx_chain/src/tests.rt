@@ -1,9 +1,14 @@
-ghost use Rattle.std.specs.Prelude.{◌≡◌, ◌+◌, ◌<◌, IfOk, length};
+ghost use Rattle.std.specs.Prelude.{◌≡◌, ◌<◌, [], ◌∷◌, IfOk, length, pos};
+ghost use Rattle.hx_types.specs.Spaces.{IsSpace};
+ghost use Rattle.hx_types.specs.declared.spaces.Kind.TheVariants as a_kind;
 
 use super::*;
+use hx_region::RegionMap;
+use hx_slot::Slot;
 use hx_types::{
-    Answer, Caller, Config, Epoch, Hop, Member, Members, Memory, Place, Places, RegionId,
-    RegionLists, ServerId, ServerList, SessionId, Text, Update, Version,
+    Answer, Attribute, Attributes, Axes, Axis, Caller, Config, Epoch, Hop, Kind, Member, Members,
+    Memory, Object, Place, Places, RegionId, RegionLists, ServerId, ServerList, SessionId, Space,
+    Subspaces, Text, Update, Value, Version,
 };
 use std::alloc::Global;
 
@@ -119,5 +124,118 @@ fn finds_the_place_in_a_region(rt: HostRuntime) -> Result<(), Memory> {
     let update = update(rt.alloc())?;
     assert_eq!(rt; place_number(&update, RegionId(6)), Some(2));
     assert_eq!(rt; place_number(&update, RegionId(5)), None);
+    Ok(())
+}
+
+fn attributes(alloc: Global) -> Result<Attributes, Memory>
+    ensures { IfOk result (λ made. made ≡ record { name = 103 ∷ []; kind = a_kind.Text } ∷ record { name = 121 ∷ []; kind = a_kind.Int (pos 1900) (pos 2099) } ∷ []) }
+{
+    let mut made = Attributes::new(alloc);
+    made.push(Attribute {
+        name: Text::from_str(alloc, "g")?,
+        kind: Kind::Text,
+    })?;
+    made.push(Attribute {
+        name: Text::from_str(alloc, "y")?,
+        kind: Kind::Int { lo: 1900, hi: 2099 },
+    })?;
+    Ok(made)
+}
+
+fn subspaces(alloc: Global) -> Result<Subspaces, Memory>
+    ensures { IfOk result (λ made. made ≡ (record { attribute = 1; parts = 4 } ∷ []) ∷ (record { attribute = 2; parts = 2 } ∷ []) ∷ []) }
+{
+    let mut genre = Axes::new(alloc);
+    genre.push(Axis {
+        attribute: 1,
+        parts: 4,
+    })?;
+    let mut year = Axes::new(alloc);
+    year.push(Axis {
+        attribute: 2,
+        parts: 2,
+    })?;
+    let mut made = Subspaces::new(alloc);
+    made.push(genre)?;
+    made.push(year)?;
+    Ok(made)
+}
+
+/// Books with a genre and a year: regions 0 and 1 by the key, 2 to 5 by the genre, 6 and 7 by the
+/// year.
+fn books(name: Text, key_name: Text, attributes: Attributes, subspaces: Subspaces) -> Space
+    requires name { name ≡ 98 ∷ [] }
+    requires key_name { key_name ≡ 110 ∷ [] }
+    requires attributes { attributes ≡ record { name = 103 ∷ []; kind = a_kind.Text } ∷ record { name = 121 ∷ []; kind = a_kind.Int (pos 1900) (pos 2099) } ∷ [] }
+    requires subspaces { subspaces ≡ (record { attribute = 1; parts = 4 } ∷ []) ∷ (record { attribute = 2; parts = 2 } ∷ []) ∷ [] }
+    ensures { IsSpace result }
+{
+    Space {
+        name,
+        key_name,
+        key_parts: 2,
+        attributes,
+        subspaces,
+        servers: 4,
+        tolerate: 1,
+    }
+}
+
+fn books_map(alloc: Global) -> Result<RegionMap, Memory> {
+    let name = Text::from_str(alloc, "b")?;
+    let key_name = Text::from_str(alloc, "n")?;
+    let attributes = attributes(alloc)?;
+    let subspaces = subspaces(alloc)?;
+    let space = books(name, key_name, attributes, subspaces);
+    let map = RegionMap::new(alloc, &space)?;
+    Ok(map)
+}
+
+fn book(alloc: Global, genre: &str, year: i64) -> Result<Object, Memory> {
+    let mut made = Object::new(alloc);
+    made.push(Value::Text(Text::from_str(alloc, genre)?))?;
+    made.push(Value::Int(year))?;
+    Ok(made)
+}
+
+/// Whether the places are these: region, `after` and `keeps` of each.
+fn are(places: &Places, wanted: &[(u32, u64, bool)]) -> bool {
+    let places = places.as_slice();
+    let same = places.iter().zip(wanted).all(|(place, wanted)| {
+        place.region.0 == wanted.0 && place.after.0 == wanted.1 && place.keeps == wanted.2
+    });
+    places.len() == wanted.len() && same
+}
+
+/// Whether the first update of a key that changes from one object to another goes through these.
+fn goes_through(
+    alloc: Global,
+    old: Option<&Object>,
+    new: Option<&Object>,
+    wanted: &[(u32, u64, bool)],
+) -> Result<bool, Memory> {
+    let map = books_map(alloc)?;
+    let key = Text::from_str(alloc, "a")?;
+    let slot = Slot::new(alloc, RegionId(0), Text::new(alloc), true);
+    let places = places(alloc, &map, &key, old, new, true, &slot)?;
+    Ok(are(&places, wanted))
+}
+
+#[test]
+fn goes_through_the_regions_of_a_new_object(rt: HostRuntime) -> Result<(), Memory> {
+    let new = book(rt.alloc(), "b", 1999)?;
+    let wanted = [(0, 0, true), (4, 0, true), (6, 0, true)];
+    assert!(rt; goes_through(rt.alloc(), None, Some(&new), &wanted)?);
+    let new = book(rt.alloc(), "", 1900)?;
+    assert!(rt; goes_through(rt.alloc(), None, Some(&new), &wanted)?);
+    Ok(())
+}
+
+#[test]
+fn goes_through_the_old_region_first(rt: HostRuntime) -> Result<(), Memory> {
+    let old = book(rt.alloc(), "b", 1999)?;
+    let new = book(rt.alloc(), "d", 1999)?;
+    let wanted = [(0, 0, true), (4, 0, false), (5, 0, true), (6, 0, true)];
+    assert!(rt; goes_through(rt.alloc(), Some(&old), Some(&new), &wanted)?);
     Ok(())
 }
