@@ -3,4 +3,9 @@ pub mod Newest
 pub mod Regions
 pub mod Sessions
 pub mod Newer
+pub mod Noting
+pub mod Accepting
+pub mod Refitting
 pub mod Reading
+pub mod Turns
+pub mod Offering

@@ -14,7 +14,7 @@ use Rattle.hx_model.specs.Slots.{kept_after, kept_row, pending_above, place_in, 
 use Rattle.hx_slot.specs.declared.entries.Taken.{Taken}
 use Rattle.hx_slot.specs.Entries.{Ascends, IsPlaced, last_version, newest_first, row_by, row_over}
 use Rattle.hx_slot.specs.Invariant.{IsLine}
-use Rattle.hx_slot.specs.States.{IsPlacedIn}
+use Rattle.hx_slot.specs.States.{HasFewPlaces, IsPlacedIn}
 use Rattle.hx_slot.proofs.Regions.{UpdatesUpTo}
 
 abbrev pub update_of : Taken → Update
@@ -143,6 +143,10 @@ place_number-within g (q ∷ rest) p =
 pub placed-within : (g : RegionId) (ts : List Taken) → AllByRecursion (λ (t : Taken). IsPlaced g t.update t.place) ts → AllByRecursion (IsPlacedIn g) (map update_of ts)
 placed-within g [] h = tt
 placed-within g (t ∷ rest) h = (place_number-within g t.update.places t.place h.0.place, placed-within g rest h.1)
+
+pub few-placed : (g : RegionId) (ts : List Taken) → AllByRecursion (λ (t : Taken). IsPlaced g t.update t.place) ts → AllByRecursion HasFewPlaces (map update_of ts)
+few-placed g [] h = tt
+few-placed g (t ∷ rest) h = (h.0.few, few-placed g rest h.1)
 
 pub by_recursion-drop : {A : Type 0} (P : A → Type 0) (n : ℕ) (xs : List A) → AllByRecursion P xs → AllByRecursion P (drop n xs)
 by_recursion-drop P zero xs h = h

@@ -1,5 +1,5 @@
 -- What a slot is read by gives the folds of its state.
-use Rattle.std.proofs.Common.{◌≡◌, ℕ, ◌-◌, ◌<◌, ◌≤◌, true, List, [], map, take, length, Option, Some, None, ap, sym, ◌∙◌, subst, arith}
+use Rattle.std.proofs.Common.{◌≡◌, ℕ, ◌-◌, ◌<◌, ◌≤◌, true, List, [], map, take, length, Option, Some, None, ap, sym, ◌∙◌, arith}
 use Rattle.std.specs.List.{AllByRecursion}
 use Rattle.std.specs.Option.{IfSome, unwrap_or}
 use Rattle.std.proofs.lemmas.List.{length-drop, length-map}
@@ -17,11 +17,11 @@ use Rattle.hx_slot.specs.declared.slots.Slot.TheInside.{Inside}
 use Rattle.hx_slot.specs.Entries.{IsPlaced, last_version, newest_first, row_over}
 use Rattle.hx_slot.specs.declared.entries.Taken.{Taken}
 use Rattle.hx_slot.specs.Invariant.{IsSlot, pending_in, seen}
-use Rattle.hx_slot.specs.States.{IsPlacedIn, call_at}
-use Rattle.hx_slot.specs.Tabled.{AscendByRegion, mark_found, newer_of, touch_among}
+use Rattle.hx_slot.specs.States.{HasFewPlaces, IsPlacedIn, call_at}
+use Rattle.hx_slot.specs.Tabled.{mark_found, newer_of, touch_among}
 use Rattle.hx_slot.proofs.Newer.{found-among, mark-over, mark_among-upto, marks_after-upto}
-use Rattle.hx_slot.proofs.Newest.{by_recursion-drop, by_recursion-take, kept_row-newest_first, last_version-above, newest_first-upto, pending-ascends, pending-between, pending-line, placed-within, top-pending, top_above-newest_first, update_of, upto-line}
-use Rattle.hx_slot.proofs.Regions.{UpdatesUpTo, touched-over, touched-upto, touches_after-ascends, touches_after-upto}
+use Rattle.hx_slot.proofs.Newest.{by_recursion-drop, by_recursion-take, few-placed, kept_row-newest_first, last_version-above, newest_first-upto, pending-ascends, pending-between, pending-line, placed-within, top-pending, top_above-newest_first, update_of, upto-line}
+use Rattle.hx_slot.proofs.Regions.{UpdatesUpTo, touched-over, touched-upto, touches_after-upto}
 
 pub top-seen : (a : Inside) → last_version a.base.floor.0 a.accepted.items ≡ top_of (seen a).state
 top-seen a = sym (top_above-newest_first a.base.floor.0 [] a.accepted.items)
@@ -53,6 +53,9 @@ versions-seen a h =
 pub places-seen : (a : Inside) → IsSlot a → AllByRecursion (IsPlacedIn a.region) (map update_of (pending_in a))
 places-seen a h = placed-within a.region (pending_in a) (by_recursion-drop (λ (t : Taken). IsPlaced a.region t.update t.place) a.committed a.accepted.items h.line.placed)
 
+pub few-seen : (a : Inside) → IsSlot a → AllByRecursion HasFewPlaces (map update_of (pending_in a))
+few-seen a h = few-placed a.region (pending_in a) (by_recursion-drop (λ (t : Taken). IsPlaced a.region t.update t.place) a.committed a.accepted.items h.line.placed)
+
 -- nothing of the slot is above its top
 updates-upto : (a : Inside) → IsSlot a → UpdatesUpTo (top_of (seen a).state) (newest_first [] a.accepted.items)
 updates-upto a h =
@@ -60,9 +63,6 @@ updates-upto a h =
 
 base-upto : (a : Inside) → IsSlot a → a.base.floor.0 ≤ top_of (seen a).state
 base-upto a h = let e = top-seen a in let b = last_version-above a.base.floor.0 a.accepted.items h.line.ascends in omega (arith, e, b)
-
-pub touches-ascend : (a : Inside) → IsSlot a → a.marks ≡ true → AscendByRegion a.tables.touches.items
-touches-ascend a h m = subst AscendByRegion (sym (h.tables m).touches) (touches_after-ascends [] (newest_first [] a.accepted.items) tt)
 
 pub touched-seen : (a : Inside) → IsSlot a → a.marks ≡ true → (g : RegionId) → unwrap_or (touch_among g a.tables.touches.items) (touched_in g a.base.touches) ≡ touched_in g (touches_of (seen a).state)
 touched-seen a h m g =

@@ -1,17 +1,15 @@
 -- What a slot keeps, and what contracts see of it.
-use Rattle.std.specs.Prelude.{◌≡◌, ℕ, ◌+◌, ◌-◌, ◌*◌, ◌^◌, ◌<◌, ◌≤◌, Bool, true, not, List, [], map, length, take, drop, vec_capacity, vec_len, ◌==◌}
-use Rattle.std.specs.List.{AllByRecursion, count_by, list_any}
+use Rattle.std.specs.Prelude.{◌≡◌, ℕ, ◌+◌, ◌-◌, ◌^◌, ◌<◌, ◌≤◌, Bool, true, List, [], ◌∷◌, if◌then◌else◌, map, length, take, drop, vec_capacity, vec_len, ◌==◌}
+use Rattle.std.specs.List.{AllByRecursion, list_any}
 use Rattle.hx_types.specs.declared.names.RegionId.{RegionId}
 use Rattle.hx_types.specs.declared.names.Version.{Version}
 use Rattle.hx_types.specs.declared.updates.Update.{Update}
-use Rattle.hx_model.specs.Slots.{marks_after, touches_after}
 use Rattle.hx_slot.specs.declared.entries.Placed.{Placed}
 use Rattle.hx_slot.specs.declared.entries.Taken.{Taken}
 use Rattle.hx_slot.specs.declared.slots.Slot.TheInside.{Inside}
-use Rattle.hx_slot.specs.declared.tables.Tables.{Tables}
 use Rattle.hx_slot.specs.Entries.{Ascends, IsHeld, IsPlaced, last_version, newest_first}
 use Rattle.hx_slot.specs.States.{IsOrderly, SlotState}
-use Rattle.hx_slot.specs.Tabled.{AreMarks, HasTableRoom}
+use Rattle.hx_slot.specs.Tabled.{AreTables, HasTableRoom}
 
 abbrev pub versions_of : List Version → List ℕ
 versions_of versions = map (λ (v : Version). v.0) versions
@@ -53,17 +51,14 @@ pub record AreAcked (acked : List ℕ) (pending : List Taken) : Type 0 where
 abbrev pub pending_in : Inside → List Taken
 pending_in a = drop a.committed a.accepted.items
 
+-- how many updates aren't acknowledged
 abbrev pub count_unacked : List Taken → ℕ
-count_unacked pending = count_by (λ (t : Taken). not t.acknowledged) pending
+count_unacked [] = 0
+count_unacked (t ∷ rest) = (if t.acknowledged then 0 else 1) + count_unacked rest
 
 -- how many updates may still be accepted before more room is made
 abbrev pub coming : Inside → ℕ
 coming a = vec_len a.early + a.spare
-
--- the tables are those of the accepted updates
-pub record AreTables (accepted : List Taken) (tables : Tables) : Type 0 where
-  pub marks : AreMarks accepted tables.newest.items (marks_after [] (newest_first [] accepted))
-  pub touches : tables.touches.items ≡ touches_after [] (newest_first [] accepted)
 
 -- there is room for the updates that may still come and for the acknowledgements of all
 pub record HasRoom (a : Inside) : Type 0 where

@@ -2,7 +2,7 @@
 use Rattle.std.specs.Prelude.{ℕ, ◌<◌, ◌≤◌, ⊤, List, map, length, Option, None, Some}
 use Rattle.std.specs.Borrow.{Bor}
 use Rattle.std.specs.List.{All}
-use Rattle.std.specs.Option.{option_map}
+use Rattle.std.specs.Option.{IfSome, option_map}
 use Rattle.hx_types.specs.declared.calls.Answer.{Answer}
 use Rattle.hx_types.specs.declared.calls.Row.{Row}
 use Rattle.hx_types.specs.declared.names.RegionId.{RegionId}
@@ -18,7 +18,7 @@ use Rattle.hx_types.specs.declared.results.Acked.TheVariants as an_ack
 use Rattle.hx_types.specs.declared.results.Offer.TheVariants.{Accepted, Known, Early}
 use Rattle.hx_types.specs.Spaces.{IsAscending}
 use Rattle.hx_model.specs.Neighbours.{place_number}
-use Rattle.hx_model.specs.Slots.{KeyState}
+use Rattle.hx_model.specs.Slots.{KeyState, after_at}
 
 -- a key at a replica of a region, and for how many offers there is room
 pub record SlotState : Type 0 where
@@ -33,6 +33,10 @@ IsPlacedIn g u = place_number g u.places < length u.places
 -- the update has few places
 abbrev pub HasFewPlaces : Update → Type 0
 HasFewPlaces u = length u.places ≤ 17
+
+-- the update's turn comes after a lower version
+abbrev pub IsLater : RegionId → Update → Type 0
+IsLater g u = IfSome (after_at g u) (λ after. after < u.version.0)
 
 abbrev pub IsRowUpTo : ℕ → Option Row → Type 0
 IsRowUpTo floor None = ⊤

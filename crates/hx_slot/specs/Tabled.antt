@@ -7,9 +7,10 @@ use Rattle.hx_types.specs.declared.snapshots.Mark.{Mark}
 use Rattle.hx_types.specs.declared.snapshots.Touch.{Touch}
 use Rattle.hx_types.specs.Spaces.{IsAscending}
 use Rattle.hx_types.specs.Words.{same_region, same_session, when_some}
-use Rattle.hx_model.specs.Slots.{mark_by}
+use Rattle.hx_model.specs.Slots.{mark_by, marks_after, touches_after}
 use Rattle.hx_slot.specs.declared.entries.Taken.{Taken}
 use Rattle.hx_slot.specs.declared.tables.Tables.{Tables}
+use Rattle.hx_slot.specs.Entries.{newest_first}
 
 abbrev pub AscendByRegion : List Touch → Type 0
 AscendByRegion touches = IsAscending (map (λ (t : Touch). t.region.0) touches)
@@ -67,7 +68,19 @@ newer_of None older = older
 newer_of (Some m) None = Some m
 newer_of (Some m) (Some x) = if nat_lt m.number x.number then Some x else Some m
 
+-- the tables are those of the accepted updates
+pub record AreTables (accepted : List Taken) (tables : Tables) : Type 0 where
+  pub marks : AreMarks accepted tables.newest.items (marks_after [] (newest_first [] accepted))
+  pub touches : tables.touches.items ≡ touches_after [] (newest_first [] accepted)
+
 -- an update brings one mark and at most 17 touches
 pub record HasTableRoom (tables : Tables) (updates : ℕ) : Type 0 where
   pub marks : vec_len tables.newest + updates ≤ vec_capacity tables.newest
   pub touches : vec_len tables.touches + 17 * updates ≤ vec_capacity tables.touches
+
+-- with an update more: its mark and its touches
+pub record IsNoted (old new : Tables) : Type 0 where
+  pub newest : vec_len new.newest ≤ vec_len old.newest + 1
+  pub touches : vec_len new.touches ≤ vec_len old.touches + 17
+  pub newest_capacity : vec_capacity old.newest ≤ vec_capacity new.newest
+  pub touches_capacity : vec_capacity old.touches ≤ vec_capacity new.touches

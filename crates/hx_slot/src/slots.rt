@@ -1,21 +1,27 @@
-ghost use Rattle.std.specs.Prelude.{◌≡◌, ℕ, ◌+◌, ◌<◌, ◌≤◌, IfSome, IsTrue, OnOk, length, slice_get, vec_capacity, vec_len};
-ghost use Rattle.std.specs.List.{find, list_any};
+ghost use Rattle.std.specs.Prelude.{◌≡◌, ℕ, ◌+◌, ◌^◌, ◌<◌, ◌≤◌, IfSome, IsTrue, OnOk, is_some, length, slice_get, vec_capacity, vec_len};
+ghost use Rattle.std.specs.List.{All, AllByRecursion, find, list_any};
 ghost use Rattle.std.specs.Option.{option_copied};
 ghost use Rattle.hx_model.specs.Places.{touched_in};
-ghost use Rattle.hx_model.specs.Slots.{follows, latest_of, mark_of, new_state, object_of, pending_of, top_of, touches_of};
+ghost use Rattle.hx_model.specs.Neighbours.{place_number};
+ghost use Rattle.hx_model.specs.Slots.{Hold, Take, follows, latest_of, moved, moved_all, offer_answer, offered, taken, turns, mark_of, new_state, object_of, pending_of, top_of, touches_of};
+ghost use Rattle.hx_slot.specs.Entries.{IsHeld};
 ghost use Rattle.hx_slot.specs.Rooms.{IsGrown};
-ghost use Rattle.hx_slot.specs.States.{IsPlacedIn, call_at, call_seen, object_at, object_seen};
+ghost use Rattle.hx_slot.specs.States.{HasFewPlaces, IsLater, IsPlacedIn, accepted_count, call_at, call_seen, object_at, object_seen};
 ghost use Rattle.hx_types.specs.declared.calls.Answer.{Answer};
 ghost use Rattle.hx_types.specs.declared.names.Version.{Version};
+ghost use Rattle.hx_types.specs.declared.updates.Place.{Place};
 ghost use Rattle.hx_types.specs.declared.updates.Update.{Update};
 
+use crate::early::{drop_version, early_at, turn_of};
 use crate::entries::{Placed, Taken};
 use crate::line::{last_version, only_object, rest_of, row_over, update_at, version_and_object};
 use crate::marks::{mark_of, newer, newest_of};
 use crate::rooms::grow;
 use crate::tables::Tables;
 use crate::touches::last_touch;
-use hx_types::{Answer, Kept, Marks, Memory, Object, RegionId, SessionId, Text, Touches, Update, Version};
+use hx_types::{
+    Answer, Kept, Marks, Memory, Object, Offer, RegionId, SessionId, Text, Touches, Update, Version,
+};
 use std::alloc::Global;
 use std::marker::Model;
 
@@ -43,8 +49,9 @@ pub struct Slot {
 }
 
 impl Model for Slot {
+    ghost use Rattle.hx_slot.specs.Entries.{IsHeld};
     ghost use Rattle.hx_slot.specs.Rooms.{IsGrown};
-ghost use Rattle.hx_slot.specs.States.{SlotState};
+    ghost use Rattle.hx_slot.specs.States.{SlotState};
 
     ghost Value = { SlotState };
 
@@ -157,6 +164,7 @@ impl Slot {
         ensures version { IfSome (option_copied result)
             (λ (u : Update). (self.now.state.floor < u.version.0) × (u.version.0 ≤ top_of self.now.state)) }
         ensures place { IfSome (option_copied result) (IsPlacedIn self.now.region) }
+        ensures few { IfSome (option_copied result) HasFewPlaces }
     {
         let pending = rest_of(self.accepted.as_slice(), self.committed);
         update_at(pending, i as usize)
@@ -214,11 +222,170 @@ impl Slot {
             &mut self.acked,
             acks,
         )?;
-        if self.marks {
-            self.tables.reserve(coming)?;
-        }
+        self.tables.reserve(self.marks, coming)?;
         self.spare = n;
         Ok(())
+    }
+
+    /// How many updates came before their turn.
+    pub fn early_count(&self) -> u32
+        ensures { result ≡ length self.now.state.early }
+    {
+        self.early.len() as u32
+    }
+
+    /// The early update with this number from 0, in the order of their coming.
+    pub fn early(&self, i: u32) -> Option<&Update>
+        ensures early { option_copied result ≡ slice_get self.now.state.early i }
+        ensures place { IfSome (option_copied result) (IsPlacedIn self.now.region) }
+        ensures few { IfSome (option_copied result) HasFewPlaces }
+    {
+        early_at(self.early.as_slice(), i as usize)
+    }
+
+    /// The early update whose turn comes after this version.
+    pub fn turn(&self, top: Version) -> Option<&Update>
+        ensures turn { option_copied result ≡ find (follows self.now.region top.0) self.now.state.early }
+        ensures later { IfSome (option_copied result) (λ (u : Update). top.0 < u.version.0) }
+        ensures place { IfSome (option_copied result) (IsPlacedIn self.now.region) }
+        ensures few { IfSome (option_copied result) HasFewPlaces }
+    {
+        match turn_of(self.early.as_slice(), top) {
+            Some(place) => Some(&self.early[place].update),
+            None => None,
+        }
+    }
+
+    /// Takes an update in. It is `Known` up to the top, `Early` where its turn hasn't come, and is
+    /// then held, once; else it is accepted, with the early updates whose turn has then come. It
+    /// takes no memory.
+    ///
+    /// That an update is held until its predecessor has come is HyperDex's.
+    pub fn offer(&mut self, update: Update, place: u32) -> Offer
+        requires spare { 0 < self.old.spare }
+        requires place { place ≡ place_number self.old.region update.places }
+        requires placed { IsPlacedIn self.old.region update }
+        requires after { All (λ (p : Place). p.after.0 < update.version.0) update.places }
+        requires few { HasFewPlaces update }
+        ensures answer { result ≡ offer_answer self.old.region self.old.state update }
+        ensures state { self.new.state ≡ moved_all (offered self.old.region self.old.state update) self.old.state }
+        ensures region { self.new.region ≡ self.old.region }
+        ensures spare { self.old.spare ≤ self.new.spare + 1 }
+    {
+        let top = self.top();
+        if update.version.0 <= top.0 {
+            return Offer::Known;
+        }
+        let place = update.places.as_slice()[place as usize];
+        let placed = Placed { update, place };
+        if placed.place.after.0 != top.0 {
+            self.hold(placed);
+            return Offer::Early;
+        }
+        let most = self.early.len() as u32;
+        self.accept(placed);
+        Offer::Accepted(1 + self.take_turns(most))
+    }
+
+    /// How many updates an offer would make pending: 0 where it is known or early.
+    pub fn would_accept(&self, update: &Update, place: u32) -> u32
+        requires place { place ≡ place_number self.now.region update.now.places }
+        requires placed { IsPlacedIn self.now.region update.now }
+        ensures { result ≡ accepted_count (offer_answer self.now.region self.now.state update.now) }
+    {
+        let top = self.top();
+        if update.version.0 <= top.0 {
+            return 0;
+        }
+        if update.places.as_slice()[place as usize].after.0 != top.0 {
+            return 0;
+        }
+        1 + self.turns_after(update.version)
+    }
+
+    /// How many early updates have their turns one after another from this version on.
+    fn turns_after(&self, top: Version) -> u32
+        ensures count { result ≡ length (taken (turns self.now.region (length self.now.state.early) top.0 self.now.state.early)) }
+        ensures small { result + 1 < 2 ^ 32 }
+    {
+        let most = self.early.len() as u32;
+        let mut top = top;
+        for count in 0..most {
+            match self.turn(top) {
+                Some(update) => top = update.version,
+                None => return count,
+            }
+        }
+        most
+    }
+
+    /// Accepts the early updates whose turns come one after another, up to so many.
+    fn take_turns(&mut self, most: u32) -> u32
+        ensures count { result ≡ length (taken (turns self.old.region most (top_of self.old.state) self.old.state.early)) }
+        ensures within { result ≤ most }
+        ensures state { self.new.state ≡ moved_all (turns self.old.region most (top_of self.old.state) self.old.state.early) self.old.state }
+        ensures region { self.new.region ≡ self.old.region }
+        ensures spare { self.new.spare ≡ self.old.spare }
+    {
+        for count in 0..most {
+            if !self.take_turn() {
+                return count;
+            }
+        }
+        most
+    }
+
+    /// Accepts the early update whose turn has come, if there is one.
+    fn take_turn(&mut self) -> bool
+        ensures found { result ≡ is_some (find (follows self.old.region (top_of self.old.state)) self.old.state.early) }
+        ensures state { self.new.state ≡ moved_all (turns self.old.region 1 (top_of self.old.state) self.old.state.early) self.old.state }
+        ensures later { AllByRecursion (IsLater self.old.region) self.old.state.early }
+        ensures region { self.new.region ≡ self.old.region }
+        ensures spare { self.new.spare ≡ self.old.spare }
+    {
+        let top = self.top();
+        let Some(place) = turn_of(self.early.as_slice(), top) else {
+            return false;
+        };
+        let placed = self.early.remove(place);
+        self.spare += 1;
+        self.accept(placed);
+        true
+    }
+
+    /// Accepts an update, of which no copy is held any more. It uses the room of one offer.
+    fn accept(&mut self, placed: Placed)
+        requires spare { 0 < self.old.spare }
+        requires held { IsHeld self.old.region placed }
+        requires above { top_of self.old.state < placed.update.version.0 }
+        ensures state { self.new.state ≡ moved (Take placed.update) self.old.state }
+        ensures region { self.new.region ≡ self.old.region }
+        ensures spare { self.new.spare + 1 ≡ self.old.spare }
+    {
+        let Placed { update, place } = placed;
+        drop_version(&mut self.early, update.version);
+        self.tables
+            .note(self.marks, self.accepted.as_slice(), &update);
+        self.accepted.push_reserved(Taken {
+            update,
+            place,
+            acknowledged: false,
+        });
+        self.spare -= 1;
+    }
+
+    /// Holds an update that came before its turn, in place of a copy of it. It uses the room of
+    /// one offer.
+    fn hold(&mut self, placed: Placed)
+        requires spare { 0 < self.old.spare }
+        requires held { IsHeld self.old.region placed }
+        ensures state { self.new.state ≡ moved (Hold placed.update) self.old.state }
+        ensures region { self.new.region ≡ self.old.region }
+        ensures spare { self.new.spare + 1 ≡ self.old.spare }
+    {
+        drop_version(&mut self.early, placed.update.version);
+        self.early.push_reserved(placed);
+        self.spare -= 1;
     }
 }
 

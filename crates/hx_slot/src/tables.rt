@@ -1,8 +1,8 @@
-ghost use Rattle.std.specs.Prelude.{◌≡◌, ◌+◌, ◌*◌, ◌^◌, ◌<◌, ◌≤◌, OnOk, length, vec_capacity, vec_len};
-ghost use Rattle.std.specs.List.{All};
-ghost use Rattle.hx_model.specs.Slots.{mark_by, with_touches};
+ghost use Rattle.std.specs.Prelude.{◌≡◌, ◌^◌, ◌<◌, ◌∷◌, ◌++◌, [], OnOk, length, true};
 ghost use Rattle.hx_slot.specs.Rooms.{IsGrown};
-ghost use Rattle.hx_slot.specs.Tabled.{AscendByRegion, HasTableRoom, with_number};
+ghost use Rattle.hx_slot.specs.States.{HasFewPlaces};
+ghost use Rattle.hx_slot.specs.Tabled.{AreTables, HasTableRoom, IsNoted};
+ghost use Rattle.hx_slot.specs.declared.entries.Taken.{Taken};
 
 use crate::entries::Taken;
 use crate::marks::note_mark;
@@ -20,32 +20,35 @@ pub struct Tables {
 }
 
 impl Tables {
-    /// Makes room for so many updates more: each brings a mark and at most 17 touches.
-    pub fn reserve(&mut self, updates: usize) -> Result<(), Memory>
+    /// Makes room for so many updates more, where the tables are kept: each brings a mark and at
+    /// most 17 touches.
+    pub fn reserve(&mut self, kept: bool, updates: usize) -> Result<(), Memory>
         requires { updates < 2 ^ 32 }
         ensures newest { IsGrown self.old.newest self.new.newest }
         ensures touches { IsGrown self.old.touches self.new.touches }
-        ensures room { OnOk result (HasTableRoom self.new updates) }
+        ensures room { OnOk result (kept ≡ true → HasTableRoom self.new updates) }
     {
+        if !kept {
+            return Ok(());
+        }
         grow(&mut self.newest, updates)?;
         grow(&mut self.touches, 17 * updates)?;
         Ok(())
     }
 
-    /// Notes an update of this number, which is to follow the line.
-    pub fn note(&mut self, line: &[Taken], number: u32, update: &Update)
-        requires known { All (λ n. n < length line.now) self.old.newest.items }
-        requires ascending { AscendByRegion self.old.touches.items }
-        requires few { length update.now.places ≤ 17 }
-        requires room { HasTableRoom self.old 1 }
-        ensures newest { self.new.newest.items ≡ with_number line.now number (mark_by update.now) self.old.newest.items }
-        ensures touches { self.new.touches.items ≡ with_touches update.now.version update.now.places self.old.touches.items }
-        ensures newest_len { vec_len self.new.newest ≤ vec_len self.old.newest + 1 }
-        ensures touches_len { vec_len self.new.touches ≤ vec_len self.old.touches + 17 }
-        ensures newest_capacity { vec_capacity self.old.newest ≤ vec_capacity self.new.newest }
-        ensures touches_capacity { vec_capacity self.old.touches ≤ vec_capacity self.new.touches }
+    /// Notes an update that is to follow the line, where the tables are kept. There is room for it.
+    pub fn note(&mut self, kept: bool, line: &[Taken], update: &Update)
+        requires few { HasFewPlaces update.now }
+        requires short { length line.now < 2 ^ 32 }
+        requires tables { kept ≡ true → AreTables line.now self.old }
+        requires room { kept ≡ true → HasTableRoom self.old 1 }
+        ensures tables { (t : Taken) → t.update ≡ update.now → kept ≡ true → AreTables (line.now ++ t ∷ []) self.new }
+        ensures sizes { IsNoted self.old self.new }
     {
-        note_mark(&mut self.newest, line, number, update);
+        if !kept {
+            return;
+        }
+        note_mark(&mut self.newest, line, line.len() as u32, update);
         note_touches(&mut self.touches, update.version, update.places.as_slice());
     }
 }

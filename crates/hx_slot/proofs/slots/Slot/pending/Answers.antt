@@ -5,9 +5,9 @@ use Rattle.hx_types.specs.declared.updates.Update.{Update}
 use Rattle.hx_model.specs.Slots.{pending_of, top_of}
 use Rattle.hx_slot.specs.declared.entries.Taken.{Taken}
 use Rattle.hx_slot.specs.Invariant.{seen}
-use Rattle.hx_slot.specs.States.{IsPlacedIn, SlotState}
+use Rattle.hx_slot.specs.States.{HasFewPlaces, IsPlacedIn, SlotState}
 use Rattle.hx_slot.proofs.Newest.{if_at, update_of}
-use Rattle.hx_slot.proofs.Reading.{pending-seen, places-seen, versions-seen}
+use Rattle.hx_slot.proofs.Reading.{few-seen, pending-seen, places-seen, versions-seen}
 use Rattle.hx_slot.proofs.slots.Slot.pending.Goals as goal
 
 pub returns-clause-pending : goal.returns-clause-pending
@@ -33,3 +33,9 @@ returns-clause-place c =
     let at = c.update_at.ensures ∙ ap (λ (ts : List Taken). slice_get (map update_of ts) c.args.i) rest in
     subst (λ (s : SlotState). IfSome (option_copied c.update_at.result) (IsPlacedIn s.region)) c.self.view_is
     (subst (λ (o : Option Update). IfSome o (IsPlacedIn c.self.inside.region)) (sym at) (if_at (IsPlacedIn c.self.inside.region) _ c.args.i (places-seen c.self.inside c.self.invariant)))
+
+pub returns-clause-few : goal.returns-clause-few
+returns-clause-few c =
+    let rest = c.rest_of-pending.ensures ∙ ap (drop c.self.inside.committed) c.as_slice.ensures.value in
+    let at = c.update_at.ensures ∙ ap (λ (ts : List Taken). slice_get (map update_of ts) c.args.i) rest in
+    subst (λ (o : Option Update). IfSome o HasFewPlaces) (sym at) (if_at HasFewPlaces _ c.args.i (few-seen c.self.inside c.self.invariant))

@@ -6,14 +6,15 @@ use Rattle.hx_model.specs.Places.{touched_in}
 use Rattle.hx_model.specs.Slots.{top_of, touches_of}
 use Rattle.hx_slot.specs.States.{SlotState}
 use Rattle.hx_slot.specs.Tabled.{AscendByRegion, touch_among}
-use Rattle.hx_slot.proofs.Reading.{touched-below, touched-seen, touches-ascend}
+use Rattle.hx_slot.proofs.Noting.{touches-ascend}
+use Rattle.hx_slot.proofs.Reading.{touched-below, touched-seen}
 use Rattle.hx_slot.proofs.slots.Slot.touched.Goals as goal
 
 pub last_touch-requires : goal.last_touch-requires
 last_touch-requires c =
     let kept = subst (λ (s : SlotState). s.state.marks ≡ _) (sym c.self.view_is) c.requires in
     record {
-      newer = subst AscendByRegion (sym c.as_slice.ensures.value) (touches-ascend c.self.inside c.self.invariant kept);
+      newer = subst AscendByRegion (sym c.as_slice.ensures.value) (touches-ascend c.self.inside.accepted.items c.self.inside.tables (c.self.invariant.tables kept));
       older = subst AscendByRegion (sym c.as_slice-2.ensures) c.self.invariant.base.regions_ascend;
     }
 
