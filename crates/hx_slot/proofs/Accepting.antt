@@ -13,7 +13,8 @@ use Rattle.hx_slot.specs.declared.entries.Taken.{Taken}
 use Rattle.hx_slot.specs.declared.slots.Slot.TheInside.{Inside}
 use Rattle.hx_slot.specs.declared.tables.Tables.{Tables}
 use Rattle.hx_slot.specs.Entries.{Ascends, IsHeld, IsPlaced, last_version, newest_first}
-use Rattle.hx_slot.specs.Invariant.{AreAcked, IsLine, IsSlot, coming, count_unacked, is_of_version, pending_in, seen, updates_of, versions_of}
+use Rattle.hx_slot.specs.Acks.{AreAcked, count_unacked, is_of_version}
+use Rattle.hx_slot.specs.Invariant.{IsLine, IsSlot, coming, pending_in, seen, updates_of, versions_of}
 use Rattle.hx_slot.specs.Tabled.{AreTables, IsNoted}
 use Rattle.hx_slot.proofs.Newest.{last_version-above, newest_first-append, pending-ascends, top-pending}
 
@@ -43,7 +44,7 @@ line-push {g = g} {base = base} {ts = ts} {c = c} line t p l =
     }
 
 -- no version above the last is in the line
-not_in : (v w : ℕ) (ts : List Taken) → Ascends v ts → last_version v ts < w → list_any (is_of_version w) ts ≡ false
+pub not_in : (v w : ℕ) (ts : List Taken) → Ascends v ts → last_version v ts < w → list_any (is_of_version w) ts ≡ false
 not_in v w [] h l = refl
 not_in v w (t ∷ rest) h l =
     let b = last_version-above t.update.version.0 rest h.1 in

@@ -5,6 +5,9 @@ pub mod Sessions
 pub mod Newer
 pub mod Noting
 pub mod Accepting
+pub mod Acking
+pub mod Settling
+pub mod SameEntries
 pub mod Refitting
 pub mod Reading
 pub mod Turns

@@ -10,7 +10,8 @@ use Rattle.hx_slot.specs.declared.entries.Taken.{Taken}
 use Rattle.hx_slot.specs.declared.slots.Slot.TheInside.{Inside}
 use Rattle.hx_slot.specs.declared.tables.Tables.{Tables}
 use Rattle.hx_slot.specs.Entries.{IsHeld, newest_first}
-use Rattle.hx_slot.specs.Invariant.{AreAcked, HasRoom, IsLine, IsSlot, coming, count_unacked, versions_of}
+use Rattle.hx_slot.specs.Acks.{AreAcked, count_unacked}
+use Rattle.hx_slot.specs.Invariant.{HasRoom, IsLine, IsSlot, coming, versions_of}
 use Rattle.hx_slot.specs.Rooms.{IsGrown}
 use Rattle.hx_slot.specs.Tabled.{AreMarks, AreTables, HasTableRoom}
 

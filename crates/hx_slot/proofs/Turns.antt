@@ -33,19 +33,19 @@ find-held g v (p ∷ rest) h =
     (λ e. cond-false (comes_after v p) _ _ e ∙ find-held g v rest h.1)
 
 -- what stands at the place that is found
-found-place : {A : Type 0} (test : A → Bool) (xs : List A) (i : ℕ) → position test xs ≡ Some i → find test xs ≡ slice_get xs i
+pub found-place : {A : Type 0} (test : A → Bool) (xs : List A) (i : ℕ) → position test xs ≡ Some i → find test xs ≡ slice_get xs i
 found-place test xs i =
     cond_both (ltb (position_or_len test xs) (length xs)) (Some (position_or_len test xs)) None (λ (o : Option ℕ). o ≡ Some i → find test xs ≡ slice_get xs i)
     (λ b e. let s : position_or_len test xs ≡ i = cc in find_at test xs ∙ ap (slice_get xs) s)
     (λ b e. absurd (cc))
 
-no-place : {A : Type 0} (test : A → Bool) (xs : List A) → position test xs ≡ None → find test xs ≡ None
+pub no-place : {A : Type 0} (test : A → Bool) (xs : List A) → position test xs ≡ None → find test xs ≡ None
 no-place test xs =
     cond_both (ltb (position_or_len test xs) (length xs)) (Some (position_or_len test xs)) None (λ (o : Option ℕ). o ≡ None → find test xs ≡ None)
     (λ b e. absurd (cc))
     (λ b e. find_at test xs ∙ slice_get_past xs (position_or_len test xs) (ltb-false (position_or_len test xs) (length xs) b))
 
-found-within : {A : Type 0} (test : A → Bool) (xs : List A) (i : ℕ) → position test xs ≡ Some i → i < length xs
+pub found-within : {A : Type 0} (test : A → Bool) (xs : List A) (i : ℕ) → position test xs ≡ Some i → i < length xs
 found-within test xs i =
     cond_both (ltb (position_or_len test xs) (length xs)) (Some (position_or_len test xs)) None (λ (o : Option ℕ). o ≡ Some i → i < length xs)
     (λ b e. let s : position_or_len test xs ≡ i = cc in let l = ltb-true (position_or_len test xs) (length xs) b in omega (arith, s, l))

@@ -1,12 +1,13 @@
 -- What a slot keeps, and what contracts see of it.
-use Rattle.std.specs.Prelude.{◌≡◌, ℕ, ◌+◌, ◌-◌, ◌^◌, ◌<◌, ◌≤◌, Bool, true, List, [], ◌∷◌, if◌then◌else◌, map, length, take, drop, vec_capacity, vec_len, ◌==◌}
-use Rattle.std.specs.List.{AllByRecursion, list_any}
+use Rattle.std.specs.Prelude.{◌≡◌, ℕ, ◌+◌, ◌-◌, ◌^◌, ◌<◌, ◌≤◌, true, List, [], map, length, take, drop, vec_capacity, vec_len}
+use Rattle.std.specs.List.{AllByRecursion}
 use Rattle.hx_types.specs.declared.names.RegionId.{RegionId}
 use Rattle.hx_types.specs.declared.names.Version.{Version}
 use Rattle.hx_types.specs.declared.updates.Update.{Update}
 use Rattle.hx_slot.specs.declared.entries.Placed.{Placed}
 use Rattle.hx_slot.specs.declared.entries.Taken.{Taken}
 use Rattle.hx_slot.specs.declared.slots.Slot.TheInside.{Inside}
+use Rattle.hx_slot.specs.Acks.{AreAcked, count_unacked}
 use Rattle.hx_slot.specs.Entries.{Ascends, IsHeld, IsPlaced, last_version, newest_first}
 use Rattle.hx_slot.specs.States.{IsOrderly, SlotState}
 use Rattle.hx_slot.specs.Tabled.{AreTables, HasTableRoom}
@@ -40,21 +41,8 @@ pub record IsLine (g : RegionId) (base : ℕ) (accepted : List Taken) (committed
   pub within : committed ≤ length accepted
   pub floor_is : floor ≡ last_version base (take committed accepted)
 
-abbrev pub is_of_version : ℕ → Taken → Bool
-is_of_version v t = t.update.version.0 == v
-
--- acknowledged is what is pending and is marked so
-pub record AreAcked (acked : List ℕ) (pending : List Taken) : Type 0 where
-  pub marked : AllByRecursion (λ (t : Taken). t.acknowledged ≡ list_any (λ v. v == t.update.version.0) acked) pending
-  pub known : AllByRecursion (λ v. list_any (is_of_version v) pending ≡ true) acked
-
 abbrev pub pending_in : Inside → List Taken
 pending_in a = drop a.committed a.accepted.items
-
--- how many updates aren't acknowledged
-abbrev pub count_unacked : List Taken → ℕ
-count_unacked [] = 0
-count_unacked (t ∷ rest) = (if t.acknowledged then 0 else 1) + count_unacked rest
 
 -- how many updates may still be accepted before more room is made
 abbrev pub coming : Inside → ℕ

@@ -1,6 +1,7 @@
 //! The state of one key at one replica.
 #![tactic(auto)]
 
+mod acks;
 mod early;
 mod entries;
 mod line;

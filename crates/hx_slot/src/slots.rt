@@ -1,26 +1,31 @@
-ghost use Rattle.std.specs.Prelude.{◌≡◌, ℕ, ◌+◌, ◌^◌, ◌<◌, ◌≤◌, IfSome, IsTrue, OnOk, is_some, length, slice_get, vec_capacity, vec_len};
+ghost use Rattle.std.specs.Prelude.{◌≡◌, ℕ, ◌+◌, ◌^◌, ◌<◌, ◌≤◌, ◌==◌, IfSome, IsTrue, OnOk, is_some, length, true, slice_get, vec_capacity, vec_len};
 ghost use Rattle.std.specs.List.{All, AllByRecursion, find, list_any};
 ghost use Rattle.std.specs.Option.{option_copied};
 ghost use Rattle.hx_model.specs.Places.{touched_in};
 ghost use Rattle.hx_model.specs.Neighbours.{place_number};
-ghost use Rattle.hx_model.specs.Slots.{Hold, Take, follows, latest_of, moved, moved_all, offer_answer, offered, taken, turns, mark_of, new_state, object_of, pending_of, top_of, touches_of};
+ghost use Rattle.hx_model.specs.Slots.{Acknowledge, Forget, Hold, Take, ack_answer, acknowledged, follows, is_pending, latest_of, mark_of, moved, moved_all, new_state, object_of, offer_answer, offered, pending_of, settled, taken, top_of, touches_of, turns};
 ghost use Rattle.hx_slot.specs.Entries.{IsHeld};
 ghost use Rattle.hx_slot.specs.Rooms.{IsGrown};
-ghost use Rattle.hx_slot.specs.States.{HasFewPlaces, IsLater, IsPlacedIn, accepted_count, call_at, call_seen, object_at, object_seen};
+ghost use Rattle.hx_slot.specs.States.{HasFewPlaces, IsLater, IsPlacedIn, accepted_count, call_at, call_seen, committed_count, object_at, object_seen};
 ghost use Rattle.hx_types.specs.declared.calls.Answer.{Answer};
 ghost use Rattle.hx_types.specs.declared.names.Version.{Version};
 ghost use Rattle.hx_types.specs.declared.updates.Place.{Place};
 ghost use Rattle.hx_types.specs.declared.updates.Update.{Update};
 
+use crate::acks::{
+    acknowledged_front, acknowledged_with, drop_ack, drop_acks_upto, forget_acks, has_update,
+    has_version, place_of,
+};
 use crate::early::{drop_version, early_at, turn_of};
 use crate::entries::{Placed, Taken};
 use crate::line::{last_version, only_object, rest_of, row_over, update_at, version_and_object};
 use crate::marks::{mark_of, newer, newest_of};
-use crate::rooms::grow;
+use crate::rooms::{grow, insert_within};
 use crate::tables::Tables;
 use crate::touches::last_touch;
 use hx_types::{
-    Answer, Kept, Marks, Memory, Object, Offer, RegionId, SessionId, Text, Touches, Update, Version,
+    Acked, Answer, Kept, Marks, Memory, Object, Offer, RegionId, SessionId, Text, Touches, Update,
+    Version,
 };
 use std::alloc::Global;
 use std::marker::Model;
@@ -301,6 +306,95 @@ impl Slot {
             return 0;
         }
         1 + self.turns_after(update.version)
+    }
+
+    /// Whether the version is pending.
+    pub fn is_pending(&self, version: Version) -> bool
+        ensures { result ≡ is_pending version.0 self.now.state }
+    {
+        let pending = rest_of(self.accepted.as_slice(), self.committed);
+        has_update(pending, version)
+    }
+
+    /// Whether the version is pending and acknowledged.
+    pub fn is_acknowledged(&self, version: Version) -> bool
+        ensures { result ≡ list_any (λ v. v == version.0) self.now.state.acked }
+    {
+        has_version(self.acked.as_slice(), version)
+    }
+
+    /// Takes an acknowledgement in. It is `Unknown` where the version isn't pending, `Kept` where a
+    /// lower pending version isn't acknowledged, and else commits the lowest pending updates, as
+    /// far as they are acknowledged. It takes no memory.
+    ///
+    /// That a replica commits when the acknowledgement comes back is chain replication's.
+    pub fn ack(&mut self, version: Version) -> Acked
+        ensures answer { result ≡ ack_answer self.old.state version.0 }
+        ensures state { self.new.state ≡ moved_all (acknowledged self.old.state version.0) self.old.state }
+        ensures region { self.new.region ≡ self.old.region }
+        ensures spare { self.old.spare ≤ self.new.spare }
+    {
+        if !self.is_pending(version) {
+            return Acked::Unknown;
+        }
+        self.acknowledge(version);
+        match self.settle() {
+            0 => Acked::Kept,
+            count => Acked::Committed(count),
+        }
+    }
+
+    /// How many updates an acknowledgement would commit: 0 where it is unknown or kept.
+    pub fn would_commit(&self, version: Version) -> u32
+        ensures { result ≡ committed_count (ack_answer self.now.state version.0) }
+    {
+        let pending = rest_of(self.accepted.as_slice(), self.committed);
+        if !has_update(pending, version) {
+            return 0;
+        }
+        acknowledged_with(pending, version) as u32
+    }
+
+    /// Marks a pending version as acknowledged, and commits nothing.
+    pub fn acknowledge(&mut self, version: Version)
+        requires pending { is_pending version.0 self.old.state ≡ true }
+        ensures state { self.new.state ≡ moved (Acknowledge version.0) self.old.state }
+        ensures region { self.new.region ≡ self.old.region }
+        ensures spare { self.old.spare ≤ self.new.spare }
+    {
+        let pending = rest_of(self.accepted.as_slice(), self.committed);
+        let Some(place) = place_of(pending, version) else {
+            unreachable!()
+        };
+        self.accepted[self.committed + place].acknowledged = true;
+        drop_ack(&mut self.acked, version);
+        insert_within(&mut self.acked, 0, version);
+    }
+
+    /// Commits the lowest pending updates, as far as they are acknowledged, and gives how many.
+    pub fn settle(&mut self) -> u32
+        ensures count { result ≡ length (settled self.old.state) }
+        ensures state { self.new.state ≡ moved_all (settled self.old.state) self.old.state }
+        ensures region { self.new.region ≡ self.old.region }
+        ensures spare { self.old.spare ≤ self.new.spare }
+    {
+        let pending = rest_of(self.accepted.as_slice(), self.committed);
+        let count = acknowledged_front(pending);
+        self.floor = last_version(self.floor, &pending[..count]);
+        self.committed += count;
+        drop_acks_upto(&mut self.acked, self.floor);
+        count as u32
+    }
+
+    /// Forgets the acknowledgements of pending updates and all early updates.
+    pub fn reset_acks(&mut self)
+        ensures state { self.new.state ≡ moved Forget self.old.state }
+        ensures region { self.new.region ≡ self.old.region }
+        ensures spare { self.old.spare ≤ self.new.spare }
+    {
+        self.acked.clear();
+        self.early.clear();
+        forget_acks(&mut self.accepted, self.committed);
     }
 
     /// How many early updates have their turns one after another from this version on.

@@ -2,7 +2,8 @@
 use Rattle.std.proofs.Common.{List, ap, arith, drop}
 use Rattle.std.proofs.lemmas.List.{length-drop}
 use Rattle.hx_slot.specs.declared.entries.Taken.{Taken}
-use Rattle.hx_slot.specs.Invariant.{count_unacked, pending_in}
+use Rattle.hx_slot.specs.Acks.{count_unacked}
+use Rattle.hx_slot.specs.Invariant.{pending_in}
 use Rattle.hx_slot.proofs.Refitting.{count-length, refitted-slot}
 use Rattle.hx_slot.proofs.slots.Slot.reserve.Goals as goal
 
