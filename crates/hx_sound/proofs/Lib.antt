@@ -1,0 +1,16 @@
+pub mod Lists
+pub mod Objects
+pub mod Slots
+pub mod Placed
+pub mod Hops
+pub mod Assigned
+pub mod ServerPosts
+pub mod Servers
+pub mod Updates
+pub mod Searches
+pub mod Calls
+pub mod ServerSteps
+pub mod Plans
+pub mod SessionSteps
+pub mod Lengths
+pub mod Runs
