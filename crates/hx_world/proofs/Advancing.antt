@@ -1,6 +1,6 @@
 -- From a world to the next, by the schedule.
 use Rattle.std.proofs.Common.{◌≡◌, ◌≢◌, ℕ, zero, suc, ◌+◌, ◌-◌, ◌<◌, ◌≤◌, ◌⊎◌, inl, inr, Bool, true, false, List, [], ◌∷◌, ◌++◌, length, set, Option, Some, None, refl, sym, ap, ◌∙◌, subst, arith, cond, eqb, leb, add-one}
-use Rattle.std.specs.Prelude.{slice_get}
+use Rattle.std.specs.Prelude.{IsSomeAnd, slice_get}
 use Rattle.std.proofs.lemmas.Bool.{cond_both, cond-true, cond-false, eqb-true, eq-eqb, ne_eqb, lt-ltb, le-leb}
 use Rattle.std.proofs.lemmas.Option.{slice_get_within}
 use Rattle.hx_types.specs.declared.calls.Op.{Op}
@@ -128,6 +128,13 @@ delivery_next script t waiting id p is first named running =
     let waits = waits_first waiting id first in
     ap (λ (names : List PostId). first_some (first_delivery script t names) (idle_among script t (below (length script.sessions)))) (sym is ∙ waits.1)
     ∙ ap (λ (o : Option Next). first_some o (idle_among script t (below (length script.sessions)))) (delivers_first script t waits.0 id p named running)
+
+-- the receiver of the first post that waits acts next
+pub delivers_to : (script : Script) (t : List Entry) (hosts : List Host) (sessions : List SessionNow) (waiting : List PostId) → (w : IsWorldOf script t hosts sessions waiting)
+    → (id : PostId) (p : Post) (a : Actor) → slice_get waiting 0 ≡ Some id → post_named id t ≡ Some p → p.to ≡ a → IsSomeAnd (next_entry script t) (λ (x : Entry). x.actor ≡ a)
+delivers_to script t hosts sessions waiting w id p a first named to =
+    let next = delivery_next script t waiting id p w.waiting_is first named (running_here script t hosts sessions waiting w id p named) in
+    rw next to
 
 -- actors that differ
 other_server : (s : ServerId) (place : ℕ) → (place + 1 ≡ s.0 → ⊥) → same_server s (server_at place) ≡ false

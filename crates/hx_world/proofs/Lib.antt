@@ -8,3 +8,4 @@ pub mod Tallies
 pub mod Taking
 pub mod Idling
 pub mod Advancing
+pub mod Draining

@@ -147,7 +147,7 @@ module _ (script : Script) (t : List Entry) (hosts : List Host) (sessions : List
 
     small_here : (s : ServerId) → HasSmallVersions (server_of script s t)
     small_here s r i k j =
-        let top = w.sound.tops t w.run w.still s r i k j in
+        let top = w.sound.versions t w.run w.still s r i k j in
         let few = few_in_all script t w.runnable w.run w.few in
         omega (arith, top, few)
 

@@ -20,13 +20,19 @@ use Rattle.hx_model.specs.Schedule.{entries_of, undelivered}
 use Rattle.hx_model.specs.SessionSteps.{SessionState}
 use Rattle.hx_model.specs.Steady.{HasNoHalts}
 use Rattle.hx_steady.specs.Served.{posts_of}
+use Rattle.hx_sound.specs.Sound.{PostsAreSound, ServersRun, VersionsAreSmall}
 use Rattle.hx_world.specs.declared.hosts.Host.{Host}
 use Rattle.hx_world.specs.declared.logs.Log.{Log}
 use Rattle.hx_world.specs.declared.schedule.Actors.{Actors}
 use Rattle.hx_world.specs.declared.sessions.Session.{Session as SessionNow}
 use Rattle.hx_world.specs.Runnable.{IsRunnable}
-use Rattle.hx_world.specs.Sound.{AreSound}
 use Rattle.hx_world.specs.Worlds.{HasFewEntries}
+
+-- what every run of the script in one configuration has, so that servers can take their posts
+pub record AreSound (script : Script) : Type 0 where
+  pub posts : PostsAreSound script
+  pub versions : VersionsAreSmall script
+  pub running : ServersRun script
 
 -- the list has n items, and each has what belongs to its place
 pub record AreAt {A : Type 0} (n : ℕ) (P : ℕ → A → Type 0) (xs : List A) : Type 0 where

@@ -9,6 +9,5 @@ pub mod Idle
 pub mod Invariant
 pub mod Runnable
 pub mod Sessions
-pub mod Sound
 pub mod Starting
 pub mod Worlds

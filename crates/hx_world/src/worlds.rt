@@ -3,7 +3,6 @@ ghost use Rattle.hx_model.specs.Runs.{IsRun};
 ghost use Rattle.hx_model.specs.Schedule.{next_entry};
 ghost use Rattle.hx_model.specs.Steady.{HasNoHalts};
 ghost use Rattle.hx_world.specs.Runnable.{IsRunnable};
-ghost use Rattle.hx_world.specs.Sound.{AreSound};
 ghost use Rattle.hx_world.specs.Worlds.{Advances, DrainFails, Drains, Fails, HasFewEntries, IsPartOf, most_entries};
 
 use crate::ends::{DrainError, Drained};
@@ -39,10 +38,10 @@ impl Model for World {
 impl World {
     /// The actors at their start, and no entry. [`Memory`] where there is no room for them.
     pub fn start(alloc: Global, script: &Script) -> Result<World, Memory>
-        requires runnable { IsRunnable script.now }
-        requires sound { AreSound script.now }
+        requires { IsRunnable script.now }
         ensures { IfOk result (λ world. world ≡ record { script = script.now; trace = [] }) }
     {
+        hx_sound::posts_are_sound();
         let actors = start_actors(alloc, script)?;
         Ok(World {
             script: script.copy(alloc)?,
@@ -70,7 +69,8 @@ impl World {
         ensures still { HasNoHalts (reverse result) }
         ensures few { HasFewEntries (reverse result) }
     {
-        self.log.trace
+        let log = self.log;
+        log.trace
     }
 
     /// Makes up to n entries by the schedule: always the delivery of the lowest post that wasn't
