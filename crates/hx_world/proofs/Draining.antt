@@ -1,6 +1,6 @@
 -- What a world's calls do, in terms of its fields; traces of worlds stand oldest first.
 use Rattle.std.proofs.Common.{◌≡◌, ℕ, zero, suc, ◌+◌, ◌-◌, ◌<◌, ◌≤◌, ◌⊎◌, inl, inr, Bool, true, false, List, [], ◌∷◌, ◌++◌, length, set, Option, Some, None, refl, sym, ap, ◌∙◌, subst, arith, add-one, add-zero, get_or, leb, vec_len}
-use Rattle.std.specs.Prelude.{slice_get, reverse, is_some, IsSome, IsSomeAnd, ◌||◌}
+use Rattle.std.specs.Prelude.{slice_get, reverse, is_some, IsSome, IsSomeAnd, MatchOption}
 use Rattle.std.specs.Option.{option_map}
 use Rattle.std.proofs.lemmas.Bool.{le-leb}
 use Rattle.std.proofs.lemmas.List.{reverse-append, length-reverse}
@@ -37,18 +37,22 @@ use Rattle.hx_world.specs.Hosts.{HasTaken, IsSameHost}
 use Rattle.hx_world.specs.Idle.{IsFirstIdle, IsNoneIdle, call_at}
 use Rattle.hx_world.specs.Invariant.{AreAt, IsHost, IsSession, IsWorld, IsWorldOf, server_at, session_at}
 use Rattle.hx_world.specs.Sessions.{IsReply, begin_entry, begun_now, delivery, heard_entry, heard_now}
-use Rattle.hx_world.specs.Worlds.{Advances, Drains, IsWornOut}
+use Rattle.hx_world.specs.Worlds.{Advances, IsWornOut, most_entries}
 use Rattle.hx_world.proofs.Advancing.{Goes, begins_next, delivers_to, hears_next, serves_next}
 use Rattle.hx_world.proofs.Calling.{call_runnable, few_calls}
 use Rattle.hx_world.proofs.Idling.{call_of_session, first_call, first_idle_next, none_next}
 use Rattle.hx_world.proofs.Naming.{waiting_named}
 use Rattle.hx_world.proofs.Seating.{at_set}
 use Rattle.hx_world.proofs.Taking.{no_coordinator, reply_here, server_here, session_here, takes}
-use Rattle.hx_world.proofs.Tallies.{few_in_all}
+use Rattle.hx_world.proofs.Tallies.{few_entries}
 
 -- the item at a place that was read there
 pub item_read : {A : Type 0} (xs : List A) (i : ℕ) (x : A) → i < length xs → x ≡ get_or xs i x → slice_get xs i ≡ Some x
 item_read xs i x within e = slice_get-get_or xs i x within ∙ ap Some (sym e)
+
+none_there : {A : Type 0} (o : Option A) → is_some o ≡ false → o ≡ None
+none_there None e = refl
+none_there (Some x) e = cc
 
 some_told : {A : Type 0} (o : Option A) (P : A → Type 0) → IsSomeAnd o P → is_some o ≡ true
 some_told None P h = absurd h
@@ -65,9 +69,11 @@ on_key (Add server region) h e = cc
 
 -- a world has few entries
 pub short : (script : Script) (actors : Actors) (log : Log) → IsWorld script actors log → length log.trace < 4294967296
-short script actors log w =
-    let few = few_in_all script (reverse log.trace) w.world.runnable w.world.run w.world.few in
-    omega (arith, few, length-reverse log.trace)
+short script actors log w = let few = few_entries script log.trace w.world.runnable w.world.run w.world.few in omega (arith, few)
+
+-- no world makes more entries
+pub most_of : (script : Script) (actors : Actors) (log : Log) → IsWorld script actors log → length log.trace ≤ most_entries
+most_of script actors log w = few_entries script log.trace w.world.runnable w.world.run w.world.few
 
 -- the next entry was made, and the world goes on
 pub record GoesOn (script : Script) (old : Log) (actors : Actors) (new : Log) : Type 0 where
@@ -337,16 +343,24 @@ module _ (script : Script) (actors : Actors) (log : Log) (w : IsWorld script act
       let quiet = none_next script t actors.hosts.items actors.sessions.items log.waiting.items w.world none idle in
       record { trace = rw quiet refl; told = rw quiet refl }
 
-  pub some_waits : (id : PostId) → slice_get log.waiting.items 0 ≡ Some id → is_some (next_entry script t) ≡ true
+  some_waits : (id : PostId) → slice_get log.waiting.items 0 ≡ Some id → is_some (next_entry script t) ≡ true
   some_waits id first =
       let named = waiting_named t id (in-slice_get (undelivered t) 0 id (ap (λ (l : List PostId). slice_get l 0) (sym w.world.waiting_is) ∙ first)) in
       some_told (next_entry script t) (λ (x : Entry). x.actor ≡ named.0.to)
       (delivers_to script t actors.hosts.items actors.sessions.items log.waiting.items w.world id named.0 named.0.to first named.1 refl)
 
-  pub some_idle : (place : ℕ) → slice_get log.waiting.items 0 ≡ None → IsFirstIdle script.sessions actors.sessions.items place → is_some (next_entry script t) ≡ true
-  some_idle place none first =
-      let next = first_idle_next script t actors.hosts.items actors.sessions.items log.waiting.items w.world none place first in rw next refl
+  -- a post that waits is delivered next
+  pub waiting_told : is_some (slice_get log.waiting.items 0) ≡ true → is_some (next_entry script t) ≡ true
+  waiting_told told = by (slice_get log.waiting.items 0) refl told
+    where
+      by : (o : Option PostId) → slice_get log.waiting.items 0 ≡ o → is_some o ≡ true → is_some (next_entry script t) ≡ true
+      by None e h = cc
+      by (Some id) e h = some_waits id e
 
-  pub none_told : slice_get log.waiting.items 0 ≡ None → IsNoneIdle script.sessions actors.sessions.items → is_some (next_entry script t) ≡ false
-  none_told none idle =
-      let quiet = none_next script t actors.hosts.items actors.sessions.items log.waiting.items w.world none idle in rw quiet refl
+  -- where none waits an idle session acts next, if there is one
+  pub idle_told : (first : Option ℕ) → is_some (slice_get log.waiting.items 0) ≡ false → MatchOption first (IsNoneIdle script.sessions actors.sessions.items) (IsFirstIdle script.sessions actors.sessions.items)
+      → is_some first ≡ is_some (next_entry script t)
+  idle_told None none idle =
+      let quiet = none_next script t actors.hosts.items actors.sessions.items log.waiting.items w.world (none_there (slice_get log.waiting.items 0) none) idle in rw quiet refl
+  idle_told (Some place) none idle =
+      let next = first_idle_next script t actors.hosts.items actors.sessions.items log.waiting.items w.world (none_there (slice_get log.waiting.items 0) none) place idle in rw next refl

@@ -9,3 +9,5 @@ pub mod Taking
 pub mod Idling
 pub mod Advancing
 pub mod Draining
+pub mod Beginning
+pub mod Spending

@@ -79,7 +79,8 @@ fn deliver(
             answer(alloc, script, actors, log, id, session)?;
             Ok(())
         }
-        _ => unreachable!(),
+        Some(Actor::Coordinator) => unreachable!(),
+        None => unreachable!(),
     }
 }
 

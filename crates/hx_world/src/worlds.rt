@@ -80,6 +80,7 @@ impl World {
     /// of the n entries is one more of an actor that has made so many.
     ///
     /// After an error the entries that were made stay, and the world can go on from there.
+    #[tactic(auto, using(crate::proofs::Spending::scheduled_more))]
     pub fn drain(&mut self, alloc: Global, n: u64) -> Result<Drained, DrainError>
         ensures script { self.new.script ≡ self.old.script }
         ensures drained { IfOk result (Drains self.old.script n (reverse self.old.trace) (reverse self.new.trace)) }

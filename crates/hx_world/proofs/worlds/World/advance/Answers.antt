@@ -1,0 +1,5 @@
+use Rattle.hx_world.proofs.Draining.{most_of}
+use Rattle.hx_world.proofs.worlds.World.advance.Goals as goal
+
+pub returns-clause-most : goal.returns-clause-most
+returns-clause-most c = most_of c.self.inside.script c.advance.new.actors c.advance.new.log c.advance.ensures.world
