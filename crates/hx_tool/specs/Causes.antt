@@ -104,6 +104,17 @@ IsJudged command text an_outcome.ReadFault = ⊤
 IsJudged command text an_outcome.WriteFault = (length text ≤ limit) × IsTaken command text
 IsJudged command text an_outcome.Memory = ⊤
 
+-- why a text that a source holds has no answer from the command
+abbrev pub IsFaulty : Command → List ℕ → Outcome → Type 0
+IsFaulty command text an_outcome.Fine = ⊥
+IsFaulty command text an_outcome.Usage = ⊥
+IsFaulty command text (an_outcome.Refused line reason) = (length text ≤ limit) × IsRefused text line reason
+IsFaulty command text an_outcome.Unbuilt = (length text ≤ limit) × IsUnbuilt command text
+IsFaulty command text an_outcome.TooLarge = limit < length text
+IsFaulty command text an_outcome.ReadFault = ⊥
+IsFaulty command text an_outcome.WriteFault = ⊥
+IsFaulty command text an_outcome.Memory = ⊥
+
 -- what made a text have no answer
 abbrev pub IsTextCause : Command → List ℕ → Outcome → Type 0
 IsTextCause command text an_outcome.Fine = ⊥

@@ -3,9 +3,10 @@ ghost use Rattle.std.specs.Io.KnownBytes.{Appends};
 ghost use Rattle.hx_io.specs.Causes.{Rose};
 ghost use Rattle.hx_io.specs.Pieces.{AppendsPrefix, ConsumesExactly};
 ghost use Rattle.hx_script.specs.declared.errors.Reason.{Reason};
-ghost use Rattle.hx_tool.specs.Causes.{IsAnswer, IsCause, IsJudged, IsJudgedResult, IsRefused, IsTaken, IsUnbuilt, ReadsText, limit};
+ghost use Rattle.hx_tool.specs.Causes.{IsAnswer, IsCause, IsFaulty, IsJudged, IsJudgedResult, IsRefused, IsTaken, IsUnbuilt, ReadsText, limit};
 ghost use Rattle.hx_tool.specs.Commands.{Says};
 ghost use Rattle.hx_tool.specs.Outcomes.{IsSilent, status_of};
+ghost use Rattle.hx_tool.specs.declared.outcomes.Outcome.{Outcome};
 ghost use Rattle.hx_tool.specs.declared.words.Command.{Command};
 
 use crate::answering::answer;
@@ -67,6 +68,10 @@ pub fn hyperstore<S: Source, K: Sink>(
     // For a source that tells its bytes these alone decide, but for faults and want of memory.
     ensures judged { (command : Command) → Says words.now command
         → IfSome (S.left source.old) (λ text. IsJudged command text result.outcome) }
+    ensures faulty { (command : Command) → (text : List ℕ) → (outcome : Outcome) → Says words.now command
+        → S.left source.old ≡ Some text → IsFaulty command text outcome
+        → ¬ Rose (S.faults source.old) (S.faults source.new)
+        → (result.outcome ≡ outcome) ⊎ (result.outcome ≡ Outcome.Memory) }
     ensures complete { (command : Command) → (text : List ℕ) → Says words.now command
         → S.left source.old ≡ Some text → length text ≤ limit → IsTaken command text
         → ¬ Rose (S.faults source.old) (S.faults source.new)
