@@ -1,0 +1,63 @@
+-- A server as contracts see it, and which inputs it can take today.
+use Rattle.std.specs.Prelude.{◌≡◌, ℕ, ◌<◌, ◌≤◌, ◌^◌, false, List, ⊤, IsSome}
+use Rattle.hx_types.specs.declared.messages.Message.{Message}
+use Rattle.hx_types.specs.declared.names.Actor.{Actor}
+use Rattle.hx_types.specs.declared.names.RegionId.{RegionId}
+use Rattle.hx_types.specs.declared.names.ServerId.{ServerId}
+use Rattle.hx_types.specs.declared.spaces.Space.{Space}
+use Rattle.hx_types.specs.declared.traces.Entry.{Entry}
+use Rattle.hx_types.specs.declared.traces.Input.{Input}
+use Rattle.hx_types.specs.declared.messages.Message.TheVariants as a_message
+use Rattle.hx_types.specs.declared.names.Actor.TheVariants.{Server}
+use Rattle.hx_types.specs.declared.traces.Input.TheVariants.{Tick, Halt, Deliver}
+use Rattle.hx_types.specs.Effects.{key_of}
+use Rattle.hx_types.specs.Posts.{IsSoundPost}
+use Rattle.hx_types.specs.Words.{IsIn, post}
+use Rattle.hx_model.specs.Runs.{entry_of}
+use Rattle.hx_model.specs.ServerSteps.{Replica, ServerState, server_step}
+use Rattle.hx_model.specs.Slots.{KeyState, top_of}
+
+-- for how many more updates the slot of a key in a region has room
+pub record Room : Type 0 where
+  pub region : RegionId
+  pub key : List ℕ
+  pub updates : ℕ
+
+pub record ServerValue : Type 0 where
+  pub space : Space
+  pub state : ServerState
+  pub rooms : List Room
+
+-- the server's entry for an input
+abbrev pub server_entry : Space → ServerState → Input → Entry
+server_entry space s input =
+    let step = server_step space s input in entry_of (Server s.id) input (record { posts = step.posts; notes = step.notes })
+
+-- the messages that a server can take today: calls on a key, updates and acknowledgements
+abbrev pub IsHandled : Message → Type 0
+IsHandled (a_message.Call epoch number op) = IsSome (key_of op)
+IsHandled (a_message.Update epoch g u) = ⊤
+IsHandled (a_message.Ack epoch g key version) = ⊤
+IsHandled other = ⊥
+
+-- the post is sound for some number of sessions, and no version in it is above 2^62
+pub record IsSoundDelivery (space : Space) (s : ServerId) (from : Actor) (m : Message) : Type 0 where
+  pub sessions : ℕ
+  pub entry : ℕ
+  pub few : entry < 2 ^ 62
+  pub sound : IsSoundPost space sessions entry (post from (Server s) m)
+
+-- no slot has accepted a version above 2^62
+abbrev pub HasSmallVersions : ServerState → Type 0
+HasSmallVersions s = (r : Replica) → IsIn r s.replicas → (t : KeyState) → IsIn t r.states → top_of t ≤ 2 ^ 62
+
+abbrev pub IsInputTo : Space → ServerId → Input → Type 0
+IsInputTo space s Tick = ⊥
+IsInputTo space s Halt = ⊥
+IsInputTo space s (Deliver id from m) = IsHandled m × IsSoundDelivery space s from m
+
+-- the server can take the input
+pub record CanTake (space : Space) (s : ServerState) (input : Input) : Type 0 where
+  pub running : s.halted ≡ false
+  pub input_to : IsInputTo space s.id input
+  pub small : HasSmallVersions s
