@@ -39,8 +39,7 @@ pub told_worn :
     → (text : List ℕ) × Says words Replay × ReadsText before after text × IsWorn text given a
 told_worn words before after command made trace given outcome actor a says read is same ends told =
     let worn : IsMadeOf command read.0 (Worn actor trace) = subst (λ (m : Made). IsMadeOf command read.0 m) is read.2 in
-    let same_actor : actor ≡ a = cc in
-    (
+    let same_actor : actor ≡ a = cc in (
       read.0,
       subst (λ (c : Command). Says words c) worn.0 says,
       read.1,

@@ -88,7 +88,7 @@ pub fn hyperstore<S: Source, K: Sink>(
         → ¬ Rose (S.faults source.old) (S.faults source.new)
         → ¬ Rose (K.faults sink.old) (K.faults sink.new)
         → (result.outcome ≡ Outcome.Fine) ⊎ (result.outcome ≡ Outcome.Memory)
-            ⊎ ((a : Actor) × (result.outcome ≡ Outcome.Worn a)) }
+        ⊎ ((a : Actor) × (result.outcome ≡ Outcome.Worn a)) }
 
     // Nothing is written with the other outcomes, and there is no trace but with `Worn`.
     ensures silent { IsSilent result.outcome → sink.new ≡ sink.old }
