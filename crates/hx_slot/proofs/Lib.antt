@@ -12,3 +12,4 @@ pub mod Refitting
 pub mod Reading
 pub mod Turns
 pub mod Offering
+pub mod Carrying
