@@ -13,3 +13,4 @@ pub mod Reading
 pub mod Turns
 pub mod Offering
 pub mod Carrying
+pub mod Orderly
