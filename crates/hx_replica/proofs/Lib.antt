@@ -1,0 +1,12 @@
+pub mod Placed
+pub mod Turns
+pub mod Offers
+pub mod Granted
+pub mod Acked
+pub mod Finding
+pub mod Starting
+pub mod Hearing
+pub mod Planning
+pub mod Asking
+pub mod Changing
+pub mod Inside

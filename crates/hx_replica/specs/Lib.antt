@@ -1,2 +1,6 @@
+pub mod Made
+pub mod Replicas
+pub mod Hearing
 pub mod Servers
+pub mod Inside
 pub mod Plans

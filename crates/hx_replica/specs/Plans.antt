@@ -1,8 +1,49 @@
 -- A step of a server that is ready to be made.
-use Rattle.std.specs.Prelude.{◌≡◌}
+use Rattle.std.specs.Prelude.{◌≡◌, ℕ, ◌<◌, ◌≤◌, List, IsSomeAnd, Some, length, slice_get}
+use Rattle.hx_types.specs.declared.messages.Message.{Message}
+use Rattle.hx_types.specs.declared.names.Actor.{Actor}
+use Rattle.hx_types.specs.declared.spaces.Space.{Space}
+use Rattle.hx_types.specs.declared.traces.Input.{Input}
+use Rattle.hx_model.specs.ServerSteps.{Replica, ServerState, server_step, spot_of, state_in, with_slot}
+use Rattle.hx_model.specs.Slots.{moved_all}
+use Rattle.hx_store.specs.Stores.{Room, room_in}
+use Rattle.hx_replica.specs.declared.made.SlotChange.{SlotChange}
+use Rattle.hx_replica.specs.declared.made.SlotMade.{SlotMade}
+use Rattle.hx_replica.specs.declared.plans.Change.{Change}
+use Rattle.hx_replica.specs.declared.plans.Change.TheVariants.{Nothing, Slot}
 use Rattle.hx_replica.specs.declared.plans.Plan.{Plan}
+use Rattle.hx_replica.specs.Made.{ChangeFits, IsMade, IsSlotInput, key_in, moves_by, slot_step_of}
 use Rattle.hx_replica.specs.Servers.{ServerValue, server_entry}
+
+-- the replica at the place has room for n more updates of the key
+abbrev pub HasRoomAt : ℕ → List ℕ → ℕ → ServerValue → Type 0
+HasRoomAt place key n s = IsSomeAnd (slice_get s.rooms place) (λ (rooms : List Room). IsSomeAnd (room_in key rooms) (λ spare. n ≤ spare))
+
+-- the replica at the place hears the message, and its slot can be asked
+pub record CanStep (space : Space) (s : ServerState) (place : ℕ) (key : List ℕ) (from : Actor) (m : Message) : Type 0 where
+  pub key_is : key ≡ key_in m
+  pub asked : (r : Replica) → slice_get s.replicas place ≡ Some r → IsSlotInput space r.region (state_in space r key) from m
+  pub within : place < length s.replicas
+
+-- what was made is the step of the slot at the replica of the place
+abbrev pub IsMadeAt : ServerValue → ℕ → Actor → Message → SlotMade → Type 0
+IsMadeAt s place from m made =
+    (r : Replica) → slice_get s.state.replicas place ≡ Some r
+    → IsMade r.region (state_in s.space r (key_in m)) (key_in m) (slot_step_of (spot_of s.space s.state r.region) (state_in s.space r (key_in m)) from m) made
+
+-- the slot of the key at the replica of the place can make the change, and that is the server's step
+pub record IsChangeOn (s : ServerValue) (input : Input) (place : ℕ) (key : List ℕ) (change : SlotChange) : Type 0 where
+  pub replica : Replica
+  pub found : slice_get s.state.replicas place ≡ Some replica
+  pub room : HasRoomAt place key 1 s
+  pub fits : ChangeFits replica.region (state_in s.space replica key) key change
+  pub state : (server_step s.space s.state input).state ≡ with_slot s.state replica (moved_all (moves_by replica.region (state_in s.space replica key) change) (state_in s.space replica key))
+
+abbrev pub IsChange : ServerValue → Input → Change → Type 0
+IsChange s input Nothing = (server_step s.space s.state input).state ≡ s.state
+IsChange s input (Slot place key change) = IsChangeOn s input place key change
 
 -- the plan is that of the server's step, and there is room for its change
 pub record IsPlanOn (s : ServerValue) (plan : Plan) : Type 0 where
   pub entry : plan.entry ≡ server_entry s.space s.state plan.entry.input
+  pub change : IsChange s plan.entry.input plan.change

@@ -2,7 +2,6 @@
 use Rattle.std.specs.Prelude.{◌≡◌, ℕ, ◌<◌, ◌≤◌, ◌^◌, false, List, ⊤, IsSome}
 use Rattle.hx_types.specs.declared.messages.Message.{Message}
 use Rattle.hx_types.specs.declared.names.Actor.{Actor}
-use Rattle.hx_types.specs.declared.names.RegionId.{RegionId}
 use Rattle.hx_types.specs.declared.names.ServerId.{ServerId}
 use Rattle.hx_types.specs.declared.spaces.Space.{Space}
 use Rattle.hx_types.specs.declared.traces.Entry.{Entry}
@@ -16,17 +15,13 @@ use Rattle.hx_types.specs.Words.{IsIn, post}
 use Rattle.hx_model.specs.Runs.{entry_of}
 use Rattle.hx_model.specs.ServerSteps.{Replica, ServerState, server_step}
 use Rattle.hx_model.specs.Slots.{KeyState, top_of}
+use Rattle.hx_store.specs.Stores.{Room}
 
--- for how many more updates the slot of a key in a region has room
-pub record Room : Type 0 where
-  pub region : RegionId
-  pub key : List ℕ
-  pub updates : ℕ
-
+-- rooms: for how many more updates the slots of each replica have room
 pub record ServerValue : Type 0 where
   pub space : Space
   pub state : ServerState
-  pub rooms : List Room
+  pub rooms : List (List Room)
 
 -- the server's entry for an input
 abbrev pub server_entry : Space → ServerState → Input → Entry

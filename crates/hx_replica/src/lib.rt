@@ -1,8 +1,14 @@
 //! A server: its replicas of the regions that it holds, and its step for each input.
 #![tactic(auto)]
 
+mod accepting;
+mod made;
 mod plans;
+mod replicas;
+mod rows;
 mod servers;
+mod settling;
+mod spots;
 
 pub use plans::Plan;
 pub use servers::Server;

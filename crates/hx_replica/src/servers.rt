@@ -1,11 +1,29 @@
-ghost use Rattle.std.specs.Prelude.{◌≡◌, ◌<◌, ◌≤◌, IfOk};
+ghost use Rattle.std.specs.Prelude.{◌≡◌, ◌<◌, ◌≤◌, IfOk, IfNone, IfSome, IsSomeAnd, OnOk, Some, None, slice_get};
+ghost use Rattle.std.specs.Option.{option_map};
+ghost use Rattle.hx_types.specs.Effects.{key_of};
 ghost use Rattle.hx_types.specs.Spaces.{IsServerOf, IsSpace};
-ghost use Rattle.hx_model.specs.ServerSteps.{server_at_start, server_step};
-ghost use Rattle.hx_replica.specs.Plans.{IsPlanOn};
+ghost use Rattle.hx_types.specs.Subspaces.{is_key_region};
+ghost use Rattle.hx_types.specs.Words.{when_some};
+ghost use Rattle.hx_model.specs.ServerSteps.{Replica as ReplicaState, hearing, if_installed, replica_of, server_at_start, server_step, state_in};
+ghost use Rattle.hx_model.specs.Slots.{new_state};
+ghost use Rattle.hx_replica.specs.Hearing.{heard, leading};
+ghost use Rattle.hx_store.specs.Stores.{HasRoom, state_at};
+ghost use Rattle.hx_replica.specs.Made.{IsMade, IsSlotInput, key_in, slot_step_of, spot_seen};
+ghost use Rattle.hx_replica.specs.Plans.{CanStep, HasRoomAt, IsMadeAt, IsPlanOn};
 ghost use Rattle.hx_replica.specs.Servers.{CanTake, server_entry};
 
-use crate::plans::{Never, Plan};
-use hx_types::{Entry, Input, Memory, ServerId, Space};
+use crate::made::SlotMade;
+use crate::plans::{Change, Plan, moved, unmoved};
+use crate::replicas::{Replica, change_slot, first_replicas, place_of};
+use crate::rows::step_slot;
+use crate::spots::Spot;
+use hx_region::RegionMap;
+use hx_slot::Slot;
+use hx_store::Store;
+use hx_types::{
+    Actor, Config, Entry, Epoch, Exact, Input, Memory, Message, Op, RegionId, ServerId, Space,
+    Text, first_config,
+};
 use std::alloc::Global;
 use std::marker::Model;
 
@@ -14,18 +32,32 @@ use std::marker::Model;
 /// how many updates it has room.
 #[derive(Drop)]
 pub struct Server {
-    never: Never,
+    id: ServerId,
     space: Space,
+    map: RegionMap,
+    config: Config,
+    sealed: bool,
+    halted: bool,
+    replicas: Vec<Replica>,
 }
 
 impl Model for Server {
-    ghost use Rattle.std.specs.Prelude.{[]};
-    ghost use Rattle.hx_model.specs.ServerSteps.{server_at_start};
     ghost use Rattle.hx_replica.specs.Servers.{ServerValue};
 
     ghost Value = { ServerValue };
 
-    ghost view = { λ s. record { space = s.space; state = server_at_start s.space (record { 0 = 1 }); rooms = [] } };
+    ghost use Rattle.hx_replica.specs.Inside.{IsServer, value_of};
+
+    ghost view = { value_of };
+
+    ghost invariant = { IsServer };
+}
+
+/// A replica that hears a message, by its place among the server's, and the key of the message.
+#[derive(Drop)]
+struct Heard<'a> {
+    replica: usize,
+    key: &'a Text,
 }
 
 impl Server {
@@ -37,7 +69,19 @@ impl Server {
         ensures space { IfOk result (λ server. server.space ≡ space.now) }
         ensures state { IfOk result (λ server. server.state ≡ server_at_start space.now id) }
     {
-        Err(Memory)
+        let map = RegionMap::new(alloc, space)?;
+        let config = first_config(alloc, space)?;
+        let replicas = first_replicas(alloc, space, &config, map.regions(), id)?;
+        let space = space.copy(alloc)?;
+        Ok(Server {
+            id,
+            space,
+            map,
+            config,
+            sealed: false,
+            halted: false,
+            replicas,
+        })
     }
 
     /// Computes the step that this input makes, and takes all memory that it needs. Nothing but
@@ -49,7 +93,17 @@ impl Server {
         ensures space { self.new.space ≡ self.old.space }
         ensures state { self.new.state ≡ self.old.state }
     {
-        Err(Memory)
+        let Input::Deliver { from, message, .. } = input else {
+            unreachable!()
+        };
+        let id = self.id;
+        match self.heard(message) {
+            Some(heard) => {
+                let made = self.step(alloc, &heard, *from, message)?;
+                moved(alloc, id, input, heard.replica, heard.key, made)
+            }
+            None => unmoved(alloc, id, input),
+        }
     }
 
     /// Makes a prepared step, and gives its entry. It takes no memory.
@@ -59,6 +113,139 @@ impl Server {
         ensures space { self.new.space ≡ self.old.space }
         ensures state { self.new.state ≡ (server_step self.old.space self.old.state plan.entry.input).state }
     {
-        match self.never {}
+        let Plan { entry, change } = plan;
+        if let Change::Slot {
+            replica,
+            key,
+            change,
+        } = change
+        {
+            let replica = &mut self.replicas[replica];
+            change_slot(&mut replica.store, &key, change);
+        }
+        entry
+    }
+
+    /// Whether the server has halted.
+    pub fn halted(&self) -> bool
+        ensures { result ≡ self.now.state.halted }
+    {
+        self.halted
+    }
+
+    /// The slot of a key at the server's replica of a region. There is none where there is no such
+    /// replica, and there may be none where the slot is as an empty one.
+    pub fn slot(&self, region: RegionId, key: &Text) -> Option<&Slot>
+        ensures state { IfSome result (λ slot. IsSomeAnd (replica_of region self.now.state.replicas) (λ (r : ReplicaState). slot.now.state ≡ state_in self.now.space r key.now)) }
+        ensures region { IfSome result (λ slot. slot.now.region ≡ region) }
+        ensures none { IfNone result (IfSome (replica_of region self.now.state.replicas) (λ (r : ReplicaState). state_in self.now.space r key.now ≡ new_state (is_key_region self.now.space region) key.now)) }
+    {
+        let replica = place_of(self.replicas.as_slice(), region)?;
+        self.replicas[replica].store.slot(key)
+    }
+
+    /// The replica that hears a message on a key, if one does.
+    fn heard<'a>(&self, message: &'a Message) -> Option<Heard<'a>>
+        ensures replica { option_map (λ h. slice_get self.now.state.replicas h.replica) result ≡ option_map Some (heard self.now.space self.now.state message.now) }
+        ensures key { IfSome result (λ h. h.key.now ≡ key_in message.now) }
+    {
+        match message {
+            Message::Call { epoch, op, .. } => self.leading(*epoch, op),
+            Message::Update {
+                epoch,
+                region,
+                update,
+            } => self.installed(*epoch, *region, &update.key),
+            Message::Ack {
+                epoch, region, key, ..
+            } => self.installed(*epoch, *region, key),
+            _ => None,
+        }
+    }
+
+    /// The replica of the key of a call, where this server leads its region.
+    fn leading<'a>(&self, epoch: Epoch, op: &'a Op) -> Option<Heard<'a>>
+        ensures replica { option_map (λ h. slice_get self.now.state.replicas h.replica) result ≡ option_map Some (when_some (key_of op.now) None (leading self.now.space self.now.state epoch)) }
+        ensures key { IfSome result (λ h. Some h.key.now ≡ key_of op.now) }
+    {
+        let key = op.key()?;
+        let region = self.map.of_key(key);
+        if !self.config.leads(&self.space, self.id, region) {
+            return None;
+        }
+        let replica = self.hearing(epoch, region)?;
+        Some(Heard { replica, key })
+    }
+
+    /// The replica of a region, where it is installed.
+    fn installed<'a>(&self, epoch: Epoch, region: RegionId, key: &'a Text) -> Option<Heard<'a>>
+        ensures replica { option_map (λ h. slice_get self.now.state.replicas h.replica) result ≡ option_map Some (if_installed (hearing self.now.state epoch region)) }
+        ensures key { IfSome result (λ h. h.key.now ≡ key.now) }
+    {
+        let replica = self.hearing(epoch, region)?;
+        if self.replicas[replica].installed {
+            Some(Heard { replica, key })
+        } else {
+            None
+        }
+    }
+
+    /// The place of the replica that hears messages of an epoch for a region: none where the
+    /// server is sealed, the epoch another, or the region lost.
+    fn hearing(&self, epoch: Epoch, region: RegionId) -> Option<usize>
+        ensures { option_map (slice_get self.now.state.replicas) result ≡ option_map Some (hearing self.now.state epoch region) }
+    {
+        if self.sealed || epoch.0 != self.config.epoch.0 || self.config.is_lost(region) {
+            return None;
+        }
+        place_of(self.replicas.as_slice(), region)
+    }
+
+    /// What a message makes of the slot to which it goes, and room there for an update more.
+    fn step(
+        &mut self,
+        alloc: Global,
+        heard: &Heard,
+        from: Actor,
+        message: &Message,
+    ) -> Result<SlotMade, Memory>
+        requires { CanStep self.old.space self.old.state heard.now.replica heard.now.key.now from message.now }
+        ensures made { IfOk result (IsMadeAt self.new heard.now.replica from message.now) }
+        ensures room { OnOk result (HasRoomAt heard.now.replica heard.now.key.now 1 self.new) }
+        ensures space { self.new.space ≡ self.old.space }
+        ensures state { self.new.state ≡ self.old.state }
+    {
+        let replica = &mut self.replicas[heard.replica];
+        replica.store.reserve(alloc, heard.key, 1)?;
+        let spot = Spot {
+            space: &self.space,
+            map: &self.map,
+            config: &self.config,
+            server: self.id,
+            region: replica.region,
+        };
+        step_store(alloc, &spot, &replica.store, heard.key, from, message)
+    }
+}
+
+/// What a message makes of the slot of a key in a store with room for it.
+fn step_store(
+    alloc: Global,
+    spot: &Spot,
+    store: &Store,
+    key: &Text,
+    from: Actor,
+    message: &Message,
+) -> Result<SlotMade, Memory>
+    requires map { spot.now.map.now ≡ spot.now.space.now }
+    requires space { IsSpace spot.now.space.now }
+    requires region { store.now.region ≡ spot.now.region }
+    requires room { HasRoom key.now 0 store.now }
+    requires input { IsSlotInput spot.now.space.now spot.now.region (state_at store.now key.now) from message.now }
+    ensures { IfOk result (λ made. IsMade spot.now.region (state_at store.now key.now) (key_in message.now) (slot_step_of (spot_seen spot.now) (state_at store.now key.now) from message.now) made) }
+{
+    match store.slot(key) {
+        Some(slot) => step_slot(alloc, spot, slot, from, message),
+        None => unreachable!(),
     }
 }

@@ -14,4 +14,4 @@ mod FittingCalls
 mod Sections
 mod FittingCuts
 mod SoundLines
-mod SoundTexts
+pub mod SoundTexts

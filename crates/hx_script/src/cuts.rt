@@ -12,9 +12,9 @@ use std::alloc::Global;
 
 /// The axes of a subspace as far as they were read, and how many regions they make.
 #[derive(Drop)]
-pub(crate) struct Cut {
-    pub(crate) axes: Axes,
-    pub(crate) size: u32,
+pub struct Cut {
+    pub axes: Axes,
+    pub size: u32,
 }
 
 fn has_axis(axes: &Axes, attribute: u32) -> bool

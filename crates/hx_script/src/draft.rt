@@ -20,7 +20,7 @@ use std::mem;
 
 /// Which lines may come next.
 #[derive(Clone, Copy, Debug, PartialEq, Eq)]
-pub(crate) enum Section {
+pub enum Section {
     Start,
     Naming,
     Keying,
@@ -34,13 +34,13 @@ pub(crate) enum Section {
 
 /// What was read, with how many regions the space has and how many calls there are.
 #[derive(Drop)]
-pub(crate) struct Draft {
-    pub(crate) section: Section,
-    pub(crate) space: Space,
-    pub(crate) regions: u32,
-    pub(crate) sessions: Sessions,
-    pub(crate) calls: u32,
-    pub(crate) steps: Steps,
+pub struct Draft {
+    pub section: Section,
+    pub space: Space,
+    pub regions: u32,
+    pub sessions: Sessions,
+    pub calls: u32,
+    pub steps: Steps,
 }
 
 #[tactic(auto, unfolding(crate::specs::Grammar::string_attribute))]

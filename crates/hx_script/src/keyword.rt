@@ -5,7 +5,7 @@ ghost use Rattle.hx_script.specs.Keywords.{heading_of, call_word_of, step_word_o
 
 /// The words of the head and of sections.
 #[derive(Clone, Copy, Debug, PartialEq, Eq)]
-pub(crate) enum Heading {
+pub enum Heading {
     Hx,
     Space,
     Key,
@@ -20,7 +20,7 @@ pub(crate) enum Heading {
 
 /// The words of calls.
 #[derive(Clone, Copy, Debug, PartialEq, Eq)]
-pub(crate) enum CallWord {
+pub enum CallWord {
     Put,
     Get,
     Del,
@@ -32,14 +32,14 @@ pub(crate) enum CallWord {
 
 /// The words of steps.
 #[derive(Clone, Copy, Debug, PartialEq, Eq)]
-pub(crate) enum StepWord {
+pub enum StepWord {
     Deliver,
     Tick,
     Halt,
 }
 
 #[derive(Clone, Copy, Debug, PartialEq, Eq)]
-pub(crate) enum Keyword {
+pub enum Keyword {
     Heading(Heading),
     Call(CallWord),
     Step(StepWord),

@@ -26,7 +26,7 @@ pub(crate) enum Part<'a> {
 
 /// Where a repetition ends: at the end of the line, or also before the word `set`.
 #[derive(Clone, Copy, Debug, PartialEq, Eq)]
-pub(crate) enum Until {
+pub enum Until {
     End,
     Set,
 }

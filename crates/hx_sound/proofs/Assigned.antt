@@ -109,7 +109,7 @@ module _ (space : Space) (valid : IsSpace space) (sessions : ℕ) (key : List �
       )
 
 -- what is assigned by a decision
-decides : (space : Space) (config : Config) (g : RegionId) (t : KeyState) (caller : Caller) (op : Op) (u : Update) → decide space config g t caller op ≡ a_decision.Assign u → u ≡ assigned space config g t caller op
+pub decides : (space : Space) (config : Config) (g : RegionId) (t : KeyState) (caller : Caller) (op : Op) (u : Update) → decide space config g t caller op ≡ a_decision.Assign u → u ≡ assigned space config g t caller op
 decides space config g t caller op u = by (mark_of caller.session t)
   where
     newly : fresh space config g t caller op ≡ a_decision.Assign u → u ≡ assigned space config g t caller op

@@ -1,3 +1,3 @@
 pub mod Scheduling
-pub mod OneWord
+pub mod Making
 pub mod Fixed

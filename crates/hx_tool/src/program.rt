@@ -10,17 +10,19 @@ use std::{env, io};
 const HELP: &[u8] = b"hx: a searchable key-value store whose histories are proved linear
 
 usage: hx replay < SCRIPT
+       hx plan < SCRIPT
 
 Commands:
   replay       run the script that stands on standard input, and write every
                reply and every key's history on standard output
+  plan         write which regions each search of the script asks
 
 Options:
   --help       print this help
   --version    print the version
 
 Status: 0 fine, 2 usage, 3 a text that can't be run, 4 a fault of reading,
-5 a fault of writing, 6 want of memory.
+5 a fault of writing, 6 want of memory, 7 an actor made 1,048,576 entries.
 ";
 
 /// What `hx --version` prints.

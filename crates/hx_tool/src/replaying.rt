@@ -1,52 +1,55 @@
-ghost use Rattle.std.specs.Prelude.{◌≡◌, ◌⊎◌, IfOk, IfErr, None, reverse};
+ghost use Rattle.std.specs.Prelude.{◌≡◌, ◌⊎◌, IfOk, IfErr, reverse};
+ghost use Rattle.hx_types.specs.Fitting.{IsScript};
 ghost use Rattle.hx_model.specs.Built.{IsBuilt};
 ghost use Rattle.hx_report.specs.Reporting.{IsReport};
-ghost use Rattle.hx_first_form.specs.FirstForm.{first_script_of};
-ghost use Rattle.hx_tool.specs.Causes.{IsAnswer, IsReplayed, IsWholeRun};
+ghost use Rattle.hx_tool.specs.Causes.{IsReplay, IsReplayed, IsWholeRun};
 
-use crate::outcomes::Outcome;
+use crate::built::is_built;
+use crate::outcomes::{Answered, Made, Outcome};
 use hx_types::{Memory, Script, Trace};
-use hx_world::{Drained, World};
+use hx_world::{DrainError, Drained, World};
 use std::alloc::Global;
 
-/// A trace and the report that tells of it.
-#[derive(Drop)]
-pub struct Replayed {
-    pub trace: Trace,
-    pub report: Vec<u8>,
-}
-
-/// Replays the script of a text.
-pub fn replay(alloc: Global, text: &[u8]) -> Result<Replayed, Outcome>
-    ensures answer { IfOk result (λ made. IsAnswer text.now made.trace made.report.items) }
-    ensures unbuilt { (result ≡ Err Outcome.Unbuilt) → first_script_of text.now ≡ None }
-    ensures only { IfErr result (λ outcome. (outcome ≡ Outcome.Unbuilt) ⊎ (outcome ≡ Outcome.Memory)) }
+/// Replays a script, or refuses one that isn't of the form that is built.
+pub fn replay(alloc: Global, script: &Script) -> Result<Made, Outcome>
+    requires { IsScript script.now }
+    ensures built { IfOk result (λ _. IsBuilt script.now) }
+    ensures made { IfOk result (IsReplay script.now) }
+    ensures cause { IfErr result (λ outcome. ((outcome ≡ Outcome.Unbuilt) × ¬ IsBuilt script.now) ⊎ (outcome ≡ Outcome.Memory)) }
 {
-    let script = hx_first_form::read(alloc, text)?;
-    Ok(replay_script(alloc, &script)?)
+    if !is_built(script) {
+        return Err(Outcome::Unbuilt);
+    }
+    Ok(replay_built(alloc, script)?)
 }
 
-fn replay_script(alloc: Global, script: &Script) -> Result<Replayed, Memory>
+/// Runs the script by the schedule until there is nothing left to do, or an actor is worn.
+#[tactic(auto, using(crate::proofs::Scheduling::runnable))]
+fn replay_built(alloc: Global, script: &Script) -> Result<Made, Memory>
     requires { IsBuilt script.now }
-    ensures { IfOk result (λ made. IsReplayed script.now made.trace made.report.items) }
-{
-    let trace = run(alloc, script)?;
-    hx_linear::headline_in_one_configuration();
-    let report = tell(alloc, script, &trace)?;
-    Ok(Replayed { trace, report })
-}
-
-/// Runs the script by the schedule until there is nothing left to do.
-#[tactic(auto, using(crate::proofs::Scheduling::drained))]
-fn run(alloc: Global, script: &Script) -> Result<Trace, Memory>
-    requires { IsBuilt script.now }
-    ensures { IfOk result (λ trace. IsWholeRun script.now trace) }
+    ensures { IfOk result (IsReplay script.now) }
 {
     let mut world = World::start(alloc, script)?;
-    match world.drain(alloc, u64::MAX)? {
-        Drained::Quiet => Ok(world.into_trace()),
-        Drained::Spent => unreachable!(),
+    match world.drain(alloc, u64::MAX) {
+        Ok(Drained::Quiet) => Ok(Made::Whole(answered(alloc, script, world.into_trace())?)),
+        Ok(Drained::Spent) => unreachable!(),
+        Err(DrainError::Memory) => Err(Memory),
+        Err(DrainError::Worn(actor)) => Ok(Made::Worn {
+            actor,
+            trace: world.into_trace(),
+        }),
     }
+}
+
+/// The whole run and its report.
+fn answered(alloc: Global, script: &Script, trace: Trace) -> Result<Answered, Memory>
+    requires built { IsBuilt script.now }
+    requires whole { IsWholeRun script.now trace }
+    ensures { IfOk result (λ made. IsReplayed script.now made.trace made.bytes.items) }
+{
+    hx_linear::headline_in_one_configuration();
+    let bytes = tell(alloc, script, &trace)?;
+    Ok(Answered { trace, bytes })
 }
 
 /// The report of a trace.

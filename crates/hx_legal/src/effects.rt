@@ -1,0 +1,113 @@
+ghost use Rattle.std.specs.Prelude.{◌≡◌, ◌↔◌, unwrap_or, IsTrue};
+ghost use Rattle.std.specs.Option.{option_copied};
+ghost use Rattle.hx_legal.specs.Shown.{Shows};
+ghost use Rattle.hx_model.specs.Legal.{IsEffect};
+ghost use Rattle.hx_types.specs.Effects.{changed_to, defaults, deleted, got, left_as, put_where, test_holds, tests_hold, written};
+
+use crate::writes::{is_written, same_object};
+use hx_types::{Answer, Assign, Item, Object, Op, Same, Space};
+
+/// Whether the item has the answer and the object of its operation's effect on the object before
+/// it.
+pub fn is_effect(space: &Space, before: Option<&Object>, item: &Item) -> bool
+    ensures { IsTrue result ↔ IsEffect space.now (option_copied before.entry) item.now }
+{
+    match &item.op {
+        Op::Put { sets, .. } => is_put(space, before, sets.as_slice(), item),
+        Op::Get { .. } => is_get(before, item),
+        Op::Del { .. } => is_del(before, item),
+        Op::Cput { tests, sets, .. } => {
+            is_cput(space, before, tests.as_slice(), sets.as_slice(), item)
+        }
+        Op::Search { .. } | Op::Stop { .. } | Op::Add { .. } => is_not_found(before, item),
+    }
+}
+
+fn is_put(space: &Space, before: Option<&Object>, sets: &[Assign], item: &Item) -> bool
+    ensures { IsTrue result ↔ Shows (changed_to (Some (written (unwrap_or (option_copied before.entry) (defaults space.now)) sets.now))) item.now }
+{
+    is_done(&item.answer) && is_written(space, before, sets, item.object.as_ref())
+}
+
+fn is_get(before: Option<&Object>, item: &Item) -> bool
+    ensures { IsTrue result ↔ Shows (got (option_copied before.entry)) item.now }
+{
+    match before {
+        Some(object) => {
+            is_found(&item.answer, object) && same_object(item.object.as_ref(), before)
+        }
+        None => is_not_found(before, item),
+    }
+}
+
+fn is_del(before: Option<&Object>, item: &Item) -> bool
+    ensures { IsTrue result ↔ Shows (deleted (option_copied before.entry)) item.now }
+{
+    match before {
+        Some(_) => is_done(&item.answer) && item.object.is_none(),
+        None => is_not_found(before, item),
+    }
+}
+
+fn is_cput(
+    space: &Space,
+    before: Option<&Object>,
+    tests: &[Assign],
+    sets: &[Assign],
+    item: &Item,
+) -> bool
+    ensures { IsTrue result ↔ Shows (put_where (option_copied before.entry) tests.now sets.now) item.now }
+{
+    let Some(object) = before else {
+        return is_not_found(before, item);
+    };
+    if all_hold(object, tests) {
+        is_put(space, before, sets, item)
+    } else {
+        is_failed(&item.answer) && same_object(item.object.as_ref(), before)
+    }
+}
+
+/// Whether the item is answered that there is no object, and has the object before it.
+fn is_not_found(before: Option<&Object>, item: &Item) -> bool
+    ensures { IsTrue result ↔ Shows (left_as (option_copied before.entry) Answer.NotFound) item.now }
+{
+    matches!(item.answer, Answer::NotFound) && same_object(item.object.as_ref(), before)
+}
+
+fn is_done(answer: &Answer) -> bool
+    ensures { IsTrue result ↔ (answer.now ≡ Answer.Done) }
+{
+    matches!(answer, Answer::Done)
+}
+
+fn is_failed(answer: &Answer) -> bool
+    ensures { IsTrue result ↔ (answer.now ≡ Answer.CmpFail) }
+{
+    matches!(answer, Answer::CmpFail)
+}
+
+fn is_found(answer: &Answer, object: &Object) -> bool
+    ensures { IsTrue result ↔ (answer.now ≡ Answer.Found object.now) }
+{
+    match answer {
+        Answer::Found(found) => found.same(object),
+        _ => false,
+    }
+}
+
+/// Whether each tested attribute has the tested value.
+fn all_hold(object: &Object, tests: &[Assign]) -> bool
+    ensures { result ≡ tests_hold object.now tests.now }
+{
+    tests.iter().all(|test| holds(object, test))
+}
+
+fn holds(object: &Object, test: &Assign) -> bool
+    ensures { result ≡ test_holds object.now test.now }
+{
+    match object.get((test.attribute as usize).saturating_sub(1)) {
+        Some(value) => test.value.same(value),
+        None => false,
+    }
+}

@@ -1,0 +1,16 @@
+//! Legal histories of one object.
+//!
+//! A history is legal where its first item is the effect of its operation on the absent object, and
+//! each further one that on the object after the item before it. [`legal`] tells whether a history
+//! is, [`first_fault`] where it first isn't. Neither takes memory: the object after an operation is
+//! compared in place, and never made.
+#![tactic(auto)]
+
+mod effects;
+mod faults;
+mod writes;
+
+pub use faults::{first_fault, legal};
+
+#[cfg(test)]
+mod tests;

@@ -1,0 +1,21 @@
+pub mod Says
+pub mod Numbers
+pub mod Quotes
+pub mod Names
+pub mod Reading
+pub mod Drafts
+pub mod Heads
+pub mod Attributes
+pub mod Subspaces
+pub mod Assignments
+pub mod Terms
+pub mod Calls
+pub mod Steps
+pub mod Sections
+pub mod Whole
+pub mod Told
+pub mod ToldCalls
+pub mod ToldLines
+pub mod ToldTexts
+pub mod Only
+mod Examples

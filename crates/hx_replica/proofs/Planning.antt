@@ -1,0 +1,111 @@
+-- The plan of a delivery is that of the server's step.
+use Rattle.std.proofs.Common.{◌≡◌, ℕ, List, [], Option, None, Some, refl, ap, sym, ◌∙◌, subst}
+use Rattle.std.specs.List.{slice_get}
+use Rattle.std.specs.Option.{option_map}
+use Rattle.std.proofs.lemmas.Bool.{cond-false}
+use Rattle.hx_types.specs.declared.messages.Message.{Message}
+use Rattle.hx_types.specs.declared.messages.Post.{Post}
+use Rattle.hx_types.specs.declared.messages.PostId.{PostId}
+use Rattle.hx_types.specs.declared.names.Actor.{Actor}
+use Rattle.hx_types.specs.declared.names.ServerId.{ServerId}
+use Rattle.hx_types.specs.declared.spaces.Space.{Space}
+use Rattle.hx_types.specs.declared.traces.Entry.{Entry}
+use Rattle.hx_types.specs.declared.traces.Input.{Input}
+use Rattle.hx_types.specs.declared.traces.Note.{Note}
+use Rattle.hx_types.specs.declared.names.Actor.TheVariants.{Server}
+use Rattle.hx_types.specs.declared.traces.Input.TheVariants.{Deliver}
+use Rattle.hx_model.specs.Runs.{entry_of}
+use Rattle.hx_model.specs.ServerSteps.{Replica, ServerState, ServerStep, at_slot, message_step, server_step, spot_of, state_in, unmoved, with_slot}
+use Rattle.hx_model.specs.Slots.{KeyState, Move, moved_all}
+use Rattle.hx_replica.specs.declared.made.SlotMade.{SlotMade}
+use Rattle.hx_replica.specs.declared.plans.Plan.{Plan}
+use Rattle.hx_replica.specs.declared.plans.Change.TheVariants as a_change
+use Rattle.hx_replica.specs.Hearing.{heard}
+use Rattle.hx_replica.specs.Made.{IsMade, key_in, slot_step_of}
+use Rattle.hx_replica.specs.Plans.{HasRoomAt, IsMadeAt, IsPlanOn}
+use Rattle.hx_replica.specs.Servers.{CanTake, ServerValue}
+use Rattle.hx_replica.proofs.Hearing.{message_heard, message_unheard}
+
+-- a replica that was found by its place
+pub record IsFound (rs : List Replica) (place : ℕ) (o : Option Replica) : Type 0 where
+  pub replica : Replica
+  pub is : o ≡ Some replica
+  pub at_place : slice_get rs place ≡ Some replica
+
+pub found_there : (rs : List Replica) (place : ℕ) (o : Option Replica) → Some (slice_get rs place) ≡ option_map (λ (r : Replica). Some r) o → IsFound rs place o
+found_there rs place None e = absurd cc
+found_there rs place (Some r) e = record { replica = r; is = refl; at_place = cc }
+
+pub found_nowhere : (o : Option Replica) → None ≡ option_map (λ (r : Replica). Some r) o → o ≡ None
+found_nowhere None e = refl
+found_nowhere (Some r) e = absurd cc
+
+running_step : (v : ServerValue) (id : PostId) (from : Actor) (m : Message) → CanTake v.space v.state (Deliver id from m) → server_step v.space v.state (Deliver id from m) ≡ message_step v.space v.state from m
+running_step v id from m can = cond-false v.state.halted (unmoved v.state) _ can.running
+
+-- the plans of a step that moves nothing, and of one of a slot
+abbrev pub unmoved_plan : ServerId → Input → Plan
+unmoved_plan server input = record { entry = record { actor = Server server; input = input; outputs = []; notes = [] }; change = a_change.Nothing }
+
+abbrev pub moved_plan : ServerId → Input → ℕ → List ℕ → SlotMade → Plan
+moved_plan server input place key made = record { entry = record { actor = Server server; input = input; outputs = made.posts; notes = made.notes }; change = a_change.Slot place key made.change }
+
+abbrev entry_by : ServerValue → Input → ServerStep → Entry
+entry_by v input step = entry_of (Server v.state.id) input (record { posts = step.posts; notes = step.notes })
+
+-- no replica hears the message
+unmoved_planned : (v : ServerValue) (id : PostId) (from : Actor) (m : Message) (plan : Plan) → CanTake v.space v.state (Deliver id from m) → heard v.space v.state m ≡ None
+    → plan ≡ unmoved_plan v.state.id (Deliver id from m) → IsPlanOn v plan
+unmoved_planned v id from m plan can none e =
+    let step : server_step v.space v.state (Deliver id from m) ≡ unmoved v.state = running_step v id from m can ∙ message_unheard v.space v.state from m can.input_to.0 none in
+    subst (IsPlanOn v) (sym e) (record { entry = ap (entry_by v (Deliver id from m)) (sym step); change = ap (λ (s : ServerStep). s.state) step })
+
+-- the replica at the place hears it, and its slot makes this
+moved_planned : (v : ServerValue) (id : PostId) (from : Actor) (m : Message) (place : ℕ) (key : List ℕ) (made : SlotMade) (plan : Plan) → CanTake v.space v.state (Deliver id from m)
+    → IsFound v.state.replicas place (heard v.space v.state m) → IsMadeAt v place from m made → HasRoomAt place key 1 v → key ≡ key_in m
+    → plan ≡ moved_plan v.state.id (Deliver id from m) place key made → IsPlanOn v plan
+moved_planned v id from m place key made plan can at is room k e =
+    let r : Replica = at.replica in
+    let s : KeyState = state_in v.space r (key_in m) in
+    let slot = slot_step_of (spot_of v.space v.state r.region) s from m in
+    let so : IsMade r.region s (key_in m) slot made = is r at.at_place in
+    let step : server_step v.space v.state (Deliver id from m) ≡ at_slot v.state r s slot = running_step v id from m can ∙ message_heard v.space v.state from (Server v.state.id) m r can.input_to.1.sound.between at.is in
+    subst (IsPlanOn v) (sym (e ∙ ap (λ (x : List ℕ). moved_plan v.state.id (Deliver id from m) place x made) k))
+    (record {
+      entry = ap (λ (posts : List Post). record { actor = Server v.state.id; input = Deliver id from m; outputs = posts; notes = made.notes }) so.posts
+        ∙ ap (λ (notes : List Note). record { actor = Server v.state.id; input = Deliver id from m; outputs = slot.posts; notes = notes }) so.notes
+        ∙ ap (entry_by v (Deliver id from m)) (sym step);
+      change = record {
+        replica = r;
+        found = at.at_place;
+        room = subst (λ (x : List ℕ). HasRoomAt place x 1 v) k room;
+        fits = so.fits;
+        state = ap (λ (t : ServerStep). t.state) step ∙ ap (λ (moves : List Move). with_slot v.state r (moved_all moves s)) (sym so.moves);
+      };
+    })
+
+-- room was made since the input came
+module _ (old new : ServerValue) (server : ServerId) (input : Input) (id : PostId) (from : Actor) (m : Message) (can : CanTake old.space old.state input) (is : input ≡ Deliver id from m) (me : server ≡ old.state.id)
+    (space : new.space ≡ old.space) (state : new.state ≡ old.state) where
+  still : CanTake new.space new.state (Deliver id from m)
+  still =
+      subst (λ (x : ServerState). CanTake new.space x (Deliver id from m)) (sym state)
+      (subst (λ (x : Space). CanTake x old.state (Deliver id from m)) (sym space) (subst (CanTake old.space old.state) is can))
+
+  heard_still : heard old.space old.state m ≡ heard new.space new.state m
+  heard_still = ap (λ (x : Space). heard x old.state m) (sym space) ∙ ap (λ (x : ServerState). heard new.space x m) (sym state)
+
+  me_still : server ≡ new.state.id
+  me_still = me ∙ ap (λ (x : ServerState). x.id) (sym state)
+
+  pub nothing_prepared : (plan : Plan) → None ≡ option_map (λ (r : Replica). Some r) (heard old.space old.state m) → plan ≡ unmoved_plan server input → IsPlanOn new plan
+  nothing_prepared plan none e =
+      unmoved_planned new id from m plan still (sym heard_still ∙ found_nowhere (heard old.space old.state m) none)
+        (e ∙ ap (unmoved_plan server) is ∙ ap (λ (s : ServerId). unmoved_plan s (Deliver id from m)) me_still)
+
+  pub move_prepared : (place : ℕ) (key : List ℕ) (made : SlotMade) (plan : Plan) → Some (slice_get old.state.replicas place) ≡ option_map (λ (r : Replica). Some r) (heard old.space old.state m) → key ≡ key_in m
+      → IsMadeAt new place from m made → HasRoomAt place key 1 new → plan ≡ moved_plan server input place key made → IsPlanOn new plan
+  move_prepared place key made plan at k so room e =
+      moved_planned new id from m place key made plan still
+        (found_there new.state.replicas place (heard new.space new.state m) (ap (λ (x : ServerState). Some (slice_get x.replicas place)) state ∙ at ∙ ap (option_map (λ (r : Replica). Some r)) heard_still)) so room k
+        (e ∙ ap (λ (i : Input). moved_plan server i place key made) is ∙ ap (λ (s : ServerId). moved_plan s (Deliver id from m) place key made) me_still)

@@ -1,0 +1,136 @@
+-- What a step makes of one slot: its posts and notes, and the change by which the slot makes the step's moves.
+use Rattle.std.specs.Prelude.{◌≡◌, ℕ, ◌<◌, ◌≤◌, ◌==◌, ◌||◌, Bool, true, ⊤, ◌^◌, IsSome, List, [], ◌∷◌, ◌++◌, length, take}
+use Rattle.std.specs.Borrow.{Bor}
+use Rattle.std.specs.List.{All, flat_map, list_any, prefix_len}
+use Rattle.hx_types.specs.declared.calls.Caller.{Caller}
+use Rattle.hx_types.specs.declared.messages.Message.{Message}
+use Rattle.hx_types.specs.declared.messages.Post.{Post}
+use Rattle.hx_types.specs.declared.names.Actor.{Actor}
+use Rattle.hx_types.specs.declared.names.RegionId.{RegionId}
+use Rattle.hx_types.specs.declared.names.SessionId.{SessionId}
+use Rattle.hx_types.specs.declared.names.Version.{Version}
+use Rattle.hx_types.specs.declared.updates.Place.{Place}
+use Rattle.hx_types.specs.declared.updates.Update.{Update}
+use Rattle.hx_types.specs.declared.messages.Message.TheVariants as a_message
+use Rattle.hx_types.specs.declared.names.Actor.TheVariants.{Coordinator, Server, Session}
+use Rattle.hx_types.specs.declared.spaces.Space.{Space}
+use Rattle.hx_types.specs.Effects.{key_of}
+use Rattle.hx_model.specs.Regions.{key_region}
+use Rattle.hx_types.specs.Words.{provided, when_some}
+use Rattle.hx_model.specs.ServerSteps.{SlotStep, Spot as ModelSpot, accepting, ack_step, by_posts, call_step, end_marks, move_posts, next_at, passed_on, prev_at, told_to, update_step}
+use Rattle.hx_model.specs.Neighbours.{is_end}
+use Rattle.hx_model.specs.Slots.{KeyState, Move, acknowledged, moved_all, offered, taken, top_of}
+use Rattle.hx_slot.specs.States.{IsPlacedIn}
+use Rattle.hx_store.specs.Stores.{ArePending, CanBeOffered, accepted, acknowledging}
+use Rattle.hx_replica.specs.declared.made.SlotChange.{SlotChange}
+use Rattle.hx_replica.specs.declared.made.SlotChange.TheVariants.{Open, Accept, Acknowledge}
+use Rattle.hx_replica.specs.declared.made.SlotMade.{SlotMade}
+use Rattle.hx_replica.specs.declared.spots.Spot.{Spot}
+
+-- where a slot stands, as the definitions say it
+abbrev pub spot_seen : Spot → ModelSpot
+spot_seen s = record { space = s.space.now; config = s.config.now; server = s.server; region = s.region }
+
+-- the updates that are lent
+abbrev pub seen : List (Bor Update) → List Update
+seen [] = []
+seen (b ∷ rest) = b.now ∷ seen rest
+
+-- the version of an update whose chain ends here
+abbrev pub end_of : ModelSpot → Update → List Version
+end_of spot u = provided (is_end (next_at spot u)) (u.version ∷ [])
+
+-- what is posted of an update that is committed
+abbrev pub told_of : ModelSpot → Update → List Post
+told_of spot u = told_to spot u (prev_at spot u)
+
+-- the moves of a change
+abbrev pub moves_by : RegionId → KeyState → SlotChange → List Move
+moves_by g s Open = []
+moves_by g s (Accept u place ends) = accepted g s u ends.items
+moves_by g s (Acknowledge v) = acknowledged s v.0
+
+-- the slot of the key can make the change
+abbrev pub ChangeFits : RegionId → KeyState → List ℕ → SlotChange → Type 0
+ChangeFits g s key Open = ⊤
+ChangeFits g s key (Accept u place ends) = (u.key ≡ key) × CanBeOffered g u place × ArePending (moved_all (offered g s u) s) ends.items
+ChangeFits g s key (Acknowledge v) = ⊤
+
+-- what was made is the step of the slot
+pub record IsMade (g : RegionId) (s : KeyState) (key : List ℕ) (step : SlotStep) (made : SlotMade) : Type 0 where
+  pub posts : made.posts ≡ step.posts
+  pub notes : made.notes ≡ step.notes
+  pub moves : moves_by g s made.change ≡ step.moves
+  pub fits : ChangeFits g s key made.change
+
+abbrev pub session_in : Actor → SessionId
+session_in Coordinator = record { 0 = 0 }
+session_in (Server s) = record { 0 = 0 }
+session_in (Session u) = u
+
+-- the key of the slot to which a message goes
+abbrev pub key_in : Message → List ℕ
+key_in (a_message.Call epoch number op) = when_some (key_of op) [] (λ k. k)
+key_in (a_message.Update epoch g u) = u.key
+key_in (a_message.Ack epoch g key version) = key
+key_in other = []
+
+-- the step of the slot to which a message goes
+abbrev pub slot_step_of : ModelSpot → KeyState → Actor → Message → SlotStep
+slot_step_of spot s from (a_message.Call epoch number op) = call_step spot s (record { session = session_in from; number = number }) op
+slot_step_of spot s from (a_message.Update epoch g u) = update_step spot s u
+slot_step_of spot s from (a_message.Ack epoch g key version) = ack_step spot s version.0
+slot_step_of spot s from other = by_posts []
+
+-- a version is acknowledged, or one of those that are being acknowledged
+abbrev pub settles : List ℕ → List Version → Version → Bool
+settles acked ends v = list_any (λ (e : Version). e.0 == v.0) ends || list_any (λ w. w == v.0) acked
+
+-- the first updates of a list that are acknowledged
+abbrev pub settled_among : List ℕ → List Version → List (Bor Update) → List (Bor Update)
+settled_among acked ends us = take (prefix_len (λ (b : Bor Update). settles acked ends b.now.version) us) us
+
+-- an update with a place in the region
+pub record IsHere (g : RegionId) (b : Bor Update) : Type 0 where
+  pub placed : IsPlacedIn g b.now
+  pub few : length b.now.places ≤ 17
+
+-- and above a version
+pub record IsNew (g : RegionId) (floor : ℕ) (b : Bor Update) : Type 0 where
+  pub placed : IsPlacedIn g b.now
+  pub few : length b.now.places ≤ 17
+  pub above : floor < b.now.version.0
+
+-- an update that can be accepted after these
+pub record IsComing (g : RegionId) (s : KeyState) (u : Update) : Type 0 where
+  pub placed : IsPlacedIn g u
+  pub few : length u.places ≤ 17
+  pub after : All (λ (p : Place). p.after.0 < u.version.0) u.places
+  pub above : top_of s < u.version.0
+  pub floor : s.floor ≤ top_of s
+
+-- what is posted of accepting an update, and the versions whose chain ends here
+pub record IsAccepted (spot : ModelSpot) (s : KeyState) (u : Update) (posts : List Post) (ends : List Version) : Type 0 where
+  pub posts_are : posts ≡ flat_map (move_posts spot) (accepting spot s (offered spot.region s u))
+  pub ends_are : acknowledging ends ≡ end_marks spot (taken (offered spot.region s u))
+  pub pending : ArePending (moved_all (offered spot.region s u) s) ends
+
+abbrev pub IsSessionActor : Actor → Type 0
+IsSessionActor Coordinator = ⊥
+IsSessionActor (Server s) = ⊥
+IsSessionActor (Session u) = ⊤
+
+-- the slot of a key at its leader, with room for a further version
+pub record IsLeading (space : Space) (g : RegionId) (s : KeyState) : Type 0 where
+  pub marks : s.marks ≡ true
+  pub region : g ≡ key_region space s.base.key
+  pub small : top_of s ≤ 2 ^ 62
+
+-- what a slot of a region is asked: a call by a session on its key at a key region where it keeps marks, an update with a place there, or an acknowledgement
+abbrev pub IsSlotInput : Space → RegionId → KeyState → Actor → Message → Type 0
+IsSlotInput space g s from (a_message.Call epoch number op) =
+    IsSessionActor from × IsSome (key_of op) × IsLeading space g s × (s.base.key ≡ key_in (a_message.Call epoch number op))
+IsSlotInput space g s from (a_message.Update epoch h u) =
+    IsPlacedIn g u × (length u.places ≤ 17) × All (λ (p : Place). p.after.0 < u.version.0) u.places
+IsSlotInput space g s from (a_message.Ack epoch h key version) = s.base.key ≡ key
+IsSlotInput space g s from other = ⊥

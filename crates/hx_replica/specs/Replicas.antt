@@ -1,0 +1,39 @@
+-- The replicas of a server, in ascending order of regions.
+use Rattle.std.specs.Prelude.{◌≡◌, true, List, [], map}
+use Rattle.std.specs.List.{AllByRecursion}
+use Rattle.hx_types.specs.declared.names.RegionId.{RegionId}
+use Rattle.hx_types.specs.declared.spaces.Space.{Space}
+use Rattle.hx_types.specs.Spaces.{IsAscending}
+use Rattle.hx_types.specs.Subspaces.{is_key_region}
+use Rattle.hx_model.specs.ServerSteps.{Replica as ReplicaState}
+use Rattle.hx_model.specs.Slots.{KeyState}
+use Rattle.hx_store.specs.Stores.{Room}
+use Rattle.hx_replica.specs.declared.replicas.Replica.{Replica}
+
+-- a replica as the definitions say it
+abbrev pub view_of : Replica → ReplicaState
+view_of r = record { region = r.region; installed = r.installed; states = r.store.states }
+
+abbrev pub views_of : List Replica → List ReplicaState
+views_of rs = map view_of rs
+
+-- for how many more updates the slots of each replica have room
+abbrev pub rooms_of : List Replica → List (List Room)
+rooms_of rs = map (λ (r : Replica). r.store.rooms) rs
+
+abbrev pub AscendByRegion : List Replica → Type 0
+AscendByRegion rs = IsAscending (map (λ (r : Replica). r.region.0) rs)
+
+-- the slots are those of the replica's region, and keep marks at a key region
+pub record IsReplicaIn (space : Space) (r : Replica) : Type 0 where
+  pub region : r.store.region ≡ r.region
+  pub marks : r.store.marks ≡ is_key_region space r.region
+  pub marked : AllByRecursion (λ (t : KeyState). t.marks ≡ is_key_region space r.region) r.store.states
+
+pub record AreReplicas (space : Space) (rs : List Replica) : Type 0 where
+  pub each : AllByRecursion (IsReplicaIn space) rs
+  pub ascend : AscendByRegion rs
+
+-- a replica at the start
+abbrev pub first_replica : Space → RegionId → Replica
+first_replica space g = record { region = g; installed = true; store = record { region = g; marks = is_key_region space g; states = []; rooms = [] } }

@@ -1,0 +1,115 @@
+ghost use Rattle.std.specs.Prelude.{◌≡◌, ◌≤◌, ◌<◌, ◌++◌, ◌∷◌, [], IfOk, OnOk, length, true};
+ghost use Rattle.std.specs.Borrow.{Bor};
+ghost use Rattle.std.specs.List.{All, flat_map};
+ghost use Rattle.hx_types.specs.declared.updates.Update.{Update as Updated};
+ghost use Rattle.hx_model.specs.Neighbours.{place_number};
+ghost use Rattle.hx_model.specs.ServerSteps.{passed_on};
+ghost use Rattle.hx_model.specs.Slots.{follows, offered, taken, top_of, turns};
+ghost use Rattle.hx_replica.specs.Made.{IsAccepted, IsComing, IsHere, IsNew, end_of, seen, spot_seen};
+
+use crate::settling::{line_of, tell_settled};
+use crate::spots::{Spot, pass_on, place_at};
+use hx_slot::Slot;
+use hx_types::{Memory, Posts, Update, Version};
+use std::alloc::Global;
+
+/// What is posted where a slot accepts an update, and the versions whose chain ends here.
+#[derive(Drop)]
+pub struct Acceptance {
+    pub posts: Posts,
+    pub ends: Vec<Version>,
+}
+
+/// A slot is offered an update above its top: the update and each early one whose turn then comes
+/// go to the next replica or end here, and what can be committed is told of.
+pub fn accepted(
+    alloc: Global,
+    spot: &Spot,
+    slot: &Slot,
+    update: &Update,
+) -> Result<Acceptance, Memory>
+    requires coming { IsComing spot.now.region slot.now.state update.now }
+    requires region { slot.now.region ≡ spot.now.region }
+    ensures { IfOk result (λ made. IsAccepted (spot_seen spot.now) slot.now.state update.now made.posts made.ends.items) }
+{
+    let taken = taken_by(alloc, spot, slot, update)?;
+    let mut posts = Posts::new(alloc);
+    let mut ends = Vec::new(alloc);
+    pass_on_all(alloc, spot, taken.as_slice(), &mut posts, &mut ends)?;
+    let line = line_of(alloc, slot, taken.as_slice())?;
+    tell_settled(alloc, spot, slot, line.as_slice(), ends.as_slice(), &mut posts)?;
+    Ok(Acceptance { posts, ends })
+}
+
+/// The updates that the slot takes with this one, in order; none where its turn hasn't come.
+fn taken_by<'a>(
+    alloc: Global,
+    spot: &Spot,
+    slot: &'a Slot,
+    update: &'a Update,
+) -> Result<Vec<&'a Update>, Memory>
+    requires coming { IsComing spot.now.region slot.now.state update.now }
+    requires region { slot.now.region ≡ spot.now.region }
+    ensures taken { IfOk result (λ us. seen us.items ≡ taken (offered spot.now.region slot.now.state update.now)) }
+    ensures new { IfOk result (λ us. All (IsNew spot.now.region slot.now.state.floor) us.items) }
+{
+    if is_in_turn(spot, slot, update) {
+        taken_from(alloc, slot, update)
+    } else {
+        Ok(Vec::new(alloc))
+    }
+}
+
+/// Whether the update's turn has come: the version after which it comes is the slot's top.
+fn is_in_turn(spot: &Spot, slot: &Slot, update: &Update) -> bool
+    requires coming { IsComing spot.now.region slot.now.state update.now }
+    ensures { result ≡ follows spot.now.region (top_of slot.now.state) update.now }
+{
+    match update.places.get(place_at(spot, update) as usize) {
+        Some(place) => place.after.0 == slot.top().0,
+        None => false,
+    }
+}
+
+/// An update, and each early one whose turn comes after it.
+fn taken_from<'a>(
+    alloc: Global,
+    slot: &'a Slot,
+    update: &'a Update,
+) -> Result<Vec<&'a Update>, Memory>
+    requires { IsComing slot.now.region slot.now.state update.now }
+    ensures taken { IfOk result (λ us. seen us.items ≡ update.now ∷ taken (turns slot.now.region (length slot.now.state.early) update.now.version.0 slot.now.state.early)) }
+    ensures new { IfOk result (λ us. All (IsNew slot.now.region slot.now.state.floor) us.items) }
+{
+    let mut taken = Vec::new(alloc);
+    taken.push(update)?;
+    let mut top = update.version;
+    for _turn in 0..slot.early_count() {
+        match slot.turn(top) {
+            Some(next) => {
+                taken.push(next)?;
+                top = next.version;
+            }
+            None => return Ok(taken),
+        }
+    }
+    Ok(taken)
+}
+
+/// Each update goes to the next replica of its chain, or its chain ends here.
+fn pass_on_all(
+    alloc: Global,
+    spot: &Spot,
+    updates: &[&Update],
+    posts: &mut Posts,
+    ends: &mut Vec<Version>,
+) -> Result<(), Memory>
+    requires { All (IsHere spot.now.region) updates.now }
+    ensures posts { OnOk result (posts.new ≡ posts.old ++ flat_map (λ (b : Bor Updated). passed_on (spot_seen spot.now) b.now) updates.now) }
+    ensures ends { OnOk result (ends.new.items ≡ ends.old.items ++ flat_map (λ (b : Bor Updated). end_of (spot_seen spot.now) b.now) updates.now) }
+{
+    for update in updates {
+        pass_on(alloc, spot, update, posts, ends)?;
+    }
+    Ok(())
+}

@@ -1,0 +1,52 @@
+ghost use Rattle.std.specs.Prelude.{◌≡◌, [], ◌∷◌, IfOk};
+ghost use Rattle.hx_replica.specs.declared.made.SlotChange.TheVariants.{Open};
+
+use hx_types::{Memory, Notes, Post, Posts, Update, Version};
+use std::alloc::Global;
+
+/// How a slot makes its part of a step.
+#[derive(Drop)]
+pub enum SlotChange {
+    /// The slot is part of the store from now on.
+    Open,
+    /// It is offered an update; then these versions, whose chain ends here, are acknowledged.
+    Accept {
+        update: Update,
+        place: u32,
+        ends: Vec<Version>,
+    },
+    /// A version is acknowledged.
+    Acknowledge { version: Version },
+}
+
+/// What a step posts and notes of a slot, and how it changes it.
+#[derive(Drop)]
+pub struct SlotMade {
+    pub posts: Posts,
+    pub notes: Notes,
+    pub change: SlotChange,
+}
+
+/// The slot stays, and these are the posts.
+pub fn staying(alloc: Global, posts: Posts) -> SlotMade
+    ensures posts { result.posts ≡ posts }
+    ensures notes { result.notes ≡ [] }
+    ensures change { result.change ≡ Open }
+{
+    SlotMade {
+        posts,
+        notes: Notes::new(alloc),
+        change: SlotChange::Open,
+    }
+}
+
+/// The slot stays, and this is the only post.
+pub fn saying(alloc: Global, post: Post) -> Result<SlotMade, Memory>
+    ensures posts { IfOk result (λ made. made.posts ≡ post ∷ []) }
+    ensures notes { IfOk result (λ made. made.notes ≡ []) }
+    ensures change { IfOk result (λ made. made.change ≡ Open) }
+{
+    let mut posts = Posts::new(alloc);
+    posts.push(post)?;
+    Ok(staying(alloc, posts))
+}

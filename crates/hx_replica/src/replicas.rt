@@ -1,0 +1,87 @@
+ghost use Rattle.std.specs.Prelude.{◌≡◌, ◌<◌, ◌≤◌, IfOk, OnOk, Some, length, map, slice_get, slice_set};
+ghost use Rattle.std.specs.Option.{option_map};
+ghost use Rattle.hx_types.specs.Configs.{lists};
+ghost use Rattle.hx_types.specs.Subspaces.{region_count};
+ghost use Rattle.hx_model.specs.ServerSteps.{listed_regions, replica_of};
+ghost use Rattle.hx_store.specs.Stores.{HasRoom, after_moves, state_at};
+ghost use Rattle.hx_replica.specs.Made.{ChangeFits, moves_by};
+ghost use Rattle.hx_replica.specs.Replicas.{AscendByRegion, first_replica, views_of};
+
+use crate::made::SlotChange;
+use hx_store::Store;
+use hx_types::{Config, Memory, RegionId, ServerId, Space, Text};
+use std::alloc::Global;
+
+/// A server's part of a region: whether it has all that was there before it joined, and its slots.
+#[derive(Drop)]
+pub struct Replica {
+    pub region: RegionId,
+    pub installed: bool,
+    pub store: Store,
+}
+
+/// Whether a configuration has a server among the members of a region.
+fn lists(config: &Config, region: RegionId, server: ServerId) -> bool
+    ensures { result ≡ lists config.now region server }
+{
+    config
+        .members(region)
+        .iter()
+        .any(|member| member.server.0 == server.0)
+}
+
+/// A replica, installed and empty, of each region in which the configuration lists the server.
+pub fn first_replicas(
+    alloc: Global,
+    space: &Space,
+    config: &Config,
+    regions: u32,
+    server: ServerId,
+) -> Result<Vec<Replica>, Memory>
+    requires { regions ≡ length config.now.regions }
+    ensures { IfOk result (λ replicas. replicas.items ≡ map (first_replica space.now) (listed_regions config.now server)) }
+{
+    let mut replicas = Vec::new(alloc);
+    for number in 0..regions {
+        let region = RegionId(number);
+        if lists(config, region, server) {
+            let store = Store::new(alloc, region, number < space.key_parts);
+            replicas.push(Replica {
+                region,
+                installed: true,
+                store,
+            })?;
+        }
+    }
+    Ok(replicas)
+}
+
+/// The place of a region's replica, found by halving.
+pub fn place_of(replicas: &[Replica], region: RegionId) -> Option<usize>
+    requires { AscendByRegion replicas.now }
+    ensures { option_map (slice_get (views_of replicas.now)) result ≡ option_map Some (replica_of region (views_of replicas.now)) }
+{
+    match replicas.binary_search_by_key(&region.0, |replica| replica.region.0) {
+        Ok(place) => Some(place),
+        Err(_) => None,
+    }
+}
+
+/// The slot of a key makes its part of a step. It takes no memory.
+pub fn change_slot(store: &mut Store, key: &Text, change: SlotChange)
+    requires room { HasRoom key.now 1 store.old }
+    requires fits { ChangeFits store.old.region (state_at store.old key.now) key.now change }
+    ensures region { store.new.region ≡ store.old.region }
+    ensures marks { store.new.marks ≡ store.old.marks }
+    ensures states { store.new.states ≡ after_moves store.old key.now (moves_by store.old.region (state_at store.old key.now) change) }
+{
+    match change {
+        SlotChange::Open => store.open(key),
+        SlotChange::Accept {
+            update,
+            place,
+            ends,
+        } => store.accept(update, place, ends.as_slice()),
+        SlotChange::Acknowledge { version } => store.acknowledge(key, version),
+    }
+}

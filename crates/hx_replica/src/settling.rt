@@ -1,0 +1,104 @@
+ghost use Rattle.std.specs.Prelude.{◌≡◌, ◌≤◌, ◌++◌, ◌==◌, IfOk, OnOk, length, take};
+ghost use Rattle.std.specs.Borrow.{Bor};
+ghost use Rattle.std.specs.List.{All, flat_map, list_any, prefix_len};
+ghost use Rattle.hx_model.specs.Slots.{pending_of};
+ghost use Rattle.hx_types.specs.declared.names.Version.{Version as Numbered};
+ghost use Rattle.hx_types.specs.declared.updates.Update.{Update as Updated};
+ghost use Rattle.hx_replica.specs.Made.{IsHere, seen, settled_among, settles, spot_seen, told_of};
+
+use crate::spots::{Spot, tell};
+use hx_slot::Slot;
+use hx_types::{Memory, Posts, Update, Version};
+use std::alloc::Global;
+
+fn is_among(versions: &[Version], version: Version) -> bool
+    ensures { result ≡ list_any (λ (v : Numbered). v.0 == version.0) versions.now }
+{
+    versions.iter().any(|other| other.0 == version.0)
+}
+
+/// Whether a version is acknowledged, or one of those that are being acknowledged.
+fn is_settled(slot: &Slot, ends: &[Version], version: Version) -> bool
+    ensures { result ≡ settles slot.now.state.acked ends.now version }
+{
+    is_among(ends, version) || slot.is_acknowledged(version)
+}
+
+/// Whether an update of the line has the version.
+pub fn is_pending(line: &[&Update], version: Version) -> bool
+    ensures { result ≡ list_any (λ (b : Bor Updated). b.now.version.0 == version.0) line.now }
+{
+    line.iter().any(|update| update.version.0 == version.0)
+}
+
+/// How many updates at the front of a line are acknowledged.
+fn settled_count(slot: &Slot, line: &[&Update], ends: &[Version]) -> usize
+    ensures { result ≡ prefix_len (λ (b : Bor Updated). settles slot.now.state.acked ends.now b.now.version) line.now }
+{
+    line.iter()
+        .take_while(|update| is_settled(slot, ends, update.version))
+        .count()
+}
+
+/// Tells of the updates at the front of a line that are acknowledged, one after another: they are
+/// committed.
+pub fn tell_settled(
+    alloc: Global,
+    spot: &Spot,
+    slot: &Slot,
+    line: &[&Update],
+    ends: &[Version],
+    posts: &mut Posts,
+) -> Result<(), Memory>
+    requires { All (IsHere spot.now.region) line.now }
+    ensures { OnOk result (posts.new ≡ posts.old ++ flat_map (λ (b : Bor Updated). told_of (spot_seen spot.now) b.now) (settled_among slot.now.state.acked ends.now line.now)) }
+{
+    let (settled, _) = line.split_at(settled_count(slot, line, ends));
+    tell_all(alloc, spot, settled, posts)
+}
+
+fn tell_all(
+    alloc: Global,
+    spot: &Spot,
+    updates: &[&Update],
+    posts: &mut Posts,
+) -> Result<(), Memory>
+    requires { All (IsHere spot.now.region) updates.now }
+    ensures { OnOk result (posts.new ≡ posts.old ++ flat_map (λ (b : Bor Updated). told_of (spot_seen spot.now) b.now) updates.now) }
+{
+    for update in updates {
+        tell(alloc, spot, update, posts)?;
+    }
+    Ok(())
+}
+
+/// The pending updates of a slot, and after them those that it is about to accept.
+pub fn line_of<'a>(
+    alloc: Global,
+    slot: &'a Slot,
+    taken: &[&'a Update],
+) -> Result<Vec<&'a Update>, Memory>
+    requires { All (IsHere slot.now.region) taken.now }
+    ensures line { IfOk result (λ line. seen line.items ≡ pending_of slot.now.state ++ seen taken.now) }
+    ensures here { IfOk result (λ line. All (IsHere slot.now.region) line.items) }
+{
+    let mut line = pending_line(alloc, slot)?;
+    for update in taken {
+        line.push(*update)?;
+    }
+    Ok(line)
+}
+
+fn pending_line<'a>(alloc: Global, slot: &'a Slot) -> Result<Vec<&'a Update>, Memory>
+    ensures line { IfOk result (λ line. seen line.items ≡ pending_of slot.now.state) }
+    ensures here { IfOk result (λ line. All (IsHere slot.now.region) line.items) }
+{
+    let mut line = Vec::new(alloc);
+    for i in 0..slot.pending_count() {
+        match slot.pending(i) {
+            Some(update) => line.push(update)?,
+            None => unreachable!(),
+        }
+    }
+    Ok(line)
+}

@@ -1,0 +1,203 @@
+ghost use Rattle.std.specs.Prelude.{◌≡◌, ◌≤◌, ◌<◌, ◌^◌, ◌++◌, ◌∷◌, [], OnOk, IfOk, length, true};
+ghost use Rattle.std.specs.List.{flat_map};
+ghost use Rattle.hx_types.specs.declared.results.Hop.TheVariants.{At};
+ghost use Rattle.hx_model.specs.Neighbours.{place_number, region_at};
+ghost use Rattle.hx_model.specs.ServerSteps.{ack_to, doubt_in, next_at, passed_on, prev_at, reply, update_to};
+ghost use Rattle.hx_slot.specs.States.{IsPlacedIn};
+ghost use Rattle.hx_replica.specs.Made.{end_of, spot_seen, told_of};
+
+use hx_chain::{next, place_number, prev};
+use hx_region::RegionMap;
+use hx_types::{
+    Actor, Answer, Caller, Config, Exact, Hop, Memory, Message, Post, Posts, RegionId, ServerId,
+    Space, Update, Version,
+};
+use std::alloc::Global;
+
+/// Where a slot stands: at a server's replica of a region, in a configuration.
+#[derive(Drop)]
+pub struct Spot<'a> {
+    pub space: &'a Space,
+    pub map: &'a RegionMap,
+    pub config: &'a Config,
+    pub server: ServerId,
+    pub region: RegionId,
+}
+
+/// The number of an update's place in the region of the spot.
+pub fn place_at(spot: &Spot, update: &Update) -> u32
+    requires placed { IsPlacedIn spot.now.region update.now }
+    requires few { length update.now.places ≤ 17 }
+    ensures number { result ≡ place_number spot.now.region update.now.places }
+    ensures within { result < length update.now.places }
+{
+    match place_number(update, spot.region) {
+        Some(place) => place,
+        None => unreachable!(),
+    }
+}
+
+/// The replica after the spot's in the chain of an update.
+fn next_of(spot: &Spot, update: &Update) -> Hop
+    requires placed { IsPlacedIn spot.now.region update.now }
+    requires few { length update.now.places ≤ 17 }
+    ensures { result ≡ next_at (spot_seen spot.now) update.now }
+{
+    next(spot.config, update, place_at(spot, update), spot.server)
+}
+
+/// The replica before the spot's in the chain of an update.
+fn prev_of(spot: &Spot, update: &Update) -> Hop
+    requires placed { IsPlacedIn spot.now.region update.now }
+    requires few { length update.now.places ≤ 17 }
+    ensures { result ≡ prev_at (spot_seen spot.now) update.now }
+{
+    prev(spot.config, update, place_at(spot, update), spot.server)
+}
+
+/// The region of a place.
+fn region_at(update: &Update, place: u32) -> RegionId
+    ensures { result ≡ region_at update.now.places place }
+{
+    match update.places.get(place as usize) {
+        Some(found) => found.region,
+        None => RegionId(0),
+    }
+}
+
+/// Posts an update to the next replica of its chain; where the chain ends here, its version is one
+/// more of those that end.
+pub fn pass_on(
+    alloc: Global,
+    spot: &Spot,
+    update: &Update,
+    posts: &mut Posts,
+    ends: &mut Vec<Version>,
+) -> Result<(), Memory>
+    requires placed { IsPlacedIn spot.now.region update.now }
+    requires few { length update.now.places ≤ 17 }
+    ensures posts { OnOk result (posts.new ≡ posts.old ++ passed_on (spot_seen spot.now) update.now) }
+    ensures ends { OnOk result (ends.new.items ≡ ends.old.items ++ end_of (spot_seen spot.now) update.now) }
+{
+    match next_of(spot, update) {
+        Hop::At { server, place } => {
+            posts.push(update_post(alloc, spot, update, server, place)?)?;
+            Ok(())
+        }
+        Hop::End => {
+            ends.push(update.version)?;
+            Ok(())
+        }
+        Hop::Blocked(_) => Ok(()),
+    }
+}
+
+fn update_post(
+    alloc: Global,
+    spot: &Spot,
+    update: &Update,
+    server: ServerId,
+    place: u32,
+) -> Result<Post, Memory>
+    ensures { IfOk result (λ post. post ∷ [] ≡ update_to (spot_seen spot.now) update.now (At server place)) }
+{
+    Ok(Post {
+        from: Actor::Server(spot.server),
+        to: Actor::Server(server),
+        message: Message::Update {
+            epoch: spot.config.epoch,
+            region: region_at(update, place),
+            update: update.copy(alloc)?,
+        },
+    })
+}
+
+fn ack_post(
+    alloc: Global,
+    spot: &Spot,
+    update: &Update,
+    server: ServerId,
+    place: u32,
+) -> Result<Post, Memory>
+    ensures { IfOk result (λ post. post ∷ [] ≡ ack_to (spot_seen spot.now) update.now (At server place)) }
+{
+    Ok(Post {
+        from: Actor::Server(spot.server),
+        to: Actor::Server(server),
+        message: Message::Ack {
+            epoch: spot.config.epoch,
+            region: region_at(update, place),
+            key: update.key.copy(alloc)?,
+            version: update.version,
+        },
+    })
+}
+
+/// Acknowledges an update to the previous replica of its chain, if there is one.
+pub fn acknowledge_back(
+    alloc: Global,
+    spot: &Spot,
+    update: &Update,
+    posts: &mut Posts,
+) -> Result<(), Memory>
+    requires placed { IsPlacedIn spot.now.region update.now }
+    requires few { length update.now.places ≤ 17 }
+    ensures { OnOk result (posts.new ≡ posts.old ++ ack_to (spot_seen spot.now) update.now (prev_at (spot_seen spot.now) update.now)) }
+{
+    match prev_of(spot, update) {
+        Hop::At { server, place } => {
+            posts.push(ack_post(alloc, spot, update, server, place)?)?;
+            Ok(())
+        }
+        Hop::End | Hop::Blocked(_) => Ok(()),
+    }
+}
+
+/// Tells of an update that is committed: the previous replica of its chain, or where there is none
+/// its caller.
+pub fn tell(
+    alloc: Global,
+    spot: &Spot,
+    update: &Update,
+    posts: &mut Posts,
+) -> Result<(), Memory>
+    requires placed { IsPlacedIn spot.now.region update.now }
+    requires few { length update.now.places ≤ 17 }
+    ensures { OnOk result (posts.new ≡ posts.old ++ told_of (spot_seen spot.now) update.now) }
+{
+    match prev_of(spot, update) {
+        Hop::At { server, place } => {
+            posts.push(ack_post(alloc, spot, update, server, place)?)?;
+            Ok(())
+        }
+        Hop::End => {
+            let answer = update.answer.copy(alloc)?;
+            posts.push(reply(spot, update.caller, update.version, answer))?;
+            Ok(())
+        }
+        Hop::Blocked(_) => Ok(()),
+    }
+}
+
+/// The reply to a call.
+pub fn reply(spot: &Spot, caller: Caller, version: Version, answer: Answer) -> Post
+    ensures { result ≡ reply (spot_seen spot.now) caller version answer }
+{
+    Post {
+        from: Actor::Server(spot.server),
+        to: Actor::Session(caller.session),
+        message: Message::Reply {
+            number: caller.number,
+            version,
+            answer,
+        },
+    }
+}
+
+/// The reply that a write is in doubt, since a region is lost.
+pub fn doubt(spot: &Spot, caller: Caller, version: Version, region: RegionId) -> Post
+    ensures { result ≡ doubt_in (spot_seen spot.now) caller version region }
+{
+    let epoch = spot.config.epoch;
+    reply(spot, caller, version, Answer::Doubt { region, epoch })
+}

@@ -1,0 +1,5 @@
+pub mod Moves
+pub mod Acknowledging
+pub mod Texts
+pub mod Finding
+pub mod Stepping

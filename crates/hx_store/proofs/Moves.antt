@@ -1,0 +1,34 @@
+-- Moves of a slot leave its key and kind; acknowledgements leave what is pending.
+use Rattle.std.proofs.Common.{◌≡◌, ℕ, Bool, List, [], ◌∷◌, ◌++◌, refl, ap, sym, ◌∙◌}
+use Rattle.hx_types.specs.declared.names.RegionId.{RegionId}
+use Rattle.hx_types.specs.declared.names.Version.{Version}
+use Rattle.hx_types.specs.declared.updates.Update.{Update}
+use Rattle.hx_model.specs.Slots.{Acknowledge, Commit, Forget, Hold, KeyState, Move, Take, is_pending, moved, moved_all, offered, settled}
+use Rattle.hx_store.specs.Stores.{accepted, acknowledging}
+
+pub moved_parts : (m : Move) (s : KeyState) → ((moved m s).base ≡ s.base) × ((moved m s).marks ≡ s.marks)
+moved_parts (Take u) s = (refl, refl)
+moved_parts (Hold u) s = (refl, refl)
+moved_parts (Acknowledge v) s = (refl, refl)
+moved_parts (Commit u) s = (refl, refl)
+moved_parts Forget s = (refl, refl)
+
+pub moved_all_parts : (ms : List Move) (s : KeyState) → ((moved_all ms s).base ≡ s.base) × ((moved_all ms s).marks ≡ s.marks)
+moved_all_parts [] s = (refl, refl)
+moved_all_parts (m ∷ ms) s =
+    let rest = moved_all_parts ms (moved m s) in
+    let first = moved_parts m s in (rest.0 ∙ first.0, rest.1 ∙ first.1)
+
+pub moved_all_append : (ms ns : List Move) (s : KeyState) → moved_all (ms ++ ns) s ≡ moved_all ns (moved_all ms s)
+moved_all_append [] ns s = refl
+moved_all_append (m ∷ ms) ns s = moved_all_append ms ns (moved m s)
+
+pub still_pending : (v w : ℕ) (s : KeyState) → is_pending v (moved (Acknowledge w) s) ≡ is_pending v s
+still_pending v w s = refl
+
+-- an offer, acknowledgements and commits one after another
+pub accepted_moves : (g : RegionId) (s : KeyState) (u : Update) (ends : List Version) (a b c : KeyState) → a ≡ moved_all (offered g s u) s → b ≡ moved_all (acknowledging ends) a → c ≡ moved_all (settled b) b → c ≡ moved_all (accepted g s u ends) s
+accepted_moves g s u ends a b c first second third =
+    let moves = offered g s u ++ acknowledging ends in
+    let before : b ≡ moved_all moves s = second ∙ ap (moved_all (acknowledging ends)) first ∙ sym (moved_all_append (offered g s u) (acknowledging ends) s) in
+    third ∙ ap (λ (x : KeyState). moved_all (settled x) x) before ∙ sym (moved_all_append moves (settled (moved_all moves s)) s)

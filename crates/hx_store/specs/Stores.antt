@@ -1,0 +1,68 @@
+-- A store as contracts see it: the slots of a region, in byte order of keys.
+use Rattle.std.specs.Prelude.{◌≡◌, ℕ, ◌<◌, ◌≤◌, Bool, true, List, [], ◌∷◌, ◌++◌, map, length, if◌then◌else◌, IsSomeAnd, Option, None, Some}
+use Rattle.std.specs.List.{All}
+use Rattle.hx_types.specs.declared.names.RegionId.{RegionId}
+use Rattle.hx_types.specs.declared.names.Version.{Version}
+use Rattle.hx_types.specs.declared.updates.Place.{Place}
+use Rattle.hx_types.specs.declared.updates.Update.{Update}
+use Rattle.hx_types.specs.Words.{same_text}
+use Rattle.hx_model.specs.Neighbours.{place_number}
+use Rattle.hx_model.specs.Slots.{Acknowledge, KeyState, acknowledged, Move, is_pending, moved_all, offered, settled, state_among, with_state}
+
+-- for how many more updates there is room at a key
+pub record Room : Type 0 where
+  pub key : List ℕ
+  pub spare : ℕ
+
+-- marks: whether the slots keep marks and touches, as those of key regions do
+pub record StoreState : Type 0 where
+  pub region : RegionId
+  pub marks : Bool
+  pub states : List KeyState
+  pub rooms : List Room
+
+abbrev pub room_in : List ℕ → List Room → Option ℕ
+room_in key [] = None
+room_in key (r ∷ rest) = if same_text r.key key then Some r.spare else room_in key rest
+
+-- there is room for n more updates of the key
+abbrev pub HasRoom : List ℕ → ℕ → StoreState → Type 0
+HasRoom key n s = IsSomeAnd (room_in key s.rooms) (λ spare. n ≤ spare)
+
+-- the slot of a key, an empty one where there is none
+abbrev pub state_at : StoreState → List ℕ → KeyState
+state_at s key = state_among s.marks key s.states
+
+-- the slots after moves of a key's
+abbrev pub after_moves : StoreState → List ℕ → List Move → List KeyState
+after_moves s key moves = with_state (moved_all moves (state_at s key)) s.states
+
+-- an update that the slot of a region can be offered
+pub record CanBeOffered (g : RegionId) (u : Update) (place : ℕ) : Type 0 where
+  pub place_is : place ≡ place_number g u.places
+  pub placed : place < length u.places
+  pub after : All (λ (p : Place). p.after.0 < u.version.0) u.places
+  pub few : length u.places ≤ 17
+
+-- some versions are acknowledged
+abbrev pub acknowledging : List Version → List Move
+acknowledging versions = map (λ (v : Version). Acknowledge v.0) versions
+
+-- the versions are pending once the update was offered
+abbrev pub ArePending : KeyState → List Version → Type 0
+ArePending s versions = All (λ (v : Version). is_pending v.0 s ≡ true) versions
+
+-- an update is offered, versions whose chain ends here are acknowledged, and what can be is committed
+abbrev pub accepted : RegionId → KeyState → Update → List Version → List Move
+accepted g s u ends =
+    let moves = offered g s u ++ acknowledging ends in moves ++ settled (moved_all moves s)
+
+-- the moves of a slot in its region
+abbrev pub no_moves : RegionId → KeyState → List Move
+no_moves g s = []
+
+abbrev pub accepted_at : Update → List Version → RegionId → KeyState → List Move
+accepted_at u ends g s = accepted g s u ends
+
+abbrev pub acknowledged_at : ℕ → RegionId → KeyState → List Move
+acknowledged_at v g s = acknowledged s v

@@ -1,0 +1,101 @@
+ghost use Rattle.std.specs.Prelude.{◌≡◌, ◌<◌, ◌≤◌, true, [], OnOk, IfNone, IfSome, IsSome};
+ghost use Rattle.hx_model.specs.Slots.{acknowledged, moved_all, new_state, offered, state_among};
+ghost use Rattle.hx_store.specs.Stores.{ArePending, CanBeOffered, HasRoom, accepted, after_moves, state_at};
+
+use crate::maps::{Slots, accept_at, acknowledge_at, held, make, open_at, slot_of, widen};
+use hx_slot::Slot;
+use hx_types::{Memory, RegionId, Text, Update, Version};
+use std::alloc::Global;
+use std::collections::BTreeMap;
+use std::marker::Model;
+
+/// The slots of a region, by their keys. Contracts see them in byte order of keys, and for how
+/// many updates of which keys there is room.
+#[derive(Drop)]
+pub struct Store {
+    region: RegionId,
+    marks: bool,
+    slots: Slots,
+}
+
+impl Model for Store {
+    ghost use Rattle.hx_store.specs.Stores.{StoreState};
+    ghost use Rattle.hx_store.specs.Held.{AreHeld, rooms_of, states_of};
+
+    ghost Value = { StoreState };
+
+    ghost view = { λ s. record { region = s.region; marks = s.marks; states = states_of s.slots.entries; rooms = rooms_of s.slots.entries } };
+
+    ghost invariant = { λ s. AreHeld s.region s.marks s.slots.entries };
+}
+
+impl Store {
+    /// The store of a region of which nothing was heard. Its slots keep marks and touches where
+    /// `marks` says so, as those of key regions do. It takes no memory.
+    pub fn new(alloc: Global, region: RegionId, marks: bool) -> Store
+        ensures { result ≡ record { region = region; marks = marks; states = []; rooms = [] } }
+    {
+        Store {
+            region,
+            marks,
+            slots: BTreeMap::new(alloc),
+        }
+    }
+
+    /// The slot of a key. Where it has none yet, which is as an empty one, there may be `None`.
+    pub fn slot(&self, key: &Text) -> Option<&Slot>
+        ensures some { IfSome result (λ slot. slot.now.state ≡ state_at self.now key.now) }
+        ensures region { IfSome result (λ slot. slot.now.region ≡ self.now.region) }
+        ensures none { IfNone result (state_at self.now key.now ≡ new_state self.now.marks key.now) }
+        ensures room { HasRoom key.now 0 self.now → IsSome result }
+    {
+        match held(&self.slots, key) {
+            Some(held) => Some(slot_of(held)),
+            None => None,
+        }
+    }
+
+    /// Makes room for n more updates of a key. The slots stay, whatever comes.
+    pub fn reserve(&mut self, alloc: Global, key: &Text, n: u32) -> Result<(), Memory>
+        ensures region { self.new.region ≡ self.old.region }
+        ensures marks { self.new.marks ≡ self.old.marks }
+        ensures states { self.new.states ≡ self.old.states }
+        ensures room { OnOk result (HasRoom key.now n self.new) }
+    {
+        make(alloc, &mut self.slots, self.region, self.marks, key)?;
+        widen(&mut self.slots, self.region, self.marks, key, n)
+    }
+
+    /// The key has a slot from now on. It takes no memory.
+    pub fn open(&mut self, key: &Text)
+        requires { HasRoom key.now 0 self.old }
+        ensures region { self.new.region ≡ self.old.region }
+        ensures marks { self.new.marks ≡ self.old.marks }
+        ensures states { self.new.states ≡ after_moves self.old key.now [] }
+    {
+        open_at(&mut self.slots, key);
+    }
+
+    /// The slot of the update's key is offered it; then these versions, whose chain ends here, are
+    /// acknowledged, and what can be committed is. It takes no memory.
+    pub fn accept(&mut self, update: Update, place: u32, ends: &[Version])
+        requires room { HasRoom update.key 1 self.old }
+        requires offer { CanBeOffered self.old.region update place }
+        requires pending { ArePending (moved_all (offered self.old.region (state_at self.old update.key) update) (state_at self.old update.key)) ends.now }
+        ensures region { self.new.region ≡ self.old.region }
+        ensures marks { self.new.marks ≡ self.old.marks }
+        ensures states { self.new.states ≡ after_moves self.old update.key (accepted self.old.region (state_at self.old update.key) update ends.now) }
+    {
+        accept_at(&mut self.slots, update, place, ends);
+    }
+
+    /// A version of a key is acknowledged, and what can be committed is. It takes no memory.
+    pub fn acknowledge(&mut self, key: &Text, version: Version)
+        requires { HasRoom key.now 0 self.old }
+        ensures region { self.new.region ≡ self.old.region }
+        ensures marks { self.new.marks ≡ self.old.marks }
+        ensures states { self.new.states ≡ after_moves self.old key.now (acknowledged (state_at self.old key.now) version.0) }
+    {
+        acknowledge_at(&mut self.slots, key, version);
+    }
+}
