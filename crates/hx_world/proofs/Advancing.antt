@@ -1,5 +1,5 @@
 -- From a world to the next, by the schedule.
-use Rattle.std.proofs.Common.{◌≡◌, ◌≢◌, ℕ, zero, suc, ◌+◌, ◌-◌, ◌<◌, ◌≤◌, ◌⊎◌, inl, inr, Bool, true, false, List, [], ◌∷◌, ◌++◌, length, set, Option, Some, None, refl, sym, ap, ◌∙◌, subst, arith, cond, eqb, leb, add-one}
+use Rattle.std.proofs.Common.{◌≡◌, ℕ, ◌+◌, ◌<◌, ◌≤◌, inl, inr, Bool, true, false, List, [], ◌∷◌, length, set, Option, Some, None, refl, sym, ap, ◌∙◌, subst, arith, cond}
 use Rattle.std.specs.Prelude.{IsSomeAnd, slice_get}
 use Rattle.std.proofs.lemmas.Bool.{cond_both, cond-true, cond-false, eqb-true, eq-eqb, ne_eqb, lt-ltb, le-leb}
 use Rattle.std.proofs.lemmas.Option.{slice_get_within}
@@ -12,21 +12,18 @@ use Rattle.hx_types.specs.declared.names.ServerId.{ServerId}
 use Rattle.hx_types.specs.declared.names.SessionId.{SessionId}
 use Rattle.hx_types.specs.declared.traces.Entry.{Entry}
 use Rattle.hx_types.specs.declared.traces.Input.{Input}
-use Rattle.hx_types.specs.declared.traces.Note.{Note}
 use Rattle.hx_types.specs.declared.traces.Script.{Script}
 use Rattle.hx_types.specs.declared.messages.Message.TheVariants as a_message
 use Rattle.hx_types.specs.declared.names.Actor.TheVariants.{Coordinator, Server, Session}
 use Rattle.hx_types.specs.declared.traces.Input.TheVariants.{Tick, Deliver}
-use Rattle.hx_types.specs.declared.traces.Note.TheVariants as a_note
 use Rattle.hx_types.specs.Configs.{first_config, head_of}
 use Rattle.hx_types.specs.Effects.{key_of}
 use Rattle.hx_types.specs.Fitting.{calls_of}
-use Rattle.hx_types.specs.Words.{IsIn, below, first_some, same_actor, same_server, same_session, when_some}
-use Rattle.hx_model.specs.Built.{is_put_or_get}
+use Rattle.hx_types.specs.Words.{below, first_some, same_actor, same_server, same_session}
 use Rattle.hx_model.specs.Regions.{key_region}
 use Rattle.hx_model.specs.Runs.{IsStep, Made, MayTake, entry_of, has_halted, is_actor, made_of, makes_enough, post_named, server_of, session_of}
-use Rattle.hx_model.specs.Schedule.{Next, delivery_of, entries_of, entry_by, first_delivery, idle_among, is_worn, next_entry, next_input, undelivered}
-use Rattle.hx_model.specs.ServerSteps.{ServerState, server_step}
+use Rattle.hx_model.specs.Schedule.{Next, delivery_of, entries_of, entry_by, first_delivery, idle_among, next_entry, next_input, undelivered}
+use Rattle.hx_model.specs.ServerSteps.{server_step}
 use Rattle.hx_model.specs.SessionSteps.{SessionState, SessionStep, session_step}
 use Rattle.hx_model.specs.Steady.{is_halt}
 use Rattle.hx_model.proofs.Replays.{entry_by_step}
@@ -38,7 +35,7 @@ use Rattle.hx_world.specs.Filing.{names_after}
 use Rattle.hx_world.specs.Hosts.{HasTaken}
 use Rattle.hx_world.specs.Idle.{IsFirstIdle, call_at}
 use Rattle.hx_world.specs.Invariant.{AreAt, IsHost, IsPlain, IsSession, IsWorldOf, server_at, session_at, session_with}
-use Rattle.hx_world.specs.Sessions.{IsReply, begin_entry, begun_now, call_post, delivery, heard_entry, heard_now}
+use Rattle.hx_world.specs.Sessions.{IsReply, begin_entry, begun_now, delivery, heard_entry, heard_now}
 use Rattle.hx_world.specs.Worlds.{HasFewEntries}
 use Rattle.hx_world.proofs.Calling.{begun_step, call_runnable, heard_step, reply_is, tick_is}
 use Rattle.hx_world.proofs.Idling.{call_of_session, first_call, first_idle_next, tick_of}

@@ -1,15 +1,13 @@
 -- The world before the first entry.
-use Rattle.std.proofs.Common.{◌≡◌, ℕ, List, [], length, refl, sym, ap, ◌∙◌, subst, arith}
-use Rattle.hx_types.specs.declared.spaces.Space.{Space}
+use Rattle.std.proofs.Common.{◌≡◌, ℕ, [], length, refl, sym, subst, arith}
 use Rattle.hx_types.specs.declared.traces.Script.{Script}
 use Rattle.hx_types.specs.Fitting.{IsScript}
-use Rattle.hx_model.specs.Runs.{session_of}
 use Rattle.hx_model.specs.Steady.{IsFixed}
 use Rattle.hx_sound.specs.Sound.{PostsAreSound, ServersRun, VersionsAreSmall}
 use Rattle.hx_world.specs.declared.logs.Log.{Log}
 use Rattle.hx_world.specs.declared.schedule.Actors.{Actors}
 use Rattle.hx_world.specs.declared.sessions.Session.{Session as SessionNow}
-use Rattle.hx_world.specs.Invariant.{AreAt, IsHost, IsSession, IsWorld, IsWorldOf, session_at, session_with}
+use Rattle.hx_world.specs.Invariant.{IsHost, IsSession, IsWorld, IsWorldOf}
 use Rattle.hx_world.specs.Runnable.{IsRunnable}
 use Rattle.hx_world.specs.Starting.{HaveStarted, IsNewHost, IsNewSession, new_session}
 use Rattle.hx_world.proofs.Calling.{is_fixed}

@@ -7,10 +7,9 @@ use Rattle.hx_types.specs.declared.calls.Op.{Op}
 use Rattle.hx_types.specs.declared.spaces.Attribute.{Attribute}
 use Rattle.hx_types.specs.declared.spaces.Axis.{Axis}
 use Rattle.hx_types.specs.declared.traces.Script.{Script}
-use Rattle.hx_types.specs.declared.values.Assign.{Assign}
-use Rattle.hx_types.specs.Spaces.{AllDiffer, ArePart, AssignFits, Fits, IsKind, IsName, IsSpace, IsSubspaceOf, is_word}
+use Rattle.hx_types.specs.Spaces.{ArePart, AssignFits, Fits, IsKind, IsName, IsSpace, IsSubspaceOf, is_word}
 use Rattle.hx_model.specs.Built.{is_put_or_get}
-use Rattle.hx_world.specs.Examples.{axis_of, books, genre_is, one_call, put_a, script_of, three_calls, year_is}
+use Rattle.hx_world.specs.Examples.{axis_of, books, genre_is, one_call, script_of, three_calls, year_is}
 use Rattle.hx_world.specs.Runnable.{IsRunnable}
 
 abbrev head_of : List ℕ → ℕ
@@ -81,8 +80,7 @@ runs calls few fit small =
 
 three_fit : All (Fits books) three_calls
 three_fit =
-    All-from_recursion (Fits books) three_calls
-    (
+    All-from_recursion (Fits books) three_calls (
       (
         omega arith,
         record {

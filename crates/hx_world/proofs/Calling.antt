@@ -1,36 +1,29 @@
 -- The steps of a session of puts and gets, as a world keeps it.
-use Rattle.std.proofs.Common.{◌≡◌, inl, inr, ℕ, zero, suc, ◌+◌, ◌-◌, ◌<◌, ◌≤◌, Bool, true, false, not, ◌&&◌, List, [], ◌∷◌, length, Option, Some, None, refl, sym, ap, ◌∙◌, subst, arith, add-one, cond, eqb, ltb}
+use Rattle.std.proofs.Common.{◌≡◌, inl, inr, ℕ, zero, suc, ◌+◌, ◌-◌, ◌<◌, ◌≤◌, Bool, true, false, ◌&&◌, List, [], ◌∷◌, length, Option, Some, None, refl, sym, ap, ◌∙◌, subst, arith, add-one, cond, eqb}
 use Rattle.std.specs.Prelude.{slice_get, sum_by}
 use Rattle.std.specs.List.{All}
 use Rattle.std.proofs.lemmas.List.Sums.{sum_by-cons}
 use Rattle.std.proofs.lemmas.Bool.{cond-false, eqb-true, and_parts}
 use Rattle.std.proofs.lemmas.List.Elements.{All-nil}
 use Rattle.hx_types.specs.declared.calls.Answer.{Answer}
-use Rattle.hx_types.specs.declared.calls.Caller.{Caller}
 use Rattle.hx_types.specs.declared.calls.Op.{Op}
-use Rattle.hx_types.specs.declared.configs.Config.{Config}
 use Rattle.hx_types.specs.declared.messages.PostId.{PostId}
 use Rattle.hx_types.specs.declared.names.Actor.{Actor}
-use Rattle.hx_types.specs.declared.names.RegionId.{RegionId}
 use Rattle.hx_types.specs.declared.names.ServerId.{ServerId}
 use Rattle.hx_types.specs.declared.names.SessionId.{SessionId}
 use Rattle.hx_types.specs.declared.names.Version.{Version}
-use Rattle.hx_types.specs.declared.spaces.Space.{Space}
-use Rattle.hx_types.specs.declared.traces.Entry.{Entry}
 use Rattle.hx_types.specs.declared.traces.Script.{Script}
 use Rattle.hx_types.specs.declared.calls.Op.TheVariants.{Put, Get, Del, Cput, Search, Stop, Add}
 use Rattle.hx_types.specs.declared.messages.Message.TheVariants as a_message
 use Rattle.hx_types.specs.declared.traces.Note.TheVariants as a_note
-use Rattle.hx_types.specs.declared.names.Actor.TheVariants.{Session}
 use Rattle.hx_types.specs.declared.traces.Input.TheVariants.{Tick, Deliver}
 use Rattle.hx_types.specs.Configs.{first_config, head_of, is_lost}
 use Rattle.hx_types.specs.Effects.{key_of}
-use Rattle.hx_types.specs.Fitting.{call_of, calls_of, numbered}
+use Rattle.hx_types.specs.Fitting.{calls_of, numbered}
 use Rattle.hx_types.specs.Spaces.{IsSpace}
 use Rattle.hx_types.specs.Words.{IsIn, when_some}
 use Rattle.hx_model.specs.Built.{is_put_or_get}
 use Rattle.hx_model.specs.Regions.{key_region}
-use Rattle.hx_model.specs.Runs.{Made, made_of, session_of}
 use Rattle.hx_model.specs.SessionSteps.{SessionState, SessionStep, awaits as model_awaits, begin, call_to, ending, is_key_call, lost_answer, no_version, send_to, session_step, staying, with_note}
 use Rattle.hx_model.specs.Steady.{IsFixed, reconfigures}
 use Rattle.hx_steady.proofs.Lists.{all-in, in-slice_get, when_some_both}
@@ -39,7 +32,7 @@ use Rattle.hx_world.specs.declared.sessions.Session.{Session as SessionNow}
 use Rattle.hx_world.proofs.Seating.{item_at}
 use Rattle.hx_world.specs.Invariant.{session_with}
 use Rattle.hx_world.specs.Runnable.{IsRunnable}
-use Rattle.hx_world.specs.Sessions.{awaits, begun_now, call_post, ends_by, heard_now}
+use Rattle.hx_world.specs.Sessions.{awaits, begun_now, call_post, heard_now}
 
 abbrev IsRunnableCall : Op → Type 0
 IsRunnableCall op = is_put_or_get op ≡ true

@@ -1,5 +1,5 @@
 -- What a world's calls do, in terms of its fields; traces of worlds stand oldest first.
-use Rattle.std.proofs.Common.{◌≡◌, ℕ, zero, suc, ◌+◌, ◌-◌, ◌<◌, ◌≤◌, ◌⊎◌, inl, inr, Bool, true, false, List, [], ◌∷◌, ◌++◌, length, set, Option, Some, None, refl, sym, ap, ◌∙◌, subst, arith, add-one, add-zero, get_or, leb, vec_len}
+use Rattle.std.proofs.Common.{◌≡◌, ℕ, ◌+◌, ◌-◌, ◌<◌, ◌≤◌, true, false, List, [], ◌∷◌, ◌++◌, length, set, Option, Some, None, refl, sym, ap, ◌∙◌, subst, arith, get_or, vec_len}
 use Rattle.std.specs.Prelude.{slice_get, reverse, is_some, IsSome, IsSomeAnd, MatchOption}
 use Rattle.std.specs.Option.{option_map}
 use Rattle.std.proofs.lemmas.Bool.{le-leb}
@@ -23,11 +23,9 @@ use Rattle.hx_types.specs.Spaces.{IsServerOf}
 use Rattle.hx_model.specs.Built.{is_put_or_get}
 use Rattle.hx_model.specs.Regions.{key_region}
 use Rattle.hx_model.specs.Runs.{post_named, server_of}
-use Rattle.hx_model.specs.Schedule.{entries_of, next_entry, scheduled, undelivered, with_entry}
-use Rattle.hx_model.specs.ServerSteps.{ServerState}
+use Rattle.hx_model.specs.Schedule.{entries_of, next_entry, undelivered, with_entry}
 use Rattle.hx_replica.specs.Servers.{CanTake, server_entry}
 use Rattle.hx_steady.proofs.Lists.{in-slice_get}
-use Rattle.hx_world.specs.declared.ends.Drained.TheVariants.{Quiet, Spent}
 use Rattle.hx_world.specs.declared.hosts.Host.{Host}
 use Rattle.hx_world.specs.declared.logs.Log.{Log}
 use Rattle.hx_world.specs.declared.schedule.Actors.{Actors}

@@ -1,5 +1,5 @@
 -- Which session the schedule lets begin a call.
-use Rattle.std.proofs.Common.{◌≡◌, ℕ, zero, suc, ◌+◌, ◌<◌, ◌≤◌, ◌⊎◌, inl, inr, Bool, true, false, not, ◌&&◌, List, [], ◌∷◌, ◌++◌, length, Option, Some, None, refl, sym, ap, ◌∙◌, subst, arith, ltb, add-one}
+use Rattle.std.proofs.Common.{◌≡◌, ℕ, zero, suc, ◌+◌, ◌<◌, inl, inr, Bool, true, false, not, List, [], ◌∷◌, ◌++◌, length, Option, Some, None, refl, sym, ap, ◌∙◌, arith, ltb, add-one}
 use Rattle.std.specs.Prelude.{slice_get}
 use Rattle.std.proofs.lemmas.Bool.{cond-true, cond-false, cases_eq, and_parts, ltb-true, not-true}
 use Rattle.hx_types.specs.declared.calls.Op.{Op}
@@ -15,7 +15,7 @@ use Rattle.hx_model.specs.Schedule.{Next, first_delivery, idle_among, is_idle, n
 use Rattle.hx_world.specs.declared.hosts.Host.{Host}
 use Rattle.hx_world.specs.declared.sessions.Session.{Session as SessionNow}
 use Rattle.hx_world.specs.Idle.{IsFirstIdle, IsNoneIdle, call_at, can_begin_at}
-use Rattle.hx_world.specs.Invariant.{IsWorldOf, session_at, session_with}
+use Rattle.hx_world.specs.Invariant.{IsWorldOf, session_at}
 use Rattle.hx_world.specs.Sessions.{can_begin}
 use Rattle.hx_world.proofs.Seating.{item_at}
 

@@ -1,14 +1,12 @@
 -- Each key has a leader in the first configuration.
-use Rattle.std.proofs.Common.{◌≡◌, ℕ, suc, ◌+◌, ◌*◌, ◌<◌, ◌≤◌, List, [], ◌∷◌, ◌++◌, map, Option, Some, None, refl, sym, ap, ◌∙◌, subst, arith, add-one}
+use Rattle.std.proofs.Common.{◌≡◌, ℕ, suc, ◌<◌, List, [], ◌∷◌, ◌++◌, map, Option, Some, None, refl, sym, ap, ◌∙◌, arith, add-one}
 use Rattle.hx_types.specs.declared.configs.Config.{Config}
 use Rattle.hx_types.specs.declared.configs.Member.{Member}
 use Rattle.hx_types.specs.declared.names.RegionId.{RegionId}
-use Rattle.hx_types.specs.declared.names.ServerId.{ServerId}
 use Rattle.hx_types.specs.declared.spaces.Space.{Space}
 use Rattle.hx_types.specs.Configs.{first_config, first_member, head_of, members_of}
-use Rattle.hx_types.specs.Subspaces.{region_count, size_of}
+use Rattle.hx_types.specs.Subspaces.{region_count}
 use Rattle.hx_types.specs.Words.{below, first_of_list, when_some}
-use Rattle.hx_model.specs.Regions.{key_region}
 use Rattle.hx_steady.proofs.Regions.{first-members}
 use Rattle.hx_region.specs.Spans.{IsRegionIn}
 

@@ -12,3 +12,4 @@ pub mod Draining
 pub mod Beginning
 pub mod Spending
 pub mod Books
+pub mod BuiltScripts

@@ -1,5 +1,5 @@
 -- What servers post on calls, updates and acknowledgements: replies, updates and acknowledgements.
-use Rattle.std.proofs.Common.{◌≡◌, ℕ, inl, inr, Bool, true, false, List, [], ◌∷◌, Option, Some, None, refl, sym, subst, leb, eqb}
+use Rattle.std.proofs.Common.{ℕ, inl, inr, List, [], ◌∷◌, Option, Some, None, sym, subst, leb}
 use Rattle.std.specs.List.{flat_map}
 use Rattle.std.proofs.lemmas.Bool.{cond_both}
 use Rattle.hx_types.specs.declared.calls.Caller.{Caller}
@@ -9,12 +9,10 @@ use Rattle.hx_types.specs.declared.messages.Post.{Post}
 use Rattle.hx_types.specs.declared.messages.PostId.{PostId}
 use Rattle.hx_types.specs.declared.names.Actor.{Actor}
 use Rattle.hx_types.specs.declared.names.Epoch.{Epoch}
-use Rattle.hx_types.specs.declared.names.RegionId.{RegionId}
 use Rattle.hx_types.specs.declared.names.Version.{Version}
 use Rattle.hx_types.specs.declared.results.Decision.{Decision}
 use Rattle.hx_types.specs.declared.results.Hop.{Hop}
 use Rattle.hx_types.specs.declared.spaces.Space.{Space}
-use Rattle.hx_types.specs.declared.traces.Note.{Note}
 use Rattle.hx_types.specs.declared.updates.Update.{Update}
 use Rattle.hx_types.specs.declared.messages.Message.TheVariants as a_message
 use Rattle.hx_types.specs.declared.names.Actor.TheVariants.{Coordinator, Server, Session}
@@ -26,7 +24,7 @@ use Rattle.hx_types.specs.Effects.{is_write, key_of}
 use Rattle.hx_types.specs.Words.{IsIn}
 use Rattle.hx_model.specs.Leading.{StuckAt, decide, stuck_of}
 use Rattle.hx_model.specs.Regions.{key_region}
-use Rattle.hx_model.specs.ServerSteps.{Replica, ServerState, ServerStep, SlotStep, Spot, ack_step, ack_to, acked, at_slot, by_moves, by_posts, call_at, call_step, called, called_by, decided, get_step, hearing, if_installed, known_to, message_step, move_posts, next_at, passed_on, prev_at, reply, server_step, spot_of, state_in, told_to, unmoved, update_step, update_to, updated, waiting_doubt, write_step, accepting}
+use Rattle.hx_model.specs.ServerSteps.{Replica, ServerState, ServerStep, SlotStep, Spot, ack_step, ack_to, acked, at_slot, by_moves, by_posts, call_at, call_step, called, called_by, decided, get_step, hearing, if_installed, known_to, message_step, move_posts, next_at, prev_at, server_step, spot_of, state_in, told_to, unmoved, update_step, update_to, updated, waiting_doubt, write_step, accepting}
 use Rattle.hx_model.specs.Slots.{Acknowledge, Commit, Forget, Hold, KeyState, Move, Take, offered, top_of}
 use Rattle.hx_steady.proofs.Lists.{in-flat_map, in-provided, when_some_both}
 use Rattle.hx_world.specs.Invariant.{IsPlain}

@@ -1,6 +1,6 @@
 -- Drains: the entries that the schedule makes one after another.
-use Rattle.std.proofs.Common.{◌≡◌, ℕ, zero, suc, ◌+◌, ◌-◌, ◌<◌, ◌≤◌, Bool, true, false, List, length, Option, Some, None, refl, sym, ap, ◌∙◌, subst, arith, add-one, add-zero}
-use Rattle.std.specs.Prelude.{is_some, IsSome}
+use Rattle.std.proofs.Common.{◌≡◌, ℕ, zero, suc, ◌+◌, ◌-◌, ◌≤◌, false, List, Option, Some, None, refl, sym, ◌∙◌, arith, add-one, add-zero}
+use Rattle.std.specs.Prelude.{is_some}
 use Rattle.hx_types.specs.declared.traces.Entry.{Entry}
 use Rattle.hx_types.specs.declared.traces.Script.{Script}
 use Rattle.hx_model.specs.Schedule.{next_entry, scheduled, with_entry}

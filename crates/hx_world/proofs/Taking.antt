@@ -1,6 +1,6 @@
 -- A post of a world can be taken by the actor that it goes to.
-use Rattle.std.proofs.Common.{◌≡◌, ℕ, ◌+◌, ◌-◌, ◌^◌, ◌<◌, ◌≤◌, Bool, true, false, ◌&&◌, List, length, Option, Some, None, refl, sym, ap, ◌∙◌, subst, arith}
-use Rattle.std.specs.Prelude.{IsSome, ⊤}
+use Rattle.std.proofs.Common.{◌≡◌, ◌+◌, Bool, true, false, ◌&&◌, List, length, Some, refl, sym, ap, subst, arith}
+use Rattle.std.specs.Prelude.{IsSome}
 use Rattle.std.proofs.lemmas.Bool.{and_parts, false≢true, lt-ltb, le-leb}
 use Rattle.hx_types.specs.declared.calls.Op.{Op}
 use Rattle.hx_types.specs.declared.messages.Message.{Message}
@@ -18,17 +18,16 @@ use Rattle.hx_types.specs.declared.names.Actor.TheVariants.{Coordinator, Server,
 use Rattle.hx_types.specs.Effects.{key_of}
 use Rattle.hx_types.specs.Posts.{ActorExists, IsSessionOf, IsSoundPost, goes_between}
 use Rattle.hx_types.specs.Spaces.{IsServerOf}
-use Rattle.hx_types.specs.Words.{IsIn, post}
+use Rattle.hx_types.specs.Words.{post}
 use Rattle.hx_model.specs.Built.{is_put_or_get}
 use Rattle.hx_model.specs.Runs.{has_halted, is_actor, post_named, server_of}
-use Rattle.hx_model.specs.ServerSteps.{Replica, ServerState}
-use Rattle.hx_model.specs.Slots.{KeyState, top_of}
-use Rattle.hx_replica.specs.Servers.{CanTake, HasSmallVersions, IsHandled, IsInputTo, IsSoundDelivery}
+use Rattle.hx_model.specs.ServerSteps.{ServerState}
+use Rattle.hx_replica.specs.Servers.{CanTake, HasSmallVersions, IsHandled, IsSoundDelivery}
 use Rattle.hx_steady.proofs.Entries.{still-run}
 use Rattle.hx_steady.proofs.Kept.{Still, named-in}
 use Rattle.hx_world.specs.declared.hosts.Host.{Host}
 use Rattle.hx_world.specs.declared.sessions.Session.{Session as SessionNow}
-use Rattle.hx_world.specs.Invariant.{IsPlain, IsWorldOf, server_at, session_at}
+use Rattle.hx_world.specs.Invariant.{IsPlain, IsWorldOf}
 use Rattle.hx_world.specs.Sessions.{IsReply, delivery}
 use Rattle.hx_world.proofs.Calling.{is_fixed}
 use Rattle.hx_world.proofs.Naming.{named_within}

@@ -1,5 +1,5 @@
 -- The actors before the first entry.
-use Rattle.std.specs.Prelude.{◌≡◌, ℕ, ◌+◌, false, length}
+use Rattle.std.specs.Prelude.{◌≡◌, ℕ, false, length}
 use Rattle.hx_types.specs.declared.spaces.Space.{Space}
 use Rattle.hx_types.specs.declared.traces.Script.{Script}
 use Rattle.hx_model.specs.ServerSteps.{server_at_start}

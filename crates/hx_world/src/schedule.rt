@@ -159,9 +159,7 @@ fn begin_next(
     let Some(op) = call_at(script, place, session.begun) else {
         unreachable!()
     };
-    let Some(key) = op.key() else {
-        unreachable!()
-    };
+    let Some(key) = op.key() else { unreachable!() };
     let leader = actors.leaders.leader(key);
     begin(alloc, leader, op, id, session, log)?;
     Ok(())

@@ -180,10 +180,8 @@ fn goes_through(update: Option<&Update>, version: u64, places: &[(u32, u64, bool
     let own = update.places.as_slice();
     update.version.0 == version
         && own.len() == places.len()
-        && own
-            .iter()
-            .zip(places)
-            .all(|(place, wanted)| (place.region.0, place.after.0, place.keeps) == *wanted)
+        && own.iter().zip(places).all(|(place, wanted)| (place.region.0, place.after.0, place.keeps)
+            == *wanted)
 }
 
 /// Whether the object has this genre and year.
@@ -231,7 +229,9 @@ fn calls_end_with_their_answers(rt: HostRuntime) -> Result<(), Fail> {
     let script = three_calls_script(alloc)?;
     let trace = drained(alloc, &script, 20)?;
     assert!(rt; matches!(ended(&trace, 12), Some((1, 1, Answer::Done))));
-    assert!(rt; matches!(ended(&trace, 15), Some((2, 1, Answer::Found(book))) if is_book(book, "b", 1999)));
+    assert!(rt;
+        matches!(ended(&trace, 15), Some((2, 1, Answer::Found(book))) if is_book(book, "b", 1999))
+    );
     assert!(rt; matches!(ended(&trace, 32), Some((3, 2, Answer::Done))));
     Ok(())
 }
@@ -244,6 +244,8 @@ fn a_put_without_values_writes_defaults(rt: HostRuntime) -> Result<(), Fail> {
     assert_eq!(rt; trace.len(), 13);
     let update = assigned(&trace, 1);
     assert!(rt; goes_through(update, 1, &[(0, 0, true), (4, 0, true), (6, 0, true)]));
-    assert!(rt; matches!(update.and_then(|u| u.object.as_ref()), Some(book) if is_book(book, "", 1900)));
+    assert!(rt;
+        matches!(update.and_then(|u| u.object.as_ref()), Some(book) if is_book(book, "", 1900))
+    );
     Ok(())
 }
