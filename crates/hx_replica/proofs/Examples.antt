@@ -1,8 +1,7 @@
 -- The small space is one, and its server can take the put.
-use Rattle.std.proofs.Common.{◌≡◌, ℕ, ◌≤◌, true, ◌&&◌, List, [], ◌∷◌, map, refl, ap, sym, ◌∙◌, subst, arith, ⊎_elim}
+use Rattle.std.proofs.Common.{◌≡◌, ℕ, ◌≤◌, true, ◌&&◌, List, [], ◌∷◌, map, refl, ap, sym, subst, arith, ⊎_elim}
 use Rattle.std.specs.Prelude.{◌≢◌}
 use Rattle.std.proofs.lemmas.List.Elements.{All-from_recursion}
-use Rattle.hx_types.specs.declared.values.Assign.{Assign}
 use Rattle.hx_types.specs.declared.spaces.Attribute.{Attribute}
 use Rattle.hx_types.specs.declared.names.RegionId.{RegionId}
 use Rattle.hx_types.specs.declared.names.ServerId.{ServerId}
@@ -54,17 +53,20 @@ small_at_start space s = λ r i t j. absurd (no_state (listed_regions (first_con
 put_fits : (epoch : ℕ) → epoch ≤ 2 → CanTake small (server_at_start small (record { 0 = 1 })) (put_of epoch)
 put_fits epoch l = record {
   running = refl;
-  input_to = (refl, record {
-    sessions = 1;
-    entry = 1;
-    few = omega arith;
-    sound = record {
-      from = (omega arith, omega arith);
-      to = (omega arith, omega arith);
-      between = refl;
-      message = (l, (omega arith, record { each = All-from_recursion (AssignFits small) [] tt; once = tt }));
-    };
-  });
+  input_to = (
+    refl,
+    record {
+      sessions = 1;
+      entry = 1;
+      few = omega arith;
+      sound = record {
+        from = (omega arith, omega arith);
+        to = (omega arith, omega arith);
+        between = refl;
+        message = (l, (omega arith, record { each = All-from_recursion (AssignFits small) [] tt; once = tt }));
+      };
+    },
+  );
   small = small_at_start small (record { 0 = 1 });
 }
 

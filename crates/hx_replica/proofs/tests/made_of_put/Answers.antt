@@ -9,6 +9,6 @@ pub prepare-requires : goal.prepare-requires
 prepare-requires c =
     let one : ServerId = record { 0 = 1 } in
     can_put c.in_ok-server.server.space c.in_ok-server.server.state c.in_ok-input.input c.args.epoch
-      (c.in_ok-server.ensures.space ∙ c.in_ok-space.ensures)
-      (c.in_ok-server.ensures.state ∙ ap (λ (x : Space). server_at_start x one) c.in_ok-space.ensures)
-      c.in_ok-input.ensures c.requires
+    (c.in_ok-server.ensures.space ∙ c.in_ok-space.ensures)
+    (c.in_ok-server.ensures.state ∙ ap (λ (x : Space). server_at_start x one) c.in_ok-space.ensures)
+    c.in_ok-input.ensures c.requires
