@@ -1,5 +1,6 @@
 -- The places of an update in one subspace, and those told by the region that its object leaves and the one that it comes to.
-use Rattle.std.specs.Prelude.{ℕ, false, not, List, [], ◌∷◌, map, Option, None, Some}
+use Rattle.std.specs.Prelude.{ℕ, ◌<◌, false, not, List, [], ◌∷◌, map, Option, None, Some}
+use Rattle.std.specs.List.{All}
 use Rattle.hx_types.specs.declared.updates.Place.{Place}
 use Rattle.hx_types.specs.declared.names.RegionId.{RegionId}
 use Rattle.hx_types.specs.declared.spaces.Space.{Space}
@@ -23,3 +24,7 @@ crossed (Some before) (Some after) = before ∷ provided (not (same_region befor
 abbrev pub place_for : Option RegionId → List Touch → RegionId → Place
 place_for kept touches g =
     record { region = g; after = record { 0 = touched_in g touches }; keeps = when_some kept false (λ (r : RegionId). same_region r g) }
+
+-- each place comes after a version below this one
+abbrev pub ComeAfterLower : ℕ → List Place → Type 0
+ComeAfterLower version places = All (λ (p : Place). p.after.0 < version) places

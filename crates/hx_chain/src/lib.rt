@@ -10,3 +10,6 @@ mod placing;
 
 pub use neighbours::{next, place_number, prev};
 pub use placing::places;
+
+#[cfg(test)]
+mod tests;

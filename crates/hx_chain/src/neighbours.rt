@@ -8,8 +8,9 @@ use hx_types::{Config, Hop, Member, Place, Places, RegionId, ServerId, Update};
 /// The replica after a server's at a place of an update, to which the update goes on: the next
 /// member of the place's region, or else the first member of the next place's region.
 ///
-/// `End` where no place follows, `Blocked` exactly where the next place's region is lost. For a
-/// server that isn't a member of the place's region it is what follows the region's last member.
+/// After the last member it is `End` where no place follows, and `Blocked` exactly where the next
+/// place's region is lost. A server that isn't a member of the place's region is told what follows
+/// the last member.
 pub fn next(config: &Config, update: &Update, place: u32, server: ServerId) -> Hop
     requires { place < u32.MAX }
     ensures { result ≡ next_of config.now update.now.places place server }
@@ -28,9 +29,9 @@ pub fn next(config: &Config, update: &Update, place: u32, server: ServerId) -> H
 /// the member before it in the place's region, or else the last member of the region of the place
 /// before.
 ///
-/// `End` where no place stands before, `Blocked` exactly where the region of the place before is
-/// lost. For a server that isn't a member of the place's region it is what stands before the
-/// region's first member.
+/// Before the first member it is `End` where no place stands before, and `Blocked` exactly where
+/// the region of the place before is lost. A server that isn't a member of the place's region is
+/// told what stands before the first member.
 pub fn prev(config: &Config, update: &Update, place: u32, server: ServerId) -> Hop
     ensures { result ≡ prev_of config.now update.now.places place server }
 {
@@ -116,25 +117,25 @@ fn hop_at(place: u32, server: Option<ServerId>) -> Hop
     }
 }
 
-/// The first position of a place.
-fn enters(config: &Config, place: u32, found: Option<&Place>) -> Hop
-    ensures { result ≡ enters config.now place (option_copied found.entry) }
+/// The first position of a place that follows.
+fn enters(config: &Config, place: u32, after: Option<&Place>) -> Hop
+    ensures { result ≡ enters config.now place (option_copied after.entry) }
 {
-    match found {
+    match after {
         None => Hop::End,
-        Some(found) if config.is_lost(found.region) => Hop::Blocked(found.region),
-        Some(found) => hop_at(place, config.head(found.region)),
+        Some(after) if config.is_lost(after.region) => Hop::Blocked(after.region),
+        Some(after) => hop_at(place, config.head(after.region)),
     }
 }
 
-/// The last position of a place.
-fn enters_last(config: &Config, place: u32, found: Option<&Place>) -> Hop
-    ensures { result ≡ enters_last config.now place (option_copied found.entry) }
+/// The last position of a place that stands before.
+fn enters_last(config: &Config, place: u32, before: Option<&Place>) -> Hop
+    ensures { result ≡ enters_last config.now place (option_copied before.entry) }
 {
-    match found {
+    match before {
         None => Hop::End,
-        Some(found) if config.is_lost(found.region) => Hop::Blocked(found.region),
-        Some(found) => hop_at(place, last_member(config.members(found.region))),
+        Some(before) if config.is_lost(before.region) => Hop::Blocked(before.region),
+        Some(before) => hop_at(place, last_member(config.members(before.region))),
     }
 }
 

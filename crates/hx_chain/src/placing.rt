@@ -1,7 +1,7 @@
-ghost use Rattle.std.specs.Prelude.{◌≡◌, ◌<◌, ◌++◌, map, IfOk, OnOk, IsTrue};
+ghost use Rattle.std.specs.Prelude.{◌≡◌, ◌+◌, ◌*◌, ◌<◌, ◌≤◌, ◌++◌, length, map, IfOk, OnOk, IsTrue};
 ghost use Rattle.std.specs.List.{flat_map};
 ghost use Rattle.std.specs.Option.{option_copied, option_map};
-ghost use Rattle.hx_chain.specs.Crossing.{crossed, place_for, places_in};
+ghost use Rattle.hx_chain.specs.Crossing.{ComeAfterLower, crossed, place_for, places_in};
 ghost use Rattle.hx_model.specs.Places.{declared_subspaces, places_of};
 ghost use Rattle.hx_model.specs.Regions.{place_of};
 ghost use Rattle.hx_model.specs.Slots.{top_of, touches_of};
@@ -17,10 +17,12 @@ use std::alloc::Global;
 ///
 /// The key region comes first. Where the update changes, each declared subspace follows in order
 /// with the region of the old object and after it that of the new one if it differs; an absent
-/// object has no region. An update goes to the new region last, so that a search finds the old
-/// object until the new one is there. A place's `after` is the slot's last version with a place in
-/// that region (0 for none), in the key region its top; `keeps` is whether the new object lies
-/// there. The order within a subspace, `after` and `keeps` are this project's choice.
+/// object has no region. Acknowledgements come back along the chain, so the new region keeps the
+/// new object before the old region lets the old one go.
+///
+/// A place's `after` is the slot's last version with a place in that region (0 for none), in the
+/// key region its top; `keeps` is whether the new object is there and lies in the region. The order
+/// of the places, `after` and `keeps` are this project's choice.
 pub fn places(
     alloc: Global,
     map: &RegionMap,
@@ -30,8 +32,10 @@ pub fn places(
     changes: bool,
     slot: &Slot,
 ) -> Result<Places, Memory>
-    requires marks { IsTrue slot.now.state.marks }
-    ensures { IfOk result (λ places. places ≡ places_of map.now key.now (option_copied old.entry) (option_copied new.entry) changes (top_of slot.now.state) (touches_of slot.now.state)) }
+    requires { IsTrue slot.now.state.marks }
+    ensures exact { IfOk result (λ places. places ≡ places_of map.now key.now (option_copied old.entry) (option_copied new.entry) changes (top_of slot.now.state) (touches_of slot.now.state)) }
+    ensures after { IfOk result (ComeAfterLower (top_of slot.now.state + 1)) }
+    ensures few { IfOk result (λ places. length places ≤ 1 + 2 * length map.now.subspaces) }
 {
     let mut places = Places::new(alloc);
     places.push(Place {
@@ -55,7 +59,10 @@ fn add_declared(
     slot: &Slot,
 ) -> Result<(), Memory>
     requires marks { IsTrue slot.now.state.marks }
-    ensures { OnOk result (places.new ≡ places.old ++ flat_map (places_in map.now key.now (option_copied old.entry) (option_copied new.entry) (touches_of slot.now.state)) (declared_subspaces map.now)) }
+    requires after { ComeAfterLower (top_of slot.now.state + 1) places.old }
+    ensures exact { OnOk result (places.new ≡ places.old ++ flat_map (places_in map.now key.now (option_copied old.entry) (option_copied new.entry) (touches_of slot.now.state)) (declared_subspaces map.now)) }
+    ensures after { OnOk result (ComeAfterLower (top_of slot.now.state + 1) places.new) }
+    ensures few { OnOk result (length places.new ≤ length places.old + 2 * length map.now.subspaces) }
 {
     for s in 1..map.subspaces() {
         let before = region_of(map, s, key, old);
@@ -84,12 +91,17 @@ fn add_between(
     slot: &Slot,
 ) -> Result<(), Memory>
     requires marks { IsTrue slot.now.state.marks }
-    ensures { OnOk result (places.new ≡ places.old ++ map (place_for after (touches_of slot.now.state)) (crossed before after)) }
+    requires after { ComeAfterLower (top_of slot.now.state + 1) places.old }
+    ensures exact { OnOk result (places.new ≡ places.old ++ map (place_for after (touches_of slot.now.state)) (crossed before after)) }
+    ensures after { OnOk result (ComeAfterLower (top_of slot.now.state + 1) places.new) }
+    ensures few { OnOk result (length places.new ≤ length places.old + 2) }
 {
     if let Some(region) = before {
         places.push(place_in(region, after, slot))?;
     }
-    if let Some(region) = after && before != after {
+    if let Some(region) = after
+        && before != after
+    {
         places.push(place_in(region, after, slot))?;
     }
     Ok(())
@@ -97,8 +109,9 @@ fn add_between(
 
 /// The place in a region of an update whose new object lies in such a region.
 fn place_in(region: RegionId, kept: Option<RegionId>, slot: &Slot) -> Place
-    requires marks { IsTrue slot.now.state.marks }
-    ensures { result ≡ place_for kept (touches_of slot.now.state) region }
+    requires { IsTrue slot.now.state.marks }
+    ensures exact { result ≡ place_for kept (touches_of slot.now.state) region }
+    ensures after { result.after.0 < top_of slot.now.state + 1 }
 {
     Place {
         region,

@@ -1,5 +1,6 @@
-ghost use Rattle.std.specs.Prelude.{◌≡◌, ◌<◌, ◌+◌, ◌^◌, IfOk, IsTrue};
-ghost use Rattle.hx_leader.specs.Parts.{refused, repeated};
+ghost use Rattle.std.specs.Prelude.{◌≡◌, ◌<◌, ◌≤◌, ◌+◌, ◌^◌, IfOk, IsTrue};
+ghost use Rattle.hx_chain.specs.Crossing.{ComeAfterLower};
+ghost use Rattle.hx_leader.specs.Parts.{IsInTurn, IsNext, refused, repeated};
 ghost use Rattle.hx_model.specs.Leading.{decide, fresh, granted, with_places};
 ghost use Rattle.hx_model.specs.Slots.{latest_of, top_of};
 
@@ -40,7 +41,8 @@ pub fn decide(
     requires map { map.now ≡ space.now }
     requires marks { IsTrue slot.now.state.marks }
     requires room { top_of slot.now.state + 1 < 2 ^ 64 }
-    ensures { IfOk result (λ decision. decision ≡ decide space.now config.now slot.now.region slot.now.state caller op.now) }
+    ensures exact { IfOk result (λ decision. decision ≡ decide space.now config.now slot.now.region slot.now.state caller op.now) }
+    ensures in_turn { IfOk result (IsInTurn space.now slot.now.state) }
 {
     if let Some((number, version, answer)) = slot.mark(caller.session) {
         if caller.number < number {
@@ -60,7 +62,9 @@ fn repeated(
     version: Version,
     answer: &Answer,
 ) -> Result<Decision, Memory>
-    ensures { IfOk result (λ decision. decision ≡ repeated slot.now.state version answer.now) }
+    requires { version.0 ≤ top_of slot.now.state }
+    ensures exact { IfOk result (λ decision. decision ≡ repeated slot.now.state version answer.now) }
+    ensures in_turn { IfOk result (λ decision. (space : Space) → IsInTurn space slot.now.state decision) }
 {
     if version.0 <= slot.floor().0 {
         Ok(Decision::Again(version, answer.copy(alloc)?))
@@ -82,7 +86,8 @@ fn fresh(
     requires map { map.now ≡ space.now }
     requires marks { IsTrue slot.now.state.marks }
     requires room { top_of slot.now.state + 1 < 2 ^ 64 }
-    ensures { IfOk result (λ decision. decision ≡ fresh space.now config.now slot.now.region slot.now.state caller op.now) }
+    ensures exact { IfOk result (λ decision. decision ≡ fresh space.now config.now slot.now.region slot.now.state caller op.now) }
+    ensures in_turn { IfOk result (IsInTurn space.now slot.now.state) }
 {
     match stuck(config, slot) {
         Some((_, region)) => Ok(Decision::Stuck(region)),
@@ -105,10 +110,19 @@ fn assigned(
 ) -> Result<Update, Memory>
     requires marks { IsTrue slot.now.state.marks }
     requires room { top_of slot.now.state + 1 < 2 ^ 64 }
-    ensures { IfOk result (λ update. update ≡ with_places map.now config.now slot.now.state caller (latest_of slot.now.region slot.now.state) effect) }
+    ensures exact { IfOk result (λ update. update ≡ with_places map.now config.now slot.now.state caller (latest_of slot.now.region slot.now.state) effect) }
+    ensures next { IfOk result (IsNext map.now slot.now.state) }
 {
     let new = effect.object.as_ref();
-    let places = places(alloc, map, slot.key(), slot.latest(), new, effect.changes, slot)?;
+    let places = places(
+        alloc,
+        map,
+        slot.key(),
+        slot.latest(),
+        new,
+        effect.changes,
+        slot,
+    )?;
     match first_lost(config, &places) {
         None => Ok(granted(alloc, slot, caller, effect, places)?),
         Some(region) => Ok(refused(alloc, map, config, slot, caller, region)?),
@@ -126,7 +140,8 @@ fn refused(
 ) -> Result<Update, Memory>
     requires marks { IsTrue slot.now.state.marks }
     requires room { top_of slot.now.state + 1 < 2 ^ 64 }
-    ensures { IfOk result (λ update. update ≡ refused map.now config.now slot.now.state caller (latest_of slot.now.region slot.now.state) region) }
+    ensures exact { IfOk result (λ update. update ≡ refused map.now config.now slot.now.state caller (latest_of slot.now.region slot.now.state) region) }
+    ensures next { IfOk result (IsNext map.now slot.now.state) }
 {
     let latest = slot.latest();
     let places = places(alloc, map, slot.key(), latest, latest, false, slot)?;
@@ -154,7 +169,11 @@ fn granted(
     places: Places,
 ) -> Result<Update, Memory>
     requires room { top_of slot.now.state + 1 < 2 ^ 64 }
-    ensures { IfOk result (λ update. update ≡ granted slot.now.state caller effect places) }
+    requires after { ComeAfterLower (top_of slot.now.state + 1) places }
+    ensures exact { IfOk result (λ update. update ≡ granted slot.now.state caller effect places) }
+    ensures version { IfOk result (λ update. update.version.0 ≡ top_of slot.now.state + 1) }
+    ensures after { IfOk result (λ update. ComeAfterLower update.version.0 places) }
+    ensures places { IfOk result (λ update. update.places ≡ places) }
 {
     let key = slot.key().copy(alloc)?;
     let version = Version(slot.top().0 + 1);

@@ -6,3 +6,6 @@ mod stuck_updates;
 
 pub use deciding::decide;
 pub use stuck_updates::stuck;
+
+#[cfg(test)]
+mod tests;

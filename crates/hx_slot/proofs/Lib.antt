@@ -1,0 +1,14 @@
+pub mod Rows
+pub mod Newest
+pub mod Regions
+pub mod Sessions
+pub mod Newer
+pub mod Noting
+pub mod Accepting
+pub mod Acking
+pub mod Settling
+pub mod SameEntries
+pub mod Refitting
+pub mod Reading
+pub mod Turns
+pub mod Offering

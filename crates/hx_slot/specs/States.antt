@@ -1,16 +1,24 @@
--- What contracts see of a slot.
-use Rattle.std.specs.Prelude.{ℕ, ◌<◌, length, List, Option}
+-- What contracts see of a slot, and what always holds of it.
+use Rattle.std.specs.Prelude.{ℕ, ◌<◌, ◌≤◌, ⊤, List, map, length, Option, None, Some}
 use Rattle.std.specs.Borrow.{Bor}
-use Rattle.std.specs.Option.{option_map}
+use Rattle.std.specs.List.{All}
+use Rattle.std.specs.Option.{IfSome, option_map}
 use Rattle.hx_types.specs.declared.calls.Answer.{Answer}
 use Rattle.hx_types.specs.declared.calls.Row.{Row}
 use Rattle.hx_types.specs.declared.names.RegionId.{RegionId}
 use Rattle.hx_types.specs.declared.names.Version.{Version}
+use Rattle.hx_types.specs.declared.results.Acked.{Acked}
+use Rattle.hx_types.specs.declared.results.Offer.{Offer}
+use Rattle.hx_types.specs.declared.snapshots.Kept.{Kept}
 use Rattle.hx_types.specs.declared.snapshots.Mark.{Mark}
+use Rattle.hx_types.specs.declared.snapshots.Touch.{Touch}
 use Rattle.hx_types.specs.declared.updates.Update.{Update}
 use Rattle.hx_types.specs.declared.values.Value.{Value}
+use Rattle.hx_types.specs.declared.results.Acked.TheVariants as an_ack
+use Rattle.hx_types.specs.declared.results.Offer.TheVariants.{Accepted, Known, Early}
+use Rattle.hx_types.specs.Spaces.{IsAscending}
 use Rattle.hx_model.specs.Neighbours.{place_number}
-use Rattle.hx_model.specs.Slots.{KeyState}
+use Rattle.hx_model.specs.Slots.{KeyState, after_at}
 
 -- a key at a replica of a region, and for how many offers there is room
 pub record SlotState : Type 0 where
@@ -21,6 +29,26 @@ pub record SlotState : Type 0 where
 -- the update has a place in the region
 abbrev pub IsPlacedIn : RegionId → Update → Type 0
 IsPlacedIn g u = place_number g u.places < length u.places
+
+-- the update has few places
+abbrev pub HasFewPlaces : Update → Type 0
+HasFewPlaces u = length u.places ≤ 17
+
+-- the update's turn comes after a lower version
+abbrev pub IsLater : RegionId → Update → Type 0
+IsLater g u = IfSome (after_at g u) (λ after. after < u.version.0)
+
+abbrev pub IsRowUpTo : ℕ → Option Row → Type 0
+IsRowUpTo floor None = ⊤
+IsRowUpTo floor (Some r) = r.version.0 ≤ floor
+
+-- no version of the row, the marks and the touches is above the floor; sessions and regions ascend
+pub record IsOrderly (k : Kept) : Type 0 where
+  pub row : IsRowUpTo k.floor.0 k.object
+  pub marks : All (λ (m : Mark). m.version.0 ≤ k.floor.0) k.marks
+  pub touches : All (λ (t : Touch). t.version.0 ≤ k.floor.0) k.touches
+  pub sessions_ascend : IsAscending (map (λ (m : Mark). m.session.0) k.marks)
+  pub regions_ascend : IsAscending (map (λ (t : Touch). t.region.0) k.touches)
 
 -- a row without its key
 abbrev pub object_at : Option Row → Option (Version × List Value)
@@ -36,3 +64,14 @@ object_seen lent = option_map (λ (o : Version × Bor (List Value)). (o.0, o.1.n
 
 abbrev pub call_seen : Option (ℕ × Version × Bor Answer) → Option (ℕ × Version × Answer)
 call_seen lent = option_map (λ (c : ℕ × Version × Bor Answer). (c.0, c.1, c.2.now)) lent
+
+-- how many updates an offer made pending, and how many an acknowledgement committed
+abbrev pub accepted_count : Offer → ℕ
+accepted_count (Accepted n) = n
+accepted_count Known = 0
+accepted_count Early = 0
+
+abbrev pub committed_count : Acked → ℕ
+committed_count (an_ack.Committed n) = n
+committed_count an_ack.Kept = 0
+committed_count an_ack.Unknown = 0

@@ -1,194 +1,508 @@
-ghost use Rattle.std.specs.Prelude.{◌≡◌, ◌<◌, ◌≤◌, ◌+◌, ◌==◌, length, slice_get, true, IsTrue, IfOk, OnOk, IfSome, [], None};
-ghost use Rattle.std.specs.List.{All, list_any, find};
-ghost use Rattle.hx_types.specs.declared.updates.Place.{Place};
-ghost use Rattle.hx_types.specs.declared.updates.Update.{Update as Updated};
-ghost use Rattle.hx_types.specs.declared.snapshots.Touch.{Touch as Touched};
-ghost use Rattle.hx_model.specs.Neighbours.{place_number};
-ghost use Rattle.hx_model.specs.Slots.{acknowledged, ack_answer, follows, is_pending, moved, moved_all, object_of, offer_answer, offered, settled, Acknowledge};
+ghost use Rattle.std.specs.Prelude.{◌≡◌, ℕ, ◌+◌, ◌^◌, ◌<◌, ◌≤◌, ◌==◌, IfSome, IsTrue, OnOk, is_some, length, true, slice_get, vec_capacity, vec_len};
+ghost use Rattle.std.specs.List.{All, AllByRecursion, find, list_any};
 ghost use Rattle.std.specs.Option.{option_copied};
-ghost use Rattle.hx_model.specs.Slots.{latest_of, mark_among, mark_of, new_state, pending_of, top_of, touches_of};
 ghost use Rattle.hx_model.specs.Places.{touched_in};
-ghost use Rattle.hx_slot.specs.States.{IsPlacedIn, call_at, call_seen, object_at, object_seen};
+ghost use Rattle.hx_model.specs.Neighbours.{place_number};
+ghost use Rattle.hx_model.specs.Slots.{Acknowledge, Forget, Hold, Take, ack_answer, acknowledged, follows, is_pending, latest_of, mark_of, moved, moved_all, new_state, object_of, offer_answer, offered, pending_of, settled, taken, top_of, touches_of, turns};
+ghost use Rattle.hx_slot.specs.Entries.{IsHeld};
+ghost use Rattle.hx_slot.specs.Rooms.{IsGrown};
+ghost use Rattle.hx_slot.specs.States.{HasFewPlaces, IsLater, IsPlacedIn, accepted_count, call_at, call_seen, committed_count, object_at, object_seen};
+ghost use Rattle.hx_types.specs.declared.calls.Answer.{Answer};
+ghost use Rattle.hx_types.specs.declared.names.Version.{Version};
+ghost use Rattle.hx_types.specs.declared.updates.Place.{Place};
+ghost use Rattle.hx_types.specs.declared.snapshots.Touch.{Touch as Touched};
+ghost use Rattle.hx_types.specs.declared.updates.Update.{Update};
 
-use hx_types::{Acked, Offer, Answer, Kept, Mark, Marks, Memory, Object, RegionId, SessionId, Text, Touch, Touches, Update, Version};
+use crate::acks::{
+    acknowledged_front, acknowledged_with, drop_ack, drop_acks_upto, forget_acks, has_update,
+    has_version, place_of,
+};
+use crate::early::{drop_version, early_at, turn_of};
+use crate::entries::{Placed, Taken};
+use crate::line::{last_version, only_object, rest_of, row_over, update_at, version_and_object};
+use crate::marks::{mark_of, newer, newest_of};
+use crate::rooms::{grow, insert_within};
+use crate::tables::Tables;
+use crate::touches::last_touch;
+use hx_types::{
+    Acked, Answer, Kept, Marks, Memory, Object, Offer, RegionId, SessionId, Text, Touches, Update,
+    Version,
+};
 use std::alloc::Global;
 use std::marker::Model;
 
-#[derive(Drop)]
-pub enum Never {}
-
+/// The state of one key at one replica of a region.
 #[derive(Drop)]
 pub struct Slot {
-    never: Never,
     region: RegionId,
     marks: bool,
-    kept: Kept,
+    /// The committed state that was installed, or nothing.
+    base: Kept,
+    /// The updates accepted since, the oldest first.
+    accepted: Vec<Taken>,
+    /// How many of them are committed.
+    committed: usize,
+    /// The version of the last committed one, or that of the base.
+    floor: Version,
+    /// The acknowledged pending versions, the newest acknowledgement first.
+    acked: Vec<Version>,
+    /// The updates that came before their turn, in the order of their coming.
+    early: Vec<Placed>,
+    /// Kept at a key region alone.
+    tables: Tables,
+    /// For how many offers there is room.
+    spare: u32,
 }
 
 impl Model for Slot {
+    ghost use Rattle.hx_slot.specs.Entries.{IsHeld};
+    ghost use Rattle.hx_slot.specs.Rooms.{IsGrown};
     ghost use Rattle.hx_slot.specs.States.{SlotState};
-    ghost use Rattle.hx_model.specs.Slots.{state_of_kept};
 
     ghost Value = { SlotState };
 
-    ghost view = { λ s. record { region = s.region; state = state_of_kept s.marks s.kept; spare = 0 } };
+    ghost use Rattle.hx_slot.specs.Invariant.{IsSlot, seen};
+
+    ghost view = { seen };
+
+    ghost invariant = { IsSlot };
 }
 
 impl Slot {
-    pub fn new(alloc: Global, region: RegionId, key: Text, marks: bool) -> Result<Slot, Memory>
-        ensures region { IfOk result (λ slot. slot.region ≡ region) }
-        ensures state { IfOk result (λ slot. slot.state ≡ new_state marks key) }
+    /// A slot of the key with floor 0, no object and no room. At a key region it keeps marks and
+    /// touches.
+    pub fn new(alloc: Global, region: RegionId, key: Text, marks: bool) -> Slot
+        ensures region { result.region ≡ region }
+        ensures state { result.state ≡ new_state marks key }
     {
-        Err(Memory)
-    }
-
-    pub fn reserve(&mut self, n: u32) -> Result<(), Memory>
-        ensures region { self.new.region ≡ self.old.region }
-        ensures state { self.new.state ≡ self.old.state }
-        ensures spare { OnOk result (n ≤ self.new.spare) }
-        ensures kept { self.old.spare ≤ self.new.spare }
-    {
-        Err(Memory)
-    }
-
-    pub fn offer(&mut self, update: Update, place: u32) -> Offer
-        requires spare { 0 < self.old.spare }
-        requires place { place ≡ place_number self.old.region update.places }
-        requires placed { place < length update.places }
-        requires after { All (λ (p : Place). p.after.0 < update.version.0) update.places }
-        requires few { length update.places ≤ 17 }
-        ensures answer { result ≡ offer_answer self.old.region self.old.state update }
-        ensures state { self.new.state ≡ moved_all (offered self.old.region self.old.state update) self.old.state }
-        ensures region { self.new.region ≡ self.old.region }
-        ensures spare { self.old.spare ≤ self.new.spare + 1 }
-    {
-        match self.never {}
-    }
-
-    pub fn ack(&mut self, version: Version) -> Acked
-        ensures answer { result ≡ ack_answer self.old.state version.0 }
-        ensures state { self.new.state ≡ moved_all (acknowledged self.old.state version.0) self.old.state }
-        ensures region { self.new.region ≡ self.old.region }
-        ensures spare { self.old.spare ≤ self.new.spare }
-    {
-        match self.never {}
-    }
-
-    pub fn acknowledge(&mut self, version: Version)
-        requires pending { is_pending version.0 self.old.state ≡ true }
-        ensures state { self.new.state ≡ moved (Acknowledge version.0) self.old.state }
-        ensures region { self.new.region ≡ self.old.region }
-        ensures spare { self.old.spare ≤ self.new.spare }
-    {
-        match self.never {}
-    }
-
-    pub fn settle(&mut self) -> u32
-        ensures count { result ≡ length (settled self.old.state) }
-        ensures state { self.new.state ≡ moved_all (settled self.old.state) self.old.state }
-        ensures region { self.new.region ≡ self.old.region }
-        ensures spare { self.old.spare ≤ self.new.spare }
-    {
-        match self.never {}
-    }
-
-    pub fn object(&self) -> Option<(Version, &Object)>
-        ensures object { object_seen result ≡ object_at (object_of self.now.region self.now.state) }
-    {
-        match self.never {}
-    }
-
-    pub fn early_count(&self) -> u32
-        ensures { result ≡ length self.now.state.early }
-    {
-        match self.never {}
-    }
-
-    pub fn turn(&self, top: Version) -> Option<&Update>
-        ensures turn { option_copied result ≡ find (follows self.now.region top.0) self.now.state.early }
-        ensures later { IfSome (option_copied result) (λ (u : Updated). top.0 < u.version.0) }
-        ensures placed { IfSome (option_copied result) (IsPlacedIn self.now.region) }
-        ensures few { IfSome (option_copied result) (λ (u : Updated). length u.places ≤ 17) }
-    {
-        match self.never {}
-    }
-
-    pub fn is_acknowledged(&self, version: Version) -> bool
-        ensures { result ≡ list_any (λ v. v == version.0) self.now.state.acked }
-    {
-        match self.never {}
-    }
-
-    pub fn key(&self) -> &Text
-        ensures { result.now ≡ self.now.state.base.key }
-    {
-        &self.kept.key
-    }
-
-    pub fn keeps_marks(&self) -> bool
-        ensures { result ≡ self.now.state.marks }
-    {
-        self.marks
-    }
-
-    pub fn floor(&self) -> Version
-        ensures floor { result.0 ≡ self.now.state.floor }
-        ensures below { result.0 ≤ top_of self.now.state }
-    {
-        self.kept.floor
-    }
-
-    pub fn top(&self) -> Version
-        ensures top { result.0 ≡ top_of self.now.state }
-        ensures above { self.now.state.floor ≤ result.0 }
-        ensures touches { All (λ (t : Touched). t.version.0 ≤ result.0) (touches_of self.now.state) }
-    {
-        match self.never {}
-    }
-
-    pub fn latest(&self) -> Option<&Object>
-        ensures { option_copied result ≡ latest_of self.now.region self.now.state }
-    {
-        match &self.kept.object {
-            Some(row) => Some(&row.object),
-            None => None,
+        let base = Kept {
+            key,
+            floor: Version(0),
+            object: None,
+            marks: Marks::new(alloc),
+            touches: Touches::new(alloc),
+        };
+        Slot {
+            region,
+            marks,
+            base,
+            accepted: Vec::new(alloc),
+            committed: 0,
+            floor: Version(0),
+            acked: Vec::new(alloc),
+            early: Vec::new(alloc),
+            tables: Tables {
+                newest: Vec::new(alloc),
+                touches: Vec::new(alloc),
+            },
+            spare: 0,
         }
     }
 
-    pub fn touched(&self, region: RegionId) -> Version
-        requires { IsTrue self.now.state.marks }
-        ensures { result.0 ≡ touched_in region (touches_of self.now.state) }
-    {
-        match self.never {}
-    }
-
-    pub fn mark(&self, session: SessionId) -> Option<(u32, Version, &Answer)>
-        requires { IsTrue self.now.state.marks }
-        ensures { call_seen result ≡ call_at (mark_of session self.now.state) }
-    {
-        match self.never {}
-    }
-
-    pub fn pending_count(&self) -> u32
-        ensures { result ≡ length (pending_of self.now.state) }
-    {
-        let _region = self.region;
-        0
-    }
-
+    /// The region of the slot.
     pub fn region(&self) -> RegionId
         ensures { result ≡ self.now.region }
     {
         self.region
     }
 
+    /// The key of the slot.
+    pub fn key(&self) -> &Text
+        ensures { result.now ≡ self.now.state.base.key }
+    {
+        &self.base.key
+    }
+
+    /// Whether the slot keeps marks and touches.
+    pub fn keeps_marks(&self) -> bool
+        ensures { result ≡ self.now.state.marks }
+    {
+        self.marks
+    }
+
+    /// For how many offers there is room.
+    pub fn spare(&self) -> u32
+        ensures { result ≡ self.now.spare }
+    {
+        self.spare
+    }
+
+    /// The highest committed version, or 0.
+    pub fn floor(&self) -> Version
+        ensures floor { result.0 ≡ self.now.state.floor }
+        ensures below { result.0 ≤ top_of self.now.state }
+    {
+        self.floor
+    }
+
+    /// The highest accepted version, or the floor.
+    pub fn top(&self) -> Version
+        ensures top { result.0 ≡ top_of self.now.state }
+        ensures above { self.now.state.floor ≤ result.0 }
+        ensures touches { All (λ (t : Touched). t.version.0 ≤ result.0) (touches_of self.now.state) }
+    {
+        last_version(self.base.floor, self.accepted.as_slice())
+    }
+
+    /// The object after all committed updates, with the last of their versions that changed it.
+    pub fn object(&self) -> Option<(Version, &Object)>
+        ensures object { object_seen result ≡ object_at (object_of self.now.region self.now.state) }
+    {
+        version_and_object(row_over(self.base.object.as_ref(), &self.accepted[..self.committed]))
+    }
+
+    /// The object after all accepted updates.
+    pub fn latest(&self) -> Option<&Object>
+        ensures { option_copied result ≡ latest_of self.now.region self.now.state }
+    {
+        only_object(row_over(self.base.object.as_ref(), self.accepted.as_slice()))
+    }
+
+    /// How many updates are pending.
+    pub fn pending_count(&self) -> u32
+        ensures { result ≡ length (pending_of self.now.state) }
+    {
+        (self.accepted.len() - self.committed) as u32
+    }
+
+    /// The pending update with this number from 0, the lowest version first.
     pub fn pending(&self, i: u32) -> Option<&Update>
         ensures pending { option_copied result ≡ slice_get (pending_of self.now.state) i }
+        ensures version { IfSome (option_copied result)
+            (λ (u : Update). (self.now.state.floor < u.version.0) × (u.version.0 ≤ top_of self.now.state)) }
         ensures place { IfSome (option_copied result) (IsPlacedIn self.now.region) }
-        ensures few { IfSome (option_copied result) (λ (u : Updated). length u.places ≤ 17) }
+        ensures few { IfSome (option_copied result) HasFewPlaces }
     {
-        let _i = i;
-        let _region = self.region;
-        None
+        let pending = rest_of(self.accepted.as_slice(), self.committed);
+        update_at(pending, i as usize)
     }
+
+    /// The highest call number of the session among all accepted updates, with the version and
+    /// the answer of that call.
+    pub fn mark(&self, session: SessionId) -> Option<(u32, Version, &Answer)>
+        requires { IsTrue self.now.state.marks }
+        ensures mark { call_seen result ≡ call_at (mark_of session self.now.state) }
+        ensures below { IfSome (call_seen result) (λ (c : ℕ × Version × Answer). c.1.0 ≤ top_of self.now.state) }
+    {
+        let newest = newest_of(
+            self.tables.newest.as_slice(),
+            self.accepted.as_slice(),
+            session,
+        );
+        newer(newest, mark_of(self.base.marks.as_slice(), session))
+    }
+
+    /// The last accepted version that has a place in the region, or 0.
+    pub fn touched(&self, region: RegionId) -> Version
+        requires { IsTrue self.now.state.marks }
+        ensures touched { result.0 ≡ touched_in region (touches_of self.now.state) }
+        ensures below { result.0 ≤ top_of self.now.state }
+    {
+        last_touch(
+            self.tables.touches.as_slice(),
+            self.base.touches.as_slice(),
+            region,
+        )
+    }
+
+    /// Makes room for n offers, none of which then takes memory. A slot holds fewer than
+    /// 4,294,967,295 updates; where it would hold more, that is [`Memory`] too.
+    pub fn reserve(&mut self, n: u32) -> Result<(), Memory>
+        ensures region { self.new.region ≡ self.old.region }
+        ensures state { self.new.state ≡ self.old.state }
+        ensures room { OnOk result (n ≤ self.new.spare) }
+        ensures spare { self.old.spare ≤ self.new.spare }
+    {
+        if n <= self.spare {
+            return Ok(());
+        }
+        let coming = self.early.len() + n as usize;
+        if self.accepted.len() + coming >= u32::MAX as usize {
+            return Err(Memory);
+        }
+        let acks = self.accepted.len() - self.committed + coming;
+        make_room(
+            &mut self.accepted,
+            coming,
+            &mut self.early,
+            n as usize,
+            &mut self.acked,
+            acks,
+        )?;
+        self.tables.reserve(self.marks, coming)?;
+        self.spare = n;
+        Ok(())
+    }
+
+    /// How many updates came before their turn.
+    pub fn early_count(&self) -> u32
+        ensures { result ≡ length self.now.state.early }
+    {
+        self.early.len() as u32
+    }
+
+    /// The early update with this number from 0, in the order of their coming.
+    pub fn early(&self, i: u32) -> Option<&Update>
+        ensures early { option_copied result ≡ slice_get self.now.state.early i }
+        ensures place { IfSome (option_copied result) (IsPlacedIn self.now.region) }
+        ensures few { IfSome (option_copied result) HasFewPlaces }
+    {
+        early_at(self.early.as_slice(), i as usize)
+    }
+
+    /// The early update whose turn comes after this version.
+    pub fn turn(&self, top: Version) -> Option<&Update>
+        ensures turn { option_copied result ≡ find (follows self.now.region top.0) self.now.state.early }
+        ensures later { IfSome (option_copied result) (λ (u : Update). top.0 < u.version.0) }
+        ensures place { IfSome (option_copied result) (IsPlacedIn self.now.region) }
+        ensures few { IfSome (option_copied result) HasFewPlaces }
+    {
+        match turn_of(self.early.as_slice(), top) {
+            Some(place) => Some(&self.early[place].update),
+            None => None,
+        }
+    }
+
+    /// Takes an update in. It is `Known` up to the top, `Early` where its turn hasn't come, and is
+    /// then held, once; else it is accepted, with the early updates whose turn has then come. It
+    /// takes no memory.
+    ///
+    /// That an update is held until its predecessor has come is HyperDex's.
+    pub fn offer(&mut self, update: Update, place: u32) -> Offer
+        requires spare { 0 < self.old.spare }
+        requires place { place ≡ place_number self.old.region update.places }
+        requires placed { IsPlacedIn self.old.region update }
+        requires after { All (λ (p : Place). p.after.0 < update.version.0) update.places }
+        requires few { HasFewPlaces update }
+        ensures answer { result ≡ offer_answer self.old.region self.old.state update }
+        ensures state { self.new.state ≡ moved_all (offered self.old.region self.old.state update) self.old.state }
+        ensures region { self.new.region ≡ self.old.region }
+        ensures spare { self.old.spare ≤ self.new.spare + 1 }
+    {
+        let top = self.top();
+        if update.version.0 <= top.0 {
+            return Offer::Known;
+        }
+        let place = update.places.as_slice()[place as usize];
+        let placed = Placed { update, place };
+        if placed.place.after.0 != top.0 {
+            self.hold(placed);
+            return Offer::Early;
+        }
+        let most = self.early.len() as u32;
+        self.accept(placed);
+        Offer::Accepted(1 + self.take_turns(most))
+    }
+
+    /// How many updates an offer would make pending: 0 where it is known or early.
+    pub fn would_accept(&self, update: &Update, place: u32) -> u32
+        requires place { place ≡ place_number self.now.region update.now.places }
+        requires placed { IsPlacedIn self.now.region update.now }
+        ensures { result ≡ accepted_count (offer_answer self.now.region self.now.state update.now) }
+    {
+        let top = self.top();
+        if update.version.0 <= top.0 {
+            return 0;
+        }
+        if update.places.as_slice()[place as usize].after.0 != top.0 {
+            return 0;
+        }
+        1 + self.turns_after(update.version)
+    }
+
+    /// Whether the version is pending.
+    pub fn is_pending(&self, version: Version) -> bool
+        ensures { result ≡ is_pending version.0 self.now.state }
+    {
+        let pending = rest_of(self.accepted.as_slice(), self.committed);
+        has_update(pending, version)
+    }
+
+    /// Whether the version is pending and acknowledged.
+    pub fn is_acknowledged(&self, version: Version) -> bool
+        ensures { result ≡ list_any (λ v. v == version.0) self.now.state.acked }
+    {
+        has_version(self.acked.as_slice(), version)
+    }
+
+    /// Takes an acknowledgement in. It is `Unknown` where the version isn't pending, `Kept` where a
+    /// lower pending version isn't acknowledged, and else commits the lowest pending updates, as
+    /// far as they are acknowledged. It takes no memory.
+    ///
+    /// That a replica commits when the acknowledgement comes back is chain replication's.
+    pub fn ack(&mut self, version: Version) -> Acked
+        ensures answer { result ≡ ack_answer self.old.state version.0 }
+        ensures state { self.new.state ≡ moved_all (acknowledged self.old.state version.0) self.old.state }
+        ensures region { self.new.region ≡ self.old.region }
+        ensures spare { self.old.spare ≤ self.new.spare }
+    {
+        if !self.is_pending(version) {
+            return Acked::Unknown;
+        }
+        self.acknowledge(version);
+        match self.settle() {
+            0 => Acked::Kept,
+            count => Acked::Committed(count),
+        }
+    }
+
+    /// How many updates an acknowledgement would commit: 0 where it is unknown or kept.
+    pub fn would_commit(&self, version: Version) -> u32
+        ensures { result ≡ committed_count (ack_answer self.now.state version.0) }
+    {
+        let pending = rest_of(self.accepted.as_slice(), self.committed);
+        if !has_update(pending, version) {
+            return 0;
+        }
+        acknowledged_with(pending, version) as u32
+    }
+
+    /// Marks a pending version as acknowledged, and commits nothing.
+    pub fn acknowledge(&mut self, version: Version)
+        requires pending { is_pending version.0 self.old.state ≡ true }
+        ensures state { self.new.state ≡ moved (Acknowledge version.0) self.old.state }
+        ensures region { self.new.region ≡ self.old.region }
+        ensures spare { self.old.spare ≤ self.new.spare }
+    {
+        let pending = rest_of(self.accepted.as_slice(), self.committed);
+        let Some(place) = place_of(pending, version) else {
+            unreachable!()
+        };
+        self.accepted[self.committed + place].acknowledged = true;
+        drop_ack(&mut self.acked, version);
+        insert_within(&mut self.acked, 0, version);
+    }
+
+    /// Commits the lowest pending updates, as far as they are acknowledged, and gives how many.
+    pub fn settle(&mut self) -> u32
+        ensures count { result ≡ length (settled self.old.state) }
+        ensures state { self.new.state ≡ moved_all (settled self.old.state) self.old.state }
+        ensures region { self.new.region ≡ self.old.region }
+        ensures spare { self.old.spare ≤ self.new.spare }
+    {
+        let pending = rest_of(self.accepted.as_slice(), self.committed);
+        let count = acknowledged_front(pending);
+        self.floor = last_version(self.floor, &pending[..count]);
+        self.committed += count;
+        drop_acks_upto(&mut self.acked, self.floor);
+        count as u32
+    }
+
+    /// Forgets the acknowledgements of pending updates and all early updates.
+    pub fn reset_acks(&mut self)
+        ensures state { self.new.state ≡ moved Forget self.old.state }
+        ensures region { self.new.region ≡ self.old.region }
+        ensures spare { self.old.spare ≤ self.new.spare }
+    {
+        self.acked.clear();
+        self.early.clear();
+        forget_acks(&mut self.accepted, self.committed);
+    }
+
+    /// How many early updates have their turns one after another from this version on.
+    fn turns_after(&self, top: Version) -> u32
+        ensures count { result ≡ length (taken (turns self.now.region (length self.now.state.early) top.0 self.now.state.early)) }
+        ensures small { result + 1 < 2 ^ 32 }
+    {
+        let most = self.early.len() as u32;
+        let mut top = top;
+        for count in 0..most {
+            match self.turn(top) {
+                Some(update) => top = update.version,
+                None => return count,
+            }
+        }
+        most
+    }
+
+    /// Accepts the early updates whose turns come one after another, up to so many.
+    fn take_turns(&mut self, most: u32) -> u32
+        ensures count { result ≡ length (taken (turns self.old.region most (top_of self.old.state) self.old.state.early)) }
+        ensures within { result ≤ most }
+        ensures state { self.new.state ≡ moved_all (turns self.old.region most (top_of self.old.state) self.old.state.early) self.old.state }
+        ensures region { self.new.region ≡ self.old.region }
+        ensures spare { self.new.spare ≡ self.old.spare }
+    {
+        for count in 0..most {
+            if !self.take_turn() {
+                return count;
+            }
+        }
+        most
+    }
+
+    /// Accepts the early update whose turn has come, if there is one.
+    fn take_turn(&mut self) -> bool
+        ensures found { result ≡ is_some (find (follows self.old.region (top_of self.old.state)) self.old.state.early) }
+        ensures state { self.new.state ≡ moved_all (turns self.old.region 1 (top_of self.old.state) self.old.state.early) self.old.state }
+        ensures later { AllByRecursion (IsLater self.old.region) self.old.state.early }
+        ensures region { self.new.region ≡ self.old.region }
+        ensures spare { self.new.spare ≡ self.old.spare }
+    {
+        let top = self.top();
+        let Some(place) = turn_of(self.early.as_slice(), top) else {
+            return false;
+        };
+        let placed = self.early.remove(place);
+        self.spare += 1;
+        self.accept(placed);
+        true
+    }
+
+    /// Accepts an update, of which no copy is held any more. It uses the room of one offer.
+    fn accept(&mut self, placed: Placed)
+        requires spare { 0 < self.old.spare }
+        requires held { IsHeld self.old.region placed }
+        requires above { top_of self.old.state < placed.update.version.0 }
+        ensures state { self.new.state ≡ moved (Take placed.update) self.old.state }
+        ensures region { self.new.region ≡ self.old.region }
+        ensures spare { self.new.spare + 1 ≡ self.old.spare }
+    {
+        let Placed { update, place } = placed;
+        drop_version(&mut self.early, update.version);
+        self.tables
+            .note(self.marks, self.accepted.as_slice(), &update);
+        self.accepted.push_reserved(Taken {
+            update,
+            place,
+            acknowledged: false,
+        });
+        self.spare -= 1;
+    }
+
+    /// Holds an update that came before its turn, in place of a copy of it. It uses the room of
+    /// one offer.
+    fn hold(&mut self, placed: Placed)
+        requires spare { 0 < self.old.spare }
+        requires held { IsHeld self.old.region placed }
+        ensures state { self.new.state ≡ moved (Hold placed.update) self.old.state }
+        ensures region { self.new.region ≡ self.old.region }
+        ensures spare { self.new.spare + 1 ≡ self.old.spare }
+    {
+        drop_version(&mut self.early, placed.update.version);
+        self.early.push_reserved(placed);
+        self.spare -= 1;
+    }
+}
+
+/// Makes room for more of each list.
+fn make_room(
+    accepted: &mut Vec<Taken>,
+    more_accepted: usize,
+    early: &mut Vec<Placed>,
+    more_early: usize,
+    acked: &mut Vec<Version>,
+    more_acked: usize,
+) -> Result<(), Memory>
+    ensures accepted { IsGrown accepted.old accepted.new }
+    ensures early { IsGrown early.old early.new }
+    ensures acked { IsGrown acked.old acked.new }
+    ensures accepted_room { OnOk result (vec_len accepted.new + more_accepted ≤ vec_capacity accepted.new) }
+    ensures early_room { OnOk result (vec_len early.new + more_early ≤ vec_capacity early.new) }
+    ensures acked_room { OnOk result (vec_len acked.new + more_acked ≤ vec_capacity acked.new) }
+{
+    grow(accepted, more_accepted)?;
+    grow(early, more_early)?;
+    grow(acked, more_acked)?;
+    Ok(())
 }

@@ -4,7 +4,8 @@ use Rattle.std.specs.BTreeMap.{is_at, insert_entry}
 use Rattle.std.specs.List.{AllByRecursion}
 use Rattle.std.specs.List.Sorted.{IsStrictlySortedBy}
 use Rattle.std.specs.Map.{lookup, set_value}
-use Rattle.std.specs.Option.{option_map, IsSome}
+use Rattle.std.specs.Borrow.{Bor}
+use Rattle.std.specs.Option.{option_copied, option_map, is_some, IsSome}
 use Rattle.std.specs.declared.cmp.Ordering.TheVariants.{Less, Equal, Greater}
 use Rattle.std.specs.Ordering.{is_eq, match_ordering}
 use Rattle.std.specs.Prelude.{String, string_bytes, string_cmp}
@@ -20,7 +21,7 @@ use Rattle.hx_store.specs.declared.slots.Held.{Held}
 use Rattle.hx_store.specs.Held.{AreHeld, Entry, HasMoved, IsHeldAs, held_at, rooms_of, set_at, states_of, to_key}
 use Rattle.hx_store.specs.Stores.{Room, room_in}
 use Rattle.hx_store.proofs.Moves.{moved_all_parts}
-use Rattle.hx_store.proofs.Texts.{equal_from, higher_differs, higher_not_below, lower_below, lower_differs, order, same_self, same_turned, turned}
+use Rattle.hx_store.proofs.Texts.{equal_from, equal_is, higher_differs, higher_not_below, lower_below, lower_differs, order, same_self, same_turned, turned}
 
 abbrev pub key_of : Entry → List ℕ
 key_of e = string_bytes e.0
@@ -225,3 +226,39 @@ same_states key h w opened state (x ∷ es) =
     λ t e. ap states_of (cond-false (is_eq (order key (key_of x))) _ (x ∷ set_at key es w) t)
     ∙ ap (λ states. cond x.1.opened (x.1.slot.state ∷ states) states) (same_states key h w opened state es e)
     )
+
+-- a new entry is found
+pub inserted_found : (key : List ℕ) (k : String Global) (h : Held) → string_bytes k ≡ key → (es : List Entry) → IsSome (held_at key (insert_entry string_cmp es k h))
+inserted_found key k h same [] = subst (λ (o : Option Held). IsSome o) (sym (cond-true (is_eq (order key (string_bytes k))) (Some h) None (equal_is key (string_bytes k) (sym same)))) refl
+inserted_found key k h same (x ∷ es) = by (string_cmp k x.0) refl (inserted_found key k h same es)
+  where
+    by : (o : Ordering) → string_cmp k x.0 ≡ o → IsSome (held_at key (insert_entry string_cmp es k h)) → IsSome (held_at key (match_ordering o ((k, h) ∷ x ∷ es) ((x.0, h) ∷ es) (x ∷ insert_entry string_cmp es k h)))
+    by Less o more = subst (λ (q : Option Held). IsSome q) (sym (cond-true (is_eq (order key (string_bytes k))) (Some h) (held_at key (x ∷ es)) (equal_is key (string_bytes k) (sym same)))) refl
+    by Equal o more =
+        subst (λ (q : Option Held). IsSome q) (sym (cond-true (is_eq (order key (key_of x))) (Some h) (held_at key es) (subst (λ (b : List ℕ). is_eq (order b (key_of x)) ≡ true) same (ap is_eq o)))) refl
+    by Greater o more = cond_both (is_eq (order key (key_of x))) (Some x.1) (held_at key (insert_entry string_cmp es k h)) (λ (q : Option Held). IsSome q) (λ t. refl) (λ t. more)
+
+-- what is made is held, changes no slot and is found
+pub record IsMadeIn (g : RegionId) (marks : Bool) (key : List ℕ) (es new : List Entry) : Type 0 where
+  pub held : AreHeld g marks new
+  pub states : states_of new ≡ states_of es
+  pub there : IsSome (held_at key new)
+
+pub made : (g : RegionId) (marks : Bool) (key : List ℕ) (es new : List Entry) (k : String Global) (h : Held) → AreHeld g marks es → held_at key es ≡ None → string_bytes k ≡ key
+    → h.opened ≡ false → h.slot.region ≡ g → h.slot.state ≡ new_state marks key → new ≡ insert_entry string_cmp es k h → Ascend g marks new → IsMadeIn g marks key es new
+made g marks key es new k h held none same closed region state is ordered =
+    let as_key : IsHeldAs g marks (string_bytes k) h = subst (λ (b : List ℕ). IsHeldAs g marks b h) (sym same) (record {
+      key_is = ap (λ (s : KeyState). s.base.key) state;
+      region = region;
+      marks_are = ap (λ (s : KeyState). s.marks) state;
+      closed = λ c. state;
+    }) in
+    record {
+      held = record { each = subst (Each g marks) (sym is) (insert_each g marks k h as_key es held.each); ordered = ordered };
+      states = ap states_of is ∙ inserted g marks k h closed es (subst (λ (b : List ℕ). held_at b es ≡ None) (sym same) none);
+      there = subst (λ (xs : List Entry). IsSome (held_at key xs)) (sym is) (inserted_found key k h same es);
+    }
+
+pub none_lent : (o : Option (Bor Held)) (p : Option Held) → option_copied o ≡ p → is_some o ≡ false → p ≡ None
+none_lent None p e f = sym e
+none_lent (Some x) p e f = absurd cc

@@ -57,3 +57,6 @@ lower_below a b l = below_is a b ∙ ap is_lt l
 
 pub higher_not_below : (a b : List ℕ) → order a b ≡ Less → text_below b a ≡ false
 higher_not_below a b l = below_is b a ∙ ap is_lt (turned b a) ∙ ap (λ o. is_lt (ordering_reverse o)) l
+
+pub equal_is : (a b : List ℕ) → a ≡ b → is_eq (order a b) ≡ true
+equal_is a b e = sym (same_is a b) ∙ same_self a b e

@@ -12,3 +12,6 @@ mod slots;
 mod stores;
 
 pub use stores::Store;
+
+#[cfg(test)]
+mod tests;

@@ -44,7 +44,7 @@ pub fn make(
         return Ok(());
     }
     let name = String::from_str(alloc, key.as_str())?;
-    let slot = Slot::new(alloc, region, key.copy(alloc)?, marks)?;
+    let slot = Slot::new(alloc, region, key.copy(alloc)?, marks);
     let held = Held {
         slot,
         opened: false,

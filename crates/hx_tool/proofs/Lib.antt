@@ -1,3 +1,2 @@
 pub mod Scheduling
-pub mod OneWord
 pub mod Fixed

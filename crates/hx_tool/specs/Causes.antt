@@ -1,28 +1,27 @@
 -- What made the program end as it did.
-use Rattle.std.specs.Prelude.{◌≡◌, ℕ, ◌+◌, ◌<◌, ◌≤◌, List, [], ◌∷◌, map, length, reverse, codes, IsSome, Option, None, Some, Result, Ok, Err, ⊤, string_bytes}
-use Rattle.std.specs.declared.string.String.{String}
-use Rattle.std.specs.declared.alloc.Global.{Global}
+use Rattle.std.specs.Prelude.{◌≡◌, ℕ, ◌+◌, ◌<◌, ◌≤◌, List, [], length, reverse, Option, Result, Ok, Err, ⊤}
 use Rattle.std.specs.Io.KnownBytes.{Consumes, IsAtEnd}
 use Rattle.hx_io.specs.Causes.{Rose}
 use Rattle.hx_io.specs.Pieces.{ConsumesExactly}
 use Rattle.hx_io.specs.declared.errors.ReadError.{ReadError}
 use Rattle.hx_io.specs.declared.errors.ReadError.TheVariants as a_read_error
-use Rattle.hx_first_form.specs.declared.errors.ScriptError.{ScriptError}
-use Rattle.hx_first_form.specs.declared.errors.ScriptError.TheVariants as a_script_error
 use Rattle.hx_types.specs.declared.traces.Entry.{Entry}
 use Rattle.hx_types.specs.declared.traces.Script.{Script}
+use Rattle.hx_model.specs.Built.{IsBuilt}
 use Rattle.hx_model.specs.Linear.{IsLinear}
 use Rattle.hx_model.specs.Runs.{IsRun}
 use Rattle.hx_model.specs.Schedule.{IsScheduled}
 use Rattle.hx_model.specs.Steady.{HasNoHalts}
-use Rattle.hx_first_form.specs.FirstForm.{first_script_of}
+use Rattle.hx_script.specs.declared.errors.Reason.{Reason}
+use Rattle.hx_script.specs.declared.errors.ScriptError.{ScriptError}
+use Rattle.hx_script.specs.declared.errors.ScriptError.TheVariants as a_script_error
+use Rattle.hx_script.specs.Texts.{script_of}
 use Rattle.hx_report.specs.Reporting.{IsReport}
 use Rattle.hx_tool.specs.declared.outcomes.Outcome.{Outcome}
 use Rattle.hx_tool.specs.declared.outcomes.Outcome.TheVariants as an_outcome
-
--- the words are the command `replay`
-abbrev pub IsReplay : List (String Global) → Type 0
-IsReplay words = map string_bytes words ≡ codes "replay" ∷ []
+use Rattle.hx_tool.specs.declared.words.Command.{Command}
+use Rattle.hx_tool.specs.declared.words.Command.TheVariants as a_command
+use Rattle.hx_tool.specs.Plans.{plans_text}
 
 -- how many bytes a text may have
 abbrev pub limit : ℕ
@@ -35,13 +34,34 @@ outcome_of_reading a_read_error.TooLarge = an_outcome.TooLarge
 
 abbrev pub outcome_of_script : ScriptError → Outcome
 outcome_of_script a_script_error.Memory = an_outcome.Memory
-outcome_of_script a_script_error.Unbuilt = an_outcome.Unbuilt
+outcome_of_script (a_script_error.Refused line reason) = an_outcome.Refused line reason
 
 -- the source was read to its end, and gave this text
 pub record ReadsText (before after : Option (List ℕ)) (text : List ℕ) : Type 0 where
   pub consumed : Consumes before after text
   pub end : IsAtEnd after
   pub small : length text ≤ limit
+
+-- which scripts a command takes: `replay` those of the form that is built, `plan` each
+abbrev pub Takes : Command → Script → Type 0
+Takes a_command.Replay script = IsBuilt script
+Takes a_command.Plan script = ⊤
+
+-- the text is that of a script that the command takes
+pub record IsTaken (command : Command) (text : List ℕ) : Type 0 where
+  pub script : Script
+  pub text_is : script_of text ≡ Ok script
+  pub taken : Takes command script
+
+-- the text is that of a script that the command doesn't take yet
+pub record IsUnbuilt (command : Command) (text : List ℕ) : Type 0 where
+  pub script : Script
+  pub text_is : script_of text ≡ Ok script
+  pub not_taken : ¬ Takes command script
+
+-- the text is refused at that line, the first that is faulty, for that reason
+abbrev pub IsRefused : List ℕ → ℕ → Reason → Type 0
+IsRefused text line reason = script_of text ≡ Err (a_script_error.Refused line reason)
 
 -- the run of the script that the schedule gives, until there is nothing left to do
 pub record IsWholeRun (script : Script) (trace : List Entry) : Type 0 where
@@ -56,33 +76,70 @@ pub record IsReplayed (script : Script) (trace : List Entry) (report : List ℕ)
   pub linear : (key : List ℕ) → IsLinear script (reverse trace) key
   pub report_is : IsReport script (reverse trace) report
 
--- the text is that of a script, which was replayed
-pub record IsAnswer (text : List ℕ) (trace : List Entry) (report : List ℕ) : Type 0 where
+-- the plans of the script's searches, and no trace
+pub record IsPlanned (script : Script) (trace : List Entry) (plans : List ℕ) : Type 0 where
+  pub no_trace : trace ≡ []
+  pub plans_are : plans ≡ plans_text script
+
+-- the trace and the bytes that a command makes of a script
+abbrev pub IsMade : Command → Script → List Entry → List ℕ → Type 0
+IsMade a_command.Replay script trace bytes = IsReplayed script trace bytes
+IsMade a_command.Plan script trace bytes = IsPlanned script trace bytes
+
+-- the text is that of a script that the command takes, and the trace and the bytes are what it makes of it
+pub record IsAnswer (command : Command) (text : List ℕ) (trace : List Entry) (bytes : List ℕ) : Type 0 where
   pub script : Script
-  pub text_is : first_script_of text ≡ Some script
-  pub replayed : IsReplayed script trace report
+  pub text_is : script_of text ≡ Ok script
+  pub taken : Takes command script
+  pub made : IsMade command script trace bytes
 
 -- what a source that tells its bytes says of each outcome
-abbrev pub IsJudged : List ℕ → Outcome → Type 0
-IsJudged text an_outcome.Fine = (length text ≤ limit) × IsSome (first_script_of text)
-IsJudged text an_outcome.Usage = ⊥
-IsJudged text an_outcome.Unbuilt = (length text ≤ limit) × (first_script_of text ≡ None)
-IsJudged text an_outcome.TooLarge = limit < length text
-IsJudged text an_outcome.ReadFault = ⊤
-IsJudged text an_outcome.WriteFault = (length text ≤ limit) × IsSome (first_script_of text)
-IsJudged text an_outcome.Memory = ⊤
+abbrev pub IsJudged : Command → List ℕ → Outcome → Type 0
+IsJudged command text an_outcome.Fine = (length text ≤ limit) × IsTaken command text
+IsJudged command text an_outcome.Usage = ⊥
+IsJudged command text (an_outcome.Refused line reason) = (length text ≤ limit) × IsRefused text line reason
+IsJudged command text an_outcome.Unbuilt = (length text ≤ limit) × IsUnbuilt command text
+IsJudged command text an_outcome.TooLarge = limit < length text
+IsJudged command text an_outcome.ReadFault = ⊤
+IsJudged command text an_outcome.WriteFault = (length text ≤ limit) × IsTaken command text
+IsJudged command text an_outcome.Memory = ⊤
 
--- what made reading and running end without a report
-abbrev pub IsCause : Option (List ℕ) → Option (List ℕ) → ℕ → ℕ → Outcome → Type 0
-IsCause before after faults_before faults_after an_outcome.Fine = ⊥
-IsCause before after faults_before faults_after an_outcome.Usage = ⊥
-IsCause before after faults_before faults_after an_outcome.Unbuilt = (text : List ℕ) × ReadsText before after text × (first_script_of text ≡ None)
-IsCause before after faults_before faults_after an_outcome.TooLarge = ConsumesExactly before after (limit + 1)
-IsCause before after faults_before faults_after an_outcome.ReadFault = Rose faults_before faults_after
-IsCause before after faults_before faults_after an_outcome.WriteFault = ⊥
-IsCause before after faults_before faults_after an_outcome.Memory = ⊤
+-- why a text that a source holds has no answer from the command
+abbrev pub IsFaulty : Command → List ℕ → Outcome → Type 0
+IsFaulty command text an_outcome.Fine = ⊥
+IsFaulty command text an_outcome.Usage = ⊥
+IsFaulty command text (an_outcome.Refused line reason) = (length text ≤ limit) × IsRefused text line reason
+IsFaulty command text an_outcome.Unbuilt = (length text ≤ limit) × IsUnbuilt command text
+IsFaulty command text an_outcome.TooLarge = limit < length text
+IsFaulty command text an_outcome.ReadFault = ⊥
+IsFaulty command text an_outcome.WriteFault = ⊥
+IsFaulty command text an_outcome.Memory = ⊥
+
+-- what made a text have no answer
+abbrev pub IsTextCause : Command → List ℕ → Outcome → Type 0
+IsTextCause command text an_outcome.Fine = ⊥
+IsTextCause command text an_outcome.Usage = ⊥
+IsTextCause command text (an_outcome.Refused line reason) = IsRefused text line reason
+IsTextCause command text an_outcome.Unbuilt = IsUnbuilt command text
+IsTextCause command text an_outcome.TooLarge = ⊥
+IsTextCause command text an_outcome.ReadFault = ⊥
+IsTextCause command text an_outcome.WriteFault = ⊥
+IsTextCause command text an_outcome.Memory = ⊤
+
+-- what made reading a source and answering its text end without an answer
+abbrev pub IsCause : Command → Option (List ℕ) → Option (List ℕ) → ℕ → ℕ → Outcome → Type 0
+IsCause command before after faults_before faults_after an_outcome.Fine = ⊥
+IsCause command before after faults_before faults_after an_outcome.Usage = ⊥
+IsCause command before after faults_before faults_after (an_outcome.Refused line reason) =
+    (text : List ℕ) × ReadsText before after text × IsRefused text line reason
+IsCause command before after faults_before faults_after an_outcome.Unbuilt =
+    (text : List ℕ) × ReadsText before after text × IsUnbuilt command text
+IsCause command before after faults_before faults_after an_outcome.TooLarge = ConsumesExactly before after (limit + 1)
+IsCause command before after faults_before faults_after an_outcome.ReadFault = Rose faults_before faults_after
+IsCause command before after faults_before faults_after an_outcome.WriteFault = ⊥
+IsCause command before after faults_before faults_after an_outcome.Memory = ⊤
 
 -- the outcome of a call that made a value, or ended before
-abbrev pub IsJudgedResult : {T : Type 0} → List ℕ → Result T Outcome → Type 0
-IsJudgedResult text (Ok made) = IsJudged text an_outcome.Fine
-IsJudgedResult text (Err outcome) = IsJudged text outcome
+abbrev pub IsJudgedResult : {T : Type 0} → Command → List ℕ → Result T Outcome → Type 0
+IsJudgedResult command text (Ok made) = IsJudged command text an_outcome.Fine
+IsJudgedResult command text (Err outcome) = IsJudged command text outcome

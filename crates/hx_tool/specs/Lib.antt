@@ -1,2 +1,4 @@
+pub mod Commands
 pub mod Outcomes
+pub mod Plans
 pub mod Causes

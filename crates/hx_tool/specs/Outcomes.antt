@@ -1,22 +1,42 @@
 -- What each outcome tells the user.
-use Rattle.std.specs.Prelude.{ℕ, List, [], codes}
+use Rattle.std.specs.Prelude.{ℕ, List, [], ◌++◌, codes}
+use Rattle.std.specs.Fmt.{decimal}
+use Rattle.hx_script.specs.declared.errors.Reason.{Reason}
+use Rattle.hx_script.specs.declared.errors.Reason.TheVariants as a_reason
 use Rattle.hx_tool.specs.declared.outcomes.Outcome.{Outcome}
-use Rattle.hx_tool.specs.declared.outcomes.Outcome.TheVariants.{Fine, Usage, Unbuilt, TooLarge, ReadFault, WriteFault, Memory}
+use Rattle.hx_tool.specs.declared.outcomes.Outcome.TheVariants.{Fine, Usage, Refused, Unbuilt, TooLarge, ReadFault, WriteFault, Memory}
 
 -- the status with which the process ends
 abbrev pub status_of : Outcome → ℕ
 status_of Fine = 0
 status_of Usage = 2
+status_of (Refused line reason) = 3
 status_of Unbuilt = 3
 status_of TooLarge = 3
 status_of ReadFault = 4
 status_of WriteFault = 5
 status_of Memory = 6
 
+-- the word of a reason
+abbrev pub reason_word : Reason → List ℕ
+reason_word a_reason.Token = codes "token"
+reason_word a_reason.Order = codes "order"
+reason_word a_reason.Unknown = codes "unknown"
+reason_word a_reason.Twice = codes "twice"
+reason_word a_reason.TypeOf = codes "type"
+reason_word a_reason.Bounds = codes "bounds"
+reason_word a_reason.Limit = codes "limit"
+reason_word a_reason.Step = codes "step"
+
+-- `line N: R`
+unfoldable pub refusal_line : ℕ → Reason → List ℕ
+refusal_line line reason = codes "line " ++ decimal line ++ codes ": " ++ reason_word reason ++ codes "\n"
+
 -- the line on standard error
 abbrev pub fault_line : Outcome → List ℕ
 fault_line Fine = []
 fault_line Usage = codes "usage: hx replay or run or soak or plan\n"
+fault_line (Refused line reason) = refusal_line line reason
 fault_line Unbuilt = codes "unbuilt\n"
 fault_line TooLarge = codes "too large\n"
 fault_line ReadFault = codes "read fault\n"
@@ -27,6 +47,7 @@ fault_line Memory = codes "no memory\n"
 abbrev pub IsSilent : Outcome → Type 0
 IsSilent Fine = ⊥
 IsSilent Usage = Unit {0}
+IsSilent (Refused line reason) = Unit {0}
 IsSilent Unbuilt = Unit {0}
 IsSilent TooLarge = Unit {0}
 IsSilent ReadFault = Unit {0}

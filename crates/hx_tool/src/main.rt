@@ -1,4 +1,4 @@
-//! The program `hx`: it reads a script, runs it, and writes the report.
+//! The program `hx`: it reads a script, runs it or plans its searches, and writes what came of it.
 //!
 //! `top::hyperstore` is the call that `main` makes, and its contract the theorem. No contract says
 //! that there is memory, so a program that always ended for want of it would be proved: a test shows
@@ -6,7 +6,10 @@
 //! streams of the process on, of which no contract can speak.
 #![tactic(auto)]
 
+mod answering;
+mod built;
 mod outcomes;
+mod plans;
 mod program;
 mod replaying;
 mod top;

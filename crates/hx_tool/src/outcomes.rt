@@ -1,28 +1,40 @@
-ghost use Rattle.std.specs.Prelude.{◌≡◌, IfOk};
-ghost use Rattle.hx_tool.specs.Outcomes.{fault_line, status_of};
+ghost use Rattle.std.specs.Prelude.{◌≡◌, ◌++◌, IfOk, OnOk};
+ghost use Rattle.hx_tool.specs.Outcomes.{fault_line, reason_word, refusal_line, status_of};
 
-use hx_first_form::ScriptError;
 use hx_io::ReadError;
+use hx_print::{put_bytes, put_number};
+use hx_script::{Reason, ScriptError};
 use hx_types::{Memory, Trace};
 use std::alloc::Global;
 
 /// How a call of the program ended.
 #[derive(Clone, Copy, PartialEq, Eq)]
 pub enum Outcome {
-    /// The report was written.
+    /// The answer was written.
     Fine,
     /// The words are no command.
     Usage,
-    /// The text isn't a script of the form that the program can run.
+    /// The text is no script: its first faulty line, from 1, and what is wrong with it.
+    Refused { line: u64, reason: Reason },
+    /// The text is a script, but not of the form that `replay` can run today.
     Unbuilt,
     /// The source gave more than 16,777,216 bytes.
     TooLarge,
     /// The source failed.
     ReadFault,
-    /// The sink failed; a prefix of the report was written.
+    /// The sink failed; a prefix of the answer was written.
     WriteFault,
     /// Memory was wanting; nothing was written.
     Memory,
+}
+
+/// What a command makes of a script.
+#[derive(Drop)]
+pub struct Answered {
+    /// The steps of all actors; empty where none took one.
+    pub trace: Trace,
+    /// The bytes to be written.
+    pub bytes: Vec<u8>,
 }
 
 /// What a call of the program gives back.
@@ -31,7 +43,7 @@ pub struct Done {
     /// The status with which the process ends.
     pub status: u8,
     pub outcome: Outcome,
-    /// The steps of all actors; empty where no report was made.
+    /// The steps of all actors; empty where there is no answer, and under `plan`.
     pub trace: Trace,
 }
 
@@ -67,7 +79,7 @@ impl From<ScriptError> for Outcome {
     fn from(error: ScriptError) -> Self {
         match error {
             ScriptError::Memory => Outcome::Memory,
-            ScriptError::Unbuilt => Outcome::Unbuilt,
+            ScriptError::Refused { line, reason } => Outcome::Refused { line, reason },
         }
     }
 }
@@ -80,7 +92,7 @@ pub fn status(outcome: Outcome) -> u8
     match outcome {
         Outcome::Fine => 0,
         Outcome::Usage => 2,
-        Outcome::Unbuilt | Outcome::TooLarge => 3,
+        Outcome::Refused { .. } | Outcome::Unbuilt | Outcome::TooLarge => 3,
         Outcome::ReadFault => 4,
         Outcome::WriteFault => 5,
         Outcome::Memory => 6,
@@ -92,20 +104,47 @@ pub fn fault_text(alloc: Global, outcome: Outcome) -> Result<Vec<u8>, Memory>
     ensures { IfOk result (λ text. text.items ≡ fault_line outcome) }
 {
     let mut text = Vec::new(alloc);
-    text.extend_from_slice(fault_words(outcome))?;
+    put_fault(alloc, &mut text, outcome)?;
     Ok(text)
 }
 
-fn fault_words(outcome: Outcome) -> &'static [u8]
-    ensures { result.now ≡ fault_line outcome }
+fn put_fault(alloc: Global, out: &mut Vec<u8>, outcome: Outcome) -> Result<(), Memory>
+    ensures { OnOk result (out.new.items ≡ out.old.items ++ fault_line outcome) }
 {
     match outcome {
-        Outcome::Fine => b"",
-        Outcome::Usage => b"usage: hx replay or run or soak or plan\n",
-        Outcome::Unbuilt => b"unbuilt\n",
-        Outcome::TooLarge => b"too large\n",
-        Outcome::ReadFault => b"read fault\n",
-        Outcome::WriteFault => b"write fault\n",
-        Outcome::Memory => b"no memory\n",
+        Outcome::Fine => Ok(()),
+        Outcome::Usage => put_bytes(out, b"usage: hx replay or run or soak or plan\n"),
+        Outcome::Refused { line, reason } => put_refusal(alloc, out, line, reason),
+        Outcome::Unbuilt => put_bytes(out, b"unbuilt\n"),
+        Outcome::TooLarge => put_bytes(out, b"too large\n"),
+        Outcome::ReadFault => put_bytes(out, b"read fault\n"),
+        Outcome::WriteFault => put_bytes(out, b"write fault\n"),
+        Outcome::Memory => put_bytes(out, b"no memory\n"),
+    }
+}
+
+#[tactic(auto, unfolding(crate::specs::Outcomes::refusal_line))]
+fn put_refusal(alloc: Global, out: &mut Vec<u8>, line: u64, reason: Reason) -> Result<(), Memory>
+    ensures { OnOk result (out.new.items ≡ out.old.items ++ refusal_line line reason) }
+{
+    put_bytes(out, b"line ")?;
+    put_number(alloc, out, line)?;
+    put_bytes(out, b": ")?;
+    put_bytes(out, reason_word(reason))?;
+    put_bytes(out, b"\n")
+}
+
+fn reason_word(reason: Reason) -> &'static [u8]
+    ensures { result.now ≡ reason_word reason }
+{
+    match reason {
+        Reason::Token => b"token",
+        Reason::Order => b"order",
+        Reason::Unknown => b"unknown",
+        Reason::Twice => b"twice",
+        Reason::TypeOf => b"type",
+        Reason::Bounds => b"bounds",
+        Reason::Limit => b"limit",
+        Reason::Step => b"step",
     }
 }

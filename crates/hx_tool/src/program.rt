@@ -10,10 +10,12 @@ use std::{env, io};
 const HELP: &[u8] = b"hx: a searchable key-value store whose histories are proved linear
 
 usage: hx replay < SCRIPT
+       hx plan < SCRIPT
 
 Commands:
   replay       run the script that stands on standard input, and write every
                reply and every key's history on standard output
+  plan         write which regions each search of the script asks
 
 Options:
   --help       print this help

@@ -1,39 +1,36 @@
-ghost use Rattle.std.specs.Prelude.{◌≡◌, ◌⊎◌, IfOk, IfErr, None, reverse};
+ghost use Rattle.std.specs.Prelude.{◌≡◌, ◌⊎◌, IfOk, IfErr, reverse};
+ghost use Rattle.hx_types.specs.Fitting.{IsScript};
 ghost use Rattle.hx_model.specs.Built.{IsBuilt};
 ghost use Rattle.hx_report.specs.Reporting.{IsReport};
-ghost use Rattle.hx_first_form.specs.FirstForm.{first_script_of};
-ghost use Rattle.hx_tool.specs.Causes.{IsAnswer, IsReplayed, IsWholeRun};
+ghost use Rattle.hx_tool.specs.Causes.{IsReplayed, IsWholeRun};
 
-use crate::outcomes::Outcome;
+use crate::built::is_built;
+use crate::outcomes::{Answered, Outcome};
 use hx_types::{Memory, Script, Trace};
 use hx_world::{Drained, World};
 use std::alloc::Global;
 
-/// A trace and the report that tells of it.
-#[derive(Drop)]
-pub struct Replayed {
-    pub trace: Trace,
-    pub report: Vec<u8>,
-}
-
-/// Replays the script of a text.
-pub fn replay(alloc: Global, text: &[u8]) -> Result<Replayed, Outcome>
-    ensures answer { IfOk result (λ made. IsAnswer text.now made.trace made.report.items) }
-    ensures unbuilt { (result ≡ Err Outcome.Unbuilt) → first_script_of text.now ≡ None }
-    ensures only { IfErr result (λ outcome. (outcome ≡ Outcome.Unbuilt) ⊎ (outcome ≡ Outcome.Memory)) }
+/// Replays a script, or refuses one that isn't of the form that is built.
+pub fn replay(alloc: Global, script: &Script) -> Result<Answered, Outcome>
+    requires { IsScript script.now }
+    ensures built { IfOk result (λ _. IsBuilt script.now) }
+    ensures made { IfOk result (λ made. IsReplayed script.now made.trace made.bytes.items) }
+    ensures cause { IfErr result (λ outcome. ((outcome ≡ Outcome.Unbuilt) × ¬ IsBuilt script.now) ⊎ (outcome ≡ Outcome.Memory)) }
 {
-    let script = hx_first_form::read(alloc, text)?;
-    Ok(replay_script(alloc, &script)?)
+    if !is_built(script) {
+        return Err(Outcome::Unbuilt);
+    }
+    Ok(replay_built(alloc, script)?)
 }
 
-fn replay_script(alloc: Global, script: &Script) -> Result<Replayed, Memory>
+fn replay_built(alloc: Global, script: &Script) -> Result<Answered, Memory>
     requires { IsBuilt script.now }
-    ensures { IfOk result (λ made. IsReplayed script.now made.trace made.report.items) }
+    ensures { IfOk result (λ made. IsReplayed script.now made.trace made.bytes.items) }
 {
     let trace = run(alloc, script)?;
     hx_linear::headline_in_one_configuration();
-    let report = tell(alloc, script, &trace)?;
-    Ok(Replayed { trace, report })
+    let bytes = tell(alloc, script, &trace)?;
+    Ok(Answered { trace, bytes })
 }
 
 /// Runs the script by the schedule until there is nothing left to do.

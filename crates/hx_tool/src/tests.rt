@@ -1,6 +1,7 @@
 use crate::outcomes::{Done, Outcome, fault_text};
 use crate::top::hyperstore;
 use hx_io::{MemorySink, MemorySource};
+use hx_script::Reason;
 use std::alloc::Global;
 use std::test::Fail;
 
@@ -10,46 +11,163 @@ const FIRST: &str =
 const FIRST_REPORT: &str =
     "report 1\nspace one\nkey k 1\nstring v\nservers 1\ntolerate 0\ncall u1.1 begin 1 end 3 put \"a\" v=\"x\" -> done version 1\ncall u1.2 begin 4 end 6 get \"a\" -> found version 1 v=\"x\"\nhistory \"a\"\nitem 1 u1.1 done present v=\"x\"\nitem 1 u1.2 found present v=\"x\"\nepoch 1 servers 1 lost -\nend\n";
 
-const SPACE_OF_BOOKS: &str =
-    "hx 1\nspace books\nkey name 2\nstring genre\nint year 1900 2099\nsubspace genre 4\nsubspace year 2\nservers 4\ntolerate 1\n";
+/// A number outside its range, in a text with comments and loose spacing.
+const NUMBER: &str =
+    "# a number\nhx 1\n\nspace one\nkey k 1\nstring v\nint n -5 5\r\nservers 1\ntolerate 0 # none\nsession 1\n\tput \"a\"  v = \"x\" n=-7";
 
-fn words(alloc: Global, all: &[&str]) -> Result<Vec<String>, Fail> {
+const NUMBER_REPORT: &str =
+    "report 1\nspace one\nkey k 1\nstring v\nint n -5 5\nservers 1\ntolerate 0\ncall u1.1 begin 1 end 3 put \"a\" v=\"x\" n=-7 -> done version 1\nhistory \"a\"\nitem 1 u1.1 done present v=\"x\" n=-7\nepoch 1 servers 1 lost -\nend\n";
+
+/// A space of two declared subspaces on four servers.
+const BOOKS: &str =
+    "hx 1\nspace books\nkey name 2\nstring genre\nint year 1900 2099\nsubspace genre 4\nsubspace year 2\nservers 4\n";
+
+const SEARCHES: &str =
+    "session 1\nsearch year=1990..2010\nsearch year=2099\nsearch genre=\"b\"\nsearch name=\"b\"\nsearch\n";
+
+const PLANS: &str =
+    "plan u1.1 subspace 2 regions 6,7\nplan u1.2 subspace 2 regions 7\nplan u1.3 subspace 1 regions 4\nplan u1.4 subspace 0 regions 1\nplan u1.5 subspace 2 regions 6,7\nend\n";
+
+/// Calls between searches, and more sessions.
+const MORE_SEARCHES: &str =
+    "session 1\nput \"a\" genre=\"b\"\nsearch genre=\"b\"\nsession 2\nsession 3\nsearch name=\"b\"\ndel \"a\"\nstop 3\nsearch\nsteps\nhalt s1\n";
+
+const MORE_PLANS: &str =
+    "plan u1.2 subspace 1 regions 4\nplan u3.1 subspace 0 regions 1\nplan u3.4 subspace 2 regions 6,7\nend\n";
+
+fn words(alloc: Global, line: &str) -> Result<Vec<String>, Fail> {
     let mut words = Vec::new(alloc);
-    for word in all {
+    for word in line.split_whitespace() {
         words.push(String::from_str(alloc, word)?)?;
     }
     Ok(words)
 }
 
-fn replay(alloc: Global, text: &str, sink: &mut MemorySink) -> Result<Done, Fail> {
-    let words = words(alloc, &["replay"])?;
-    let bytes = text.as_bytes().to_vec(alloc)?;
-    let mut source = MemorySource::new(bytes, 7, Vec::new(alloc));
+fn run(alloc: Global, line: &str, text: &[u8], sink: &mut MemorySink) -> Result<Done, Fail> {
+    let words = words(alloc, line)?;
+    let mut source = MemorySource::new(text.to_vec(alloc)?, 7, Vec::new(alloc));
     Ok(hyperstore(alloc, words.as_slice(), &mut source, sink))
+}
+
+/// Whether the command ends well on the text, with a trace of so many entries, and writes this.
+fn writes(
+    alloc: Global,
+    line: &str,
+    text: &str,
+    entries: usize,
+    wanted: &str,
+) -> Result<bool, Fail> {
+    let mut sink = MemorySink::new(alloc, 4096, 16, Vec::new(alloc))?;
+    let done = run(alloc, line, text.as_bytes(), &mut sink)?;
+    let fine = done.outcome == Outcome::Fine && done.status == 0;
+    Ok(fine && done.trace.len() == entries && sink.bytes() == wanted.as_bytes())
+}
+
+/// Whether the command ends so on the text, with status 3, and writes nothing.
+fn refuses(alloc: Global, line: &str, text: &[u8], wanted: Outcome) -> Result<bool, Fail> {
+    let mut sink = MemorySink::new(alloc, 64, 16, Vec::new(alloc))?;
+    let done = run(alloc, line, text, &mut sink)?;
+    Ok(done.outcome == wanted && done.status == 3 && sink.bytes().is_empty())
+}
+
+/// Whether both commands refuse the lines behind those of BOOKS.
+fn refuses_books(alloc: Global, lines: &str, line: u64, reason: Reason) -> Result<bool, Fail> {
+    let text = format!(in alloc; "{BOOKS}{lines}")?;
+    let wanted = Outcome::Refused { line, reason };
+    let replayed = refuses(alloc, "replay", text.as_bytes(), wanted)?;
+    Ok(replayed && refuses(alloc, "plan", text.as_bytes(), wanted)?)
+}
+
+/// Whether a call is refused that stands in line 11.
+fn refuses_call(alloc: Global, call: &str, reason: Reason) -> Result<bool, Fail> {
+    let lines = format!(in alloc; "tolerate 1\nsession 1\n{call}\n")?;
+    refuses_books(alloc, lines.as_str(), 11, reason)
 }
 
 #[test]
 fn a_put_and_a_get_are_reported(rt: HostRuntime) -> Result<(), Fail> {
-    let alloc = rt.alloc();
-    let mut sink = MemorySink::new(alloc, 4096, 16, Vec::new(alloc))?;
-    let done = replay(alloc, FIRST, &mut sink)?;
-    assert!(rt; done.outcome == Outcome::Fine);
-    assert_eq!(rt; done.status, 0);
-    assert_eq!(rt; done.trace.len(), 6);
-    assert_eq!(rt; sink.bytes(), FIRST_REPORT.as_bytes());
+    assert!(rt; writes(rt.alloc(), "replay", FIRST, 6, FIRST_REPORT)?);
     Ok(())
 }
 
 #[test]
-fn other_texts_are_unbuilt(rt: HostRuntime) -> Result<(), Fail> {
+fn a_number_outside_its_range_is_kept(rt: HostRuntime) -> Result<(), Fail> {
+    assert!(rt; writes(rt.alloc(), "replay", NUMBER, 3, NUMBER_REPORT)?);
+    Ok(())
+}
+
+#[test]
+fn each_search_has_its_plan(rt: HostRuntime) -> Result<(), Fail> {
     let alloc = rt.alloc();
-    for text in ["", SPACE_OF_BOOKS] {
-        let mut sink = MemorySink::new(alloc, 4096, 16, Vec::new(alloc))?;
-        let done = replay(alloc, text, &mut sink)?;
-        assert!(rt; done.outcome == Outcome::Unbuilt);
-        assert_eq!(rt; done.status, 3);
-        assert!(rt; sink.bytes().is_empty());
+    let text = format!(in alloc; "{BOOKS}tolerate 1\n{SEARCHES}")?;
+    assert!(rt; writes(alloc, "plan", text.as_str(), 0, PLANS)?);
+    let text = format!(in alloc; "{BOOKS}tolerate 1\n{MORE_SEARCHES}")?;
+    assert!(rt; writes(alloc, "plan", text.as_str(), 0, MORE_PLANS)?);
+    assert!(rt; writes(alloc, "plan", FIRST, 0, "end\n")?);
+    Ok(())
+}
+
+#[test]
+fn larger_scripts_are_unbuilt(rt: HostRuntime) -> Result<(), Fail> {
+    let alloc = rt.alloc();
+    let text = format!(in alloc; "{BOOKS}tolerate 1\n")?;
+    assert!(rt; refuses(alloc, "replay", text.as_bytes(), Outcome::Unbuilt)?);
+    let head = "hx 1\nspace one\nkey k 1\nservers 1\ntolerate 0\n";
+    for lines in [
+        "session 1\nsession 2\n",
+        "session 1\ndel \"a\"\n",
+        "steps\ntick c\n",
+    ] {
+        let text = format!(in alloc; "{head}{lines}")?;
+        assert!(rt; refuses(alloc, "replay", text.as_bytes(), Outcome::Unbuilt)?);
     }
+    Ok(())
+}
+
+#[test]
+fn faulty_texts_are_refused(rt: HostRuntime) -> Result<(), Fail> {
+    let alloc = rt.alloc();
+    let order = Outcome::Refused {
+        line: 1,
+        reason: Reason::Order,
+    };
+    assert!(rt; refuses(alloc, "replay", b"", order)?);
+    let token = Outcome::Refused {
+        line: 2,
+        reason: Reason::Token,
+    };
+    assert!(rt; refuses(alloc, "plan", b"hx 1\n# \xFF\n", token)?);
+    for (lines, line, reason) in [
+        ("tolerate 4\n", 9, Reason::Bounds),
+        ("", 9, Reason::Order),
+        ("subspace year 2\n", 9, Reason::Order),
+        ("tolerate 1\nsession 2\n", 10, Reason::Bounds),
+        ("tolerate 1\nsteps\ntick s5\n", 11, Reason::Bounds),
+        ("tolerate 1\nsteps\ndeliver 1,0\n", 11, Reason::Order),
+    ] {
+        assert!(rt; refuses_books(alloc, lines, line, reason)?, "{lines}");
+    }
+    Ok(())
+}
+
+#[test]
+fn faulty_calls_are_refused(rt: HostRuntime) -> Result<(), Fail> {
+    let alloc = rt.alloc();
+    for (call, reason) in [
+        ("put \"a\" year=\"x\"", Reason::TypeOf),
+        ("put \"a\" genre=\"b\" genre=\"d\"", Reason::Twice),
+        ("put \"a\" colour=\"b\"", Reason::Unknown),
+        ("search year=2010..1990", Reason::Bounds),
+        ("get \"a", Reason::Token),
+        ("add 5 0", Reason::Bounds),
+        ("get a", Reason::Order),
+    ] {
+        assert!(rt; refuses_call(alloc, call, reason)?, "{call}");
+    }
+    let letters = vec![in alloc; b'x'; 1_025]?;
+    let letters = String::from_utf8(letters)?;
+    let call = format!(in alloc; "get \"{letters}\"")?;
+    assert!(rt; refuses_call(alloc, call.as_str(), Reason::Limit)?);
     Ok(())
 }
 
@@ -61,16 +179,11 @@ fn other_words_are_usage(rt: HostRuntime) -> Result<(), Fail> {
         "replay --trace --trace",
         "run --workers 0",
         "soak 1",
-        "replay replay",
-        "Replay",
+        "replay plan",
+        "Plan",
     ] {
-        let mut all = Vec::new(alloc);
-        for word in line.split_whitespace() {
-            all.push(String::from_str(alloc, word)?)?;
-        }
-        let mut source = MemorySource::new(Vec::new(alloc), 1, Vec::new(alloc));
         let mut sink = MemorySink::new(alloc, 16, 16, Vec::new(alloc))?;
-        let done = hyperstore(alloc, all.as_slice(), &mut source, &mut sink);
+        let done = run(alloc, line, FIRST.as_bytes(), &mut sink)?;
         assert!(rt; done.outcome == Outcome::Usage);
         assert_eq!(rt; done.status, 2);
     }
@@ -80,14 +193,14 @@ fn other_words_are_usage(rt: HostRuntime) -> Result<(), Fail> {
 #[test]
 fn a_source_may_be_too_large_or_fail(rt: HostRuntime) -> Result<(), Fail> {
     let alloc = rt.alloc();
-    let replay = words(alloc, &["replay"])?;
+    let plan = words(alloc, "plan")?;
     let mut sink = MemorySink::new(alloc, 16, 16, Vec::new(alloc))?;
-    let mut large = MemorySource::new(vec![in alloc; b'h'; 16_777_217]?, 65_536, Vec::new(alloc));
-    let done = hyperstore(alloc, replay.as_slice(), &mut large, &mut sink);
+    let mut large = MemorySource::new(vec![in alloc; b'#'; 16_777_217]?, 65_536, Vec::new(alloc));
+    let done = hyperstore(alloc, plan.as_slice(), &mut large, &mut sink);
     assert!(rt; done.outcome == Outcome::TooLarge);
     assert_eq!(rt; done.status, 3);
     let mut failing = MemorySource::new(Vec::new(alloc), 1, vec![in alloc; 1]?);
-    let done = hyperstore(alloc, replay.as_slice(), &mut failing, &mut sink);
+    let done = hyperstore(alloc, plan.as_slice(), &mut failing, &mut sink);
     assert!(rt; done.outcome == Outcome::ReadFault);
     assert_eq!(rt; done.status, 4);
     assert!(rt; sink.bytes().is_empty());
@@ -98,7 +211,7 @@ fn a_source_may_be_too_large_or_fail(rt: HostRuntime) -> Result<(), Fail> {
 fn a_failing_sink_holds_a_prefix(rt: HostRuntime) -> Result<(), Fail> {
     let alloc = rt.alloc();
     let mut sink = MemorySink::new(alloc, 4096, 16, vec![in alloc; 2]?)?;
-    let done = replay(alloc, FIRST, &mut sink)?;
+    let done = run(alloc, "replay", FIRST.as_bytes(), &mut sink)?;
     assert!(rt; done.outcome == Outcome::WriteFault);
     assert_eq!(rt; done.status, 5);
     assert_eq!(rt; sink.bytes(), b"report 1\nspace o".as_slice());
@@ -107,10 +220,16 @@ fn a_failing_sink_holds_a_prefix(rt: HostRuntime) -> Result<(), Fail> {
 
 #[test]
 fn a_fault_has_its_line(rt: HostRuntime) -> Result<(), Fail> {
-    let text = fault_text(rt.alloc(), Outcome::Usage)?;
+    let usage = fault_text(rt.alloc(), Outcome::Usage)?;
     assert_eq!(rt;
-        text.as_slice(),
+        usage.as_slice(),
         b"usage: hx replay or run or soak or plan\n".as_slice()
     );
+    let refused = Outcome::Refused {
+        line: 11,
+        reason: Reason::TypeOf,
+    };
+    let line = fault_text(rt.alloc(), refused)?;
+    assert_eq!(rt; line.as_slice(), b"line 11: type\n".as_slice());
     Ok(())
 }

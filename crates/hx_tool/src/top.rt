@@ -1,14 +1,17 @@
-ghost use Rattle.std.specs.Prelude.{◌≡◌, ◌↔◌, ◌⊎◌, ◌+◌, ◌≤◌, ◌<◌, ℕ, List, [], Some, None, IfOk, IfErr, IfSome, length};
+ghost use Rattle.std.specs.Prelude.{◌≡◌, ◌↔◌, ◌⊎◌, ◌+◌, ◌≤◌, ◌<◌, ℕ, List, [], Some, IfOk, IfErr, IfSome, length};
 ghost use Rattle.std.specs.Io.KnownBytes.{Appends};
 ghost use Rattle.hx_io.specs.Causes.{Rose};
 ghost use Rattle.hx_io.specs.Pieces.{AppendsPrefix, ConsumesExactly};
-ghost use Rattle.hx_first_form.specs.FirstForm.{first_script_of};
-ghost use Rattle.hx_tool.specs.Causes.{IsAnswer, IsCause, IsJudged, IsJudgedResult, IsReplay, ReadsText, limit};
+ghost use Rattle.hx_script.specs.declared.errors.Reason.{Reason};
+ghost use Rattle.hx_tool.specs.Causes.{IsAnswer, IsCause, IsFaulty, IsJudged, IsJudgedResult, IsRefused, IsTaken, IsUnbuilt, ReadsText, limit};
+ghost use Rattle.hx_tool.specs.Commands.{Says};
 ghost use Rattle.hx_tool.specs.Outcomes.{IsSilent, status_of};
+ghost use Rattle.hx_tool.specs.declared.outcomes.Outcome.{Outcome};
+ghost use Rattle.hx_tool.specs.declared.words.Command.{Command};
 
-use crate::outcomes::{Done, Outcome, status};
-use crate::replaying::{Replayed, replay};
-use crate::words::is_replay;
+use crate::answering::answer;
+use crate::outcomes::{Answered, Done, Outcome, status};
+use crate::words::{Command, command_of};
 use hx_io::{Sink, Source, read_all, write_all};
 use hx_types::Trace;
 use std::alloc::Global;
@@ -16,14 +19,15 @@ use std::alloc::Global;
 /// How many bytes a script may have.
 const LIMIT: usize = 16_777_216;
 
-/// The program: it takes its words, the source of its script and the sink of its report.
+/// The program: it takes its words, the source of its script and the sink of its answer.
 ///
-/// With the words `replay` it reads the source to its end, runs the script by the schedule until
-/// there is nothing left to do, and writes the report.
+/// It reads the source to its end. With the words `replay` it runs the script by the schedule until
+/// there is nothing left to do, and writes the report; with the words `plan` it writes which
+/// regions each search of the script asks.
 ///
 /// # Errors
 ///
-/// Each outcome but `Memory` comes exactly where its cause holds. The report is made whole before
+/// Each outcome but `Memory` comes exactly where its cause holds. The answer is made whole before
 /// the first write, so nothing is written with any outcome but `Fine` and `WriteFault`.
 pub fn hyperstore<S: Source, K: Sink>(
     alloc: Global,
@@ -33,31 +37,43 @@ pub fn hyperstore<S: Source, K: Sink>(
 ) -> Done
     ensures status { result.status ≡ status_of result.outcome }
 
-    // With status 0 the text that the source gave is a script's, the trace is its run by the
-    // schedule, each key's history is linear, and the report was written and nothing else.
-    ensures fine { result.outcome ≡ Outcome.Fine → (text : List ℕ) × (report : List ℕ)
+    // With status 0 the text that the source gave is that of a script which the command takes.
+    // Under `replay` the trace is its run by the schedule, each key's history is linear, and the
+    // report was written and nothing else; under `plan` the plans of its searches.
+    ensures fine { result.outcome ≡ Outcome.Fine → (command : Command) × (text : List ℕ) × (bytes : List ℕ)
+        × Says words.now command
         × ReadsText (S.left source.old) (S.left source.new) text
-        × IsAnswer text result.trace report
-        × Appends (K.held sink.old) (K.held sink.new) report }
+        × IsAnswer command text result.trace bytes
+        × Appends (K.held sink.old) (K.held sink.new) bytes }
 
     // What each other outcome comes from.
-    ensures usage { (result.outcome ≡ Outcome.Usage) ↔ ¬ IsReplay words.now }
-    ensures unbuilt { result.outcome ≡ Outcome.Unbuilt → (text : List ℕ)
+    ensures usage { (result.outcome ≡ Outcome.Usage) ↔ ((command : Command) → ¬ Says words.now command) }
+    ensures refused { (line : ℕ) (reason : Reason) → result.outcome ≡ Outcome.Refused line reason → (text : List ℕ)
         × ReadsText (S.left source.old) (S.left source.new) text
-        × (first_script_of text ≡ None) }
+        × IsRefused text line reason }
+    ensures unbuilt { result.outcome ≡ Outcome.Unbuilt → (command : Command) × (text : List ℕ)
+        × Says words.now command
+        × ReadsText (S.left source.old) (S.left source.new) text
+        × IsUnbuilt command text }
     ensures too_large { result.outcome ≡ Outcome.TooLarge →
         ConsumesExactly (S.left source.old) (S.left source.new) (limit + 1) }
     ensures read_fault { result.outcome ≡ Outcome.ReadFault → Rose (S.faults source.old) (S.faults source.new) }
     ensures write_fault { result.outcome ≡ Outcome.WriteFault → Rose (K.faults sink.old) (K.faults sink.new) }
-    ensures prefix { result.outcome ≡ Outcome.WriteFault → (text : List ℕ) × (report : List ℕ)
+    ensures prefix { result.outcome ≡ Outcome.WriteFault → (command : Command) × (text : List ℕ) × (bytes : List ℕ)
+        × Says words.now command
         × ReadsText (S.left source.old) (S.left source.new) text
-        × IsAnswer text result.trace report
-        × AppendsPrefix (K.held sink.old) (K.held sink.new) report }
+        × IsAnswer command text result.trace bytes
+        × AppendsPrefix (K.held sink.old) (K.held sink.new) bytes }
 
     // For a source that tells its bytes these alone decide, but for faults and want of memory.
-    ensures judged { IsReplay words.now → IfSome (S.left source.old) (λ text. IsJudged text result.outcome) }
-    ensures complete { (text : List ℕ) → IsReplay words.now → S.left source.old ≡ Some text
-        → length text ≤ limit → (¬ (first_script_of text ≡ None))
+    ensures judged { (command : Command) → Says words.now command
+        → IfSome (S.left source.old) (λ text. IsJudged command text result.outcome) }
+    ensures faulty { (command : Command) → (text : List ℕ) → (outcome : Outcome) → Says words.now command
+        → S.left source.old ≡ Some text → IsFaulty command text outcome
+        → ¬ Rose (S.faults source.old) (S.faults source.new)
+        → (result.outcome ≡ outcome) ⊎ (result.outcome ≡ Outcome.Memory) }
+    ensures complete { (command : Command) → (text : List ℕ) → Says words.now command
+        → S.left source.old ≡ Some text → length text ≤ limit → IsTaken command text
         → ¬ Rose (S.faults source.old) (S.faults source.new)
         → ¬ Rose (K.faults sink.old) (K.faults sink.new)
         → (result.outcome ≡ Outcome.Fine) ⊎ (result.outcome ≡ Outcome.Memory) }
@@ -71,10 +87,10 @@ pub fn hyperstore<S: Source, K: Sink>(
     ensures source_faults { S.faults source.old ≤ S.faults source.new }
     ensures sink_faults { K.faults sink.old ≤ K.faults sink.new }
 {
-    if !is_replay(words) {
+    let Some(command) = command_of(words) else {
         return silent(alloc, Outcome::Usage);
-    }
-    match answer(alloc, source) {
+    };
+    match read_and_answer(alloc, command, source) {
         Ok(made) => write(sink, made),
         Err(outcome) => silent(alloc, outcome),
     }
@@ -92,32 +108,36 @@ fn silent(alloc: Global, outcome: Outcome) -> Done
     }
 }
 
-/// Reads the source to its end and replays its script.
-fn answer<S: Source>(alloc: Global, source: &mut S) -> Result<Replayed, Outcome>
+/// Reads the source to its end and answers its text.
+fn read_and_answer<S: Source>(
+    alloc: Global,
+    command: Command,
+    source: &mut S,
+) -> Result<Answered, Outcome>
     ensures answer { IfOk result (λ made. (text : List ℕ)
         × ReadsText (S.left source.old) (S.left source.new) text
-        × IsAnswer text made.trace made.report.items) }
-    ensures cause { IfErr result (IsCause (S.left source.old) (S.left source.new) (S.faults source.old) (S.faults source.new)) }
-    ensures judged { IfSome (S.left source.old) (λ text. IsJudgedResult text result) }
+        × IsAnswer command text made.trace made.bytes.items) }
+    ensures cause { IfErr result (IsCause command (S.left source.old) (S.left source.new) (S.faults source.old) (S.faults source.new)) }
+    ensures judged { IfSome (S.left source.old) (λ text. IsJudgedResult command text result) }
     ensures faults { S.faults source.old ≤ S.faults source.new }
 {
     let text = read_all(alloc, source, LIMIT)?;
-    let made = replay(alloc, text.as_slice())?;
+    let made = answer(alloc, command, text.as_slice())?;
     Ok(made)
 }
 
-/// Writes the report.
-fn write<K: Sink>(sink: &mut K, made: Replayed) -> Done
+/// Writes the answer.
+fn write<K: Sink>(sink: &mut K, made: Answered) -> Done
     ensures status { result.status ≡ status_of result.outcome }
     ensures trace { result.trace ≡ made.trace }
     ensures ends { (result.outcome ≡ Outcome.Fine) ⊎ (result.outcome ≡ Outcome.WriteFault) }
-    ensures fine { result.outcome ≡ Outcome.Fine → Appends (K.held sink.old) (K.held sink.new) made.report.items }
-    ensures prefix { result.outcome ≡ Outcome.WriteFault → AppendsPrefix (K.held sink.old) (K.held sink.new) made.report.items }
+    ensures fine { result.outcome ≡ Outcome.Fine → Appends (K.held sink.old) (K.held sink.new) made.bytes.items }
+    ensures prefix { result.outcome ≡ Outcome.WriteFault → AppendsPrefix (K.held sink.old) (K.held sink.new) made.bytes.items }
     ensures fault { result.outcome ≡ Outcome.WriteFault → Rose (K.faults sink.old) (K.faults sink.new) }
     ensures faults { K.faults sink.old ≤ K.faults sink.new }
 {
-    let Replayed { trace, report } = made;
-    let outcome = match write_all(sink, report.as_slice()) {
+    let Answered { trace, bytes } = made;
+    let outcome = match write_all(sink, bytes.as_slice()) {
         Ok(()) => Outcome::Fine,
         Err(_) => Outcome::WriteFault,
     };

@@ -1,12 +1,34 @@
-ghost use Rattle.std.specs.Prelude.{◌↔◌, IsTrue};
-ghost use Rattle.hx_tool.specs.Causes.{IsReplay};
+ghost use Rattle.std.specs.Prelude.{◌≡◌, ◌↔◌};
+ghost use Rattle.hx_tool.specs.Commands.{Says, word_of};
+ghost use Rattle.hx_tool.specs.declared.words.Command.{Command};
 
-/// Whether the words are the command `replay`.
-pub fn is_replay(words: &[String]) -> bool
-    ensures { IsTrue result ↔ IsReplay words.now }
+/// What the program can be told to do.
+#[derive(Clone, Copy, PartialEq, Eq)]
+pub enum Command {
+    /// Run the script and report what came of it.
+    Replay,
+    /// Tell which regions each search of the script asks.
+    Plan,
+}
+
+/// The command that the words say: its word, and no other beside it.
+pub fn command_of(words: &[String]) -> Option<Command>
+    ensures { (command : Command) → (result ≡ Some command) ↔ Says words.now command }
 {
-    match words.split_first() {
-        Some((word, rest)) => rest.is_empty() && word.as_str() == "replay",
-        None => false,
+    match words {
+        [word] => command_named(word.as_str()),
+        _ => None,
+    }
+}
+
+fn command_named(word: &str) -> Option<Command>
+    ensures { (command : Command) → (result ≡ Some command) ↔ (word.now ≡ word_of command) }
+{
+    if word == "replay" {
+        Some(Command::Replay)
+    } else if word == "plan" {
+        Some(Command::Plan)
+    } else {
+        None
     }
 }

@@ -1,368 +1,366 @@
--- What a step and a drain leave of a world.
-use Rattle.std.proofs.Common.{◌≡◌, ℕ, zero, suc, ◌+◌, ◌*◌, ◌-◌, ◌<◌, ◌≤◌, ◌^◌, Bool, true, false, ◌||◌, List, [], ◌∷◌, ◌++◌, length, Option, Some, None, inl, inr, refl, sym, ap, ◌∙◌, subst, arith, cond, add-one, add-zero}
-use Rattle.std.specs.Prelude.{slice_get, is_some, IsSome, IfSome, reverse}
-use Rattle.std.proofs.lemmas.Bool.{le-ltb}
+-- What a world's calls do, in terms of its fields; traces of worlds stand oldest first.
+use Rattle.std.proofs.Common.{◌≡◌, ℕ, zero, suc, ◌+◌, ◌-◌, ◌<◌, ◌≤◌, ◌⊎◌, inl, inr, Bool, true, false, List, [], ◌∷◌, ◌++◌, length, set, Option, Some, None, refl, sym, ap, ◌∙◌, subst, arith, add-one, add-zero, get_or, leb, vec_len}
+use Rattle.std.specs.Prelude.{slice_get, reverse, is_some, IsSome, IsSomeAnd, MatchOption}
+use Rattle.std.specs.Option.{option_map}
+use Rattle.std.proofs.lemmas.Bool.{le-leb}
 use Rattle.std.proofs.lemmas.List.{reverse-append, length-reverse}
-use Rattle.hx_types.specs.declared.calls.Caller.{Caller}
+use Rattle.std.proofs.lemmas.Option.{slice_get-get_or}
 use Rattle.hx_types.specs.declared.calls.Op.{Op}
 use Rattle.hx_types.specs.declared.messages.Post.{Post}
 use Rattle.hx_types.specs.declared.messages.PostId.{PostId}
+use Rattle.hx_types.specs.declared.names.Actor.{Actor}
 use Rattle.hx_types.specs.declared.names.ServerId.{ServerId}
 use Rattle.hx_types.specs.declared.names.SessionId.{SessionId}
+use Rattle.hx_types.specs.declared.spaces.Space.{Space}
 use Rattle.hx_types.specs.declared.traces.Entry.{Entry}
 use Rattle.hx_types.specs.declared.traces.Script.{Script}
-use Rattle.hx_types.specs.declared.updates.Update.{Update}
+use Rattle.hx_types.specs.declared.calls.Op.TheVariants.{Put, Get, Del, Cput, Search, Stop, Add}
 use Rattle.hx_types.specs.declared.names.Actor.TheVariants.{Coordinator, Server, Session}
-use Rattle.hx_types.specs.Fitting.{calls_of}
-use Rattle.hx_types.specs.Words.{below}
-use Rattle.hx_types.specs.Words.{first_of_list}
-use Rattle.hx_model.specs.Runs.{post_named, session_of}
-use Rattle.hx_model.specs.Schedule.{idle_among, is_idle, next_entry, scheduled, undelivered, with_entry}
-use Rattle.hx_world.specs.declared.schedule.Drained.TheVariants.{Quiet}
+use Rattle.hx_types.specs.Configs.{first_config, head_of}
+use Rattle.hx_types.specs.Effects.{key_of}
+use Rattle.hx_types.specs.Posts.{IsSessionOf}
+use Rattle.hx_types.specs.Spaces.{IsServerOf}
+use Rattle.hx_model.specs.Built.{is_put_or_get}
+use Rattle.hx_model.specs.Regions.{key_region}
+use Rattle.hx_model.specs.Runs.{post_named, server_of}
+use Rattle.hx_model.specs.Schedule.{entries_of, next_entry, scheduled, undelivered, with_entry}
+use Rattle.hx_model.specs.ServerSteps.{ServerState}
+use Rattle.hx_replica.specs.Servers.{CanTake, server_entry}
+use Rattle.hx_steady.proofs.Lists.{in-slice_get}
+use Rattle.hx_world.specs.declared.ends.Drained.TheVariants.{Quiet, Spent}
+use Rattle.hx_world.specs.declared.hosts.Host.{Host}
+use Rattle.hx_world.specs.declared.logs.Log.{Log}
+use Rattle.hx_world.specs.declared.schedule.Actors.{Actors}
 use Rattle.hx_world.specs.declared.sessions.Session.{Session as SessionNow}
-use Rattle.hx_world.specs.Filing.{names_after}
-use Rattle.hx_world.specs.Invariant.{session_with, AreWaiting, IsLog, IsPending, IsWorld, IsWorldOf}
-use Rattle.hx_world.specs.Slots.{with_accepted, IsAs}
-use Rattle.hx_world.specs.Steps.{the_session, accepted_of, begin_entry, call_at, call_post, heard_entry, next_call_of, reply_post, served_entry, session_after, IsCall, IsNumbered, IsReply}
-use Rattle.hx_world.specs.Worlds.{Advances, Drains, most_entries}
-use Rattle.hx_world.proofs.Advancing.{Goes, begins, hears_next, serves_next}
-use Rattle.hx_world.proofs.Calling.{few_calls}
-use Rattle.hx_world.proofs.Slotting.{caller_of}
+use Rattle.hx_world.specs.Filing.{Files, IsSameLog, names_after, receiver_of}
+use Rattle.hx_world.specs.Hosts.{HasTaken, IsSameHost}
+use Rattle.hx_world.specs.Idle.{IsFirstIdle, IsNoneIdle, call_at}
+use Rattle.hx_world.specs.Invariant.{AreAt, IsHost, IsSession, IsWorld, IsWorldOf, server_at, session_at}
+use Rattle.hx_world.specs.Sessions.{IsReply, begin_entry, begun_now, delivery, heard_entry, heard_now}
+use Rattle.hx_world.specs.Worlds.{Advances, IsWornOut, most_entries}
+use Rattle.hx_world.proofs.Advancing.{Goes, begins_next, delivers_to, hears_next, serves_next}
+use Rattle.hx_world.proofs.Calling.{call_runnable, few_calls}
+use Rattle.hx_world.proofs.Idling.{call_of_session, first_call, first_idle_next, none_next}
+use Rattle.hx_world.proofs.Naming.{waiting_named}
+use Rattle.hx_world.proofs.Seating.{at_set}
+use Rattle.hx_world.proofs.Taking.{no_coordinator, reply_here, server_here, session_here, takes}
+use Rattle.hx_world.proofs.Tallies.{few_entries}
 
--- the world went on by the next entry
-pub record GoesOn (script : Script) (old new : List Entry) (newest : List ℕ → Option Update) (s : SessionNow) (waiting : List PostId) : Type 0 where
-  pub world : IsWorld script new newest s waiting
-  pub advances : Advances script (reverse old) (reverse new) true
+-- the item at a place that was read there
+pub item_read : {A : Type 0} (xs : List A) (i : ℕ) (x : A) → i < length xs → x ≡ get_or xs i x → slice_get xs i ≡ Some x
+item_read xs i x within e = slice_get-get_or xs i x within ∙ ap Some (sym e)
 
-goes_on : (script : Script) (old new : List Entry) (e : Entry) (newest : List ℕ → Option Update) (s : SessionNow) (names waiting : List PostId)
-    → Goes script (reverse old) e newest s names → new ≡ old ++ e ∷ [] → waiting ≡ names → GoesOn script old new newest s waiting
-goes_on script old new e newest s names waiting goes new_is waiting_is =
-    let turned : reverse new ≡ e ∷ reverse old = ap reverse new_is ∙ reverse-append old (e ∷ []) in
+none_there : {A : Type 0} (o : Option A) → is_some o ≡ false → o ≡ None
+none_there None e = refl
+none_there (Some x) e = cc
+
+some_told : {A : Type 0} (o : Option A) (P : A → Type 0) → IsSomeAnd o P → is_some o ≡ true
+some_told None P h = absurd h
+some_told (Some x) P h = refl
+
+on_key : (op : Op) → is_put_or_get op ≡ true → key_of op ≡ None → ⊥
+on_key (Put key sets) h e = cc
+on_key (Get key) h e = cc
+on_key (Del key) h e = cc
+on_key (Cput key tests sets) h e = cc
+on_key (Search terms) h e = cc
+on_key (Stop server) h e = cc
+on_key (Add server region) h e = cc
+
+-- a world has few entries
+pub short : (script : Script) (actors : Actors) (log : Log) → IsWorld script actors log → length log.trace < 4294967296
+short script actors log w = let few = few_entries script log.trace w.world.runnable w.world.run w.world.few in omega (arith, few)
+
+-- no world makes more entries
+pub most_of : (script : Script) (actors : Actors) (log : Log) → IsWorld script actors log → length log.trace ≤ most_entries
+most_of script actors log w = few_entries script log.trace w.world.runnable w.world.run w.world.few
+
+-- the next entry was made, and the world goes on
+pub record GoesOn (script : Script) (old : Log) (actors : Actors) (new : Log) : Type 0 where
+  pub world : IsWorld script actors new
+  pub advances : Advances script (reverse old.trace) (reverse new.trace) true
+
+reverse_push : (trace : List Entry) (e : Entry) → reverse (trace ++ e ∷ []) ≡ e ∷ reverse trace
+reverse_push trace e = reverse-append trace (e ∷ [])
+
+goes_on : (script : Script) (old new : Log) (actors : Actors) (e : Entry) → actors.leaders ≡ script.space → Files old new e
+    → (names_after (length (reverse old.trace)) e old.waiting.items ≡ names_after (length old.trace) e old.waiting.items
+    → Goes script (reverse old.trace) e actors.hosts.items actors.sessions.items new.waiting.items)
+    → GoesOn script old actors new
+goes_on script old new actors e leaders files f =
+    let long = length-reverse old.trace in
+    let goes = f (ap (λ n. names_after n e old.waiting.items) long) in
+    let trace : reverse new.trace ≡ e ∷ reverse old.trace = ap reverse files.trace ∙ reverse_push old.trace e in
     record {
-      world =
-          subst (λ (t : List Entry). IsWorldOf script t newest s waiting) (sym turned)
-          (subst (λ (w : List PostId). IsWorldOf script (e ∷ reverse old) newest s w) (sym waiting_is) goes.world);
-      advances = record { trace = turned ∙ rw goes.next refl; told = rw goes.next refl };
+      world = record { leaders = leaders; world = subst (λ (t : List Entry). IsWorldOf script t actors.hosts.items actors.sessions.items new.waiting.items) (sym trace) goes.world };
+      advances = record {
+        trace = trace ∙ ap (with_entry (reverse old.trace)) (sym goes.next);
+        told = ap is_some (sym goes.next);
+      };
     }
 
-abbrev OneWaits : Script → List Entry → ℕ → PostId → List PostId → Type 0
-OneWaits script t n id waiting = (waiting ≡ id ∷ []) × IsPending script t n id
+-- the post that is delivered next
+pub record IsDelivered (script : Script) (log : Log) (id : PostId) (to : Actor) : Type 0 where
+  pub sent : Post
+  pub named : post_named id (reverse log.trace) ≡ Some sent
+  pub to_is : sent.to ≡ to
 
-pending_first : (script : Script) (t : List Entry) (n : ℕ) (id : PostId) (waiting : List PostId) → AreWaiting script t n waiting → slice_get waiting 0 ≡ Some id → OneWaits script t n id waiting
-pending_first script t n id [] pending first = cc
-pending_first script t n id (x ∷ []) pending first =
-    let same : x ≡ id = cc in (ap (λ (y : PostId). let names : List PostId = y ∷ [] in names) same, subst (IsPending script t n) same pending)
-pending_first script t n id (x ∷ y ∷ rest) pending first = absurd pending
+delivered_of : (script : Script) (log : Log) (id : PostId) (to : Actor) → receiver_of (post_named id (reverse log.trace)) ≡ Some to → IsDelivered script log id to
+delivered_of script log id to e = by (post_named id (reverse log.trace)) refl e
+  where
+    by : (o : Option Post) → post_named id (reverse log.trace) ≡ o → option_map (λ (x : Post). x.to) o ≡ Some to → IsDelivered script log id to
+    by None h f = cc
+    by (Some p) h f = record { sent = p; named = h; to_is = (let same : p.to ≡ to = cc in same) }
 
-pub is_pending : (script : Script) (trace : List Entry) (newest : List ℕ → Option Update) (s : SessionNow) (waiting : List PostId) (id : PostId)
-    → IsWorld script trace newest s waiting → slice_get waiting 0 ≡ Some id → OneWaits script (reverse trace) s.begun id waiting
-is_pending script trace newest s waiting id w first = pending_first script (reverse trace) s.begun id waiting w.pending first
-
--- the post that waits was sent
-pub is_sent : (script : Script) (trace : List Entry) (newest : List ℕ → Option Update) (s : SessionNow) (waiting : List PostId) (id : PostId)
-    → IsWorld script trace newest s waiting → slice_get waiting 0 ≡ Some id → post_named id (reverse trace) ≡ None → ⊥
-is_sent script trace newest s waiting id w first none = let named = (is_pending script trace newest s waiting id w first).1.named in cc
-
--- a post to the server is a call
-record CallTo (script : Script) (t : List Entry) (n : ℕ) (p : Post) : Type 0 where
-  call : IsCall p
-  counted : length t + 2 ≤ 3 * n
-
-record ReplyTo (script : Script) (t : List Entry) (n : ℕ) (p : Post) : Type 0 where
-  reply : IsReply p
-  counted : length t + 1 ≤ 3 * n
-
-call_to : (script : Script) (t : List Entry) (n : ℕ) (id : PostId) (p : Post) (server : ServerId) → IsPending script t n id → post_named id t ≡ Some p → p.to ≡ Server server → CallTo script t n p
-call_to script t n id p server pending named to =
-    let same : pending.sent_post ≡ p = let there = pending.named in cc in
-    elim pending.kind [
-      | inl call ↦ record { call = subst IsCall same call.0; counted = call.1 }
-      | inr reply ↦ let is = sym same ∙ reply.0.is in let other = ap (λ (x : Post). x.to) is in absurd (cc)
-    ]
-
-reply_to : (script : Script) (t : List Entry) (n : ℕ) (id : PostId) (p : Post) (session : SessionId) → IsPending script t n id → post_named id t ≡ Some p → p.to ≡ Session session → ReplyTo script t n p
-reply_to script t n id p session pending named to =
-    let same : pending.sent_post ≡ p = let there = pending.named in cc in
-    elim pending.kind [
-      | inl call ↦ let is = sym same ∙ call.0.is in let other = ap (λ (x : Post). x.to) is in absurd (cc)
-      | inr reply ↦ record { reply = subst IsReply same reply.0; counted = reply.1 }
-    ]
-
-pub nobody_else : (script : Script) (t : List Entry) (n : ℕ) (id : PostId) (p : Post) → IsPending script t n id → post_named id t ≡ Some p → p.to ≡ Coordinator → ⊥
-nobody_else script t n id p pending named to =
-    let same : pending.sent_post ≡ p = let there = pending.named in cc in
-    elim pending.kind [
-      | inl call ↦ let is = sym same ∙ call.0.is in let other = ap (λ (x : Post). x.to) is in cc
-      | inr reply ↦ let is = sym same ∙ reply.0.is in let other = ap (λ (x : Post). x.to) is in cc
-    ]
-
--- a delivery to the server
-pub serves_world : (script : Script) (old new : List Entry) (newest later : List ℕ → Option Update) (s : SessionNow) (waiting names : List PostId) (id : PostId) (p : Post) (server : ServerId)
-    → IsWorld script old newest s waiting → slice_get waiting 0 ≡ Some id → post_named id (reverse old) ≡ Some p → p.to ≡ Server server
-    → new ≡ old ++ served_entry script.space newest id p ∷ [] → names ≡ names_after (length old) (served_entry script.space newest id p) waiting
-    → IsAs later (with_accepted (accepted_of script.space newest p.message) newest)
-    → GoesOn script old new later s names
-serves_world script old new newest later s waiting names id p server w first named to new_is names_is takes =
-    let one = is_pending script old newest s waiting id w first in
-    let c = call_to script (reverse old) s.begun id p server one.1 named to in
-    let here : IsWorldOf script (reverse old) newest s (id ∷ []) = subst (λ (x : List PostId). IsWorldOf script (reverse old) newest s x) one.0 w in
-    let as_call = λ (x : Post). served_entry script.space newest id x in
-    let takes_call : IsAs later (with_accepted (accepted_of script.space newest (call_post c.call.number c.call.op).message) newest) =
-    subst (λ (x : Post). IsAs later (with_accepted (accepted_of script.space newest x.message) newest)) c.call.is takes in
-    let goes = serves_next script (reverse old) newest later s id c.call.number c.call.op here (named ∙ ap Some c.call.is) one.1.some_session c.call.built c.call.some c.call.few c.counted takes_call in
-    goes_on script old new (served_entry script.space newest id (call_post c.call.number c.call.op)) later s
-    (names_after (length (reverse old)) (served_entry script.space newest id (call_post c.call.number c.call.op)) (id ∷ [])) names goes
-    (new_is ∙ ap (λ (x : Post). old ++ served_entry script.space newest id x ∷ []) c.call.is)
-    (
-    names_is
-    ∙ (
-    ap (λ (x : Post). names_after (length old) (served_entry script.space newest id x) waiting) c.call.is
-    ∙ (
-    ap (λ (x : List PostId). names_after (length old) (served_entry script.space newest id (call_post c.call.number c.call.op)) x) one.0
-    ∙ ap (λ (n : ℕ). names_after n (served_entry script.space newest id (call_post c.call.number c.call.op)) (id ∷ [])) (sym (length-reverse old))
-    )
-    )
-    )
-
-caller_is : (c : Caller) → c.session ≡ the_session → c ≡ caller_of c.number
-caller_is c session = ap (λ (u : SessionId). let x : Caller = record { session = u; number = c.number } in x) session
-
--- a delivery to the session
-pub hears_world : (script : Script) (old new : List Entry) (newest : List ℕ → Option Update) (s after : SessionNow) (waiting names : List PostId) (id : PostId) (p : Post) (session : SessionId)
-    → IsWorld script old newest s waiting → slice_get waiting 0 ≡ Some id → post_named id (reverse old) ≡ Some p → p.to ≡ Session session
-    → new ≡ old ++ heard_entry s id p ∷ [] → names ≡ names_after (length old) (heard_entry s id p) waiting → after ≡ session_after s p.message
-    → GoesOn script old new newest after names
-hears_world script old new newest s after waiting names id p session w first named to new_is names_is after_is =
-    let one = is_pending script old newest s waiting id w first in
-    let r = reply_to script (reverse old) s.begun id p session one.1 named to in
-    let here : IsWorldOf script (reverse old) newest s (id ∷ []) = subst (λ (x : List PostId). IsWorldOf script (reverse old) newest s x) one.0 w in
-    let number = r.reply.caller.number in
-    let is : p ≡ reply_post (caller_of r.reply.caller.number) r.reply.version r.reply.answer =
-    r.reply.is ∙ ap (λ (c : Caller). reply_post c r.reply.version r.reply.answer) (caller_is r.reply.caller r.reply.session) in
-    let goes = hears_next script (reverse old) newest s id number r.reply.version r.reply.answer here (named ∙ ap Some is) one.1.some_session r.counted in
-    let at : Post = reply_post (caller_of r.reply.caller.number) r.reply.version r.reply.answer in
-    subst (λ (x : SessionNow). GoesOn script old new newest x names) (sym (after_is ∙ ap (λ (x : Post). session_after s x.message) is))
-    (
-    goes_on script old new (heard_entry s id at) newest (session_after s at.message)
-    (names_after (length (reverse old)) (heard_entry s id at) (id ∷ [])) names goes
-    (new_is ∙ ap (λ (x : Post). old ++ heard_entry s id x ∷ []) is)
-    (
-    names_is
-    ∙ (
-    ap (λ (x : Post). names_after (length old) (heard_entry s id x) waiting) is
-    ∙ (
-    ap (λ (x : List PostId). names_after (length old) (heard_entry s id at) x) one.0
-    ∙ ap (λ (n : ℕ). names_after n (heard_entry s id at) (id ∷ [])) (sym (length-reverse old))
-    )
-    )
-    )
-    )
-
-nothing_first : (waiting : List PostId) → slice_get waiting 0 ≡ None → waiting ≡ []
-nothing_first [] e = refl
-nothing_first (x ∷ rest) e = cc
-
-idle_world : (script : Script) (trace : List Entry) (newest : List ℕ → Option Update) (s : SessionNow) (waiting : List PostId)
-    → IsWorld script trace newest s waiting → slice_get waiting 0 ≡ None → IsWorldOf script (reverse trace) newest s []
-idle_world script trace newest s waiting w none =
-    subst (λ (x : List PostId). IsWorldOf script (reverse trace) newest s x) (nothing_first waiting none) w
-
--- a begin of the session's next call
-pub begins_world : (script : Script) (old new : List Entry) (newest : List ℕ → Option Update) (s after : SessionNow) (waiting names : List PostId) (op : Op)
-    → IsWorld script old newest s waiting → slice_get waiting 0 ≡ None → next_call_of script s ≡ Some op
-    → new ≡ old ++ begin_entry (s.begun + 1) op ∷ [] → names ≡ names_after (length old) (begin_entry (s.begun + 1) op) waiting → after ≡ record { begun = s.begun + 1; under_way = true }
-    → GoesOn script old new newest after names
-begins_world script old new newest s after waiting names op w none call new_is names_is after_is =
-    let here = idle_world script old newest s waiting w none in
-    let goes = begins script (reverse old) newest s op here call in
-    subst (λ (x : SessionNow). GoesOn script old new newest x names) (sym after_is)
-    (
-    goes_on script old new (begin_entry (s.begun + 1) op) newest (record { begun = s.begun + 1; under_way = true })
-    (names_after (length (reverse old)) (begin_entry (s.begun + 1) op) []) names goes new_is
-    (
-    names_is
-    ∙ (
-    ap (λ (x : List PostId). names_after (length old) (begin_entry (s.begun + 1) op) x) (nothing_first waiting none)
-    ∙ ap (λ (n : ℕ). names_after n (begin_entry (s.begun + 1) op) []) (sym (length-reverse old))
-    )
-    )
-    )
-
--- a world that was left as it was
-pub world_stays : (script : Script) (old new : List Entry) (newest later : List ℕ → Option Update) (s after : SessionNow) (waiting names : List PostId)
-    → IsWorld script old newest s waiting → new ≡ old → IsAs later newest → after ≡ s → names ≡ waiting → IsWorld script new later after names
-world_stays script old new newest later s after waiting names w new_is as_before after_is names_is =
-    let here : IsWorldOf script (reverse old) later s waiting =
+-- the same log with other actors
+world_with : (script : Script) (actors after : Actors) (log same : Log) → IsWorld script actors log → IsSameLog log same → after.leaders ≡ script.space
+    → AreAt script.space.servers (IsHost script (reverse log.trace)) after.hosts.items
+    → AreAt (length script.sessions) (IsSession script (reverse log.trace)) after.sessions.items
+    → IsWorld script after same
+world_with script actors after log same w logs leaders hosts sessions =
+    let at : IsWorldOf script (reverse log.trace) after.hosts.items after.sessions.items log.waiting.items =
     record {
-      built = w.built;
-      run = w.run;
-      still = w.still;
-      server =
-          record {
-            states = w.server.states;
-            server_is = w.server.server_is;
-            slots =
-                λ key. let old_slot = w.server.slots key in
-                record { updates = old_slot.updates; log = old_slot.log; newest_is = as_before key ∙ old_slot.newest_is; state_is = old_slot.state_is };
-          };
-      session = w.session;
-      waiting_is = w.waiting_is;
-      pending = w.pending;
+      runnable = w.world.runnable;
+      sound = w.world.sound;
+      run = w.world.run;
+      still = w.world.still;
+      few = w.world.few;
+      hosts_are = hosts;
+      sessions_are = sessions;
+      waiting_is = w.world.waiting_is;
+      plain = w.world.plain;
     } in
-    rw (new_is, after_is, names_is) here
-
-numbered_first : (us : List Update) → IsLog us → IfSome (first_of_list us) IsNumbered
-numbered_first [] log = tt
-numbered_first (u ∷ older) log = record { version = log.0.version; few = log.0.few }
-
--- the newest update of each key has a small number
-pub numbered_world : (script : Script) (trace : List Entry) (newest : List ℕ → Option Update) (s : SessionNow) (waiting : List PostId)
-    → IsWorld script trace newest s waiting → (key : List ℕ) → IfSome (newest key) IsNumbered
-numbered_world script trace newest s waiting w key =
-    let slot = w.server.slots key in
-    subst (λ (o : Option Update). IfSome o IsNumbered) (sym slot.newest_is) (numbered_first slot.updates slot.log)
-
-length_pending : (script : Script) (t : List Entry) (n : ℕ) (waiting : List PostId) → AreWaiting script t n waiting → length t ≤ 3 * n
-length_pending script t n [] pending = pending
-length_pending script t n (id ∷ []) pending =
-    elim pending.kind [
-      | inl call ↦ let few = call.1 in omega (arith, few)
-      | inr reply ↦ let few = reply.1 in omega (arith, few)
-    ]
-length_pending script t n (id ∷ x ∷ rest) pending = absurd pending
-
--- no call makes more than three entries
-pub few_entries : (script : Script) (trace : List Entry) (newest : List ℕ → Option Update) (s : SessionNow) (waiting : List PostId)
-    → IsWorld script trace newest s waiting → (length trace < 2 ^ 32) × (s.begun + 1 < 2 ^ 32)
-few_entries script trace newest s waiting w =
-    let long = length_pending script (reverse trace) s.begun waiting w.pending in
-    let same = length-reverse trace in
-    let few = few_calls script w.built in
-    let within = w.session.within in
-    (omega (arith, long, same, few, within), omega (arith, few, within))
-
--- the session is not idle where it has no next call
-no_idle : (calls : List Op) (s : SessionNow) (sent : Bool) → call_at calls s ≡ None → is_idle (session_with calls s sent) ≡ false
-no_idle calls s sent none =
-    by s.under_way refl none
-  where
-    past : (xs : List Op) (i : ℕ) → slice_get xs i ≡ None → length xs ≤ i
-    past [] i e = omega arith
-    past (x ∷ xs) zero e = cc
-    past (x ∷ xs) (suc i) e = let k = past xs i e in omega (arith, k)
-
-    by : (b : Bool) → s.under_way ≡ b → cond b None (slice_get calls s.begun) ≡ None → is_idle (session_with calls s sent) ≡ false
-    by true on e = rw on refl
-    by false off e = let over = le-ltb s.begun (length calls) (past calls s.begun e) in rw (off, over) refl
-
-nobody_idle : (script : Script) (t : List Entry) (n : ℕ) → n ≤ 1 → is_idle (session_of script the_session t) ≡ false → idle_among script t (below n) ≡ None
-nobody_idle script t zero few not_idle = refl
-nobody_idle script t (suc zero) few not_idle = rw not_idle refl
-nobody_idle script t (suc (suc n)) few not_idle = absurd (omega arith)
-
--- nothing waits and the session has no next call: there is no next entry
-pub quiet_world : (script : Script) (trace : List Entry) (newest : List ℕ → Option Update) (s : SessionNow) (waiting : List PostId)
-    → IsWorld script trace newest s waiting → slice_get waiting 0 ≡ None → next_call_of script s ≡ None → next_entry script (reverse trace) ≡ None
-quiet_world script trace newest s waiting w none call =
-    let here = idle_world script trace newest s waiting w none in
-    let nothing : undelivered (reverse trace) ≡ [] = sym here.waiting_is in
-    let not_idle : is_idle (session_of script the_session (reverse trace)) ≡ false =
-    ap is_idle w.session.session_is ∙ no_idle (calls_of script the_session) s w.session.sent call in
-    let nobody = nobody_idle script (reverse trace) (length script.sessions) w.built.one_session not_idle in
-    rw (nothing, nobody) refl
-
-some_is : {A : Type 0} (o : Option A) → is_some o ≡ true → (x : A) × (o ≡ Some x)
-some_is None e = cc
-some_is (Some x) e = (x, refl)
-
-none_is : {A : Type 0} (o : Option A) → is_some o ≡ false → o ≡ None
-none_is None e = refl
-none_is (Some x) e = cc
-
--- a post that waits is delivered next
-pending_next : (script : Script) (t : List Entry) (newest : List ℕ → Option Update) (s : SessionNow) (id : PostId)
-    → IsWorldOf script t newest s (id ∷ []) → IsPending script t s.begun id → (e : Entry) × (next_entry script t ≡ Some e)
-pending_next script t newest s id w pending =
-    elim pending.kind [
-      | inl call ↦
-          let goes = serves_next script t newest (with_accepted (accepted_of script.space newest (call_post call.0.number call.0.op).message) newest) s id call.0.number call.0.op w
-          (pending.named ∙ ap Some call.0.is) pending.some_session call.0.built call.0.some call.0.few call.1 (λ key. refl) in
-          (served_entry script.space newest id (call_post call.0.number call.0.op), goes.next)
-      | inr reply ↦
-          let is = reply.0.is ∙ ap (λ (c : Caller). reply_post c reply.0.version reply.0.answer) (caller_is reply.0.caller reply.0.session) in
-          let goes = hears_next script t newest s id reply.0.caller.number reply.0.version reply.0.answer w (pending.named ∙ ap Some is) pending.some_session reply.1 in
-          (heard_entry s id (reply_post (caller_of reply.0.caller.number) reply.0.version reply.0.answer), goes.next)
-    ]
-
--- whether there is a next entry, by what the world keeps
-pub next_told : (script : Script) (trace : List Entry) (newest : List ℕ → Option Update) (s : SessionNow) (waiting : List PostId)
-    → IsWorld script trace newest s waiting → (is_some (slice_get waiting 0) || is_some (next_call_of script s)) ≡ is_some (next_entry script (reverse trace))
-next_told script trace newest s waiting w =
-    by (slice_get waiting 0) refl (next_call_of script s) refl
-  where
-    by : (first : Option PostId) → slice_get waiting 0 ≡ first → (call : Option Op) → next_call_of script s ≡ call → (is_some first || is_some call) ≡ is_some (next_entry script (reverse trace))
-    by (Some id) is call call_is =
-        let one = is_pending script trace newest s waiting id w is in
-        let here : IsWorldOf script (reverse trace) newest s (id ∷ []) = subst (λ (x : List PostId). IsWorldOf script (reverse trace) newest s x) one.0 w in
-        let next = pending_next script (reverse trace) newest s id here one.1 in
-        rw next.1 refl
-    by None is (Some op) call_is =
-        let goes = begins script (reverse trace) newest s op (idle_world script trace newest s waiting w is) call_is in
-        rw goes.next refl
-    by None is None call_is = rw (quiet_world script trace newest s waiting w is call_is) refl
-
-length_with_entry : (trace : List Entry) (e : Option Entry) → IsSome e → length (with_entry trace e) ≡ length trace + 1
-length_with_entry trace None some = cc
-length_with_entry trace (Some e) some = omega arith
-
-pub scheduled_more : (script : Script) (t : List Entry) (n : ℕ) → scheduled script t (n + 1) ≡ with_entry (scheduled script t n) (next_entry script (scheduled script t n))
-scheduled_more script t n = rw add-one refl
-
--- a quiet schedule stays
-scheduled_stays : (script : Script) (t : List Entry) (n k : ℕ) → next_entry script (scheduled script t n) ≡ None → scheduled script t (n + k) ≡ scheduled script t n
-scheduled_stays script t n zero quiet = rw add-zero refl
-scheduled_stays script t n (suc k) quiet =
-    let more : n + suc k ≡ suc (n + k) = omega arith in
-    let before = scheduled_stays script t n k quiet in
-    rw (more, before, quiet) refl
-
-stays_none : (script : Script) (old new : List Entry) → Advances script old new false → (next_entry script old ≡ None) × (new ≡ old)
-stays_none script old new a =
-    let none = none_is (next_entry script old) (sym a.told) in
-    (none, rw none at a.trace)
-
--- a drain that finds no next entry is quiet
-pub quiet_drains : (script : Script) (start old new : List Entry) (n i : ℕ) → i ≤ n → old ≡ scheduled script start i → Advances script old new false → Drains script n start new Quiet
-quiet_drains script start old new n i within here a =
-    let t = stays_none script old new a in
-    let quiet : next_entry script (scheduled script start i) ≡ None = rw (← here) t.0 in
-    let same : scheduled script start (i + (n - i)) ≡ scheduled script start i = scheduled_stays script start i (n - i) quiet in
-    let all : i + (n - i) ≡ n = omega arith in
     record {
-      trace = t.1 ∙ (here ∙ sym (rw all at same));
-      ends = rw t.1 t.0;
+      leaders = leaders;
+      world = subst (λ (t : List Entry). IsWorldOf script t after.hosts.items after.sessions.items same.waiting.items) (sym (ap reverse logs.trace))
+          (subst (λ (l : List PostId). IsWorldOf script (reverse log.trace) after.hosts.items after.sessions.items l) (sym logs.waiting) at);
     }
 
-pub stays_quiet : (script : Script) (trace : List Entry) (newest : List ℕ → Option Update) (s : SessionNow) (waiting : List PostId)
-    → IsWorld script trace newest s waiting → slice_get waiting 0 ≡ None → next_call_of script s ≡ None → Advances script (reverse trace) (reverse trace) false
-stays_quiet script trace newest s waiting w none call =
-    let quiet = quiet_world script trace newest s waiting w none call in
-    record { trace = rw quiet refl; told = rw quiet refl }
+module _ (script : Script) (actors : Actors) (log : Log) (w : IsWorld script actors log) where
+  abbrev pub t : List Entry
+  t = reverse log.trace
 
-few_waiting : (script : Script) (t : List Entry) (n : ℕ) (waiting : List PostId) → AreWaiting script t n waiting → length t ≤ 3 * n
-few_waiting script t n [] pending = pending
-few_waiting script t n (id ∷ []) pending =
-    elim pending.kind [
-      | inl call ↦ let few = call.1 in omega (arith, few)
-      | inr reply ↦ let few = reply.1 in omega (arith, few)
-    ]
-few_waiting script t n (id ∷ x ∷ rest) pending = absurd pending
+  -- nothing was made
+  pub stays : (same : Log) → IsSameLog log same → IsWorld script actors same
+  stays same logs = world_with script actors actors log same w logs w.leaders w.world.hosts_are w.world.sessions_are
 
--- each call makes three entries at most
-pub entries_counted : (script : Script) (trace : List Entry) (newest : List ℕ → Option Update) (s : SessionNow) (waiting : List PostId)
-    → IsWorld script trace newest s waiting → length trace ≤ most_entries
-entries_counted script trace newest s waiting w =
-    let counted = few_waiting script (reverse trace) s.begun waiting w.pending in
-    let few = few_calls script w.built in
-    let within = w.session.within in
-    omega (arith, counted, few, within, length-reverse trace)
+  -- a post that goes to an actor is named
+  pub sent_here : (id : PostId) (to : Actor) → receiver_of (post_named id t) ≡ Some to → IsSome (post_named id t)
+  sent_here id to e = let d = delivered_of script log id to e in rw d.named refl
+
+  -- no post goes to the coordinator
+  pub never_coordinator : (id : PostId) → receiver_of (post_named id t) ≡ Some Coordinator → ⊥
+  never_coordinator id e =
+      let d = delivered_of script log id Coordinator e in
+      no_coordinator script t actors.hosts.items actors.sessions.items log.waiting.items w.world id d.sent d.named d.to_is
+
+  -- the first post that waits goes to somebody
+  pub first_named : (id : PostId) → slice_get log.waiting.items 0 ≡ Some id → receiver_of (post_named id t) ≡ None → ⊥
+  first_named id first none =
+      let named = waiting_named t id (in-slice_get (undelivered t) 0 id (ap (λ (l : List PostId). slice_get l 0) (sym w.world.waiting_is) ∙ first)) in
+      by (sym (ap receiver_of named.1) ∙ none)
+    where
+      by : {p : Actor} → Some p ≡ None → ⊥
+      by e = cc
+
+  module _ (id : PostId) (s : ServerId) (to : receiver_of (post_named id t) ≡ Some (Server s)) where
+    delivered_here : IsDelivered script log id (Server s)
+    delivered_here = delivered_of script log id (Server s) to
+
+    exists_here : IsServerOf script.space s
+    exists_here = let d = delivered_here in server_here script t actors.hosts.items actors.sessions.items log.waiting.items w.world id d.sent d.named s d.to_is
+
+    pub server_low : 1 ≤ s.0
+    server_low = let h = exists_here in omega (arith, h.0)
+
+    pub server_in : s.0 - 1 < vec_len actors.hosts
+    server_in = let h = exists_here in let n = w.world.hosts_are.count in omega (arith, h.0, h.1, n, actors.hosts.ok.0)
+
+    place_is : server_at (s.0 - 1) ≡ s
+    place_is = let low = server_low in let e : s.0 - 1 + 1 ≡ s.0 = omega (arith, low) in λ i. record { 0 = e i }
+
+    host_read : (h : Host) → h ≡ get_or actors.hosts.items (s.0 - 1) h → slice_get actors.hosts.items (s.0 - 1) ≡ Some h
+    host_read h e = item_read actors.hosts.items (s.0 - 1) h (let within = server_in in omega (arith, within, actors.hosts.ok.0)) e
+
+    host_here : (h : Host) → h ≡ get_or actors.hosts.items (s.0 - 1) h → IsHost script t (s.0 - 1) h
+    host_here h e = w.world.hosts_are.each (s.0 - 1) h (host_read h e)
+
+    -- its next entry would be one too many
+    pub worn_server : (h : Host) → h ≡ get_or actors.hosts.items (s.0 - 1) h → slice_get log.waiting.items 0 ≡ Some id → 1048576 ≤ h.entries → IsWornOut script t (Server s)
+    worn_server h e first many =
+        let d = delivered_here in
+        let at = host_here h e in
+        let count : h.entries ≡ entries_of (Server s) t = at.entries ∙ ap (λ (x : ServerId). entries_of (Server x) t) place_is in
+        record {
+          next = delivers_to script t actors.hosts.items actors.sessions.items log.waiting.items w.world id d.sent (Server s) first d.named d.to_is;
+          worn = le-leb 1048576 (entries_of (Server s) t) (omega (arith, many, count));
+        }
+
+    -- the server can take the post
+    pub takes_post : (h : Host) → h ≡ get_or actors.hosts.items (s.0 - 1) h → (p : Post) → post_named id t ≡ Some p → CanTake h.server.space h.server.state (delivery id p)
+    takes_post h e p named =
+        let d = delivered_here in
+        let at = host_here h e in
+        let same : d.sent ≡ p = (let f : Some d.sent ≡ Some p = sym d.named ∙ named in cc) in
+        takes script t actors.hosts.items actors.sessions.items log.waiting.items w.world id p named s h.server.space h.server.state
+        (ap (λ (x : Post). x.to) (sym same) ∙ d.to_is) at.space (at.state ∙ ap (λ (x : ServerId). server_of script x t) place_is)
+
+    -- the server took it
+    pub served : (old new : Host) (actors_after : Actors) (after : Log) → old ≡ get_or actors.hosts.items (s.0 - 1) old → slice_get log.waiting.items 0 ≡ Some id → old.entries < 1048576
+        → ((p : Post) → post_named id t ≡ Some p → Files log after (server_entry old.server.space old.server.state (delivery id p)))
+        → ((p : Post) → post_named id t ≡ Some p → HasTaken old new (delivery id p))
+        → actors_after.leaders ≡ actors.leaders → actors_after.hosts.items ≡ set actors.hosts.items (s.0 - 1) new → actors_after.sessions.items ≡ actors.sessions.items
+        → GoesOn script log actors_after after
+    served old new actors_after after e first fresh files takes leaders hosts sessions =
+        let d = delivered_here in
+        goes_on script log after actors_after (server_entry old.server.space old.server.state (delivery id d.sent)) (leaders ∙ w.leaders) (files d.sent d.named)
+        (
+        λ names. subst (λ (l : List SessionNow). Goes script t (server_entry old.server.space old.server.state (delivery id d.sent)) actors_after.hosts.items l after.waiting.items) (sym sessions)
+        (
+        serves_next script t actors.hosts.items actors.sessions.items log.waiting.items w.world id d.sent (s.0 - 1) old new actors_after.hosts.items after.waiting.items
+        (server_entry old.server.space old.server.state (delivery id d.sent)) first d.named (d.to_is ∙ ap Server (sym place_is))
+        (host_read old e) fresh (takes d.sent d.named) hosts refl ((files d.sent d.named).waiting ∙ sym names)
+        )
+        )
+
+    -- or found no memory
+    pub unserved : (old new : Host) (actors_after : Actors) (same : Log) → old ≡ get_or actors.hosts.items (s.0 - 1) old → IsSameHost old new → IsSameLog log same
+        → actors_after.leaders ≡ actors.leaders → actors_after.hosts.items ≡ set actors.hosts.items (s.0 - 1) new → actors_after.sessions.items ≡ actors.sessions.items
+        → IsWorld script actors_after same
+    unserved old new actors_after same e stays logs leaders hosts sessions =
+        let at = host_here old e in
+        world_with script actors actors_after log same w logs (leaders ∙ w.leaders)
+        (
+        at_set script.space.servers (IsHost script t) (IsHost script t) actors.hosts.items actors_after.hosts.items (s.0 - 1) new w.world.hosts_are hosts
+        (record { space = stays.space ∙ at.space; state = stays.state ∙ at.state; entries = stays.entries ∙ at.entries })
+        (λ j x differ h. h)
+        )
+        (subst (λ (l : List SessionNow). AreAt (length script.sessions) (IsSession script t) l) (sym sessions) w.world.sessions_are)
+
+  module _ (id : PostId) (u : SessionId) (to : receiver_of (post_named id t) ≡ Some (Session u)) where
+    heard_here : IsDelivered script log id (Session u)
+    heard_here = delivered_of script log id (Session u) to
+
+    calls_here : IsSessionOf (length script.sessions) u
+    calls_here = let d = heard_here in session_here script t actors.hosts.items actors.sessions.items log.waiting.items w.world id d.sent d.named u d.to_is
+
+    pub session_low : 1 ≤ u.0
+    session_low = let h = calls_here in omega (arith, h.0)
+
+    pub session_in : u.0 - 1 < vec_len actors.sessions
+    session_in = let h = calls_here in let n = w.world.sessions_are.count in omega (arith, h.0, h.1, n, actors.sessions.ok.0)
+
+    seat_is : session_at (u.0 - 1) ≡ u
+    seat_is = let low = session_low in let e : u.0 - 1 + 1 ≡ u.0 = omega (arith, low) in λ i. record { 0 = e i }
+
+    session_read : (s : SessionNow) → s ≡ get_or actors.sessions.items (u.0 - 1) s → slice_get actors.sessions.items (u.0 - 1) ≡ Some s
+    session_read s e = item_read actors.sessions.items (u.0 - 1) s (let within = session_in in omega (arith, within, actors.sessions.ok.0)) e
+
+    -- its next entry would be one too many
+    pub worn_session : (s : SessionNow) → s ≡ get_or actors.sessions.items (u.0 - 1) s → slice_get log.waiting.items 0 ≡ Some id → 1048576 ≤ s.entries → IsWornOut script t (Session u)
+    worn_session s e first many =
+        let d = heard_here in
+        let at = w.world.sessions_are.each (u.0 - 1) s (session_read s e) in
+        let count : s.entries ≡ entries_of (Session u) t = at.entries ∙ ap (λ (x : SessionId). entries_of (Session x) t) seat_is in
+        record {
+          next = delivers_to script t actors.hosts.items actors.sessions.items log.waiting.items w.world id d.sent (Session u) first d.named d.to_is;
+          worn = le-leb 1048576 (entries_of (Session u) t) (omega (arith, many, count));
+        }
+
+    -- what it gets is a reply
+    pub reply_to : (p : Post) → post_named id t ≡ Some p → IsReply p
+    reply_to p named =
+        let d = heard_here in
+        let same : d.sent ≡ p = (let f : Some d.sent ≡ Some p = sym d.named ∙ named in cc) in
+        reply_here script t actors.hosts.items actors.sessions.items log.waiting.items w.world id p named u (ap (λ (x : Post). x.to) (sym same) ∙ d.to_is)
+
+    -- the session heard it
+    pub heard : (p : Post) (old new : SessionNow) (actors_after : Actors) (after : Log) → post_named id t ≡ Some p → old ≡ get_or actors.sessions.items (u.0 - 1) old → slice_get log.waiting.items 0 ≡ Some id → old.entries < 1048576
+        → Files log after (heard_entry old id p) → new ≡ heard_now old p.message
+        → actors_after.leaders ≡ actors.leaders → actors_after.hosts.items ≡ actors.hosts.items → actors_after.sessions.items ≡ set actors.sessions.items (u.0 - 1) new
+        → GoesOn script log actors_after after
+    heard p old new actors_after after named e first fresh files new_is leaders hosts sessions =
+        let d = heard_here in
+        let same : d.sent ≡ p = (let f : Some d.sent ≡ Some p = sym d.named ∙ named in cc) in
+        goes_on script log after actors_after (heard_entry old id p) (leaders ∙ w.leaders) files
+        (
+        λ names. subst (λ (l : List Host). Goes script t (heard_entry old id p) l actors_after.sessions.items after.waiting.items) (sym hosts)
+        (
+        hears_next script t actors.hosts.items actors.sessions.items log.waiting.items w.world id p (u.0 - 1) old actors_after.sessions.items after.waiting.items (heard_entry old id p)
+        first named (ap (λ (x : Post). x.to) (sym same) ∙ d.to_is ∙ ap Session (sym seat_is)) (reply_to p named) (session_read old e) fresh
+        (sessions ∙ ap (λ (s : SessionNow). set actors.sessions.items (u.0 - 1) s) new_is) refl (files.waiting ∙ sym names)
+        )
+        )
+
+  module _ (place : ℕ) (none : slice_get log.waiting.items 0 ≡ None) (first : IsFirstIdle script.sessions actors.sessions.items place) where
+    idle_read : (s : SessionNow) → s ≡ get_or actors.sessions.items place s → slice_get actors.sessions.items place ≡ Some s
+    idle_read s e = item_read actors.sessions.items place s (let within = first.within in let n = w.world.sessions_are.count in omega (arith, within, n)) e
+
+    -- its next entry would be one too many
+    pub worn_idle : (s : SessionNow) → s ≡ get_or actors.sessions.items place s → 1048576 ≤ s.entries → IsWornOut script t (Session (session_at place))
+    worn_idle s e many =
+        let at = w.world.sessions_are.each place s (idle_read s e) in
+        let next = first_idle_next script t actors.hosts.items actors.sessions.items log.waiting.items w.world none place first in
+        record { next = rw next refl; worn = le-leb 1048576 (entries_of (Session (session_at place)) t) (omega (arith, many, at.entries)) }
+
+    -- the session has a next call, on a key
+    pub has_call : (s : SessionNow) → s ≡ get_or actors.sessions.items place s → call_at script place s.begun ≡ None → ⊥
+    has_call s e nothing =
+        let call = first_call script actors.sessions.items place s first (idle_read s e) in
+        let same : Some call.1 ≡ None = sym call.2 ∙ nothing in cc
+
+    pub has_key : (number : ℕ) (op : Op) → call_at script place number ≡ Some op → key_of op ≡ None → ⊥
+    has_key number op call =
+        on_key op (call_runnable script w.world.runnable (session_at place) number op (call_of_session script place number op call))
+
+    pub few_begun : (s : SessionNow) → s ≡ get_or actors.sessions.items place s → s.begun + 1 < 4294967296
+    few_begun s e =
+        let at = w.world.sessions_are.each place s (idle_read s e) in
+        let few = few_calls script w.world.runnable (session_at place) in
+        omega (arith, few, at.within)
+
+    -- the session began it
+    pub begun : (old new : SessionNow) (op : Op) (key : List ℕ) (leader : ServerId) (actors_after : Actors) (after : Log) → old ≡ get_or actors.sessions.items place old
+        → call_at script place old.begun ≡ Some op → key_of op ≡ Some key → head_of (first_config actors.leaders) (key_region actors.leaders key) ≡ Some leader → old.entries < 1048576
+        → Files log after (begin_entry (session_at place) leader (old.begun + 1) op) → new ≡ begun_now old
+        → actors_after.leaders ≡ actors.leaders → actors_after.hosts.items ≡ actors.hosts.items → actors_after.sessions.items ≡ set actors.sessions.items place new
+        → GoesOn script log actors_after after
+    begun old new op key leader actors_after after e call key_is head fresh files new_is leaders hosts sessions =
+        let entry = begin_entry (session_at place) leader (old.begun + 1) op in
+        goes_on script log after actors_after entry (leaders ∙ w.leaders) files
+        (
+        λ names. subst (λ (l : List Host). Goes script t entry l actors_after.sessions.items after.waiting.items) (sym hosts)
+        (
+        begins_next script t actors.hosts.items actors.sessions.items log.waiting.items w.world place old op key leader actors_after.sessions.items after.waiting.items entry
+        none first (idle_read old e) call key_is (subst (λ (x : Space). head_of (first_config x) (key_region x key) ≡ Some leader) w.leaders head) fresh
+        (sessions ∙ ap (λ (s : SessionNow). set actors.sessions.items place s) new_is) refl (files.waiting ∙ sym names)
+        )
+        )
+
+  -- whether there is a next entry
+  pub none_left : slice_get log.waiting.items 0 ≡ None → IsNoneIdle script.sessions actors.sessions.items → Advances script t t false
+  none_left none idle =
+      let quiet = none_next script t actors.hosts.items actors.sessions.items log.waiting.items w.world none idle in
+      record { trace = rw quiet refl; told = rw quiet refl }
+
+  some_waits : (id : PostId) → slice_get log.waiting.items 0 ≡ Some id → is_some (next_entry script t) ≡ true
+  some_waits id first =
+      let named = waiting_named t id (in-slice_get (undelivered t) 0 id (ap (λ (l : List PostId). slice_get l 0) (sym w.world.waiting_is) ∙ first)) in
+      some_told (next_entry script t) (λ (x : Entry). x.actor ≡ named.0.to)
+      (delivers_to script t actors.hosts.items actors.sessions.items log.waiting.items w.world id named.0 named.0.to first named.1 refl)
+
+  -- a post that waits is delivered next
+  pub waiting_told : is_some (slice_get log.waiting.items 0) ≡ true → is_some (next_entry script t) ≡ true
+  waiting_told told = by (slice_get log.waiting.items 0) refl told
+    where
+      by : (o : Option PostId) → slice_get log.waiting.items 0 ≡ o → is_some o ≡ true → is_some (next_entry script t) ≡ true
+      by None e h = cc
+      by (Some id) e h = some_waits id e
+
+  -- where none waits an idle session acts next, if there is one
+  pub idle_told : (first : Option ℕ) → is_some (slice_get log.waiting.items 0) ≡ false → MatchOption first (IsNoneIdle script.sessions actors.sessions.items) (IsFirstIdle script.sessions actors.sessions.items)
+      → is_some first ≡ is_some (next_entry script t)
+  idle_told None none idle =
+      let quiet = none_next script t actors.hosts.items actors.sessions.items log.waiting.items w.world (none_there (slice_get log.waiting.items 0) none) idle in rw quiet refl
+  idle_told (Some place) none idle =
+      let next = first_idle_next script t actors.hosts.items actors.sessions.items log.waiting.items w.world (none_there (slice_get log.waiting.items 0) none) place idle in rw next refl

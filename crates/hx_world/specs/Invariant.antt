@@ -1,117 +1,90 @@
 -- What a world keeps: its fields are the states that the definitions fold from its trace.
-use Rattle.std.specs.Prelude.{◌≡◌, ℕ, ◌+◌, ◌*◌, ◌<◌, ◌≤◌, ⊤, ◌⊎◌, Bool, true, false, List, [], ◌∷◌, length, reverse, Option, Some}
-use Rattle.hx_types.specs.declared.calls.Op.{Op}
-use Rattle.hx_types.specs.declared.configs.Config.{Config}
+use Rattle.std.specs.Prelude.{◌≡◌, ℕ, ◌+◌, ◌<◌, ◌≤◌, Bool, true, List, [], length, reverse, slice_get, Some}
+use Rattle.hx_types.specs.declared.messages.Message.{Message}
 use Rattle.hx_types.specs.declared.messages.Post.{Post}
 use Rattle.hx_types.specs.declared.messages.PostId.{PostId}
-use Rattle.hx_types.specs.declared.names.RegionId.{RegionId}
+use Rattle.hx_types.specs.declared.names.Actor.{Actor}
+use Rattle.hx_types.specs.declared.names.ServerId.{ServerId}
+use Rattle.hx_types.specs.declared.names.SessionId.{SessionId}
 use Rattle.hx_types.specs.declared.traces.Entry.{Entry}
 use Rattle.hx_types.specs.declared.traces.Script.{Script}
-use Rattle.hx_types.specs.declared.updates.Update.{Update}
+use Rattle.hx_types.specs.declared.messages.Message.TheVariants as a_message
+use Rattle.hx_types.specs.declared.names.Actor.TheVariants.{Server, Session}
+use Rattle.hx_types.specs.Configs.{first_config}
 use Rattle.hx_types.specs.Fitting.{calls_of}
-use Rattle.hx_types.specs.Words.{first_of_list}
-use Rattle.hx_model.specs.Built.{IsBuilt}
-use Rattle.hx_model.specs.Runs.{IsRun, post_named, server_of, session_of}
-use Rattle.hx_model.specs.Schedule.{undelivered}
-use Rattle.hx_model.specs.ServerSteps.{ServerState}
+use Rattle.hx_types.specs.Words.{IsIn}
+use Rattle.std.specs.Prelude.{⊤}
+use Rattle.hx_model.specs.Built.{is_put_or_get}
+use Rattle.hx_model.specs.Runs.{IsRun, server_of, session_of}
+use Rattle.hx_model.specs.Schedule.{entries_of, undelivered}
 use Rattle.hx_model.specs.SessionSteps.{SessionState}
-use Rattle.hx_model.specs.Slots.{KeyState, keeps_at, no_kept, state_among, top_above}
 use Rattle.hx_model.specs.Steady.{HasNoHalts}
+use Rattle.hx_steady.specs.Served.{posts_of}
+use Rattle.hx_sound.specs.Sound.{PostsAreSound, ServersRun, VersionsAreSmall}
+use Rattle.hx_world.specs.declared.hosts.Host.{Host}
+use Rattle.hx_world.specs.declared.logs.Log.{Log}
+use Rattle.hx_world.specs.declared.schedule.Actors.{Actors}
 use Rattle.hx_world.specs.declared.sessions.Session.{Session as SessionNow}
-use Rattle.hx_world.specs.Steps.{the_server, the_session, most_calls, IsCall, IsReply}
+use Rattle.hx_world.specs.Runnable.{IsRunnable}
+use Rattle.hx_world.specs.Worlds.{HasFewEntries}
 
--- the one region
-abbrev pub the_region : RegionId
-the_region = record { 0 = 0 }
+-- what every run of the script in one configuration has, so that servers can take their posts
+pub record AreSound (script : Script) : Type 0 where
+  pub posts : PostsAreSound script
+  pub versions : VersionsAreSmall script
+  pub running : ServersRun script
 
--- the only configuration: server 1 stands for the one region
-abbrev pub the_config : Config
-the_config =
-    record {
-      epoch = record { 0 = 1 };
-      servers = the_server ∷ [];
-      regions = (record { server = the_server; ready = true } ∷ []) ∷ [];
-    }
+-- the list has n items, and each has what belongs to its place
+pub record AreAt {A : Type 0} (n : ℕ) (P : ℕ → A → Type 0) (xs : List A) : Type 0 where
+  pub count : length xs ≡ n
+  pub each : (place : ℕ) (x : A) → slice_get xs place ≡ Some x → P place x
 
--- the server with these slots
-abbrev pub server_with : List KeyState → ServerState
-server_with states =
-    record {
-      id = the_server;
-      config = the_config;
-      sealed = false;
-      halted = false;
-      replicas = record { region = the_region; installed = true; states = states } ∷ [];
-    }
+-- servers and sessions are numbered from 1
+abbrev pub server_at : ℕ → ServerId
+server_at place = record { 0 = place + 1 }
 
--- the slot of a key that accepted and committed these updates
-abbrev pub slot_of : List ℕ → List Update → KeyState
-slot_of key updates =
-    record { marks = true; base = no_kept key; accepted = updates; floor = top_above 0 updates; acked = []; early = [] }
+abbrev pub session_at : ℕ → SessionId
+session_at place = record { 0 = place + 1 }
 
-abbrev pub number_above : List Update → ℕ
-number_above [] = 0
-number_above (u ∷ older) = u.caller.number
+-- the server of this place after the trace
+pub record IsHost (script : Script) (trace : List Entry) (place : ℕ) (h : Host) : Type 0 where
+  pub space : h.server.space ≡ script.space
+  pub state : h.server.state ≡ server_of script (server_at place) trace
+  pub entries : h.entries ≡ entries_of (Server (server_at place)) trace
 
--- the update may follow these, the newest first
-pub record IsAfter (older : List Update) (u : Update) : Type 0 where
-  pub session : u.caller.session ≡ the_session
-  pub number : number_above older ≤ u.caller.number
-  pub version : u.version.0 ≤ u.caller.number
-  pub few : u.caller.number ≤ most_calls
-  pub changes : u.changes ≡ true
-  pub keeps : keeps_at the_region u ≡ true
+-- a session in the first configuration that is at this point
+abbrev pub session_with : Script → SessionId → SessionNow → Bool → SessionState
+session_with script u s sent =
+    record { id = u; calls = calls_of script u; config = first_config script.space; begun = s.begun; under_way = s.under_way; sent = sent; parts = [] }
 
-abbrev pub IsLog : List Update → Type 0
-IsLog [] = ⊤
-IsLog (u ∷ older) = IsAfter older u × IsLog older
-
--- the slot of a key, of which this is the newest update
-pub record IsSlot (key : List ℕ) (newest : Option Update) (state : KeyState) : Type 0 where
-  pub updates : List Update
-  pub log : IsLog updates
-  pub newest_is : newest ≡ first_of_list updates
-  pub state_is : state ≡ slot_of key updates
-
--- the server has these newest updates
-pub record IsServer (script : Script) (trace : List Entry) (newest : List ℕ → Option Update) : Type 0 where
-  pub states : List KeyState
-  pub server_is : server_of script the_server trace ≡ server_with states
-  pub slots : (key : List ℕ) → IsSlot key (newest key) (state_among true key states)
-
--- a session that is at this point
-abbrev pub session_with : List Op → SessionNow → Bool → SessionState
-session_with calls s sent =
-    record { id = the_session; calls = calls; config = the_config; begun = s.begun; under_way = s.under_way; sent = sent; parts = [] }
-
-pub record IsSession (script : Script) (trace : List Entry) (s : SessionNow) : Type 0 where
+-- the session of this place after the trace
+pub record IsSession (script : Script) (trace : List Entry) (place : ℕ) (s : SessionNow) : Type 0 where
   pub sent : Bool
-  pub session_is : session_of script the_session trace ≡ session_with (calls_of script the_session) s sent
-  pub within : s.begun ≤ length (calls_of script the_session)
+  pub state : session_of script (session_at place) trace ≡ session_with script (session_at place) s sent
+  pub within : s.begun ≤ length (calls_of script (session_at place))
   pub begun : s.under_way ≡ true → 0 < s.begun
+  pub entries : s.entries ≡ entries_of (Session (session_at place)) trace
 
--- the post of this name is a call or a reply that waits
-pub record IsPending (script : Script) (trace : List Entry) (begun : ℕ) (id : PostId) : Type 0 where
-  pub sent_post : Post
-  pub named : post_named id trace ≡ Some sent_post
-  pub some_session : 0 < length script.sessions
-  pub kind : (IsCall sent_post × (length trace + 2 ≤ 3 * begun)) ⊎ (IsReply sent_post × (length trace + 1 ≤ 3 * begun))
-
--- at most one post waits
-abbrev pub AreWaiting : Script → List Entry → ℕ → List PostId → Type 0
-AreWaiting script trace begun [] = length trace ≤ 3 * begun
-AreWaiting script trace begun (id ∷ []) = IsPending script trace begun id
-AreWaiting script trace begun (id ∷ x ∷ rest) = ⊥
+-- what actors tell one another in a world: calls that are puts or gets, replies, updates and acknowledgements
+abbrev pub IsPlain : Message → Type 0
+IsPlain (a_message.Call epoch number op) = is_put_or_get op ≡ true
+IsPlain (a_message.Reply number version answer) = ⊤
+IsPlain (a_message.Update epoch g u) = ⊤
+IsPlain (a_message.Ack epoch g key version) = ⊤
+IsPlain other = ⊥
 
 -- what a world keeps, with its trace newest first
-pub record IsWorldOf (script : Script) (trace : List Entry) (newest : List ℕ → Option Update) (s : SessionNow) (waiting : List PostId) : Type 0 where
-  pub built : IsBuilt script
+pub record IsWorldOf (script : Script) (trace : List Entry) (hosts : List Host) (sessions : List SessionNow) (waiting : List PostId) : Type 0 where
+  pub runnable : IsRunnable script
+  pub sound : AreSound script
   pub run : IsRun script trace
   pub still : HasNoHalts trace
-  pub server : IsServer script trace newest
-  pub session : IsSession script trace s
+  pub few : HasFewEntries trace
+  pub hosts_are : AreAt script.space.servers (IsHost script trace) hosts
+  pub sessions_are : AreAt (length script.sessions) (IsSession script trace) sessions
   pub waiting_is : waiting ≡ undelivered trace
-  pub pending : AreWaiting script trace s.begun waiting
+  pub plain : (p : Post) → IsIn p (posts_of trace) → IsPlain p.message
 
-abbrev pub IsWorld : Script → List Entry → (List ℕ → Option Update) → SessionNow → List PostId → Type 0
-IsWorld script trace newest s waiting = IsWorldOf script (reverse trace) newest s waiting
+pub record IsWorld (script : Script) (actors : Actors) (log : Log) : Type 0 where
+  pub leaders : actors.leaders ≡ script.space
+  pub world : IsWorldOf script (reverse log.trace) actors.hosts.items actors.sessions.items log.waiting.items

@@ -3,9 +3,11 @@ pub use Rattle.hx_model.specs.Built
 pub use Rattle.hx_model.specs.Runs
 pub use Rattle.hx_model.specs.Schedule
 pub use Rattle.hx_model.specs.Steady
-pub mod Examples
 pub mod Filing
+pub mod Hosts
+pub mod Idle
 pub mod Invariant
-pub mod Slots
-pub mod Steps
+pub mod Runnable
+pub mod Sessions
+pub mod Starting
 pub mod Worlds

@@ -1,20 +1,41 @@
 -- A world, as contracts see it, and what a drain does to its trace; traces stand here newest first.
-use Rattle.std.specs.Prelude.{◌≡◌, ℕ, ◌+◌, ◌≤◌, Bool, List, length, is_some, IsSome}
+use Rattle.std.specs.Prelude.{◌≡◌, ℕ, ◌+◌, ◌<◌, ◌≤◌, Bool, true, List, length, is_some, IsSome, IsSomeAnd, ⊤}
+use Rattle.hx_types.specs.declared.names.Actor.{Actor}
 use Rattle.hx_types.specs.declared.traces.Entry.{Entry}
 use Rattle.hx_types.specs.declared.traces.Script.{Script}
-use Rattle.hx_world.specs.declared.schedule.Drained.{Drained}
-use Rattle.hx_world.specs.declared.schedule.Drained.TheVariants.{Quiet, Spent}
-use Rattle.hx_model.specs.Schedule.{next_entry, scheduled, with_entry, IsQuiet}
+use Rattle.hx_world.specs.declared.ends.DrainError.{DrainError}
+use Rattle.hx_world.specs.declared.ends.Drained.{Drained}
+use Rattle.hx_world.specs.declared.ends.Drained.TheVariants.{Quiet, Spent}
+use Rattle.hx_world.specs.declared.ends.DrainError.TheVariants.{Memory, Worn}
+use Rattle.hx_model.specs.Schedule.{entries_of, is_worn, next_entry, scheduled, with_entry, IsQuiet}
 
 -- the script, and the trace with the oldest entry first
 pub record WorldState : Type 0 where
   pub script : Script
   pub trace : List Entry
 
+-- no actor has made more than 1,048,576 entries
+abbrev pub HasFewEntries : List Entry → Type 0
+HasFewEntries trace = (a : Actor) → entries_of a trace ≤ 1048576
+
+-- no world makes more entries: 1,048,576 for each of 33 actors
+abbrev pub most_entries : ℕ
+most_entries = 34603008
+
 -- the next entry was made, if there is one
 pub record Advances (script : Script) (old new : List Entry) (made : Bool) : Type 0 where
   pub trace : new ≡ with_entry old (next_entry script old)
   pub told : made ≡ is_some (next_entry script old)
+
+-- the next entry is one of this actor, which has made all the entries that it may make
+pub record IsWornOut (script : Script) (trace : List Entry) (a : Actor) : Type 0 where
+  pub next : IsSomeAnd (next_entry script trace) (λ (x : Entry). x.actor ≡ a)
+  pub worn : is_worn a trace ≡ true
+
+-- why the next entry wasn't made
+abbrev pub Fails : Script → List Entry → DrainError → Type 0
+Fails script trace Memory = ⊤
+Fails script trace (Worn a) = IsWornOut script trace a
 
 -- all n entries were made, and there is a next
 pub record IsSpent (script : Script) (n : ℕ) (old new : List Entry) : Type 0 where
@@ -31,10 +52,11 @@ pub record Drains (script : Script) (n : ℕ) (old new : List Entry) (drained : 
   pub trace : new ≡ scheduled script old n
   pub ends : Ends script n old new drained
 
--- what was made, also where the memory was spent before the end
+-- a drain that failed has made fewer than n entries, and one that met a worn actor would have made its next
+pub record DrainFails (script : Script) (n : ℕ) (old new : List Entry) (e : DrainError) : Type 0 where
+  pub fewer : length new < length old + n
+  pub cause : Fails script new e
+
+-- what was made, also where a drain failed before the end
 abbrev pub IsPartOf : Script → ℕ → List Entry → List Entry → Type 0
 IsPartOf script n old new = (k : ℕ) × (k ≤ n) × (new ≡ scheduled script old k)
-
--- no world makes more entries: three for each of 16,384 calls
-abbrev pub most_entries : ℕ
-most_entries = 49152

@@ -1,99 +1,54 @@
-ghost use Rattle.std.specs.Prelude.{◌≡◌, true, Some, IfOk, OnOk, OnErr, is_some, reverse, slice_get};
+ghost use Rattle.std.specs.Prelude.{◌≡◌, true, Some, None, IfOk, OnOk, OnErr, IfErr, MatchOption, is_some, length, reverse, slice_get};
 ghost use Rattle.std.specs.Option.{option_copied};
-ghost use Rattle.hx_model.specs.Runs.{entry_at, post_named};
+ghost use Rattle.hx_model.specs.Runs.{post_named};
 ghost use Rattle.hx_model.specs.Schedule.{next_entry};
-ghost use Rattle.hx_world.specs.Steps.{next_call_of};
-ghost use Rattle.hx_world.specs.Worlds.{Advances};
+ghost use Rattle.hx_types.specs.declared.names.Actor.TheVariants as an_actor;
+ghost use Rattle.hx_world.specs.Filing.{receiver_of};
+ghost use Rattle.hx_world.specs.Idle.{IsFirstIdle, IsNoneIdle, call_at};
 ghost use Rattle.hx_world.specs.Invariant.{IsWorld};
-ghost use Rattle.hx_world.specs.Slots.{newest_in};
+ghost use Rattle.hx_world.specs.Worlds.{Advances, Fails};
 
-use crate::servers::{Slots, serve};
-use crate::sessions::{Session, begin, hear};
-use hx_types::{Actor, Entry, Exact, Memory, Op, Post, PostId, Script, Trace};
+use crate::ends::DrainError;
+use crate::hosts::{Host, receive};
+use crate::leaders::Leaders;
+use crate::logs::{Log, copy_of, first_waiting, is_any_waiting, receiver};
+use crate::sessions::{Session, begin, can_begin, hear};
+use hx_types::{Actor, Op, PostId, Script, ServerId, SessionId};
 use std::alloc::Global;
-use std::collections::VecDeque;
 
-/// How a drain ended.
-#[derive(Clone, Copy, Debug, PartialEq, Eq)]
-pub enum Drained {
-    /// There is no next entry.
-    Quiet,
-    /// All the entries that were asked for were made, and there is a next.
-    Spent,
-}
+/// How many entries an actor may make.
+const MOST_ENTRIES: u32 = 1_048_576;
 
-/// The name of the post that is delivered next: the lowest one that wasn't delivered.
-fn first_waiting(waiting: &VecDeque<PostId>) -> Option<PostId>
-    ensures { result ≡ slice_get waiting.now.items 0 }
-{
-    waiting.front().copied()
-}
-
-/// The entry of a number, from 1.
-#[tactic(auto, using(crate::proofs::Numbering::no_entry))]
-fn entry_of(trace: &Trace, number: u64) -> Option<&Entry>
-    ensures { option_copied result ≡ entry_at number (reverse trace.now) }
-{
-    if number == 0 {
-        return None;
-    }
-    trace.get(number as usize - 1)
-}
-
-/// The post of a name.
-fn sent_post(trace: &Trace, id: PostId) -> Option<&Post>
-    ensures { option_copied result ≡ post_named id (reverse trace.now) }
-{
-    let entry = entry_of(trace, id.entry)?;
-    entry.outputs.get(id.place as usize)
-}
-
-/// The call that the session would begin now.
-fn next_call<'a>(script: &'a Script, session: &Session) -> Option<&'a Op>
-    ensures { option_copied result ≡ next_call_of script.now session.now }
-{
-    if session.under_way {
-        return None;
-    }
-    let calls = script.sessions.get(0)?;
-    calls.get(session.begun as usize)
-}
-
-fn is_any_waiting(waiting: &VecDeque<PostId>) -> bool
-    ensures { result ≡ is_some (slice_get waiting.now.items 0) }
-{
-    first_waiting(waiting).is_some()
-}
-
-/// Whether a call is left and none under way.
-fn is_idle(script: &Script, session: &Session) -> bool
-    ensures { result ≡ is_some (next_call_of script.now session.now) }
-{
-    next_call(script, session).is_some()
+/// The servers and the sessions, those of number 1 first. The coordinator isn't among them: nobody
+/// in these worlds asks it for anything.
+#[derive(Drop)]
+pub struct Actors {
+    pub leaders: Leaders,
+    pub hosts: Vec<Host>,
+    pub sessions: Vec<Session>,
 }
 
 /// Makes the next entry, if there is one: the delivery of the post that waits longest, else the
-/// begin of the session's next call.
+/// begin of the next call of the lowest idle session.
 pub fn advance(
     alloc: Global,
     script: &Script,
-    slots: &mut Slots,
-    session: &mut Session,
-    trace: &mut Trace,
-    waiting: &mut VecDeque<PostId>,
-) -> Result<bool, Memory>
-    requires world { IsWorld script.now trace.old (newest_in slots.old) session.old waiting.old.items }
-    ensures world { IsWorld script.now trace.new (newest_in slots.new) session.new waiting.new.items }
-    ensures advances { IfOk result (Advances script.now (reverse trace.old) (reverse trace.new)) }
-    ensures err { OnErr result (trace.new ≡ trace.old) }
+    actors: &mut Actors,
+    log: &mut Log,
+) -> Result<bool, DrainError>
+    requires world { IsWorld script.now actors.old log.old }
+    ensures world { IsWorld script.now actors.new log.new }
+    ensures advances { IfOk result (Advances script.now (reverse log.old.trace) (reverse log.new.trace)) }
+    ensures fails { IfErr result (Fails script.now (reverse log.old.trace)) }
+    ensures err { OnErr result (log.new.trace ≡ log.old.trace) }
 {
-    if let Some(id) = first_waiting(waiting) {
-        deliver(alloc, script, slots, session, trace, waiting, id)?;
+    if let Some(id) = first_waiting(log) {
+        deliver(alloc, script, actors, log, id)?;
         return Ok(true);
     }
-    match next_call(script, session) {
-        Some(op) => {
-            begin(alloc, op, session, trace, waiting)?;
+    match first_idle(script, &actors.sessions) {
+        Some(place) => {
+            begin_next(alloc, script, actors, log, place)?;
             Ok(true)
         }
         None => Ok(false),
@@ -104,45 +59,139 @@ pub fn advance(
 fn deliver(
     alloc: Global,
     script: &Script,
-    slots: &mut Slots,
-    session: &mut Session,
-    trace: &mut Trace,
-    waiting: &mut VecDeque<PostId>,
+    actors: &mut Actors,
+    log: &mut Log,
     id: PostId,
-) -> Result<(), Memory>
-    requires world { IsWorld script.now trace.old (newest_in slots.old) session.old waiting.old.items }
-    requires first { slice_get waiting.old.items 0 ≡ Some id }
-    ensures world { IsWorld script.now trace.new (newest_in slots.new) session.new waiting.new.items }
-    ensures advances { OnOk result (Advances script.now (reverse trace.old) (reverse trace.new) true) }
-    ensures err { OnErr result (trace.new ≡ trace.old) }
+) -> Result<(), DrainError>
+    requires world { IsWorld script.now actors.old log.old }
+    requires first { slice_get log.old.waiting.items 0 ≡ Some id }
+    ensures world { IsWorld script.now actors.new log.new }
+    ensures advances { OnOk result (Advances script.now (reverse log.old.trace) (reverse log.new.trace) true) }
+    ensures fails { IfErr result (Fails script.now (reverse log.old.trace)) }
+    ensures err { OnErr result (log.new.trace ≡ log.old.trace) }
 {
-    let Some(post) = sent_post(trace, id) else {
-        unreachable!()
-    };
-    let post = post.copy(alloc)?;
-    match post.to {
-        Actor::Coordinator => unreachable!(),
-        Actor::Server(_) => {
-            serve(alloc, &script.space, slots, trace, waiting, id, post)?;
+    match receiver(log, id) {
+        Some(Actor::Server(server)) => {
+            serve(alloc, script, actors, log, id, server)?;
             Ok(())
         }
-        Actor::Session(_) => {
-            hear(alloc, session, trace, waiting, id, post)?;
+        Some(Actor::Session(session)) => {
+            answer(alloc, script, actors, log, id, session)?;
             Ok(())
         }
+        Some(Actor::Coordinator) => unreachable!(),
+        None => unreachable!(),
     }
 }
 
-/// Whether there is a next entry.
-pub fn has_next(
+/// Delivers the first of the waiting posts to its server.
+fn serve(
+    alloc: Global,
     script: &Script,
-    slots: &Slots,
-    session: &Session,
-    trace: &Trace,
-    waiting: &VecDeque<PostId>,
-) -> bool
-    requires { IsWorld script.now trace.now (newest_in slots.now) session.now waiting.now.items }
-    ensures { result ≡ is_some (next_entry script.now (reverse trace.now)) }
+    actors: &mut Actors,
+    log: &mut Log,
+    id: PostId,
+    server: ServerId,
+) -> Result<(), DrainError>
+    requires world { IsWorld script.now actors.old log.old }
+    requires first { slice_get log.old.waiting.items 0 ≡ Some id }
+    requires to { receiver_of (post_named id (reverse log.old.trace)) ≡ Some (an_actor.Server server) }
+    ensures world { IsWorld script.now actors.new log.new }
+    ensures advances { OnOk result (Advances script.now (reverse log.old.trace) (reverse log.new.trace) true) }
+    ensures fails { IfErr result (Fails script.now (reverse log.old.trace)) }
+    ensures err { OnErr result (log.new.trace ≡ log.old.trace) }
 {
-    is_any_waiting(waiting) || is_idle(script, session)
+    let host = &mut actors.hosts[server.0 as usize - 1];
+    if host.entries >= MOST_ENTRIES {
+        return Err(DrainError::Worn(Actor::Server(server)));
+    }
+    receive(alloc, host, log, id)?;
+    Ok(())
+}
+
+/// Delivers the first of the waiting posts to its session.
+fn answer(
+    alloc: Global,
+    script: &Script,
+    actors: &mut Actors,
+    log: &mut Log,
+    id: PostId,
+    session: SessionId,
+) -> Result<(), DrainError>
+    requires world { IsWorld script.now actors.old log.old }
+    requires first { slice_get log.old.waiting.items 0 ≡ Some id }
+    requires to { receiver_of (post_named id (reverse log.old.trace)) ≡ Some (an_actor.Session session) }
+    ensures world { IsWorld script.now actors.new log.new }
+    ensures advances { OnOk result (Advances script.now (reverse log.old.trace) (reverse log.new.trace) true) }
+    ensures fails { IfErr result (Fails script.now (reverse log.old.trace)) }
+    ensures err { OnErr result (log.new.trace ≡ log.old.trace) }
+{
+    let caller = &mut actors.sessions[session.0 as usize - 1];
+    if caller.entries >= MOST_ENTRIES {
+        return Err(DrainError::Worn(Actor::Session(session)));
+    }
+    let post = copy_of(alloc, log, id)?;
+    hear(alloc, caller, log, id, post)?;
+    Ok(())
+}
+
+/// The session of this place begins its next call.
+fn begin_next(
+    alloc: Global,
+    script: &Script,
+    actors: &mut Actors,
+    log: &mut Log,
+    place: usize,
+) -> Result<(), DrainError>
+    requires world { IsWorld script.now actors.old log.old }
+    requires none { slice_get log.old.waiting.items 0 ≡ None }
+    requires idle { IsFirstIdle script.now.sessions actors.old.sessions.items place }
+    ensures world { IsWorld script.now actors.new log.new }
+    ensures advances { OnOk result (Advances script.now (reverse log.old.trace) (reverse log.new.trace) true) }
+    ensures fails { IfErr result (Fails script.now (reverse log.old.trace)) }
+    ensures err { OnErr result (log.new.trace ≡ log.old.trace) }
+{
+    let id = SessionId(place as u32 + 1);
+    let session = &mut actors.sessions[place];
+    if session.entries >= MOST_ENTRIES {
+        return Err(DrainError::Worn(Actor::Session(id)));
+    }
+    let Some(op) = call_at(script, place, session.begun) else {
+        unreachable!()
+    };
+    let Some(key) = op.key() else {
+        unreachable!()
+    };
+    let leader = actors.leaders.leader(key);
+    begin(alloc, leader, op, id, session, log)?;
+    Ok(())
+}
+
+/// The call of a session's place, numbered from 0 too.
+fn call_at(script: &Script, place: usize, number: u32) -> Option<&Op>
+    ensures { option_copied result ≡ call_at script.now place number }
+{
+    let calls = script.sessions.get(place)?;
+    calls.get(number as usize)
+}
+
+/// The lowest session with a call left and none under way, by its place from 0.
+fn first_idle(script: &Script, sessions: &[Session]) -> Option<usize>
+    requires { length sessions.now ≡ length script.now.sessions }
+    ensures { MatchOption result (IsNoneIdle script.now.sessions sessions.now) (IsFirstIdle script.now.sessions sessions.now) }
+{
+    for (place, calls) in script.sessions.as_slice().iter().enumerate() {
+        if can_begin(calls, &sessions[place]) {
+            return Some(place);
+        }
+    }
+    None
+}
+
+/// Whether there is a next entry.
+pub fn has_next(script: &Script, actors: &Actors, log: &Log) -> bool
+    requires { IsWorld script.now actors.now log.now }
+    ensures { result ≡ is_some (next_entry script.now (reverse log.now.trace)) }
+{
+    is_any_waiting(log) || first_idle(script, &actors.sessions).is_some()
 }

@@ -1,38 +1,46 @@
-ghost use Rattle.std.specs.Prelude.{◌≡◌, ◌++◌, ◌∷◌, [], ◌<◌, ◌+◌, ◌^◌, ◌↔◌, true, false, IfOk, OnOk, OnErr, IsTrue, length};
-ghost use Rattle.hx_world.specs.Steps.{begin_entry, call_post, awaits, ends_by, heard_entry, session_after, IsReply};
-ghost use Rattle.hx_world.specs.Filing.{names_after};
+ghost use Rattle.std.specs.Prelude.{◌≡◌, [], ◌<◌, ◌+◌, ◌^◌, IfOk, OnOk, OnErr, if◌then◌else◌, length};
+ghost use Rattle.hx_world.specs.Filing.{Files, IsSameLog};
+ghost use Rattle.hx_world.specs.Sessions.{IsReply, awaits, begin_entry, begun_now, call_post, can_begin, ends_by, heard_entry, heard_now};
 
-use crate::filing::file;
-use crate::made::{Made, delivered, noted, nothing, sent_and_noted};
+use crate::leaders::Leaders;
+use crate::logs::{Log, push};
+use crate::made::{Made, noted, nothing, sent_and_noted};
 use hx_types::{
-    Actor, Entry, Epoch, Exact, Input, Memory, Message, Note, Op, Post, PostId, ServerId,
-    SessionId, Trace,
+    Actor, Calls, Entry, Epoch, Exact, Input, Memory, Message, Note, Op, Post, PostId, ServerId,
+    SessionId,
 };
 use std::alloc::Global;
-use std::collections::VecDeque;
 
-/// How far a session is: the number of the last call that it began, and whether that one hasn't
-/// ended. A session makes one call at a time, as a client of HyperDex that waits for each answer.
+/// How far a session is: the number of the last call that it began, whether that one hasn't ended,
+/// and how many entries it has made. A session makes one call at a time, as a client of HyperDex
+/// that waits for each answer.
 #[derive(Clone, Copy)]
 pub struct Session {
     pub begun: u32,
     pub under_way: bool,
+    pub entries: u32,
 }
 
-/// The one session of a script.
-pub fn only_session() -> SessionId
-    ensures { result ≡ record { 0 = 1 } }
+/// Whether a call is left and none under way.
+pub fn can_begin(calls: &Calls, session: &Session) -> bool
+    ensures { result ≡ can_begin calls.now session.now }
 {
-    SessionId(1)
+    !session.under_way && (session.begun as usize) < calls.len()
 }
 
-/// The post that sends a call to the server that leads all keys.
-fn call(alloc: Global, number: u32, op: &Op) -> Result<Post, Memory>
-    ensures { IfOk result (λ post. post ≡ call_post number op.now) }
+/// The post that sends a call to its key's leader.
+fn call(
+    alloc: Global,
+    leader: ServerId,
+    session: SessionId,
+    number: u32,
+    op: &Op,
+) -> Result<Post, Memory>
+    ensures { IfOk result (λ post. post ≡ call_post session leader number op.now) }
 {
     Ok(Post {
-        from: Actor::Session(only_session()),
-        to: Actor::Server(ServerId(1)),
+        from: Actor::Session(session),
+        to: Actor::Server(leader),
         message: Message::Call {
             epoch: Epoch(1),
             number,
@@ -41,34 +49,36 @@ fn call(alloc: Global, number: u32, op: &Op) -> Result<Post, Memory>
     })
 }
 
-/// An idle session begins its next call.
+/// The session begins its next call, whose key has this leader.
 pub fn begin(
     alloc: Global,
+    leader: ServerId,
     op: &Op,
+    id: SessionId,
     session: &mut Session,
-    trace: &mut Trace,
-    waiting: &mut VecDeque<PostId>,
+    log: &mut Log,
 ) -> Result<(), Memory>
     requires few_calls { session.old.begun + 1 < 2 ^ 32 }
-    requires few_entries { length trace.old < 2 ^ 32 }
-    ensures trace { OnOk result (trace.new ≡ trace.old ++ begin_entry (session.old.begun + 1) op.now ∷ []) }
-    ensures waiting { OnOk result (waiting.new.items ≡ names_after (length trace.old) (begin_entry (session.old.begun + 1) op.now) waiting.old.items) }
-    ensures session { OnOk result (session.new ≡ record { begun = session.old.begun + 1; under_way = true }) }
-    ensures same_trace { OnErr result (trace.new ≡ trace.old) }
-    ensures same_waiting { OnErr result (waiting.new.items ≡ waiting.old.items) }
+    requires fresh { session.old.entries + 1 < 2 ^ 32 }
+    requires few_entries { length log.old.trace < 2 ^ 32 }
+    ensures log { OnOk result (Files log.old log.new (begin_entry id leader (session.old.begun + 1) op.now)) }
+    ensures session { OnOk result (session.new ≡ begun_now session.old) }
+    ensures same_log { OnErr result (IsSameLog log.old log.new) }
     ensures same_session { OnErr result (session.new ≡ session.old) }
 {
     let number = session.begun + 1;
-    let made = sent_and_noted(alloc, call(alloc, number, op)?, Note::Began { number })?;
+    let post = call(alloc, leader, id, number, op)?;
+    let made = sent_and_noted(alloc, post, Note::Began { number })?;
     let entry = Entry {
-        actor: Actor::Session(only_session()),
+        actor: Actor::Session(id),
         input: Input::Tick,
         outputs: made.outputs,
         notes: made.notes,
     };
-    file(trace, waiting, entry)?;
+    push(alloc, log, entry)?;
     session.begun = number;
     session.under_way = true;
+    session.entries += 1;
     Ok(())
 }
 
@@ -76,30 +86,35 @@ pub fn begin(
 pub fn hear(
     alloc: Global,
     session: &mut Session,
-    trace: &mut Trace,
-    waiting: &mut VecDeque<PostId>,
+    log: &mut Log,
     id: PostId,
     post: Post,
 ) -> Result<(), Memory>
     requires reply { IsReply post }
-    requires few_entries { length trace.old < 2 ^ 32 }
-    ensures trace { OnOk result (trace.new ≡ trace.old ++ heard_entry session.old id post ∷ []) }
-    ensures waiting { OnOk result (waiting.new.items ≡ names_after (length trace.old) (heard_entry session.old id post) waiting.old.items) }
-    ensures session { OnOk result (session.new ≡ session_after session.old post.message) }
-    ensures same_trace { OnErr result (trace.new ≡ trace.old) }
-    ensures same_waiting { OnErr result (waiting.new.items ≡ waiting.old.items) }
+    requires fresh { session.old.entries + 1 < 2 ^ 32 }
+    requires few_entries { length log.old.trace < 2 ^ 32 }
+    ensures log { OnOk result (Files log.old log.new (heard_entry session.old id post)) }
+    ensures session { OnOk result (session.new ≡ heard_now session.old post.message) }
+    ensures same_log { OnErr result (IsSameLog log.old log.new) }
     ensures same_session { OnErr result (session.new ≡ session.old) }
 {
     let ends = is_awaited(session, &post.message);
-    let made = if ends {
-        ended(alloc, &post.message)?
-    } else {
-        nothing(alloc)
+    let made = heard(alloc, ends, &post.message)?;
+    let entry = Entry {
+        actor: post.to,
+        input: Input::Deliver {
+            id,
+            from: post.from,
+            message: post.message,
+        },
+        outputs: made.outputs,
+        notes: made.notes,
     };
-    file(trace, waiting, delivered(id, post, made))?;
+    push(alloc, log, entry)?;
     if ends {
         session.under_way = false;
     }
+    session.entries += 1;
     Ok(())
 }
 
@@ -113,16 +128,16 @@ fn is_awaited(session: &Session, message: &Message) -> bool
     }
 }
 
-/// The note of a call's end.
-fn ended(alloc: Global, reply: &Message) -> Result<Made, Memory>
-    ensures { IfOk result (λ made. made ≡ record { outputs = []; notes = ends_by reply.now }) }
+/// The note of a call's end, where a reply ends it.
+fn heard(alloc: Global, ends: bool, reply: &Message) -> Result<Made, Memory>
+    ensures { IfOk result (λ made. made ≡ record { outputs = []; notes = if ends then ends_by reply.now else [] }) }
 {
     match reply {
         Message::Reply {
             number,
             version,
             answer,
-        } => noted(
+        } if ends => noted(
             alloc,
             Note::Ended {
                 number: *number,

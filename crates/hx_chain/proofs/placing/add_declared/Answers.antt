@@ -13,6 +13,11 @@ loop-s-preserved c =
     let touches = touches_of a.slot.now.state in
     let before = c.region_of-before in
     let after = c.region_of-after in
-    c.in_ok-add_between.ensures
-    ∙ ap (λ (others : List Place). others ++ map (place_for after.result touches) (crossed before.result after.result)) c.loop-s.invariant
-    ∙ places_next a.map.now a.key.now (option_copied a.old) (option_copied a.new) touches a.places.now c.loop-s.s before.result after.result (omega arith) before.ensures after.ensures
+    record {
+      exact =
+          c.in_ok-add_between.ensures.exact
+          ∙ ap (λ (others : List Place). others ++ map (place_for after.result touches) (crossed before.result after.result)) c.loop-s.invariant.exact
+          ∙ places_next a.map.now a.key.now (option_copied a.old) (option_copied a.new) touches a.places.now c.loop-s.s before.result after.result (omega arith) before.ensures after.ensures;
+      after = c.in_ok-add_between.ensures.after;
+      few = omega (arith, c.in_ok-add_between.ensures.few, c.loop-s.invariant.few);
+    }

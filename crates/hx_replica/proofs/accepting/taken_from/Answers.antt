@@ -19,5 +19,5 @@ loop-turn-preserved c =
     one_more c.args.slot.now.region c.args.slot.now.state.floor (length c.args.slot.now.state.early - (c.loop-turn._turn + 1)) c.loop-turn.top.0 c.args.slot.now.state.early all c.loop-turn.taken.items c.in-Some.next
       (one_left c.args.slot.now.region c.args.slot.now.state.floor (length c.args.slot.now.state.early) c.loop-turn._turn c.loop-turn.top.0 c.args.slot.now.state.early all c.loop-turn.taken.items (omega (arith, c.loop-turn-test.true, c.early_count-turn-end.ensures)) c.loop-turn.invariant)
       (sym c.in-Some.ensures.turn)
-      (record { placed = c.in-Some.ensures.placed; few = c.in-Some.ensures.few; above = omega (arith, c.loop-turn.invariant.above, c.in-Some.ensures.later) })
+      (record { placed = c.in-Some.ensures.place; few = c.in-Some.ensures.few; above = omega (arith, c.loop-turn.invariant.above, c.in-Some.ensures.later) })
     )

@@ -1,4 +1,4 @@
-use Rattle.std.proofs.Common.{sym}
+use Rattle.std.proofs.Common.{◌<◌, sym}
 use Rattle.hx_model.specs.Slots.{moved_all, offered}
 use Rattle.hx_store.specs.declared.slots.Held.{Held}
 use Rattle.hx_store.specs.Held.{held_at}
@@ -27,3 +27,8 @@ returns c = record {
   state = c.accept.ensures.state;
   region = c.accept.ensures.region;
 }
+
+pub accept-requires-clause-spare : goal.accept-requires-clause-spare
+accept-requires-clause-spare c =
+    of_some (λ (h : Held). 0 < h.slot.spare) (held_at c.args.update.key c.args.slots.now.entries) c.in-Some.held.now
+      (asked c.as_str.result.now c.args.update.key c.args.slots.now.entries c.in-Some.held.now c.as_str.ensures (sym c.in-Some.ensures.value)) c.requires.room

@@ -1,6 +1,6 @@
 use Rattle.std.proofs.Common.{arith}
 use Rattle.std.specs.Prelude.{reverse}
-use Rattle.hx_world.proofs.Draining.{quiet_drains}
+use Rattle.hx_world.proofs.Spending.{quiet_drains}
 use Rattle.hx_world.proofs.worlds.World.drain.Goals as goal
 
 pub returns-then-not-branch-clause-drained : goal.returns-then-not-branch-clause-drained

@@ -1,6 +1,7 @@
-use Rattle.hx_world.proofs.Starting.{nothing_in, world_starts}
+use Rattle.hx_world.proofs.Beginning.{world_starts}
 use Rattle.hx_world.proofs.worlds.World.start.Goals as goal
 
 pub invariant_of-result : goal.invariant_of-result
 invariant_of-result c =
-    world_starts c.args.script.now _ _ _ _ c.requires c.in_ok-copy.ensures c.new-2.ensures (nothing_in c.new.result c.new.ensures.empty) c.new-3.ensures.items
+    world_starts c.args.script.now c.in_ok-copy.field-0 c.in_ok-actors.actors c.empty.result c.requires c.posts_are_sound.ensures.posts c.posts_are_sound.ensures.versions c.posts_are_sound.ensures.running
+    c.in_ok-actors.ensures c.in_ok-copy.ensures c.empty.ensures.trace c.empty.ensures.waiting

@@ -1,0 +1,215 @@
+-- A slot after acknowledgements.
+use Rattle.std.proofs.Common.{◌≡◌, ℕ, zero, suc, ◌+◌, ◌<◌, ◌≤◌, Bool, true, false, not, List, [], ◌∷◌, Vec, length, take, drop, set, get_or, Some, vec_capacity, vec_len, refl, ap, sym, ◌∙◌, subst, arith, cond, eqb, ltb}
+use Rattle.std.specs.List.{AllByRecursion, AllWithin, filter, list_any, position}
+use Rattle.std.specs.declared.alloc.Global.{Global}
+use Rattle.std.proofs.lemmas.Bool.{cond_both, cond-false, cond-true, eqb-true}
+use Rattle.std.proofs.lemmas.List.Quantifiers.{position-Some}
+use Rattle.std.proofs.Math.Seq.{take-add}
+use Rattle.std.proofs.lemmas.List.{drop-drop, drop-set-add, get_or-drop, length-drop, length-map}
+use Rattle.hx_types.specs.declared.names.Version.{Version}
+use Rattle.hx_types.specs.declared.results.Acked.{Acked}
+use Rattle.hx_types.specs.declared.results.Acked.TheVariants as an_ack
+use Rattle.hx_types.specs.declared.updates.Update.{Update}
+use Rattle.hx_model.specs.Slots.{Acknowledge, Forget, KeyState, Move, ack_answer, commits, is_pending, moved, moved_all, settled}
+use Rattle.hx_slot.specs.declared.entries.Placed.{Placed}
+use Rattle.hx_slot.specs.declared.entries.Taken.{Taken}
+use Rattle.hx_slot.specs.declared.slots.Slot.TheInside.{Inside}
+use Rattle.hx_slot.specs.Acks.{AreAcked, AreSameEntries, count_unacked, front_acked, front_with, is_of_version}
+use Rattle.hx_slot.specs.Entries.{IsHeld, last_version, newest_first}
+use Rattle.hx_slot.specs.Invariant.{IsSlot, coming, pending_in, seen, updates_of, versions_of}
+use Rattle.hx_slot.specs.States.{committed_count}
+use Rattle.hx_slot.proofs.Acking.{acked-none, acked-settled, acked-set, commits-count, commits-front, commits-state, commits-with, commits_of, count-drop, count-set, dropped, dropped-upto, length-dropped, marked-at, pending-any, versions-filter, with_ack}
+use Rattle.hx_slot.proofs.Newest.{last_version-append, pending-ascends}
+use Rattle.hx_slot.proofs.Reading.{pending-seen}
+use Rattle.hx_slot.proofs.Refitting.{count-length}
+use Rattle.hx_slot.proofs.SameEntries.{same-line, same-newest_first, same-set, same-tables}
+
+-- the slot with its lowest pending updates committed
+pub settled-slot : (a : Inside) (n : ℕ) (floor : Version) (acked : Vec Version Global) → IsSlot a → n ≤ length (pending_in a) → floor.0 ≡ last_version a.floor.0 (take n (pending_in a))
+    → acked.items ≡ filter (λ (v : Version). ltb floor.0 v.0) a.acked.items → vec_len acked ≤ vec_len a.acked → vec_capacity acked ≡ vec_capacity a.acked
+    → IsSlot (record a { committed = a.committed + n; floor = floor; acked = acked })
+settled-slot a n floor acked h w f items len capacity =
+    let pending = drop-drop n a.committed a.accepted.items in
+    let acks = ap versions_of items ∙ versions-filter (ltb floor.0) a.acked.items ∙ ap (λ v. filter (ltb v) (versions_of a.acked.items)) f in
+    let room = h.room in
+    let size = length-drop a.committed a.accepted.items in
+    let ok = a.accepted.ok.0 in
+    let few = count-drop n (pending_in a) in
+    let left = ap count_unacked pending in
+    record {
+      line = record {
+        ascends = h.line.ascends;
+        placed = h.line.placed;
+        within = (let l = h.line.within in omega (arith, size, w, l));
+        floor_is = f ∙ ap (λ v. last_version v (take n (pending_in a))) h.line.floor_is ∙ sym (last_version-append a.base.floor.0 (take a.committed a.accepted.items) (take n (pending_in a))) ∙ sym (ap (last_version a.base.floor.0) (take-add a.committed n a.accepted.items));
+      };
+      base = h.base;
+      acked = subst (AreAcked (versions_of acked.items)) pending (subst (λ (vs : List ℕ). AreAcked vs (drop n (pending_in a))) (sym acks) (acked-settled a.floor.0 n (pending_in a) (versions_of a.acked.items) (pending-ascends h.line) h.acked));
+      early = h.early;
+      room = record {
+        accepted = room.accepted;
+        early = room.early;
+        pending = (let r = room.pending in omega (arith, r));
+        acked = (let r = room.acked in omega (arith, r, few, left));
+        few = room.few;
+      };
+      tables = h.tables;
+      table_room = h.table_room;
+    }
+
+pub settled-state : (a : Inside) (n : ℕ) (floor : Version) (acked : Vec Version Global) → IsSlot a → n ≡ front_acked (pending_in a) → floor.0 ≡ last_version a.floor.0 (take n (pending_in a))
+    → acked.items ≡ filter (λ (v : Version). ltb floor.0 v.0) a.acked.items
+    → (seen (record a { committed = a.committed + n; floor = floor; acked = acked })).state ≡ moved_all (settled (seen a).state) (seen a).state
+settled-state a n floor acked h e f items =
+    let moves = ap (commits (versions_of a.acked.items)) (sym (pending-seen a h)) ∙ commits-front (versions_of a.acked.items) (pending_in a) h.acked.marked ∙ ap (λ k. commits_of (take k (pending_in a))) (sym e) in
+    let acks = ap versions_of items ∙ versions-filter (ltb floor.0) a.acked.items ∙ ap (λ v. filter (ltb v) (versions_of a.acked.items)) f ∙ sym (dropped-upto a.floor.0 n (pending_in a) (versions_of a.acked.items) (pending-ascends h.line) h.acked.known) in
+    let state : (seen (record a { committed = a.committed + n; floor = floor; acked = acked })).state ≡ record (seen a).state { floor = last_version a.floor.0 (take n (pending_in a)); acked = dropped (take n (pending_in a)) (versions_of a.acked.items) } =
+    λ j. record { marks = a.marks; base = a.base; accepted = newest_first [] a.accepted.items; floor = f j; acked = acks j; early = updates_of a.early.items } in
+    state ∙ sym (commits-state (take n (pending_in a)) (seen a).state) ∙ sym (ap (λ (ms : List Move). moved_all ms (seen a).state) moves)
+
+pub settled-count : (a : Inside) → IsSlot a → length (settled (seen a).state) ≡ front_acked (pending_in a)
+settled-count a h = ap (λ (us : List Update). length (commits (versions_of a.acked.items) us)) (sym (pending-seen a h)) ∙ commits-count (versions_of a.acked.items) (pending_in a) h.acked.marked
+
+one_of : (b : Bool) → cond b 1 0 + cond b 0 1 ≡ 1
+one_of true = refl
+one_of false = refl
+
+-- how many an acknowledgement would commit
+pub would-count : (a : Inside) → IsSlot a → (v : ℕ) → length (settled (moved (Acknowledge v) (seen a).state)) ≡ front_with v (pending_in a)
+would-count a h v = ap (λ (us : List Update). length (commits (with_ack v (versions_of a.acked.items)) us)) (sym (pending-seen a h)) ∙ commits-with v (versions_of a.acked.items) (pending_in a) h.acked.marked
+
+-- whether a version is pending
+pub pending-version : (a : Inside) → IsSlot a → (v : ℕ) → list_any (is_of_version v) (pending_in a) ≡ is_pending v (seen a).state
+pending-version a h v = sym (pending-any v (pending_in a)) ∙ ap (list_any (λ (u : Update). eqb u.version.0 v)) (pending-seen a h)
+
+-- the place of a pending update in the line
+pub pending-place : (a : Inside) → IsSlot a → (i : ℕ) (t : Taken) → i < length (pending_in a) → t ≡ get_or a.accepted.items (a.committed + i) t → t ≡ get_or (pending_in a) i t
+pending-place a h i t l e = e ∙ sym (get_or-drop a.committed a.accepted.items i t)
+
+-- room for one acknowledgement more
+pub ack-room : (a : Inside) → IsSlot a → (i : ℕ) (t : Taken) (acked : Vec Version Global) → i < length (pending_in a) → t ≡ get_or (pending_in a) i t
+    → acked.items ≡ filter (λ (v : Version). not (eqb v.0 t.update.version.0)) a.acked.items
+    → (vec_len acked + 1) + (count_unacked (set (pending_in a) i (record t { acknowledged = true })) + coming a) ≤ vec_capacity a.acked
+ack-room a h i t acked l e items =
+    let acks = ap length items ∙ sym (length-map (filter (λ (v : Version). not (eqb v.0 t.update.version.0)) a.acked.items) (λ (v : Version). v.0)) ∙ ap length (versions-filter (λ n. not (eqb n t.update.version.0)) a.acked.items) in
+    let fewer = length-dropped t.update.version.0 (versions_of a.acked.items) in
+    let all = length-map a.acked.items (λ (v : Version). v.0) in
+    let count = count-set (pending_in a) i t l e in
+    let mark = marked-at (versions_of a.acked.items) (pending_in a) i t l e h.acked.marked in
+    let was = ap {B = ℕ} (λ b. cond b 1 0) mark in
+    let one = one_of t.acknowledged in
+    let r = h.room.acked in
+    let ok = a.acked.ok.0 in
+    let now = acked.ok.0 in
+    omega (arith, acks, fewer, all, count, was, one, r, ok, now)
+
+-- the slot with one version more acknowledged
+pub acknowledged-slot : (a : Inside) (i : ℕ) (t : Taken) (accepted : Vec Taken Global) (acked : Vec Version Global) → IsSlot a → i < length (pending_in a) → t ≡ get_or (pending_in a) i t
+    → accepted.items ≡ set a.accepted.items (a.committed + i) (record t { acknowledged = true }) → vec_len accepted ≡ vec_len a.accepted → vec_capacity accepted ≡ vec_capacity a.accepted
+    → versions_of acked.items ≡ with_ack t.update.version.0 (versions_of a.acked.items) → vec_len acked + count_unacked (set (pending_in a) i (record t { acknowledged = true })) + coming a ≤ vec_capacity acked → vec_capacity a.acked ≤ vec_capacity acked
+    → IsSlot (record a { accepted = accepted; acked = acked })
+acknowledged-slot a i t accepted acked h l e items len capacity acks more grown =
+    let size = length-drop a.committed a.accepted.items in
+    let same = subst (λ (ts : List Taken). AreSameEntries a.accepted.items ts) (sym items) (same-set a.accepted.items (a.committed + i) t true (omega (arith, size, l)) (e ∙ get_or-drop a.committed a.accepted.items i t)) in
+    let pending = ap (drop a.committed) items ∙ drop-set-add a.committed a.accepted.items i (record t { acknowledged = true }) in
+    let count = ap count_unacked pending in
+    let room = h.room in
+    record {
+      line = same-line h.line accepted.items same;
+      base = h.base;
+      acked = subst (AreAcked (versions_of acked.items)) (sym pending) (subst (λ (vs : List ℕ). AreAcked vs (set (pending_in a) i (record t { acknowledged = true }))) (sym acks) (acked-set a.floor.0 (versions_of a.acked.items) (pending_in a) i t (pending-ascends h.line) l e h.acked));
+      early = h.early;
+      room = record {
+        accepted = (let r = room.accepted in omega (arith, r));
+        early = room.early;
+        pending = (let r = room.pending in omega (arith, r));
+        acked = omega (arith, more, count);
+        few = (let r = room.few in omega (arith, r));
+      };
+      tables = λ m. same-tables a.accepted.items accepted.items a.tables same (h.tables m);
+      table_room = h.table_room;
+    }
+
+pub acknowledged-state : (a : Inside) (i : ℕ) (t : Taken) (accepted : Vec Taken Global) (acked : Vec Version Global) → i < length (pending_in a) → t ≡ get_or (pending_in a) i t
+    → accepted.items ≡ set a.accepted.items (a.committed + i) (record t { acknowledged = true }) → versions_of acked.items ≡ with_ack t.update.version.0 (versions_of a.acked.items)
+    → (seen (record a { accepted = accepted; acked = acked })).state ≡ moved (Acknowledge t.update.version.0) (seen a).state
+acknowledged-state a i t accepted acked l e items acks =
+    let size = length-drop a.committed a.accepted.items in
+    let same = subst (λ (ts : List Taken). AreSameEntries a.accepted.items ts) (sym items) (same-set a.accepted.items (a.committed + i) t true (omega (arith, size, l)) (e ∙ get_or-drop a.committed a.accepted.items i t)) in
+    let line = same-newest_first [] a.accepted.items accepted.items same in
+    λ j. record { marks = a.marks; base = a.base; accepted = line j; floor = a.floor.0; acked = acks j; early = updates_of a.early.items }
+
+-- each of the rest
+each-drop : (P : Taken → Type 0) (n : ℕ) (ts : List Taken) → ((k : ℕ) (d : Taken) → n ≤ k → k < length ts → P (get_or ts k d)) → AllByRecursion P (drop n ts)
+each-drop P zero [] h = tt
+each-drop P zero (t ∷ rest) h = (h 0 t (omega arith) (omega arith), each-drop P zero rest (λ k d a b. h (suc k) d (omega arith) (omega arith)))
+each-drop P (suc n) [] h = tt
+each-drop P (suc n) (t ∷ rest) h = each-drop P n rest (λ k d a b. h (suc k) d (omega arith) (omega arith))
+
+-- the slot that forgets acknowledgements and early updates
+pub forgotten-slot : (a : Inside) (accepted : Vec Taken Global) (acked : Vec Version Global) (early : Vec Placed Global) → IsSlot a
+    → AreSameEntries a.accepted.items accepted.items → AllWithin (λ (t : Taken). t.acknowledged ≡ false) accepted.items a.committed (vec_len accepted) → vec_len accepted ≡ vec_len a.accepted → vec_capacity accepted ≡ vec_capacity a.accepted
+    → acked.items ≡ [] → vec_len acked ≡ 0 → vec_capacity acked ≡ vec_capacity a.acked → early.items ≡ [] → vec_len early ≡ 0 → vec_capacity early ≡ vec_capacity a.early
+    → IsSlot (record a { accepted = accepted; acked = acked; early = early })
+forgotten-slot a accepted acked early h same forgotten len capacity none_acked no_acks acked_capacity none_early no_early early_capacity =
+    let ok = accepted.ok.0 in
+    let unmarked = each-drop (λ (t : Taken). t.acknowledged ≡ false) a.committed accepted.items (λ k d low high. forgotten k d low (omega (arith, ok, high))) in
+    let size = length-drop a.committed accepted.items in
+    let few = count-length (drop a.committed accepted.items) in
+    let room = h.room in
+    record {
+      line = same-line h.line accepted.items same;
+      base = h.base;
+      acked = subst (λ (vs : List Version). AreAcked (versions_of vs) (drop a.committed accepted.items)) (sym none_acked) (acked-none (drop a.committed accepted.items) unmarked);
+      early = subst (AllByRecursion (IsHeld a.region)) (sym none_early) tt;
+      room = record {
+        accepted = (let r = room.accepted in omega (arith, r));
+        early = (let r = room.early in omega (arith, r));
+        pending = (let r = room.pending in omega (arith, r));
+        acked = (let r = room.pending in omega (arith, r, few, size, ok));
+        few = (let r = room.few in omega (arith, r));
+      };
+      tables = λ m. same-tables a.accepted.items accepted.items a.tables same (h.tables m);
+      table_room = λ m. (
+          let r = h.table_room m in
+          record { marks = (let q = r.marks in omega (arith, q)); touches = (let q = r.touches in omega (arith, q)) }
+          );
+    }
+
+pub forgotten-state : (a : Inside) (accepted : Vec Taken Global) (acked : Vec Version Global) (early : Vec Placed Global) → AreSameEntries a.accepted.items accepted.items → acked.items ≡ [] → early.items ≡ []
+    → (seen (record a { accepted = accepted; acked = acked; early = early })).state ≡ moved Forget (seen a).state
+forgotten-state a accepted acked early same none_acked none_early =
+    let line = same-newest_first [] a.accepted.items accepted.items same in
+    λ j. record { marks = a.marks; base = a.base; accepted = line j; floor = a.floor.0; acked = versions_of (none_acked j); early = updates_of (none_early j) }
+
+-- a pending update of the version, read at its place in the line
+pub record IsRead (a : Inside) (v i : ℕ) (t : Taken) : Type 0 where
+  pub within : i < length (pending_in a)
+  pub read : t ≡ get_or (pending_in a) i t
+  pub version : t.update.version.0 ≡ v
+
+pub read-at : (a : Inside) (v i : ℕ) (t : Taken) → position (is_of_version v) (pending_in a) ≡ Some i → t ≡ get_or a.accepted.items (a.committed + i) t → IsRead a v i t
+read-at a v i t p e =
+    let at = position-Some (is_of_version v) (pending_in a) i t p in
+    let read = e ∙ sym (get_or-drop a.committed a.accepted.items i t) in
+    record {
+      within = at.0;
+      read = read;
+      version = ap (λ (x : Taken). x.update.version.0) read ∙ eqb-true (get_or (pending_in a) i t).update.version.0 v at.1;
+    }
+
+-- the acknowledged versions with one more
+pub acks-with : (v t : ℕ) (old dropped new : List Version) (version : Version) → version.0 ≡ v → t ≡ v → dropped ≡ filter (λ (w : Version). not (eqb w.0 v)) old → new ≡ version ∷ dropped → versions_of new ≡ with_ack t (versions_of old)
+acks-with v t old dropped new version e q d n =
+    ap versions_of n ∙ ap (λ k. k ∷ versions_of dropped) e ∙ ap (λ (ns : List ℕ). v ∷ ns) (ap versions_of d ∙ versions-filter (λ k. not (eqb k v)) old) ∙ ap (λ k. with_ack k (versions_of old)) (sym q)
+
+-- what an acknowledgement is answered
+pub ack-unknown : (s : KeyState) (v : ℕ) → is_pending v s ≡ false → committed_count (ack_answer s v) ≡ 0
+ack-unknown s v e = ap committed_count (cond-true (not (is_pending v s)) _ _ (ap not e))
+
+pub ack-count : (s : KeyState) (v : ℕ) → is_pending v s ≡ true → committed_count (ack_answer s v) ≡ length (settled (moved (Acknowledge v) s))
+ack-count s v e =
+    ap committed_count (cond-false (not (is_pending v s)) _ _ (ap not e))
+    ∙ cond_both (eqb (length (settled (moved (Acknowledge v) s))) 0) an_ack.Kept (an_ack.Committed (length (settled (moved (Acknowledge v) s)))) (λ (x : Acked). committed_count x ≡ length (settled (moved (Acknowledge v) s)))
+    (λ q. sym (eqb-true (length (settled (moved (Acknowledge v) s))) 0 q))
+    (λ q. refl)

@@ -1,0 +1,35 @@
+-- The update follows the accepted ones, and no copy of it is held.
+use Rattle.std.proofs.Common.{◌-◌, ◌<◌, ◌++◌, ◌∷◌, [], ◌∙◌, false, List, ap, arith, not, eqb, refl, subst, sym}
+use Rattle.std.specs.List.{AllByRecursion}
+use Rattle.hx_model.specs.Slots.{Take, moved, top_of}
+use Rattle.hx_slot.specs.declared.entries.Placed.{Placed}
+use Rattle.hx_slot.specs.declared.entries.Taken.{Taken}
+use Rattle.hx_slot.specs.Entries.{IsHeld, IsPlaced, last_version}
+use Rattle.hx_slot.specs.States.{SlotState}
+use Rattle.hx_slot.specs.Tabled.{AreTables}
+use Rattle.hx_slot.proofs.Accepting.{accepted-slot, accepted-state, by_recursion-filter}
+use Rattle.hx_slot.proofs.Reading.{top-seen}
+use Rattle.hx_slot.proofs.slots.Slot.accept.Goals as goal
+
+pub invariant_of-self : goal.invariant_of-self
+invariant_of-self c =
+    let a = c.self.inside in
+    let t : Taken = record { update = c.args.placed.update; place = c.args.placed.place; acknowledged = false } in
+    let placed = subst (λ (s : SlotState). IsPlaced s.region t.update t.place) (sym c.self.view_is) c.requires.held.placed in
+    let top = subst (λ (s : SlotState). top_of s.state < t.update.version.0) (sym c.self.view_is) c.requires.above in
+    let is = top-seen a in
+    let above : last_version a.base.floor.0 a.accepted.items < t.update.version.0 = omega (arith, is, top) in
+    let held = by_recursion-filter (IsHeld a.region) (λ (p : Placed). not (eqb p.update.version.0 t.update.version.0)) a.early.items c.self.invariant.early in
+    let spare = subst (λ (s : SlotState). 0 < s.spare) (sym c.self.view_is) c.requires.spare in
+    accepted-slot a t c.push_reserved.new.self c.drop_version.new.early c.note.new.self _ c.self.invariant placed above refl
+    c.push_reserved.ensures.items c.push_reserved.ensures.len c.push_reserved.ensures.capacity
+    (subst (AllByRecursion (IsHeld a.region)) (sym c.drop_version.ensures.items) held) c.drop_version.ensures.len c.drop_version.ensures.capacity
+    (λ kept. subst (λ (line : List Taken). AreTables (line ++ t ∷ []) c.note.new.self) c.as_slice.ensures.value (c.note.ensures.tables t refl kept))
+    c.note.ensures.sizes
+    (omega (arith, spare))
+
+pub returns-clause-state : goal.returns-clause-state
+returns-clause-state c =
+    let t : Taken = record { update = c.args.placed.update; place = c.args.placed.place; acknowledged = false } in
+    accepted-state c.self.inside t c.push_reserved.new.self c.drop_version.new.early c.note.new.self (c.self.inside.spare - 1) c.push_reserved.ensures.items c.drop_version.ensures.items
+    ∙ ap (λ (s : SlotState). moved (Take c.args.placed.update) s.state) c.self.view_is

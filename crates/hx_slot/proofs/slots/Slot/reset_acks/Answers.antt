@@ -1,0 +1,17 @@
+use Rattle.std.proofs.Common.{◌∙◌, ap}
+use Rattle.hx_model.specs.Slots.{Forget, moved}
+use Rattle.hx_slot.specs.States.{SlotState}
+use Rattle.hx_slot.proofs.Settling.{forgotten-slot, forgotten-state}
+use Rattle.hx_slot.proofs.slots.Slot.reset_acks.Goals as goal
+
+pub invariant_of-self : goal.invariant_of-self
+invariant_of-self c =
+    let f = c.forget_acks.ensures in
+    let acks = c.clear.ensures in
+    let early = c.clear-2.ensures in
+    forgotten-slot c.self.inside c.forget_acks.new.accepted c.clear.new.self c.clear-2.new.self c.self.invariant f.same f.forgotten f.len f.capacity acks.items acks.len acks.capacity early.items early.len early.capacity
+
+pub returns-clause-state : goal.returns-clause-state
+returns-clause-state c =
+    forgotten-state c.self.inside c.forget_acks.new.accepted c.clear.new.self c.clear-2.new.self c.forget_acks.ensures.same c.clear.ensures.items c.clear-2.ensures.items
+    ∙ ap (λ (s : SlotState). moved Forget s.state) c.self.view_is

@@ -1,0 +1,36 @@
+-- The lowest acknowledged updates are committed.
+use Rattle.std.proofs.Common.{◌≤◌, List, ◌∙◌, ap, drop, length, subst, sym, take}
+use Rattle.hx_model.specs.Slots.{moved_all, settled}
+use Rattle.hx_slot.specs.declared.entries.Taken.{Taken}
+use Rattle.hx_slot.specs.Acks.{front_acked}
+use Rattle.hx_slot.specs.Entries.{last_version}
+use Rattle.hx_slot.specs.States.{SlotState}
+use Rattle.hx_slot.proofs.Settling.{settled-count, settled-slot, settled-state}
+use Rattle.hx_slot.proofs.slots.Slot.settle.Goals as goal
+
+pub invariant_of-self : goal.invariant_of-self
+invariant_of-self c =
+    let a = c.self.inside in
+    let n = c.acknowledged_front-count.result in
+    let rest = c.rest_of-pending.ensures ∙ ap (drop a.committed) c.as_slice.ensures.value in
+    settled-slot a n c.last_version-self-inside.result c.drop_acks_upto.new.acked c.self.invariant
+    (subst (λ (ts : List Taken). n ≤ length ts) rest c.acknowledged_front-count.ensures.within)
+    (c.last_version-self-inside.ensures ∙ ap (λ (ts : List Taken). last_version a.floor.0 (take n ts)) rest)
+    c.drop_acks_upto.ensures.items c.drop_acks_upto.ensures.len c.drop_acks_upto.ensures.capacity
+
+pub returns-clause-count : goal.returns-clause-count
+returns-clause-count c =
+    let a = c.self.inside in
+    let rest = c.rest_of-pending.ensures ∙ ap (drop a.committed) c.as_slice.ensures.value in
+    c.acknowledged_front-count.ensures.front ∙ ap front_acked rest ∙ sym (settled-count a c.self.invariant) ∙ ap (λ (s : SlotState). length (settled s.state)) c.self.view_is
+
+pub returns-clause-state : goal.returns-clause-state
+returns-clause-state c =
+    let a = c.self.inside in
+    let n = c.acknowledged_front-count.result in
+    let rest = c.rest_of-pending.ensures ∙ ap (drop a.committed) c.as_slice.ensures.value in
+    settled-state a n c.last_version-self-inside.result c.drop_acks_upto.new.acked c.self.invariant
+    (c.acknowledged_front-count.ensures.front ∙ ap front_acked rest)
+    (c.last_version-self-inside.ensures ∙ ap (λ (ts : List Taken). last_version a.floor.0 (take n ts)) rest)
+    c.drop_acks_upto.ensures.items
+    ∙ ap (λ (s : SlotState). moved_all (settled s.state) s.state) c.self.view_is

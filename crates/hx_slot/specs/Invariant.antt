@@ -1,0 +1,66 @@
+-- What a slot keeps, and what contracts see of it.
+use Rattle.std.specs.Prelude.{◌≡◌, ℕ, ◌+◌, ◌-◌, ◌^◌, ◌<◌, ◌≤◌, true, List, [], map, length, take, drop, vec_capacity, vec_len}
+use Rattle.std.specs.List.{AllByRecursion}
+use Rattle.hx_types.specs.declared.names.RegionId.{RegionId}
+use Rattle.hx_types.specs.declared.names.Version.{Version}
+use Rattle.hx_types.specs.declared.updates.Update.{Update}
+use Rattle.hx_slot.specs.declared.entries.Placed.{Placed}
+use Rattle.hx_slot.specs.declared.entries.Taken.{Taken}
+use Rattle.hx_slot.specs.declared.slots.Slot.TheInside.{Inside}
+use Rattle.hx_slot.specs.Acks.{AreAcked, count_unacked}
+use Rattle.hx_slot.specs.Entries.{Ascends, IsHeld, IsPlaced, last_version, newest_first}
+use Rattle.hx_slot.specs.States.{IsOrderly, SlotState}
+use Rattle.hx_slot.specs.Tabled.{AreTables, HasTableRoom}
+
+abbrev pub versions_of : List Version → List ℕ
+versions_of versions = map (λ (v : Version). v.0) versions
+
+abbrev pub updates_of : List Placed → List Update
+updates_of early = map (λ (p : Placed). p.update) early
+
+-- the slot as contracts see it
+abbrev pub seen : Inside → SlotState
+seen a =
+    record {
+      region = a.region;
+      state = record {
+        marks = a.marks;
+        base = a.base;
+        accepted = newest_first [] a.accepted.items;
+        floor = a.floor.0;
+        acked = versions_of a.acked.items;
+        early = updates_of a.early.items;
+      };
+      spare = a.spare;
+    }
+
+-- versions ascend from that of the base, each update has its place, and the first ones are committed
+pub record IsLine (g : RegionId) (base : ℕ) (accepted : List Taken) (committed floor : ℕ) : Type 0 where
+  pub ascends : Ascends base accepted
+  pub placed : AllByRecursion (λ (t : Taken). IsPlaced g t.update t.place) accepted
+  pub within : committed ≤ length accepted
+  pub floor_is : floor ≡ last_version base (take committed accepted)
+
+abbrev pub pending_in : Inside → List Taken
+pending_in a = drop a.committed a.accepted.items
+
+-- how many updates may still be accepted before more room is made
+abbrev pub coming : Inside → ℕ
+coming a = vec_len a.early + a.spare
+
+-- there is room for the updates that may still come and for the acknowledgements of all
+pub record HasRoom (a : Inside) : Type 0 where
+  pub accepted : vec_len a.accepted + coming a ≤ vec_capacity a.accepted
+  pub early : coming a ≤ vec_capacity a.early
+  pub pending : (vec_len a.accepted - a.committed) + coming a ≤ vec_capacity a.acked
+  pub acked : vec_len a.acked + count_unacked (pending_in a) + coming a ≤ vec_capacity a.acked
+  pub few : vec_len a.accepted + coming a + 1 < 2 ^ 32
+
+pub record IsSlot (a : Inside) : Type 0 where
+  pub line : IsLine a.region a.base.floor.0 a.accepted.items a.committed a.floor.0
+  pub base : IsOrderly a.base
+  pub acked : AreAcked (versions_of a.acked.items) (pending_in a)
+  pub early : AllByRecursion (IsHeld a.region) a.early.items
+  pub room : HasRoom a
+  pub tables : a.marks ≡ true → AreTables a.accepted.items a.tables
+  pub table_room : a.marks ≡ true → HasTableRoom a.tables (coming a)

@@ -1,0 +1,90 @@
+ghost use Rattle.std.specs.Prelude.{◌≡◌, ◌≤◌, ◌==◌, false, filter, length, nat_lt, not, position, vec_capacity, vec_len};
+ghost use Rattle.std.specs.List.{AllWithin, list_any};
+ghost use Rattle.hx_slot.specs.Acks.{AreSameEntries, front_acked, front_with, is_of_version};
+ghost use Rattle.hx_slot.specs.declared.entries.Taken.{Taken};
+ghost use Rattle.hx_types.specs.declared.names.Version.{Version};
+
+use crate::entries::Taken;
+use hx_types::Version;
+
+/// The place of the update of a version, from 0.
+pub fn place_of(pending: &[Taken], version: Version) -> Option<usize>
+    ensures { result ≡ position (is_of_version version.0) pending.now }
+{
+    pending
+        .iter()
+        .position(|taken| taken.update.version.0 == version.0)
+}
+
+/// Whether one of the updates has the version.
+pub fn has_update(pending: &[Taken], version: Version) -> bool
+    ensures { result ≡ list_any (is_of_version version.0) pending.now }
+{
+    pending
+        .iter()
+        .any(|taken| taken.update.version.0 == version.0)
+}
+
+/// Whether the version is among these.
+pub fn has_version(acked: &[Version], version: Version) -> bool
+    ensures { result ≡ list_any (λ (v : Version). v.0 == version.0) acked.now }
+{
+    acked.iter().any(|acked| acked.0 == version.0)
+}
+
+/// How many updates at the front are acknowledged.
+pub fn acknowledged_front(pending: &[Taken]) -> usize
+    ensures front { result ≡ front_acked pending.now }
+    ensures within { result ≤ length pending.now }
+{
+    for (count, taken) in pending.iter().enumerate() {
+        if !taken.acknowledged {
+            return count;
+        }
+    }
+    pending.len()
+}
+
+/// How many updates at the front would be acknowledged with that of the version.
+pub fn acknowledged_with(pending: &[Taken], version: Version) -> usize
+    ensures front { result ≡ front_with version.0 pending.now }
+    ensures within { result ≤ length pending.now }
+{
+    for (count, taken) in pending.iter().enumerate() {
+        if !taken.acknowledged && taken.update.version.0 != version.0 {
+            return count;
+        }
+    }
+    pending.len()
+}
+
+/// Takes a version out.
+pub fn drop_ack(acked: &mut Vec<Version>, version: Version)
+    ensures items { acked.new.items ≡ filter (λ (v : Version). not (v.0 == version.0)) acked.old.items }
+    ensures len { vec_len acked.new ≤ vec_len acked.old }
+    ensures capacity { vec_capacity acked.new ≡ vec_capacity acked.old }
+{
+    acked.retain(|acked| acked.0 != version.0);
+}
+
+/// Takes the versions up to a floor out.
+pub fn drop_acks_upto(acked: &mut Vec<Version>, floor: Version)
+    ensures items { acked.new.items ≡ filter (λ (v : Version). nat_lt floor.0 v.0) acked.old.items }
+    ensures len { vec_len acked.new ≤ vec_len acked.old }
+    ensures capacity { vec_capacity acked.new ≡ vec_capacity acked.old }
+{
+    acked.retain(|acked| floor.0 < acked.0);
+}
+
+/// Marks the updates from a place on as not acknowledged.
+pub fn forget_acks(accepted: &mut Vec<Taken>, from: usize)
+    requires { from ≤ vec_len accepted.old }
+    ensures same { AreSameEntries accepted.old.items accepted.new.items }
+    ensures forgotten { AllWithin (λ (t : Taken). t.acknowledged ≡ false) accepted.new.items from (vec_len accepted.new) }
+    ensures len { vec_len accepted.new ≡ vec_len accepted.old }
+    ensures capacity { vec_capacity accepted.new ≡ vec_capacity accepted.old }
+{
+    for place in from..accepted.len() {
+        accepted[place].acknowledged = false;
+    }
+}

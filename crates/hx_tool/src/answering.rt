@@ -1,0 +1,39 @@
+ghost use Rattle.std.specs.Prelude.{◌≡◌, IfOk, IfErr};
+ghost use Rattle.hx_types.specs.Fitting.{IsScript};
+ghost use Rattle.hx_tool.specs.Causes.{IsAnswer, IsPlanned, IsTextCause};
+
+use crate::outcomes::{Answered, Outcome};
+use crate::plans::plans;
+use crate::replaying::replay;
+use crate::words::Command;
+use hx_types::{Memory, Script, Trace};
+use std::alloc::Global;
+
+/// What the command makes of the script of a text.
+///
+/// # Errors
+///
+/// `Refused` exactly where the text is no script, with its first faulty line; `Unbuilt` exactly
+/// where it is one that the command doesn't take; `Memory`.
+pub fn answer(alloc: Global, command: Command, text: &[u8]) -> Result<Answered, Outcome>
+    ensures answer { IfOk result (λ made. IsAnswer command text.now made.trace made.bytes.items) }
+    ensures cause { IfErr result (IsTextCause command text.now) }
+{
+    let script = hx_script::read(alloc, text)?;
+    hx_script::scripts_are_valid();
+    match command {
+        Command::Replay => replay(alloc, &script),
+        Command::Plan => Ok(plan(alloc, &script)?),
+    }
+}
+
+fn plan(alloc: Global, script: &Script) -> Result<Answered, Memory>
+    requires { IsScript script.now }
+    ensures { IfOk result (λ made. IsPlanned script.now made.trace made.bytes.items) }
+{
+    let bytes = plans(alloc, script)?;
+    Ok(Answered {
+        trace: Trace::new(alloc),
+        bytes,
+    })
+}
