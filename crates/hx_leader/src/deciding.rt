@@ -1,6 +1,5 @@
-ghost use Rattle.std.specs.Prelude.{◌≡◌, ◌<◌, ◌≤◌, ◌+◌, ◌^◌, IfOk, IsTrue};
-ghost use Rattle.hx_chain.specs.Crossing.{ComeAfterLower};
-ghost use Rattle.hx_leader.specs.Parts.{IsInTurn, IsNext, refused, repeated};
+ghost use Rattle.std.specs.Prelude.{◌≡◌, ◌<◌, ◌+◌, ◌^◌, IfOk, IsTrue};
+ghost use Rattle.hx_leader.specs.Parts.{refused, repeated};
 ghost use Rattle.hx_model.specs.Leading.{decide, fresh, granted, with_places};
 ghost use Rattle.hx_model.specs.Slots.{latest_of, top_of};
 
@@ -41,8 +40,7 @@ pub fn decide(
     requires map { map.now ≡ space.now }
     requires marks { IsTrue slot.now.state.marks }
     requires room { top_of slot.now.state + 1 < 2 ^ 64 }
-    ensures exact { IfOk result (λ decision. decision ≡ decide space.now config.now slot.now.region slot.now.state caller op.now) }
-    ensures in_turn { IfOk result (IsInTurn space.now slot.now.state) }
+    ensures { IfOk result (λ decision. decision ≡ decide space.now config.now slot.now.region slot.now.state caller op.now) }
 {
     if let Some((number, version, answer)) = slot.mark(caller.session) {
         if caller.number < number {
@@ -62,9 +60,7 @@ fn repeated(
     version: Version,
     answer: &Answer,
 ) -> Result<Decision, Memory>
-    requires { version.0 ≤ top_of slot.now.state }
-    ensures exact { IfOk result (λ decision. decision ≡ repeated slot.now.state version answer.now) }
-    ensures in_turn { IfOk result (λ decision. (space : Space) → IsInTurn space slot.now.state decision) }
+    ensures { IfOk result (λ decision. decision ≡ repeated slot.now.state version answer.now) }
 {
     if version.0 <= slot.floor().0 {
         Ok(Decision::Again(version, answer.copy(alloc)?))
@@ -86,8 +82,7 @@ fn fresh(
     requires map { map.now ≡ space.now }
     requires marks { IsTrue slot.now.state.marks }
     requires room { top_of slot.now.state + 1 < 2 ^ 64 }
-    ensures exact { IfOk result (λ decision. decision ≡ fresh space.now config.now slot.now.region slot.now.state caller op.now) }
-    ensures in_turn { IfOk result (IsInTurn space.now slot.now.state) }
+    ensures { IfOk result (λ decision. decision ≡ fresh space.now config.now slot.now.region slot.now.state caller op.now) }
 {
     match stuck(config, slot) {
         Some((_, region)) => Ok(Decision::Stuck(region)),
@@ -110,19 +105,10 @@ fn assigned(
 ) -> Result<Update, Memory>
     requires marks { IsTrue slot.now.state.marks }
     requires room { top_of slot.now.state + 1 < 2 ^ 64 }
-    ensures exact { IfOk result (λ update. update ≡ with_places map.now config.now slot.now.state caller (latest_of slot.now.region slot.now.state) effect) }
-    ensures next { IfOk result (IsNext map.now slot.now.state) }
+    ensures { IfOk result (λ update. update ≡ with_places map.now config.now slot.now.state caller (latest_of slot.now.region slot.now.state) effect) }
 {
     let new = effect.object.as_ref();
-    let places = places(
-        alloc,
-        map,
-        slot.key(),
-        slot.latest(),
-        new,
-        effect.changes,
-        slot,
-    )?;
+    let places = places(alloc, map, slot.key(), slot.latest(), new, effect.changes, slot)?;
     match first_lost(config, &places) {
         None => Ok(granted(alloc, slot, caller, effect, places)?),
         Some(region) => Ok(refused(alloc, map, config, slot, caller, region)?),
@@ -140,8 +126,7 @@ fn refused(
 ) -> Result<Update, Memory>
     requires marks { IsTrue slot.now.state.marks }
     requires room { top_of slot.now.state + 1 < 2 ^ 64 }
-    ensures exact { IfOk result (λ update. update ≡ refused map.now config.now slot.now.state caller (latest_of slot.now.region slot.now.state) region) }
-    ensures next { IfOk result (IsNext map.now slot.now.state) }
+    ensures { IfOk result (λ update. update ≡ refused map.now config.now slot.now.state caller (latest_of slot.now.region slot.now.state) region) }
 {
     let latest = slot.latest();
     let places = places(alloc, map, slot.key(), latest, latest, false, slot)?;
@@ -169,11 +154,7 @@ fn granted(
     places: Places,
 ) -> Result<Update, Memory>
     requires room { top_of slot.now.state + 1 < 2 ^ 64 }
-    requires after { ComeAfterLower (top_of slot.now.state + 1) places }
-    ensures exact { IfOk result (λ update. update ≡ granted slot.now.state caller effect places) }
-    ensures version { IfOk result (λ update. update.version.0 ≡ top_of slot.now.state + 1) }
-    ensures after { IfOk result (λ update. ComeAfterLower update.version.0 places) }
-    ensures places { IfOk result (λ update. update.places ≡ places) }
+    ensures { IfOk result (λ update. update ≡ granted slot.now.state caller effect places) }
 {
     let key = slot.key().copy(alloc)?;
     let version = Version(slot.top().0 + 1);

@@ -6,6 +6,3 @@ mod stuck_updates;
 
 pub use deciding::decide;
 pub use stuck_updates::stuck;
-
-#[cfg(test)]
-mod tests;

@@ -9,8 +9,10 @@ use hx_types::{Item, Object, Space};
 ///
 /// The answer and the object of the first item are those of its operation's effect on the absent
 /// object, and those of each further item the ones of its operation's effect on the object after
-/// the item before it. Versions and callers don't matter. The empty history is legal. It takes no
-/// memory.
+/// the item before it. Versions and callers don't matter. An operation that isn't on a key leaves
+/// the object and is answered [`Answer::NotFound`](hx_types::Answer). The empty history is legal.
+///
+/// It takes no memory.
 pub fn legal(space: &Space, items: &[Item]) -> bool
     ensures { IsTrue result ↔ IsLegal space.now (reverse items.now) }
 {

@@ -1,16 +1,9 @@
--- Regions gathered and candidates compared one after another.
-use Rattle.std.proofs.Common.{◌≡◌, ℕ, ◌+◌, Bool, cond, List, [], ◌∷◌, ◌++◌, map, Option, None, refl, ap, ◌∙◌}
-use Rattle.std.specs.List.{filter}
-use Rattle.std.proofs.lemmas.List.Elements.{filter-append}
+-- Candidates compared one after another.
+use Rattle.std.proofs.Common.{◌≡◌, ℕ, ◌+◌, List, [], ◌∷◌, ◌++◌, map, Option, None, refl, ap, ◌∙◌}
 use Rattle.hx_types.specs.declared.configs.Config.{Config}
 use Rattle.hx_types.specs.Words.{below}
 use Rattle.hx_types.proofs.Counting.{map_below_next}
 use Rattle.hx_model.specs.Planning.{QueryRegions, chosen, fewer_of}
-
--- one more is tested
-pub filter_below_next : {A : Type 0} (test : A → Bool) (f : ℕ → A) (n : ℕ)
-    → filter test (map f (below (n + 1))) ≡ filter test (map f (below n)) ++ cond (test (f n)) (f n ∷ []) []
-filter_below_next test f n = ap (filter test) (map_below_next f n) ∙ filter-append test (map f (below n)) (f n ∷ [])
 
 -- the last candidate is compared with the best of those before it
 pub chosen_end : (config : Config) (best : Option QueryRegions) (qs : List QueryRegions) (q : QueryRegions)

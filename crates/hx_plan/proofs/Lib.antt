@@ -1,4 +1,5 @@
 pub mod Choosing
 pub mod Listing
 pub mod Planned
+pub mod Trying
 pub mod Examples

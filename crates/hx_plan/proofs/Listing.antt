@@ -2,9 +2,10 @@
 use Rattle.std.proofs.Common.{◌≡◌, ℕ, zero, suc, ◌<◌, Bool, true, false, cond, ◌||◌, ◌⊎◌, inl, inr, List, [], ◌∷◌, ◌++◌, map, length, get_or, Option, Some, refl, sym, ap, ◌∙◌, subst, arith}
 use Rattle.std.specs.List.{All, AllPairs, Contains, filter, find, list_any}
 use Rattle.std.proofs.lemmas.Bool.{cases_order}
-use Rattle.std.proofs.lemmas.List.Elements.{All-cons, All-map, All-nil, All-push, Contains-append_left, Contains-push}
+use Rattle.std.proofs.lemmas.List.Elements.{All-cons, All-map, All-nil, Contains-append_left, Contains-push}
 use Rattle.std.proofs.lemmas.List.Quantifiers.{all_pairs_push}
 use Rattle.hx_types.specs.Words.{below}
+use Rattle.hx_region.proofs.Counted.{All-below}
 
 pub clash : (b : Bool) → b ≡ true → b ≡ false → ⊥
 clash true p q = cc
@@ -18,11 +19,6 @@ neither false b e = (refl, e)
 pub none_passes : {X : Type 0} (p : X → Bool) (xs : List X) → list_any p xs ≡ false → All (λ x. p x ≡ false) xs
 none_passes p [] e = All-nil (λ x. p x ≡ false)
 none_passes p (x ∷ xs) e = (let h = neither (p x) (list_any p xs) e in All-cons (λ x. p x ≡ false) x xs h.0 (none_passes p xs h.1))
-
--- what holds of each number
-pub All-below : (P : ℕ → Type 0) (n : ℕ) → ((k : ℕ) → k < n → P k) → All P (below n)
-All-below P zero h = All-nil P
-All-below P (suc n) h = All-push P (below n) n (All-below P n (λ k l. h k (omega (arith, l)))) (h n (omega arith))
 
 pub Contains-below : (n k : ℕ) → k < n → Contains (below n) k
 Contains-below zero k l = absurd (omega (arith, l))

@@ -18,11 +18,13 @@ use Rattle.hx_types.specs.Words.{below, when_some}
 use Rattle.hx_model.specs.Planning.{QueryRegions, any_lost, chosen, fewer_of, lowest_lost, plan_of, query_regions}
 use Rattle.hx_model.specs.Regions.{meets, place_of, regions_of}
 use Rattle.hx_region.specs.Spans.{IsRegionIn, subspace_count}
+use Rattle.hx_region.proofs.Counted.{All-below}
 use Rattle.hx_region.proofs.Matches.{matches_are_met}
 use Rattle.hx_region.proofs.Subspaces.{places_belong}
+use Rattle.hx_plan.specs.Counts.{IsNoWorse}
 use Rattle.hx_plan.specs.Plans.{AreAsked, FewestAreAsked, HasLost, IsForQuery, IsLowestLost, IsPlan, LostWhereEachLost, LowestLostIsNamed, MatchesAreAsked}
 use Rattle.hx_plan.proofs.Choosing.{chosen_next}
-use Rattle.hx_plan.proofs.Listing.{All-below, Contains-below, Contains-filter, Contains-map, below_ascends, clash, find_first, none_passes}
+use Rattle.hx_plan.proofs.Listing.{Contains-below, Contains-filter, Contains-map, below_ascends, clash, find_first, none_passes}
 
 -- ---- the regions of a subspace for a query
 
@@ -89,11 +91,8 @@ none_lost space config terms s h = by (any_lost config (query_regions space term
 
 -- ---- the best of some candidates
 
--- fewer, or as many and no later
-abbrev IsNoWorse : ℕ → ℕ → ℕ → ℕ → Type 0
-IsNoWorse size s other t = (size < other) ⊎ ((size ≡ other) × (t ≤ s))
-
-abbrev IsBest : Config → (ℕ → QueryRegions) → ℕ → Option QueryRegions → Type 0
+-- every one of the first n candidates has a lost region, or this is the best of those without
+abbrev pub IsBest : Config → (ℕ → QueryRegions) → ℕ → Option QueryRegions → Type 0
 IsBest config f n None = (t : ℕ) → t < n → any_lost config (f t).regions ≡ true
 IsBest config f n (Some q) =
     (s : ℕ) × (s < n) × (q ≡ f s) × (any_lost config (f s).regions ≡ false)
@@ -157,7 +156,7 @@ best_next config f n (Some q) h = by (any_lost config (f n).regions) refl (ltb (
         fewer : (a b c : ℕ) → ltb a b ≡ false → a ≡ c → b ≤ c
         fewer a b c e s = (let l : b ≤ a = grind (arith, nat_tests, e) in omega (arith, l, s))
 
-best_of : (config : Config) (f : ℕ → QueryRegions) (n : ℕ) → IsBest config f n (chosen config None (map f (below n)))
+pub best_of : (config : Config) (f : ℕ → QueryRegions) (n : ℕ) → IsBest config f n (chosen config None (map f (below n)))
 best_of config f zero = λ t l. absurd (omega (arith, l))
 best_of config f (suc n) =
     let e = subst (λ m. chosen config None (map f (below m)) ≡ fewer_of config (f n) (chosen config None (map f (below n)))) (add-one n) (chosen_next config f n) in
@@ -165,10 +164,10 @@ best_of config f (suc n) =
 
 -- ---- the plan
 
-abbrev best : Space → Config → List Term → Option QueryRegions
+abbrev pub best : Space → Config → List Term → Option QueryRegions
 best space config terms = chosen config None (map (query_regions space terms) (below (subspace_count space)))
 
-abbrev planned : Space → Config → List Term → Option QueryRegions → Planned
+abbrev pub planned : Space → Config → List Term → Option QueryRegions → Planned
 planned space config terms o =
     when_some o (a_plan.Lost (lowest_lost config (query_regions space terms 0).regions)) (λ (q : QueryRegions). a_plan.Regions q.subspace q.regions)
 

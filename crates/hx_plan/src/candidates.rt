@@ -1,89 +1,53 @@
-ghost use Rattle.std.specs.Prelude.{◌≡◌, ◌<◌, IfOk};
-ghost use Rattle.hx_model.specs.Planning.{any_lost, fewer_of, query_regions};
-ghost use Rattle.hx_region.specs.Spans.{subspace_count};
-ghost use Rattle.hx_types.specs.Configs.{any_ready, is_lost};
+ghost use Rattle.std.specs.Prelude.{◌≡◌, ◌<◌, ◌^◌, length, IfOk};
+ghost use Rattle.hx_plan.specs.Counts.{better_of, query_counts, IsFewest};
 
 use hx_region::RegionMap;
-use hx_types::{Config, Member, Memory, RegionId, RegionList, Terms};
+use hx_types::{Memory, Terms};
 use std::alloc::Global;
-use std::marker::Model;
 
-/// A subspace and its regions for a query. Contracts see it as those two.
-#[derive(Drop)]
+/// A subspace, and how many regions it has for a query.
+#[derive(Clone, Copy)]
 pub struct Candidate {
     pub subspace: u32,
-    pub regions: RegionList,
+    pub count: u32,
 }
 
-impl Model for Candidate {
-    ghost use Rattle.hx_model.specs.Planning.{QueryRegions};
-
-    ghost Value = { QueryRegions };
-
-    ghost view = { λ c. record { subspace = c.subspace; regions = c.regions } };
-}
-
-/// The regions of a subspace that meet the terms, each of its regions tested.
-pub fn candidate_in(
+/// How many regions each subspace has for a query.
+pub fn query_counts(
     alloc: Global,
     map: &RegionMap,
-    s: u32,
     terms: &Terms,
-) -> Result<Candidate, Memory>
-    requires { s < subspace_count map.now }
-    ensures { IfOk result (λ candidate. candidate ≡ query_regions map.now terms.now s) }
+) -> Result<Vec<Option<u32>>, Memory>
+    ensures exact { IfOk result (λ counts. counts.items ≡ query_counts map.now terms.now) }
+    ensures few { IfOk result (λ counts. length counts.items < 2 ^ 32) }
 {
-    let (first, size) = map.span(s);
-    let end = map.regions();
-    prove!(first.0 <= end && size <= end - first.0);
-    let mut regions = RegionList::new(alloc);
-    for row in 0..size {
-        let region = RegionId(first.0 + row);
-        if map.meets(region, terms) {
-            regions.push(region)?;
-        }
+    let mut counts = Vec::new(alloc);
+    for s in 0..map.subspaces() {
+        counts.push(Some(map.meeting_count(s, terms)))?;
     }
-    Ok(Candidate {
-        subspace: s,
-        regions,
-    })
+    Ok(counts)
 }
 
-/// The better of a further candidate and the best of those before it: none of its regions is
-/// lost, and it has the fewest. The further one wins a tie.
-pub fn better(config: &Config, candidate: Candidate, best: Option<Candidate>) -> Option<Candidate>
-    ensures { result ≡ fewer_of config.now candidate best }
+/// The subspace with the fewest regions of those that have a count: of several such the last.
+pub fn fewest(counts: &[Option<u32>]) -> Option<Candidate>
+    requires { length counts.now < 2 ^ 32 }
+    ensures { IsFewest counts.now (length counts.now) result }
 {
-    let lost = has_lost(config, &candidate.regions);
-    match best {
-        None if lost => None,
-        None => Some(candidate),
-        Some(best) if lost || best.regions.len() < candidate.regions.len() => Some(best),
-        Some(_) => Some(candidate),
+    let mut best = None;
+    for (s, count) in counts.iter().enumerate() {
+        best = better(best, s as u32, *count);
     }
+    best
 }
 
-fn has_lost(config: &Config, regions: &RegionList) -> bool
-    ensures { result ≡ any_lost config.now regions.now }
+/// The better of the best subspace so far and a further one: the one with fewer regions. The
+/// further one wins a tie.
+fn better(best: Option<Candidate>, subspace: u32, count: Option<u32>) -> Option<Candidate>
+    ensures { result ≡ better_of best subspace count }
 {
-    regions
-        .as_slice()
-        .iter()
-        .any(|region| is_lost(config, *region))
-}
-
-/// Whether no member of the region's list is ready.
-pub fn is_lost(config: &Config, region: RegionId) -> bool
-    ensures { result ≡ is_lost config.now region }
-{
-    match config.regions.get(region.0 as usize) {
-        Some(members) => !any_ready(members.as_slice()),
-        None => true,
+    match (best, count) {
+        (_, None) => best,
+        (Some(best), Some(count)) if best.count < count => Some(best),
+        (_, Some(count)) => Some(Candidate { subspace, count }),
     }
-}
-
-fn any_ready(members: &[Member]) -> bool
-    ensures { result ≡ any_ready members.now }
-{
-    members.iter().any(|member| member.ready)
 }

@@ -1,9 +1,9 @@
 ghost use Rattle.std.specs.Prelude.{◌≡◌, IfOk};
 ghost use Rattle.std.specs.List.{find};
-ghost use Rattle.hx_model.specs.Planning.{lowest_lost, plan_of};
+ghost use Rattle.hx_model.specs.Planning.{any_lost, lowest_lost, plan_of};
 ghost use Rattle.hx_types.specs.Configs.{is_lost};
 
-use crate::candidates::{better, candidate_in, is_lost};
+use crate::candidates::{fewest, query_counts};
 use hx_region::RegionMap;
 use hx_types::{Config, Memory, Planned, RegionId, RegionList, Terms};
 use std::alloc::Global;
@@ -16,9 +16,11 @@ use std::alloc::Global;
 /// project's choice. Where every subspace has a lost region for the query, there is no plan:
 /// `Lost` names the lowest lost one of the key subspace.
 ///
-/// It tests each region of the space once, at most 4,096: a test finds the region's subspace in
-/// one step a subspace, and holds each of its axes against each term. Where there is no plan, the
-/// regions of the key subspace are tested once more.
+/// The regions for the query are first counted in each subspace, in one step for each axis and
+/// term. Then those of the subspace with the fewest are made, from the cells of its axes, and no
+/// other region is looked at; only where one of them is lost are those of the next subspace made
+/// too, and where no subspace is left those of the key subspace once more. So a plan costs about
+/// as much as it names, however many regions the space has.
 pub fn plan(
     alloc: Global,
     map: &RegionMap,
@@ -27,21 +29,28 @@ pub fn plan(
 ) -> Result<Planned, Memory>
     ensures exact { IfOk result (λ planned. planned ≡ plan_of map.now config.now terms.now) }
 {
-    let mut best = None;
-    for s in 0..map.subspaces() {
-        let candidate = candidate_in(alloc, map, s, terms)?;
-        best = better(config, candidate, best);
-    }
-    match best {
-        Some(best) => Ok(Planned::Regions {
-            subspace: best.subspace,
-            regions: best.regions,
-        }),
-        None => {
-            let keys = candidate_in(alloc, map, 0, terms)?;
-            Ok(Planned::Lost(lowest_lost(config, &keys.regions)))
+    let mut counts = query_counts(alloc, map, terms)?;
+    while let Some(best) = fewest(counts.as_slice()) {
+        let regions = map.meeting(alloc, best.subspace, terms)?;
+        if !any_lost(config, &regions) {
+            return Ok(Planned::Regions {
+                subspace: best.subspace,
+                regions,
+            });
         }
+        counts[best.subspace as usize] = None;
     }
+    let keys = map.meeting(alloc, 0, terms)?;
+    Ok(Planned::Lost(lowest_lost(config, &keys)))
+}
+
+fn any_lost(config: &Config, regions: &RegionList) -> bool
+    ensures { result ≡ any_lost config.now regions.now }
+{
+    regions
+        .as_slice()
+        .iter()
+        .any(|region| config.is_lost(*region))
 }
 
 /// The first lost region of an ascending list; region 0 where none is lost.
@@ -60,5 +69,5 @@ fn first_lost(config: &Config, regions: &[RegionId]) -> Option<RegionId>
     regions
         .iter()
         .copied()
-        .find(|region| is_lost(config, *region))
+        .find(|region| config.is_lost(*region))
 }

@@ -5,11 +5,14 @@
 //! declared subspaces in order. Within a subspace a region is the row of its cells read as a
 //! number of mixed radix, the first axis slowest. The numbering is this project's choice.
 //!
-//! Only [`RegionMap::new`] takes memory. That it can succeed no contract says: a test shows it.
+//! Only [`RegionMap::new`] and [`RegionMap::meeting`] take memory. That they can succeed no contract
+//! says: tests show it.
 #![tactic(auto)]
 
+mod cells;
 mod laws;
 mod map;
+mod meeting;
 mod rows;
 
 pub use laws::regions_are_shared_out;

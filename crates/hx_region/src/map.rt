@@ -1,11 +1,13 @@
-ghost use Rattle.std.specs.Prelude.{◌≡◌, ◌<◌, [], ◌∷◌, IfOk};
+ghost use Rattle.std.specs.Prelude.{◌≡◌, ◌<◌, [], ◌∷◌, length, IfOk};
+ghost use Rattle.hx_model.specs.Planning.{query_regions};
 ghost use Rattle.hx_model.specs.Regions.{key_region, meets, place_of};
 ghost use Rattle.hx_region.specs.Spans.{IsRegionIn, subspace_count};
 ghost use Rattle.hx_types.specs.Spaces.{IsSpace};
 ghost use Rattle.hx_types.specs.Subspaces.{axes_of, first_region, region_count, size_of};
 
+use crate::meeting::{count_meeting, regions_from, rows_meeting};
 use crate::rows::{row, row_meets, size};
-use hx_types::{Axes, Axis, Exact, Memory, Object, RegionId, Space, Terms, Text};
+use hx_types::{Axes, Axis, Exact, Memory, Object, RegionId, RegionList, Space, Terms, Text};
 use std::alloc::Global;
 use std::marker::Model;
 
@@ -127,6 +129,30 @@ impl RegionMap {
             }
         }
         false
+    }
+
+    /// The regions of a subspace that meet the terms, in ascending order.
+    ///
+    /// They are made of the cells that the terms allow on each axis, and no other region is looked
+    /// at: beside a step for each axis and term it takes at most one for each cell of an axis, and
+    /// one for each axis and region that is given.
+    pub fn meeting(&self, alloc: Global, s: u32, terms: &Terms) -> Result<RegionList, Memory>
+        requires { s < subspace_count self.now }
+        ensures { IfOk result (λ regions. regions ≡ (query_regions self.now terms.now s).regions) }
+    {
+        let cut = self.cut(s);
+        let rows = rows_meeting(alloc, &self.space, cut.axes.as_slice(), terms.as_slice())?;
+        let regions = regions_from(alloc, cut.first, &rows)?;
+        Ok(regions)
+    }
+
+    /// How many regions of a subspace meet the terms, counted in one step for each axis and term.
+    pub fn meeting_count(&self, s: u32, terms: &Terms) -> u32
+        requires { s < subspace_count self.now }
+        ensures { result ≡ length (query_regions self.now terms.now s).regions }
+    {
+        let cut = self.cut(s);
+        count_meeting(&self.space, cut.axes.as_slice(), terms.as_slice())
     }
 
     fn cut(&self, s: u32) -> &Cut

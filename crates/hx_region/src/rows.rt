@@ -56,7 +56,7 @@ fn cell_on(space: &Space, axis: Axis, key: &Text, object: &Object) -> u32
 }
 
 /// The kind of an attribute: text for the key and for one that isn't declared.
-fn kind(space: &Space, attribute: u32) -> Kind
+pub fn kind(space: &Space, attribute: u32) -> Kind
     requires { IsSpace space.now }
     ensures exact { result ≡ kind_at space.now attribute }
     ensures sound { IsKind result }
@@ -119,10 +119,11 @@ fn allows(space: &Space, axis: Axis, place: u32, term: &Term) -> bool
 }
 
 /// The cell of a whole number on an axis of an attribute of the kind.
-fn number_cell(kind: Kind, number: i64, parts: u32) -> u32
+pub fn number_cell(kind: Kind, number: i64, parts: u32) -> u32
     requires kind { IsKind kind }
     requires parts { ArePart parts }
-    ensures { result ≡ cell_of kind (a_value.Int number) parts }
+    ensures exact { result ≡ cell_of kind (a_value.Int number) parts }
+    ensures within { result < parts }
 {
     match kind {
         Kind::Text => 0,

@@ -119,3 +119,28 @@ fn meets_the_last_year(rt: HostRuntime) -> Result<(), Memory> {
     assert!(rt; !map.meets(RegionId(4096), &terms));
     Ok(())
 }
+
+/// Of the subspace of two axes the last year has one cell of 240, for each of the 16 of the other.
+#[test]
+fn gives_the_regions_of_the_last_year(rt: HostRuntime) -> Result<(), Memory> {
+    let map = wide_map(rt.alloc())?;
+    let terms = last_year(rt.alloc())?;
+    assert_eq!(rt; map.meeting_count(1, &terms), 16);
+    let regions = map.meeting(rt.alloc(), 1, &terms)?;
+    assert_eq!(rt; regions.len(), 16);
+    for (place, region) in regions.as_slice().iter().enumerate() {
+        assert!(rt; region.0 as usize == 256 + 240 * place.min(15) + 238);
+    }
+    Ok(())
+}
+
+#[test]
+fn gives_all_regions_without_terms(rt: HostRuntime) -> Result<(), Memory> {
+    let map = wide_map(rt.alloc())?;
+    let terms = Terms::new(rt.alloc());
+    assert_eq!(rt; map.meeting_count(0, &terms), 256);
+    assert_eq!(rt; map.meeting_count(1, &terms), 3840);
+    let regions = map.meeting(rt.alloc(), 1, &terms)?;
+    assert_eq!(rt; regions.len(), 3840);
+    Ok(())
+}

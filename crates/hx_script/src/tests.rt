@@ -300,3 +300,103 @@ fn refuses_bytes_that_are_no_text(rt: HostRuntime) {
     });
     assert!(rt; read.map(|_| ()) == refused);
 }
+
+#[test]
+fn refuses_tokens(rt: HostRuntime) {
+    for line in [
+        "get \"a\u{1}\"",
+        "get \"a\\r\"",
+        "get \"a\\",
+        "get \"a\" $",
+        "get \"a\" B",
+        "get \"a\" ä",
+        "search year=9223372036854775808",
+        "search year=-9223372036854775809",
+        "put \"a\" colour=-",
+        "get \u{1}\"a\"",
+        "get \r\"a\"",
+    ] {
+        assert_eq!(rt; call(&rt, line), Some((11, Reason::Token)), "{line}");
+    }
+    let extremes = "\tsearch\tyear=-9223372036854775808..9223372036854775807\t# ä\u{1}\r";
+    assert_eq!(rt; call(&rt, extremes), None);
+    assert_eq!(rt; call(&rt, "get \"\\\"\\\\\\n\\tä\""), None);
+}
+
+#[test]
+fn refuses_lines_of_the_head(rt: HostRuntime) {
+    let head = "hx 1\nspace b\nkey k 1\nstring v\n";
+    for (line, reason) in [
+        ("hx 1", Reason::Order),
+        ("string", Reason::Order),
+        ("string if", Reason::Order),
+        ("string w 1", Reason::Order),
+        ("string k", Reason::Twice),
+        ("string abcdefghijklmnopqrstuvwxyzabcdefg", Reason::Limit),
+        ("int w 0", Reason::Order),
+        ("int v 2 1", Reason::Twice),
+        ("int w 2 1", Reason::Bounds),
+        ("subspace w 0", Reason::Unknown),
+        ("servers", Reason::Order),
+        ("servers 0", Reason::Bounds),
+        ("servers 17 1", Reason::Bounds),
+        ("tolerate 0", Reason::Order),
+    ] {
+        let text = format!(in rt.alloc(); "{head}{line}").ok();
+        let refused = text.and_then(|text| refusal(&rt, text.as_str()));
+        assert_eq!(rt; refused, Some((5, reason)), "{line}");
+    }
+}
+
+#[test]
+fn refuses_more_calls(rt: HostRuntime) {
+    for (line, reason) in [
+        ("get", Reason::Order),
+        ("del \"a\" \"b\"", Reason::Order),
+        ("del a", Reason::Order),
+        ("put \"a\" year", Reason::Order),
+        ("put \"a\" genre=\"b\" genre=1", Reason::Twice),
+        ("put \"a\" genre=1", Reason::TypeOf),
+        ("cput \"a\" if name=\"a\" set year=1", Reason::Unknown),
+        ("cput \"a\" if year=1 set year=2 year=3", Reason::Twice),
+        ("cput \"a\" if genre=1 set year=2", Reason::TypeOf),
+        ("search colour=1", Reason::Unknown),
+        ("search name=1", Reason::TypeOf),
+        ("search year=\"a\"", Reason::TypeOf),
+        ("search year=1..", Reason::Order),
+        ("stop", Reason::Order),
+        ("stop 5", Reason::Bounds),
+        ("add 1 -1", Reason::Bounds),
+        ("add 1", Reason::Order),
+        ("session", Reason::Order),
+    ] {
+        assert_eq!(rt; call(&rt, line), Some((11, reason)), "{line}");
+    }
+}
+
+/// So many lines.
+fn lines(rt: &HostRuntime, line: &str, count: u32) -> Option<String> {
+    let mut lines = String::new(rt.alloc());
+    for _ in 0..count {
+        lines.push_str(line).ok()?;
+    }
+    Some(lines)
+}
+
+#[test]
+fn refuses_calls_and_steps_past_their_limits(rt: HostRuntime) {
+    let Some(calls) = lines(&rt, "get \"\"\n", 16_384) else {
+        panic!(rt; "memory");
+    };
+    assert_eq!(rt; call(&rt, calls.as_str()), None);
+    let more = format!(in rt.alloc(); "{calls}get 1").ok();
+    let refused = more.and_then(|more| call(&rt, more.as_str()));
+    assert_eq!(rt; refused, Some((16_395, Reason::Limit)));
+    let Some(steps) = lines(&rt, "tick c\n", 65_536) else {
+        panic!(rt; "memory");
+    };
+    assert_eq!(rt; step(&rt, steps.as_str()), None);
+    let more = format!(in rt.alloc(); "{steps}tick 1").ok();
+    let refused = more.and_then(|more| step(&rt, more.as_str()));
+    assert_eq!(rt; refused, Some((65_547, Reason::Limit)));
+}

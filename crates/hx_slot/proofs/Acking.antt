@@ -92,7 +92,7 @@ known-rest t ts (w ∷ rest) k =
     )
     (λ e. known-rest t ts rest k.1)
 
-ascends-take : (v n : ℕ) (ts : List Taken) → Ascends v ts → Ascends v (take n ts)
+pub ascends-take : (v n : ℕ) (ts : List Taken) → Ascends v ts → Ascends v (take n ts)
 ascends-take v zero ts h = tt
 ascends-take v (suc n) [] h = tt
 ascends-take v (suc n) (t ∷ rest) h = (h.0, ascends-take t.update.version.0 n rest h.1)

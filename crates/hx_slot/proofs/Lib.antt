@@ -12,3 +12,5 @@ pub mod Refitting
 pub mod Reading
 pub mod Turns
 pub mod Offering
+pub mod Carrying
+pub mod Orderly

@@ -1,5 +1,5 @@
 -- What contracts see of a slot, and what always holds of it.
-use Rattle.std.specs.Prelude.{ℕ, ◌<◌, ◌≤◌, ⊤, List, map, length, Option, None, Some}
+use Rattle.std.specs.Prelude.{ℕ, ◌<◌, ◌≤◌, ⊤, List, map, length, if◌then◌else◌, ◌==◌, Option, None, Some}
 use Rattle.std.specs.Borrow.{Bor}
 use Rattle.std.specs.List.{All}
 use Rattle.std.specs.Option.{IfSome, option_map}
@@ -18,7 +18,7 @@ use Rattle.hx_types.specs.declared.results.Acked.TheVariants as an_ack
 use Rattle.hx_types.specs.declared.results.Offer.TheVariants.{Accepted, Known, Early}
 use Rattle.hx_types.specs.Spaces.{IsAscending}
 use Rattle.hx_model.specs.Neighbours.{place_number}
-use Rattle.hx_model.specs.Slots.{KeyState, after_at}
+use Rattle.hx_model.specs.Slots.{KeyState, after_at, kept_of}
 
 -- a key at a replica of a region, and for how many offers there is room
 pub record SlotState : Type 0 where
@@ -75,3 +75,7 @@ abbrev pub committed_count : Acked → ℕ
 committed_count (an_ack.Committed n) = n
 committed_count an_ack.Kept = 0
 committed_count an_ack.Unknown = 0
+
+-- the committed state, where something is committed
+abbrev pub committed_state : RegionId → KeyState → Option Kept
+committed_state g s = if s.floor == 0 then None else Some (kept_of g s)

@@ -7,7 +7,7 @@ use Rattle.hx_types.specs.declared.snapshots.Mark.{Mark}
 use Rattle.hx_types.specs.declared.snapshots.Touch.{Touch}
 use Rattle.hx_types.specs.Spaces.{IsAscending}
 use Rattle.hx_types.specs.Words.{same_region, same_session, when_some}
-use Rattle.hx_model.specs.Slots.{mark_by, marks_after, touches_after}
+use Rattle.hx_model.specs.Slots.{mark_by, marks_after, touches_after, with_mark, with_touches}
 use Rattle.hx_slot.specs.declared.entries.Taken.{Taken}
 use Rattle.hx_slot.specs.declared.tables.Tables.{Tables}
 use Rattle.hx_slot.specs.Entries.{newest_first}
@@ -84,3 +84,12 @@ pub record IsNoted (old new : Tables) : Type 0 where
   pub touches : vec_len new.touches ≤ vec_len old.touches + 17
   pub newest_capacity : vec_capacity old.newest ≤ vec_capacity new.newest
   pub touches_capacity : vec_capacity old.touches ≤ vec_capacity new.touches
+
+-- the marks and the touches after updates, from those before them
+abbrev pub marks_over : List Mark → List Taken → List Mark
+marks_over marks [] = marks
+marks_over marks (t ∷ rest) = marks_over (with_mark (mark_by t.update) marks) rest
+
+abbrev pub touches_over : List Touch → List Taken → List Touch
+touches_over touches [] = touches
+touches_over touches (t ∷ rest) = touches_over (with_touches t.update.version t.update.places touches) rest

@@ -1,4 +1,4 @@
-ghost use Rattle.std.specs.Prelude.{◌≡◌, ◌≤◌, drop, length, map, slice_get};
+ghost use Rattle.std.specs.Prelude.{◌≡◌, ◌≤◌, IfOk, drop, length, map, slice_get};
 ghost use Rattle.std.specs.Option.{option_copied};
 ghost use Rattle.hx_slot.specs.Entries.{last_version, row_over, row_seen};
 ghost use Rattle.hx_model.specs.Slots.{object_in, row_of};
@@ -6,7 +6,8 @@ ghost use Rattle.hx_slot.specs.States.{object_at, object_seen};
 ghost use Rattle.hx_slot.specs.declared.entries.Taken.{Taken};
 
 use crate::entries::Taken;
-use hx_types::{Object, Row, Text, Update, Version};
+use hx_types::{Exact, Memory, Object, Row, Text, Update, Version};
+use std::alloc::Global;
 
 /// A row that is lent.
 #[derive(Clone, Copy)]
@@ -99,5 +100,19 @@ pub fn update_at(line: &[Taken], place: usize) -> Option<&Update>
     match line.get(place) {
         Some(taken) => Some(&taken.update),
         None => None,
+    }
+}
+
+/// A copy of the row.
+pub fn copy_row(alloc: Global, found: Option<Found<'_>>) -> Result<Option<Row>, Memory>
+    ensures { IfOk result (λ row. row ≡ row_seen found.entry) }
+{
+    match found {
+        Some(row) => Ok(Some(Row {
+            key: row.key.copy(alloc)?,
+            version: row.version,
+            object: row.object.copy(alloc)?,
+        })),
+        None => Ok(None),
     }
 }

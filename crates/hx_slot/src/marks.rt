@@ -1,13 +1,15 @@
-ghost use Rattle.std.specs.Prelude.{◌≡◌, ◌+◌, ◌<◌, ◌≤◌, Some, length, vec_capacity, vec_len};
+ghost use Rattle.std.specs.Prelude.{◌≡◌, ◌+◌, ◌<◌, ◌≤◌, IfOk, OnOk, Some, length, vec_capacity, vec_len};
 ghost use Rattle.std.specs.List.{All};
 ghost use Rattle.std.specs.Option.{option_copied, option_map};
-ghost use Rattle.hx_model.specs.Slots.{mark_among, mark_by};
+ghost use Rattle.hx_model.specs.Slots.{mark_among, mark_by, with_mark};
+ghost use Rattle.hx_types.specs.Words.{provided};
 ghost use Rattle.hx_slot.specs.States.{call_at, call_seen};
-ghost use Rattle.hx_slot.specs.Tabled.{mark_found, newer_of, with_number};
+ghost use Rattle.hx_slot.specs.Tabled.{mark_found, marks_over, newer_of, with_number};
 
 use crate::entries::Taken;
 use crate::rooms::insert_within;
-use hx_types::{Answer, Mark, SessionId, Update, Version};
+use hx_types::{Answer, Exact, Mark, Marks, Memory, SessionId, Update, Version};
+use std::alloc::Global;
 
 /// The update whose mark is that of the session, among those of these numbers in the line.
 pub fn newest_of<'a>(numbers: &[u32], line: &'a [Taken], session: SessionId) -> Option<&'a Update>
@@ -80,4 +82,51 @@ pub fn note_mark(numbers: &mut Vec<u32>, line: &[Taken], number: u32, update: &U
         }
     }
     numbers.push_reserved(number);
+}
+
+/// The marks after these updates, from those before them; none where marks aren't kept.
+pub fn marks_over(alloc: Global, kept: bool, base: &Marks, line: &[Taken]) -> Result<Marks, Memory>
+    ensures { IfOk result (λ marks. marks ≡ provided kept (marks_over base.now line.now)) }
+{
+    if !kept {
+        return Ok(Marks::new(alloc));
+    }
+    let mut marks = base.copy(alloc)?.into_vec();
+    for taken in line {
+        put_mark(&mut marks, mark_by(alloc, &taken.update)?)?;
+    }
+    Ok(Marks::from_vec(marks))
+}
+
+/// The mark of an update's call.
+fn mark_by(alloc: Global, update: &Update) -> Result<Mark, Memory>
+    ensures { IfOk result (λ mark. mark ≡ mark_by update.now) }
+{
+    Ok(Mark {
+        session: update.caller.session,
+        number: update.caller.number,
+        version: update.version,
+        answer: update.answer.copy(alloc)?,
+    })
+}
+
+/// Puts a mark where its session's stands, unless that one has a higher call number.
+fn put_mark(marks: &mut Vec<Mark>, mark: Mark) -> Result<(), Memory>
+    ensures { OnOk result (marks.new.items ≡ with_mark mark marks.old.items) }
+{
+    for place in 0..marks.len() {
+        let known = marks[place].session;
+        if mark.session.0 < known.0 {
+            marks.insert(place, mark)?;
+            return Ok(());
+        }
+        if mark.session.0 == known.0 {
+            if mark.number >= marks[place].number {
+                marks[place] = mark;
+            }
+            return Ok(());
+        }
+    }
+    marks.push(mark)?;
+    Ok(())
 }

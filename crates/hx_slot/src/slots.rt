@@ -1,12 +1,13 @@
-ghost use Rattle.std.specs.Prelude.{◌≡◌, ℕ, ◌+◌, ◌^◌, ◌<◌, ◌≤◌, ◌==◌, IfSome, IsTrue, OnOk, is_some, length, true, slice_get, vec_capacity, vec_len};
+ghost use Rattle.std.specs.Prelude.{◌≡◌, ℕ, ◌+◌, ◌^◌, ◌<◌, ◌≤◌, ◌==◌, [], IfOk, IfSome, IsTrue, OnOk, is_some, length, true, slice_get, vec_capacity, vec_len};
 ghost use Rattle.std.specs.List.{All, AllByRecursion, find, list_any};
 ghost use Rattle.std.specs.Option.{option_copied};
 ghost use Rattle.hx_model.specs.Places.{touched_in};
 ghost use Rattle.hx_model.specs.Neighbours.{place_number};
-ghost use Rattle.hx_model.specs.Slots.{Acknowledge, Forget, Hold, Take, ack_answer, acknowledged, follows, is_pending, latest_of, mark_of, moved, moved_all, new_state, object_of, offer_answer, offered, pending_of, settled, taken, top_of, touches_of, turns};
+ghost use Rattle.hx_model.specs.ServerSteps.{state_from};
+ghost use Rattle.hx_model.specs.Slots.{Acknowledge, Forget, Hold, Take, ack_answer, acknowledged, follows, is_pending, latest_of, mark_of, moved, moved_all, new_state, object_of, offer_answer, offered, pending_of, settled, state_of_kept, taken, top_of, touches_of, turns};
 ghost use Rattle.hx_slot.specs.Entries.{IsHeld};
 ghost use Rattle.hx_slot.specs.Rooms.{IsGrown};
-ghost use Rattle.hx_slot.specs.States.{HasFewPlaces, IsLater, IsPlacedIn, accepted_count, call_at, call_seen, committed_count, object_at, object_seen};
+ghost use Rattle.hx_slot.specs.States.{HasFewPlaces, IsLater, IsOrderly, IsPlacedIn, accepted_count, call_at, call_seen, committed_count, committed_state, object_at, object_seen};
 ghost use Rattle.hx_types.specs.declared.calls.Answer.{Answer};
 ghost use Rattle.hx_types.specs.declared.names.Version.{Version};
 ghost use Rattle.hx_types.specs.declared.updates.Place.{Place};
@@ -19,14 +20,16 @@ use crate::acks::{
 };
 use crate::early::{drop_version, early_at, turn_of};
 use crate::entries::{Placed, Taken};
-use crate::line::{last_version, only_object, rest_of, row_over, update_at, version_and_object};
-use crate::marks::{mark_of, newer, newest_of};
+use crate::line::{
+    copy_row, last_version, only_object, rest_of, row_over, update_at, version_and_object,
+};
+use crate::marks::{mark_of, marks_over, newer, newest_of};
 use crate::rooms::{grow, insert_within};
 use crate::tables::Tables;
-use crate::touches::last_touch;
+use crate::touches::{last_touch, touches_over};
 use hx_types::{
-    Acked, Answer, Kept, Marks, Memory, Object, Offer, RegionId, SessionId, Text, Touches, Update,
-    Version,
+    Acked, Answer, Exact, Kept, Marks, Memory, Object, Offer, RegionId, SessionId, Text, Touches,
+    Update, Version,
 };
 use std::alloc::Global;
 use std::marker::Model;
@@ -82,13 +85,35 @@ impl Slot {
             marks: Marks::new(alloc),
             touches: Touches::new(alloc),
         };
+        Slot::over(alloc, region, base, marks)
+    }
+
+    /// A slot of a committed state, with nothing pending and no room. Where it keeps no marks, those
+    /// of the state are left out with its touches.
+    pub fn of_kept(alloc: Global, region: RegionId, kept: Kept, marks: bool) -> Slot
+        requires { IsOrderly kept }
+        ensures region { result.region ≡ region }
+        ensures state { result.state ≡ state_from marks kept }
+    {
+        if marks {
+            return Slot::over(alloc, region, kept, marks);
+        }
+        Slot::over(alloc, region, without_marks(alloc, kept), marks)
+    }
+
+    fn over(alloc: Global, region: RegionId, base: Kept, marks: bool) -> Slot
+        requires { IsOrderly base }
+        ensures region { result.region ≡ region }
+        ensures state { result.state ≡ state_of_kept marks base }
+    {
+        let floor = base.floor;
         Slot {
             region,
             marks,
             base,
             accepted: Vec::new(alloc),
             committed: 0,
-            floor: Version(0),
+            floor,
             acked: Vec::new(alloc),
             early: Vec::new(alloc),
             tables: Tables {
@@ -149,6 +174,26 @@ impl Slot {
         ensures object { object_seen result ≡ object_at (object_of self.now.region self.now.state) }
     {
         version_and_object(row_over(self.base.object.as_ref(), &self.accepted[..self.committed]))
+    }
+
+    /// The committed state, or `None` where nothing is committed. It goes through all committed
+    /// updates.
+    pub fn kept(&self, alloc: Global) -> Result<Option<Kept>, Memory>
+        ensures kept { IfOk result (λ kept. kept ≡ committed_state self.now.region self.now.state) }
+        ensures orderly { IfOk result (λ kept. IfSome kept IsOrderly) }
+    {
+        if self.floor.0 == 0 {
+            return Ok(None);
+        }
+        let line = &self.accepted[..self.committed];
+        let row = row_over(self.base.object.as_ref(), line);
+        Ok(Some(Kept {
+            key: self.base.key.copy(alloc)?,
+            floor: self.floor,
+            object: copy_row(alloc, row)?,
+            marks: marks_over(alloc, self.marks, &self.base.marks, line)?,
+            touches: touches_over(alloc, self.marks, &self.base.touches, line)?,
+        }))
     }
 
     /// The object after all accepted updates.
@@ -482,6 +527,21 @@ impl Slot {
         drop_version(&mut self.early, placed.update.version);
         self.early.push_reserved(placed);
         self.spare -= 1;
+    }
+}
+
+/// The state without its marks and touches.
+fn without_marks(alloc: Global, kept: Kept) -> Kept
+    requires { IsOrderly kept }
+    ensures kept { result ≡ record kept { marks = []; touches = [] } }
+    ensures orderly { IsOrderly result }
+{
+    Kept {
+        key: kept.key,
+        floor: kept.floor,
+        object: kept.object,
+        marks: Marks::new(alloc),
+        touches: Touches::new(alloc),
     }
 }
 

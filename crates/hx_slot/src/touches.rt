@@ -1,13 +1,16 @@
-ghost use Rattle.std.specs.Prelude.{◌≡◌, ◌+◌, ◌<◌, ◌≤◌, MatchResult, length, vec_capacity, vec_len};
+ghost use Rattle.std.specs.Prelude.{◌≡◌, ◌+◌, ◌<◌, ◌≤◌, IfOk, MatchResult, length, vec_capacity, vec_len};
 ghost use Rattle.std.specs.List.Sorted.{IsSearchInRange};
 ghost use Rattle.std.specs.Option.{option_map, unwrap_or};
 ghost use Rattle.hx_model.specs.Places.{touched_in};
 ghost use Rattle.hx_model.specs.Slots.{with_touch, with_touches};
-ghost use Rattle.hx_slot.specs.Tabled.{AscendByRegion, IsAt, IsGap, touch_among};
+ghost use Rattle.hx_slot.specs.Tabled.{AscendByRegion, IsAt, IsGap, touch_among, touches_over};
+ghost use Rattle.hx_types.specs.Words.{provided};
 ghost use Rattle.hx_types.specs.declared.names.Version.{Version};
 
+use crate::entries::Taken;
 use crate::rooms::insert_within;
-use hx_types::{Place, RegionId, Touch, Version};
+use hx_types::{Exact, Memory, Place, RegionId, Touch, Touches, Version};
+use std::alloc::Global;
 
 /// The version of a region's touch, found by halving.
 pub fn touch_of(touches: &[Touch], region: RegionId) -> Option<Version>
@@ -69,4 +72,26 @@ fn search(touches: &[Touch], region: RegionId) -> Result<usize, usize>
     ensures place { MatchResult result (IsAt region.0 touches.now) (IsGap region.0 touches.now) }
 {
     touches.binary_search_by_key(&region.0, |touch| touch.region.0)
+}
+
+/// The touches after these updates, from those before them; none where touches aren't kept.
+pub fn touches_over(
+    alloc: Global,
+    kept: bool,
+    base: &Touches,
+    line: &[Taken],
+) -> Result<Touches, Memory>
+    requires { AscendByRegion base.now }
+    ensures { IfOk result (λ touches. touches ≡ provided kept (touches_over base.now line.now)) }
+{
+    if !kept {
+        return Ok(Touches::new(alloc));
+    }
+    let mut touches = base.copy(alloc)?.into_vec();
+    for taken in line {
+        let places = taken.update.places.as_slice();
+        touches.reserve(places.len())?;
+        note_touches(&mut touches, taken.update.version, places);
+    }
+    Ok(Touches::from_vec(touches))
 }

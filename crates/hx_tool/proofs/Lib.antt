@@ -1,2 +1,3 @@
 pub mod Scheduling
+pub mod Making
 pub mod Fixed

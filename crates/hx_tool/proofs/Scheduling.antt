@@ -8,28 +8,34 @@ use Rattle.hx_model.specs.Built.{IsBuilt}
 use Rattle.hx_model.specs.Runs.{IsRun}
 use Rattle.hx_model.specs.Schedule.{next_entry, scheduled, stepped}
 use Rattle.hx_model.specs.Steady.{HasNoHalts}
-use Rattle.hx_world.specs.Worlds.{Drains, WorldState, most_entries}
-use Rattle.hx_world.specs.declared.schedule.Drained.{Drained}
-use Rattle.hx_world.specs.declared.schedule.Drained.TheVariants.{Quiet, Spent}
+use Rattle.hx_world.specs.Runnable.{IsRunnable}
+use Rattle.hx_world.specs.Worlds.{Drains, HasFewEntries, WorldState, most_entries}
+use Rattle.hx_world.specs.declared.ends.Drained.{Drained}
+use Rattle.hx_world.specs.declared.ends.Drained.TheVariants.{Quiet, Spent}
 use Rattle.hx_tool.specs.Causes.{IsWholeRun}
+
+pub runnable : (script : Script) → IsBuilt script → IsRunnable script
+runnable script built = record { valid = built.valid; calls = built.calls; no_steps = built.no_steps }
 
 -- without steps the schedule begins with the empty trace
 from_nothing : (script : Script) → script.steps ≡ [] → stepped script [] (map (λ (s : ℕ × Step). s.1) script.steps) ≡ []
 from_nothing script none = rw none refl
 
-pub drained :
+drained :
     (script : Script) (trace : List Entry) (n : ℕ)
     → IsBuilt script
     → IsRun script (reverse trace)
     → HasNoHalts (reverse trace)
+    → HasFewEntries (reverse trace)
     → reverse trace ≡ scheduled script [] n
     → next_entry script (reverse trace) ≡ None
     → IsWholeRun script trace
-drained script trace n built run still made quiet =
+drained script trace n built run still few made quiet =
     record {
       run = run;
       still = still;
       scheduled = record { entries = n; trace_is = made ∙ ap (λ (t : List Entry). scheduled script t n) (sym (from_nothing script built.no_steps)); quiet = quiet };
+      few = few;
     }
 
 -- a world that was drained from its start until it was quiet
@@ -42,14 +48,16 @@ pub whole_run :
     → after.script ≡ before.script
     → IsRun after.script (reverse trace)
     → HasNoHalts (reverse trace)
+    → HasFewEntries (reverse trace)
     → IsWholeRun script trace
-whole_run script before after trace n built start drains is same run still =
+whole_run script before after trace n built start drains is same run still few =
     let script_is : before.script ≡ script = ap (λ (w : WorldState). w.script) start in
     let empty : before.trace ≡ [] = ap (λ (w : WorldState). w.trace) start in
     let here : reverse trace ≡ reverse after.trace = ap (λ (t : List Entry). reverse t) is in
     drained script trace n built
     (subst (λ (s : Script). IsRun s (reverse trace)) (same ∙ script_is) run)
     still
+    few
     (here ∙ drains.trace ∙ ap (λ (s : Script). scheduled s (reverse before.trace) n) script_is ∙ ap (λ (t : List Entry). scheduled script (reverse t) n) empty)
     (subst (λ (t : List Entry). next_entry script t ≡ None) (sym here) (subst (λ (s : Script). next_entry s (reverse after.trace) ≡ None) script_is drains.ends))
 

@@ -1,22 +1,27 @@
 -- What made the program end as it did.
-use Rattle.std.specs.Prelude.{◌≡◌, ℕ, ◌+◌, ◌<◌, ◌≤◌, List, [], length, reverse, Option, Result, Ok, Err, ⊤}
+use Rattle.std.specs.Prelude.{◌≡◌, ℕ, ◌+◌, ◌<◌, ◌≤◌, List, [], length, map, reverse, Option, Result, Ok, Err, ⊤}
 use Rattle.std.specs.Io.KnownBytes.{Consumes, IsAtEnd}
 use Rattle.hx_io.specs.Causes.{Rose}
 use Rattle.hx_io.specs.Pieces.{ConsumesExactly}
 use Rattle.hx_io.specs.declared.errors.ReadError.{ReadError}
 use Rattle.hx_io.specs.declared.errors.ReadError.TheVariants as a_read_error
+use Rattle.hx_types.specs.declared.names.Actor.{Actor}
 use Rattle.hx_types.specs.declared.traces.Entry.{Entry}
 use Rattle.hx_types.specs.declared.traces.Script.{Script}
+use Rattle.hx_types.specs.declared.traces.Step.{Step}
 use Rattle.hx_model.specs.Built.{IsBuilt}
 use Rattle.hx_model.specs.Linear.{IsLinear}
 use Rattle.hx_model.specs.Runs.{IsRun}
-use Rattle.hx_model.specs.Schedule.{IsScheduled}
+use Rattle.hx_model.specs.Schedule.{IsScheduled, scheduled, stepped}
 use Rattle.hx_model.specs.Steady.{HasNoHalts}
 use Rattle.hx_script.specs.declared.errors.Reason.{Reason}
 use Rattle.hx_script.specs.declared.errors.ScriptError.{ScriptError}
 use Rattle.hx_script.specs.declared.errors.ScriptError.TheVariants as a_script_error
 use Rattle.hx_script.specs.Texts.{script_of}
 use Rattle.hx_report.specs.Reporting.{IsReport}
+use Rattle.hx_world.specs.Worlds.{HasFewEntries, IsWornOut}
+use Rattle.hx_tool.specs.declared.outcomes.Made.{Made}
+use Rattle.hx_tool.specs.declared.outcomes.Made.TheVariants.{Whole, Worn}
 use Rattle.hx_tool.specs.declared.outcomes.Outcome.{Outcome}
 use Rattle.hx_tool.specs.declared.outcomes.Outcome.TheVariants as an_outcome
 use Rattle.hx_tool.specs.declared.words.Command.{Command}
@@ -68,11 +73,21 @@ pub record IsWholeRun (script : Script) (trace : List Entry) : Type 0 where
   pub run : IsRun script (reverse trace)
   pub still : HasNoHalts (reverse trace)
   pub scheduled : IsScheduled script (reverse trace)
+  pub few : HasFewEntries (reverse trace)
+
+-- the run that the schedule of the script begins with, up to where its next entry is one of this actor, which has made 1,048,576 entries
+pub record IsWornRun (script : Script) (trace : List Entry) (a : Actor) : Type 0 where
+  pub entries : ℕ
+  pub trace_is : reverse trace ≡ scheduled script (stepped script [] (map (λ (s : ℕ × Step). s.1) script.steps)) entries
+  pub run : IsRun script (reverse trace)
+  pub few : HasFewEntries (reverse trace)
+  pub worn_out : IsWornOut script (reverse trace) a
 
 -- the trace is the run of the script that the schedule gives, each key's history is linear, and the report tells of it
 pub record IsReplayed (script : Script) (trace : List Entry) (report : List ℕ) : Type 0 where
   pub run : IsRun script (reverse trace)
   pub scheduled : IsScheduled script (reverse trace)
+  pub few : HasFewEntries (reverse trace)
   pub linear : (key : List ℕ) → IsLinear script (reverse trace) key
   pub report_is : IsReport script (reverse trace) report
 
@@ -93,6 +108,23 @@ pub record IsAnswer (command : Command) (text : List ℕ) (trace : List Entry) (
   pub taken : Takes command script
   pub made : IsMade command script trace bytes
 
+-- the text is that of a script that `replay` takes, and the trace the run of it that ends where this actor has made all its entries
+pub record IsWorn (text : List ℕ) (trace : List Entry) (a : Actor) : Type 0 where
+  pub script : Script
+  pub text_is : script_of text ≡ Ok script
+  pub taken : IsBuilt script
+  pub worn : IsWornRun script trace a
+
+-- what a replay makes of a script
+abbrev pub IsReplay : Script → Made → Type 0
+IsReplay script (Whole answered) = IsReplayed script answered.trace answered.bytes.items
+IsReplay script (Worn a trace) = IsWornRun script trace a
+
+-- what a command makes of a text: an answer, or under `replay` a run that a worn actor ends
+abbrev pub IsMadeOf : Command → List ℕ → Made → Type 0
+IsMadeOf command text (Whole answered) = IsAnswer command text answered.trace answered.bytes.items
+IsMadeOf command text (Worn a trace) = (command ≡ a_command.Replay) × IsWorn text trace a
+
 -- what a source that tells its bytes says of each outcome
 abbrev pub IsJudged : Command → List ℕ → Outcome → Type 0
 IsJudged command text an_outcome.Fine = (length text ≤ limit) × IsTaken command text
@@ -103,6 +135,7 @@ IsJudged command text an_outcome.TooLarge = limit < length text
 IsJudged command text an_outcome.ReadFault = ⊤
 IsJudged command text an_outcome.WriteFault = (length text ≤ limit) × IsTaken command text
 IsJudged command text an_outcome.Memory = ⊤
+IsJudged command text (an_outcome.Worn a) = (length text ≤ limit) × IsTaken command text
 
 -- why a text that a source holds has no answer from the command
 abbrev pub IsFaulty : Command → List ℕ → Outcome → Type 0
@@ -114,6 +147,7 @@ IsFaulty command text an_outcome.TooLarge = limit < length text
 IsFaulty command text an_outcome.ReadFault = ⊥
 IsFaulty command text an_outcome.WriteFault = ⊥
 IsFaulty command text an_outcome.Memory = ⊥
+IsFaulty command text (an_outcome.Worn a) = ⊥
 
 -- what made a text have no answer
 abbrev pub IsTextCause : Command → List ℕ → Outcome → Type 0
@@ -125,6 +159,7 @@ IsTextCause command text an_outcome.TooLarge = ⊥
 IsTextCause command text an_outcome.ReadFault = ⊥
 IsTextCause command text an_outcome.WriteFault = ⊥
 IsTextCause command text an_outcome.Memory = ⊤
+IsTextCause command text (an_outcome.Worn a) = ⊥
 
 -- what made reading a source and answering its text end without an answer
 abbrev pub IsCause : Command → Option (List ℕ) → Option (List ℕ) → ℕ → ℕ → Outcome → Type 0
@@ -138,6 +173,7 @@ IsCause command before after faults_before faults_after an_outcome.TooLarge = Co
 IsCause command before after faults_before faults_after an_outcome.ReadFault = Rose faults_before faults_after
 IsCause command before after faults_before faults_after an_outcome.WriteFault = ⊥
 IsCause command before after faults_before faults_after an_outcome.Memory = ⊤
+IsCause command before after faults_before faults_after (an_outcome.Worn a) = ⊥
 
 -- the outcome of a call that made a value, or ended before
 abbrev pub IsJudgedResult : {T : Type 0} → Command → List ℕ → Result T Outcome → Type 0

@@ -3,8 +3,10 @@ use Rattle.std.specs.Prelude.{ℕ, List, [], ◌++◌, codes}
 use Rattle.std.specs.Fmt.{decimal}
 use Rattle.hx_script.specs.declared.errors.Reason.{Reason}
 use Rattle.hx_script.specs.declared.errors.Reason.TheVariants as a_reason
+use Rattle.hx_print.specs.Printing.{actor_text}
+use Rattle.hx_types.specs.declared.names.Actor.{Actor}
 use Rattle.hx_tool.specs.declared.outcomes.Outcome.{Outcome}
-use Rattle.hx_tool.specs.declared.outcomes.Outcome.TheVariants.{Fine, Usage, Refused, Unbuilt, TooLarge, ReadFault, WriteFault, Memory}
+use Rattle.hx_tool.specs.declared.outcomes.Outcome.TheVariants.{Fine, Usage, Refused, Unbuilt, TooLarge, ReadFault, WriteFault, Memory, Worn}
 
 -- the status with which the process ends
 abbrev pub status_of : Outcome → ℕ
@@ -16,6 +18,7 @@ status_of TooLarge = 3
 status_of ReadFault = 4
 status_of WriteFault = 5
 status_of Memory = 6
+status_of (Worn a) = 7
 
 -- the word of a reason
 abbrev pub reason_word : Reason → List ℕ
@@ -32,6 +35,10 @@ reason_word a_reason.Step = codes "step"
 unfoldable pub refusal_line : ℕ → Reason → List ℕ
 refusal_line line reason = codes "line " ++ decimal line ++ codes ": " ++ reason_word reason ++ codes "\n"
 
+-- `worn A`
+unfoldable pub worn_line : Actor → List ℕ
+worn_line a = codes "worn " ++ actor_text a ++ codes "\n"
+
 -- the line on standard error
 abbrev pub fault_line : Outcome → List ℕ
 fault_line Fine = []
@@ -42,8 +49,9 @@ fault_line TooLarge = codes "too large\n"
 fault_line ReadFault = codes "read fault\n"
 fault_line WriteFault = codes "write fault\n"
 fault_line Memory = codes "no memory\n"
+fault_line (Worn a) = worn_line a
 
--- with this outcome nothing is written, and there is no trace
+-- with this outcome nothing is written
 abbrev pub IsSilent : Outcome → Type 0
 IsSilent Fine = ⊥
 IsSilent Usage = Unit {0}
@@ -53,3 +61,16 @@ IsSilent TooLarge = Unit {0}
 IsSilent ReadFault = Unit {0}
 IsSilent WriteFault = ⊥
 IsSilent Memory = Unit {0}
+IsSilent (Worn a) = Unit {0}
+
+-- with this outcome there is no trace
+abbrev pub HasNoTrace : Outcome → Type 0
+HasNoTrace Fine = ⊥
+HasNoTrace Usage = Unit {0}
+HasNoTrace (Refused line reason) = Unit {0}
+HasNoTrace Unbuilt = Unit {0}
+HasNoTrace TooLarge = Unit {0}
+HasNoTrace ReadFault = Unit {0}
+HasNoTrace WriteFault = ⊥
+HasNoTrace Memory = Unit {0}
+HasNoTrace (Worn a) = ⊥

@@ -1,8 +1,8 @@
 ghost use Rattle.std.specs.Prelude.{◌≡◌, IfOk, IfErr};
 ghost use Rattle.hx_types.specs.Fitting.{IsScript};
-ghost use Rattle.hx_tool.specs.Causes.{IsAnswer, IsPlanned, IsTextCause};
+ghost use Rattle.hx_tool.specs.Causes.{IsMadeOf, IsPlanned, IsTextCause};
 
-use crate::outcomes::{Answered, Outcome};
+use crate::outcomes::{Answered, Made, Outcome};
 use crate::plans::plans;
 use crate::replaying::replay;
 use crate::words::Command;
@@ -15,15 +15,16 @@ use std::alloc::Global;
 ///
 /// `Refused` exactly where the text is no script, with its first faulty line; `Unbuilt` exactly
 /// where it is one that the command doesn't take; `Memory`.
-pub fn answer(alloc: Global, command: Command, text: &[u8]) -> Result<Answered, Outcome>
-    ensures answer { IfOk result (λ made. IsAnswer command text.now made.trace made.bytes.items) }
+#[tactic(auto, using(crate::proofs::Making::made_of_replay))]
+pub fn answer(alloc: Global, command: Command, text: &[u8]) -> Result<Made, Outcome>
+    ensures answer { IfOk result (IsMadeOf command text.now) }
     ensures cause { IfErr result (IsTextCause command text.now) }
 {
     let script = hx_script::read(alloc, text)?;
     hx_script::scripts_are_valid();
     match command {
         Command::Replay => replay(alloc, &script),
-        Command::Plan => Ok(plan(alloc, &script)?),
+        Command::Plan => Ok(Made::Whole(plan(alloc, &script)?)),
     }
 }
 

@@ -1,10 +1,10 @@
 ghost use Rattle.std.specs.Prelude.{◌≡◌, ◌++◌, IfOk, OnOk};
-ghost use Rattle.hx_tool.specs.Outcomes.{fault_line, reason_word, refusal_line, status_of};
+ghost use Rattle.hx_tool.specs.Outcomes.{fault_line, reason_word, refusal_line, status_of, worn_line};
 
 use hx_io::ReadError;
-use hx_print::{put_bytes, put_number};
+use hx_print::{put_actor, put_bytes, put_number};
 use hx_script::{Reason, ScriptError};
-use hx_types::{Memory, Trace};
+use hx_types::{Actor, Memory, Trace};
 use std::alloc::Global;
 
 /// How a call of the program ended.
@@ -26,9 +26,12 @@ pub enum Outcome {
     WriteFault,
     /// Memory was wanting; nothing was written.
     Memory,
+    /// The next entry of a replay is one of this actor, which has made 1,048,576 entries and makes
+    /// no more; nothing was written. The limit is this project's choice.
+    Worn(Actor),
 }
 
-/// What a command makes of a script.
+/// The answer that a command gives to a script.
 #[derive(Drop)]
 pub struct Answered {
     /// The steps of all actors; empty where none took one.
@@ -37,13 +40,23 @@ pub struct Answered {
     pub bytes: Vec<u8>,
 }
 
+/// What a command makes of a script.
+#[derive(Drop)]
+pub enum Made {
+    /// The answer.
+    Whole(Answered),
+    /// A replay that ended where this actor had made all its entries, and the steps up to there.
+    Worn { actor: Actor, trace: Trace },
+}
+
 /// What a call of the program gives back.
 #[derive(Drop)]
 pub struct Done {
     /// The status with which the process ends.
     pub status: u8,
     pub outcome: Outcome,
-    /// The steps of all actors; empty where there is no answer, and under `plan`.
+    /// The steps of all actors, up to the worn actor's where the outcome is `Worn`; else empty
+    /// where there is no answer, and under `plan`.
     pub trace: Trace,
 }
 
@@ -85,7 +98,8 @@ impl From<ScriptError> for Outcome {
 }
 
 /// The status of an outcome: 0 fine, 2 usage, 3 a text that can't be run, 4 and 5 a fault of
-/// reading or writing, 6 want of memory. The numbers are this project's choice.
+/// reading or writing, 6 want of memory, 7 an actor that has made 1,048,576 entries. The numbers
+/// are this project's choice.
 pub fn status(outcome: Outcome) -> u8
     ensures { result ≡ status_of outcome }
 {
@@ -96,6 +110,7 @@ pub fn status(outcome: Outcome) -> u8
         Outcome::ReadFault => 4,
         Outcome::WriteFault => 5,
         Outcome::Memory => 6,
+        Outcome::Worn(_) => 7,
     }
 }
 
@@ -120,7 +135,17 @@ fn put_fault(alloc: Global, out: &mut Vec<u8>, outcome: Outcome) -> Result<(), M
         Outcome::ReadFault => put_bytes(out, b"read fault\n"),
         Outcome::WriteFault => put_bytes(out, b"write fault\n"),
         Outcome::Memory => put_bytes(out, b"no memory\n"),
+        Outcome::Worn(actor) => put_worn(alloc, out, actor),
     }
+}
+
+#[tactic(auto, unfolding(crate::specs::Outcomes::worn_line))]
+fn put_worn(alloc: Global, out: &mut Vec<u8>, actor: Actor) -> Result<(), Memory>
+    ensures { OnOk result (out.new.items ≡ out.old.items ++ worn_line actor) }
+{
+    put_bytes(out, b"worn ")?;
+    put_actor(alloc, out, &actor)?;
+    put_bytes(out, b"\n")
 }
 
 #[tactic(auto, unfolding(crate::specs::Outcomes::refusal_line))]

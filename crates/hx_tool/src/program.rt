@@ -22,7 +22,7 @@ Options:
   --version    print the version
 
 Status: 0 fine, 2 usage, 3 a text that can't be run, 4 a fault of reading,
-5 a fault of writing, 6 want of memory.
+5 a fault of writing, 6 want of memory, 7 an actor made 1,048,576 entries.
 ";
 
 /// What `hx --version` prints.

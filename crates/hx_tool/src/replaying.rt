@@ -2,19 +2,19 @@ ghost use Rattle.std.specs.Prelude.{◌≡◌, ◌⊎◌, IfOk, IfErr, reverse};
 ghost use Rattle.hx_types.specs.Fitting.{IsScript};
 ghost use Rattle.hx_model.specs.Built.{IsBuilt};
 ghost use Rattle.hx_report.specs.Reporting.{IsReport};
-ghost use Rattle.hx_tool.specs.Causes.{IsReplayed, IsWholeRun};
+ghost use Rattle.hx_tool.specs.Causes.{IsReplay, IsReplayed, IsWholeRun};
 
 use crate::built::is_built;
-use crate::outcomes::{Answered, Outcome};
+use crate::outcomes::{Answered, Made, Outcome};
 use hx_types::{Memory, Script, Trace};
-use hx_world::{Drained, World};
+use hx_world::{DrainError, Drained, World};
 use std::alloc::Global;
 
 /// Replays a script, or refuses one that isn't of the form that is built.
-pub fn replay(alloc: Global, script: &Script) -> Result<Answered, Outcome>
+pub fn replay(alloc: Global, script: &Script) -> Result<Made, Outcome>
     requires { IsScript script.now }
     ensures built { IfOk result (λ _. IsBuilt script.now) }
-    ensures made { IfOk result (λ made. IsReplayed script.now made.trace made.bytes.items) }
+    ensures made { IfOk result (IsReplay script.now) }
     ensures cause { IfErr result (λ outcome. ((outcome ≡ Outcome.Unbuilt) × ¬ IsBuilt script.now) ⊎ (outcome ≡ Outcome.Memory)) }
 {
     if !is_built(script) {
@@ -23,27 +23,33 @@ pub fn replay(alloc: Global, script: &Script) -> Result<Answered, Outcome>
     Ok(replay_built(alloc, script)?)
 }
 
-fn replay_built(alloc: Global, script: &Script) -> Result<Answered, Memory>
+/// Runs the script by the schedule until there is nothing left to do, or an actor is worn.
+#[tactic(auto, using(crate::proofs::Scheduling::runnable))]
+fn replay_built(alloc: Global, script: &Script) -> Result<Made, Memory>
     requires { IsBuilt script.now }
+    ensures { IfOk result (IsReplay script.now) }
+{
+    let mut world = World::start(alloc, script)?;
+    match world.drain(alloc, u64::MAX) {
+        Ok(Drained::Quiet) => Ok(Made::Whole(answered(alloc, script, world.into_trace())?)),
+        Ok(Drained::Spent) => unreachable!(),
+        Err(DrainError::Memory) => Err(Memory),
+        Err(DrainError::Worn(actor)) => Ok(Made::Worn {
+            actor,
+            trace: world.into_trace(),
+        }),
+    }
+}
+
+/// The whole run and its report.
+fn answered(alloc: Global, script: &Script, trace: Trace) -> Result<Answered, Memory>
+    requires built { IsBuilt script.now }
+    requires whole { IsWholeRun script.now trace }
     ensures { IfOk result (λ made. IsReplayed script.now made.trace made.bytes.items) }
 {
-    let trace = run(alloc, script)?;
     hx_linear::headline_in_one_configuration();
     let bytes = tell(alloc, script, &trace)?;
     Ok(Answered { trace, bytes })
-}
-
-/// Runs the script by the schedule until there is nothing left to do.
-#[tactic(auto, using(crate::proofs::Scheduling::drained))]
-fn run(alloc: Global, script: &Script) -> Result<Trace, Memory>
-    requires { IsBuilt script.now }
-    ensures { IfOk result (λ trace. IsWholeRun script.now trace) }
-{
-    let mut world = World::start(alloc, script)?;
-    match world.drain(alloc, u64::MAX)? {
-        Drained::Quiet => Ok(world.into_trace()),
-        Drained::Spent => unreachable!(),
-    }
 }
 
 /// The report of a trace.

@@ -1,7 +1,8 @@
-use crate::outcomes::{Done, Outcome, fault_text};
+use crate::outcomes::{Done, Outcome, fault_text, status};
 use crate::top::hyperstore;
 use hx_io::{MemorySink, MemorySource};
 use hx_script::Reason;
+use hx_types::{Actor, ServerId};
 use std::alloc::Global;
 use std::test::Fail;
 
@@ -231,5 +232,9 @@ fn a_fault_has_its_line(rt: HostRuntime) -> Result<(), Fail> {
     };
     let line = fault_text(rt.alloc(), refused)?;
     assert_eq!(rt; line.as_slice(), b"line 11: type\n".as_slice());
+    let worn = Outcome::Worn(Actor::Server(ServerId(12)));
+    let line = fault_text(rt.alloc(), worn)?;
+    assert_eq!(rt; line.as_slice(), b"worn s12\n".as_slice());
+    assert_eq!(rt; status(worn), 7);
     Ok(())
 }

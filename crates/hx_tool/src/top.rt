@@ -3,17 +3,18 @@ ghost use Rattle.std.specs.Io.KnownBytes.{Appends};
 ghost use Rattle.hx_io.specs.Causes.{Rose};
 ghost use Rattle.hx_io.specs.Pieces.{AppendsPrefix, ConsumesExactly};
 ghost use Rattle.hx_script.specs.declared.errors.Reason.{Reason};
-ghost use Rattle.hx_tool.specs.Causes.{IsAnswer, IsCause, IsFaulty, IsJudged, IsJudgedResult, IsRefused, IsTaken, IsUnbuilt, ReadsText, limit};
+ghost use Rattle.hx_types.specs.declared.names.Actor.{Actor};
+ghost use Rattle.hx_tool.specs.Causes.{IsAnswer, IsCause, IsFaulty, IsJudged, IsJudgedResult, IsMadeOf, IsRefused, IsTaken, IsUnbuilt, IsWorn, ReadsText, limit};
 ghost use Rattle.hx_tool.specs.Commands.{Says};
-ghost use Rattle.hx_tool.specs.Outcomes.{IsSilent, status_of};
+ghost use Rattle.hx_tool.specs.Outcomes.{HasNoTrace, IsSilent, status_of};
 ghost use Rattle.hx_tool.specs.declared.outcomes.Outcome.{Outcome};
 ghost use Rattle.hx_tool.specs.declared.words.Command.{Command};
 
 use crate::answering::answer;
-use crate::outcomes::{Answered, Done, Outcome, status};
+use crate::outcomes::{Answered, Done, Made, Outcome, status};
 use crate::words::{Command, command_of};
 use hx_io::{Sink, Source, read_all, write_all};
-use hx_types::Trace;
+use hx_types::{Actor, Trace};
 use std::alloc::Global;
 
 /// How many bytes a script may have.
@@ -29,6 +30,9 @@ const LIMIT: usize = 16_777_216;
 ///
 /// Each outcome but `Memory` comes exactly where its cause holds. The answer is made whole before
 /// the first write, so nothing is written with any outcome but `Fine` and `WriteFault`.
+///
+/// An actor makes at most 1,048,576 entries: `Worn` comes where the next entry of a replay is one
+/// more of an actor that has made so many, and the trace is the run up to there.
 pub fn hyperstore<S: Source, K: Sink>(
     alloc: Global,
     words: &[String],
@@ -65,6 +69,13 @@ pub fn hyperstore<S: Source, K: Sink>(
         × IsAnswer command text result.trace bytes
         × AppendsPrefix (K.held sink.old) (K.held sink.new) bytes }
 
+    // Under `replay` the schedule came to an entry of an actor that has made all its entries. The
+    // trace is the run up to there.
+    ensures worn { (a : Actor) → result.outcome ≡ Outcome.Worn a → (text : List ℕ)
+        × Says words.now Command.Replay
+        × ReadsText (S.left source.old) (S.left source.new) text
+        × IsWorn text result.trace a }
+
     // For a source that tells its bytes these alone decide, but for faults and want of memory.
     ensures judged { (command : Command) → Says words.now command
         → IfSome (S.left source.old) (λ text. IsJudged command text result.outcome) }
@@ -76,11 +87,12 @@ pub fn hyperstore<S: Source, K: Sink>(
         → S.left source.old ≡ Some text → length text ≤ limit → IsTaken command text
         → ¬ Rose (S.faults source.old) (S.faults source.new)
         → ¬ Rose (K.faults sink.old) (K.faults sink.new)
-        → (result.outcome ≡ Outcome.Fine) ⊎ (result.outcome ≡ Outcome.Memory) }
+        → (result.outcome ≡ Outcome.Fine) ⊎ (result.outcome ≡ Outcome.Memory)
+        ⊎ ((a : Actor) × (result.outcome ≡ Outcome.Worn a)) }
 
-    // Nothing is written, and there is no trace, with the other outcomes.
+    // Nothing is written with the other outcomes, and there is no trace but with `Worn`.
     ensures silent { IsSilent result.outcome → sink.new ≡ sink.old }
-    ensures no_trace { IsSilent result.outcome → result.trace ≡ [] }
+    ensures no_trace { HasNoTrace result.outcome → result.trace ≡ [] }
     ensures untouched { result.outcome ≡ Outcome.Usage → source.new ≡ source.old }
 
     // Counts of faults never fall.
@@ -91,7 +103,8 @@ pub fn hyperstore<S: Source, K: Sink>(
         return silent(alloc, Outcome::Usage);
     };
     match read_and_answer(alloc, command, source) {
-        Ok(made) => write(sink, made),
+        Ok(Made::Whole(made)) => write(sink, made),
+        Ok(Made::Worn { actor, trace }) => worn(actor, trace),
         Err(outcome) => silent(alloc, outcome),
     }
 }
@@ -108,15 +121,30 @@ fn silent(alloc: Global, outcome: Outcome) -> Done
     }
 }
 
+/// A replay that a worn actor ended: its trace, and nothing to write.
+fn worn(actor: Actor, trace: Trace) -> Done
+    ensures outcome { result.outcome ≡ Outcome.Worn actor }
+    ensures status { result.status ≡ status_of result.outcome }
+    ensures trace { result.trace ≡ trace }
+{
+    let outcome = Outcome::Worn(actor);
+    Done {
+        status: status(outcome),
+        outcome,
+        trace,
+    }
+}
+
 /// Reads the source to its end and answers its text.
+#[tactic(auto, using(crate::proofs::Making::made_is_taken))]
 fn read_and_answer<S: Source>(
     alloc: Global,
     command: Command,
     source: &mut S,
-) -> Result<Answered, Outcome>
+) -> Result<Made, Outcome>
     ensures answer { IfOk result (λ made. (text : List ℕ)
         × ReadsText (S.left source.old) (S.left source.new) text
-        × IsAnswer command text made.trace made.bytes.items) }
+        × IsMadeOf command text made) }
     ensures cause { IfErr result (IsCause command (S.left source.old) (S.left source.new) (S.faults source.old) (S.faults source.new)) }
     ensures judged { IfSome (S.left source.old) (λ text. IsJudgedResult command text result) }
     ensures faults { S.faults source.old ≤ S.faults source.new }

@@ -11,3 +11,4 @@ pub mod Advancing
 pub mod Draining
 pub mod Beginning
 pub mod Spending
+pub mod Books

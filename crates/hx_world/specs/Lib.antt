@@ -3,6 +3,7 @@ pub use Rattle.hx_model.specs.Built
 pub use Rattle.hx_model.specs.Runs
 pub use Rattle.hx_model.specs.Schedule
 pub use Rattle.hx_model.specs.Steady
+pub mod Examples
 pub mod Filing
 pub mod Hosts
 pub mod Idle

@@ -14,3 +14,6 @@ mod worlds;
 
 pub use ends::{DrainError, Drained};
 pub use worlds::World;
+
+#[cfg(test)]
+mod tests;

@@ -1,14 +1,22 @@
--- The next candidate is compared with the best of those before it.
-use Rattle.std.proofs.Common.{Option, sym, ap, ◌∙◌}
-use Rattle.hx_model.specs.Planning.{QueryRegions, fewer_of, query_regions}
-use Rattle.hx_plan.proofs.Choosing.{chosen_next}
+-- The first subspace without a lost region is the plan's; where each has one there is none.
+use Rattle.std.proofs.Common.{ap, ◌∙◌}
+use Rattle.hx_types.specs.declared.names.RegionId.{RegionId}
+use Rattle.hx_types.specs.declared.results.Planned.TheVariants as a_plan
+use Rattle.hx_model.specs.Planning.{lowest_lost}
+use Rattle.hx_plan.proofs.Trying.{counts_made, plan_found, plan_lost}
 use Rattle.hx_plan.proofs.planning.plan.Goals as goal
 
-pub loop-s-preserved : goal.loop-s-preserved
-loop-s-preserved c =
-    let config = c.args.config.now in
-    let of_subspace = query_regions c.args.map.now c.args.terms.now in
-    c.better-best.ensures
-    ∙ ap (λ (q : QueryRegions). fewer_of config q c.loop-s.best) c.in_ok-candidate.ensures
-    ∙ ap (λ (o : Option QueryRegions). fewer_of config (of_subspace c.loop-s.s) o) c.loop-s.invariant
-    ∙ sym (chosen_next config of_subspace c.loop-s.s)
+pub loop-best-init : goal.loop-best-init
+loop-best-init c = (counts_made c.args.config.now c.args.map.now c.args.terms.now c.in_ok-counts.counts.items c.in_ok-counts.ensures.exact, c.in_ok-counts.ensures.few)
+
+pub returns-then-not-any_lost : goal.returns-then-not-any_lost
+returns-then-not-any_lost c = record {
+  exact = plan_found c.args.map.now c.args.config.now c.args.terms.now c.loop-best.counts.items c.as_slice.result.now c.in-Some.best c.in_ok-regions.regions c.loop-best.invariant.0 c.as_slice.ensures.value
+      c.in-Some.ensures c.in_ok-regions.ensures c.if-not-any_lost.ensures;
+}
+
+pub returns : goal.returns
+returns c = record {
+  exact = ap (λ (g : RegionId). a_plan.Lost g) (c.lowest_lost.ensures ∙ ap (lowest_lost c.args.config.now) c.in_ok-keys.ensures)
+      ∙ plan_lost c.args.map.now c.args.config.now c.args.terms.now c.loop-best.counts.items c.as_slice.result.now c.loop-best.invariant.0 c.as_slice.ensures.value c.in_default.ensures;
+}

@@ -1,22 +1,24 @@
-use Rattle.std.proofs.Common.{ℕ, List, ◌≡◌, ◌<◌, ◌∙◌, Vec, ap, arith, get_or, insert, length, set, subst}
+use Rattle.std.proofs.Common.{ℕ, List, ◌≡◌, ◌<◌, ◌∙◌, ap, arith, get_or, insert, length, set, subst}
 use Rattle.hx_model.specs.Slots.{mark_by}
 use Rattle.hx_slot.proofs.Sessions.{leave, marked_at, pass, put_before, put_over}
 use Rattle.hx_slot.proofs.marks.note_mark.Goals as goal
 
 pub returns-then-update-known-clause-items : goal.returns-then-update-known-clause-items
 returns-then-update-known-clause-items c =
-    let same = ap (λ (v : Vec ℕ _). v.items) c.loop-place.invariant.same in
+    let same = c.loop-place.invariant.items in
     let within : c.loop-place.place < length c.args.numbers.now.items = omega arith in
     let read = subst (λ (ns : List ℕ). c.index.result.now ≡ get_or ns c.loop-place.place c.index.result.now) same c.index.ensures in
-    c.insert_within.ensures.items
-    ∙ ap (λ (ns : List ℕ). insert ns c.loop-place.place c.args.number) same
+    ◌∙◌ {A = List ℕ} c.insert_within.ensures.items
+    (
+    ap (λ (ns : List ℕ). insert ns c.loop-place.place c.args.number) same
     ∙ put_before c.args.line.now c.args.number (mark_by c.args.update.now) c.args.numbers.now.items c.loop-place.place _ within
     (marked_at c.args.line.now c.args.numbers.now.items c.loop-place.place c.index.result.now c.index-line-index.result within read c.requires.known)
     c.if-update-known.true c.loop-place.invariant.passed
+    )
 
 pub returns-then-update-known-3-clause-items : goal.returns-then-update-known-3-clause-items
 returns-then-update-known-3-clause-items c =
-    let same = ap (λ (v : Vec ℕ _). v.items) c.loop-place.invariant.same in
+    let same = c.loop-place.invariant.items in
     let within : c.loop-place.place < length c.args.numbers.now.items = omega arith in
     let read = subst (λ (ns : List ℕ). c.index.result.now ≡ get_or ns c.loop-place.place c.index.result.now) same c.index.ensures in
     ap (λ (ns : List ℕ). set ns c.loop-place.place c.args.number) same
@@ -26,7 +28,7 @@ returns-then-update-known-3-clause-items c =
 
 pub returns-else-update-known-3-clause-items : goal.returns-else-update-known-3-clause-items
 returns-else-update-known-3-clause-items c =
-    let same = ap (λ (v : Vec ℕ _). v.items) c.loop-place.invariant.same in
+    let same = c.loop-place.invariant.items in
     let within : c.loop-place.place < length c.args.numbers.now.items = omega arith in
     let read = subst (λ (ns : List ℕ). c.index.result.now ≡ get_or ns c.loop-place.place c.index.result.now) same c.index.ensures in
     same
@@ -36,11 +38,13 @@ returns-else-update-known-3-clause-items c =
 
 pub loop-place-preserved : goal.loop-place-preserved
 loop-place-preserved c =
-    let same = ap (λ (v : Vec ℕ _). v.items) c.loop-place.invariant.same in
+    let same = c.loop-place.invariant.items in
     let within : c.loop-place.place < length c.args.numbers.now.items = omega arith in
     let read = subst (λ (ns : List ℕ). c.index.result.now ≡ get_or ns c.loop-place.place c.index.result.now) same c.index.ensures in
     record {
-      same = c.loop-place.invariant.same;
+      items = c.loop-place.invariant.items;
+      len = c.loop-place.invariant.len;
+      capacity = c.loop-place.invariant.capacity;
       end = c.loop-place.invariant.end;
       passed = pass c.args.line.now c.args.number (mark_by c.args.update.now) c.args.numbers.now.items c.loop-place.place _ within
           (marked_at c.args.line.now c.args.numbers.now.items c.loop-place.place c.index.result.now c.index-line-index.result within read c.requires.known)

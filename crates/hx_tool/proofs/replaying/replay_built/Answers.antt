@@ -1,15 +1,16 @@
--- The law over every run, at the run that the schedule gave.
-use Rattle.std.specs.Prelude.{reverse}
-use Rattle.hx_tool.proofs.Fixed.{built_is_fixed}
+-- So many entries a world never makes; and when it is quiet, its trace is the whole run.
+use Rattle.std.proofs.Common.{lit<, reverse}
+use Rattle.hx_tool.proofs.Scheduling.{never_spent, quietly, whole_run}
 use Rattle.hx_tool.proofs.replaying.replay_built.Goals as goal
 
-pub returns : goal.returns
-returns c =
-    record {
-      run = c.in_ok-trace.ensures.run;
-      scheduled = c.in_ok-trace.ensures.scheduled;
-      linear =
-          c.headline_in_one_configuration.ensures c.args.script.now c.requires.valid (built_is_fixed c.args.script.now c.requires)
-          (reverse c.in_ok-trace.trace) c.in_ok-trace.ensures.run c.in_ok-trace.ensures.still;
-      report_is = c.in_ok-bytes.ensures;
-    }
+pub answered-requires-clause-whole : goal.answered-requires-clause-whole
+answered-requires-clause-whole c =
+    whole_run c.args.script.now c.in_ok-world.world c.drain.new.self c.into_trace.result 18446744073709551615
+    c.requires c.in_ok-world.ensures
+    (quietly c.in_ok-world.world.script 18446744073709551615 (reverse c.in_ok-world.world.trace) (reverse c.drain.new.self.trace) c.in-Ok-Quiet.field-0 c.in-Ok-Quiet.ensures.drained c.in-Ok-Quiet.field-0-is)
+    c.into_trace.ensures.trace c.in-Ok-Quiet.ensures.script c.into_trace.ensures.run c.into_trace.ensures.still c.into_trace.ensures.few
+
+pub unreachable-requires : goal.unreachable-requires
+unreachable-requires c =
+    never_spent c.in_ok-world.world.script 18446744073709551615 (reverse c.in_ok-world.world.trace) c.drain.new.self.trace c.in-Ok-Spent.field-0
+    c.in-Ok-Spent.ensures.drained c.in-Ok-Spent.field-0-is c.in-Ok-Spent.ensures.most (lit< tt)

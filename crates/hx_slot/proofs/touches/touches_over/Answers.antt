@@ -1,0 +1,17 @@
+use Rattle.std.proofs.Common.{◌∙◌, ap, subst, sym}
+use Rattle.hx_model.specs.Slots.{with_touches}
+use Rattle.hx_slot.specs.Tabled.{AscendByRegion}
+use Rattle.hx_slot.proofs.Carrying.{touches_over-more}
+use Rattle.hx_slot.proofs.Regions.{with_touches-ascends}
+use Rattle.hx_slot.proofs.touches.touches_over.Goals as goal
+
+pub loop-taken-preserved : goal.loop-taken-preserved
+loop-taken-preserved c =
+    let t = c.taken-item.result in
+    let places = c.as_slice-places.result.now in
+    let new = c.note_touches.ensures.items ∙ ap (with_touches t.update.version places) c.in_ok-reserve.ensures.items in
+    record {
+      touches = touches_over-more c.args.line.now c.loop-taken.taken-index t c.loop-taken.touches.items c.note_touches.new.touches.items places c.loop-taken-test.true c.taken-item.is c.as_slice-places.ensures new
+          ∙ c.loop-taken.invariant.touches;
+      ascending = subst AscendByRegion (sym new) (with_touches-ascends t.update.version places c.loop-taken.touches.items c.loop-taken.invariant.ascending);
+    }

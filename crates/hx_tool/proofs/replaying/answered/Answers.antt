@@ -1,0 +1,16 @@
+-- The law over every run, at the run that the schedule gave.
+use Rattle.std.specs.Prelude.{reverse}
+use Rattle.hx_tool.proofs.Fixed.{built_is_fixed}
+use Rattle.hx_tool.proofs.replaying.answered.Goals as goal
+
+pub returns : goal.returns
+returns c =
+    record {
+      run = c.requires.whole.run;
+      scheduled = c.requires.whole.scheduled;
+      few = c.requires.whole.few;
+      linear =
+          c.headline_in_one_configuration.ensures c.args.script.now c.requires.built.valid (built_is_fixed c.args.script.now c.requires.built)
+          (reverse c.args.trace) c.requires.whole.run c.requires.whole.still;
+      report_is = c.in_ok-bytes.ensures;
+    }
