@@ -86,8 +86,7 @@ call_region space s epoch (Some key) r e =
     let l = led space s epoch key r e in
     let g : RegionId = key_region space key in
     let first = and_parts (is_key_region space g && not (is_lost s.config g)) _ l.leads_it in
-    let second = and_parts (is_key_region space g) (not (is_lost s.config g)) first.0 in
-    (
+    let second = and_parts (is_key_region space g) (not (is_lost s.config g)) first.0 in (
       l.region,
       ap (is_key_region space) l.region ∙ second.0,
       subst (λ (h : RegionId). replica_of h s.replicas ≡ Some r) (sym l.region) (hearing_found s epoch g r l.hears),
@@ -101,8 +100,7 @@ pub slot_input : (space : Space) (s : ServerState) (from : Actor) (m : Message) 
 slot_input space s from (a_message.Call epoch number op) r h sound small e marked =
     let c = call_region space s epoch (key_of op) r e in
     let key : List ℕ = key_in (a_message.Call epoch number op) in
-    let marks : Bool = is_key_region space r.region in
-    (
+    let marks : Bool = is_key_region space r.region in (
       from_session from (Server s.id) epoch number op sound.sound.between,
       h,
       record {
@@ -132,8 +130,8 @@ can_step v input id from m place key marked can is at k =
     record {
       key_is = k;
       asked = λ r e.
-        let same : heard v.space v.state m ≡ Some r = there.is ∙ sym there.at_place ∙ e in
-        subst (λ (x : List ℕ). IsSlotInput v.space r.region (state_in v.space r x) from m) (sym k)
-        (slot_input v.space v.state from m r now.input_to.0 now.input_to.1 now.small same (marked place r e));
+          let same : heard v.space v.state m ≡ Some r = there.is ∙ sym there.at_place ∙ e in
+          subst (λ (x : List ℕ). IsSlotInput v.space r.region (state_in v.space r x) from m) (sym k)
+          (slot_input v.space v.state from m r now.input_to.0 now.input_to.1 now.small same (marked place r e));
       within = slice_get_within v.state.replicas place there.replica there.at_place;
     }

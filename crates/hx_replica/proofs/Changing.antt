@@ -118,7 +118,7 @@ module _ (space : Space) (rs : List Replica) (place : ℕ) (y : Replica) (store 
   pub reserved_views : store.states ≡ y.store.states → views_of (set rs place put) ≡ views_of rs
   reserved_views states =
       map_stays view_of rs place put
-        (ap (λ (states : List KeyState). record { region = y.region; installed = y.installed; states = states }) states ∙ ap view_of here)
+      (ap (λ (states : List KeyState). record { region = y.region; installed = y.installed; states = states }) states ∙ ap view_of here)
 
   pub state_is : (key : List ℕ) → store.marks ≡ y.store.marks → state_at store key ≡ state_in space (view_of put) key
   state_is key marks = ap (λ (b : Bool). state_among b key store.states) (marks ∙ held.marks)
@@ -152,4 +152,4 @@ module _ (space : Space) (rs : List Replica) (place : ℕ) (y : Replica) (store 
       map-set view_of rs place put
       ∙ set_is_with rs place (view_of put) r are.ascend e (ap (λ (z : ReplicaState). z.region) same)
       ∙ ap (λ (z : ReplicaState). with_replica z (views_of rs))
-        (ap (λ (states : List KeyState). record { region = y.region; installed = y.installed; states = states }) states_are ∙ ap moved_to same)
+      (ap (λ (states : List KeyState). record { region = y.region; installed = y.installed; states = states }) states_are ∙ ap moved_to same)

@@ -60,6 +60,6 @@ none_of g (r ∷ rest) h = cond-false (same_region r.region g) _ _ (ne_eqb r.reg
 -- where the region would stand between others, there is none
 pub missing : (g : RegionId) (rs : List Replica) (i : ℕ) → IsPartitionPoint (λ (r : Replica). nat_cmp r.region.0 g.0 ≡ an_order.Less) (λ (r : Replica). nat_cmp r.region.0 g.0 ≡ an_order.Greater) rs i → None ≡ lent (replica_of g (views_of rs))
 missing g rs i p = ap lent (sym (none_of g rs (λ k d l. ⊎_elim
-  (λ low same. let b : (get_or rs k d).region.0 < g.0 = ranked (get_or rs k d).region.0 g.0 an_order.Less (sym (p.0 k d (omega arith) low)) in omega (arith, b, same))
-  (λ high same. let b : g.0 < (get_or rs k d).region.0 = ranked (get_or rs k d).region.0 g.0 an_order.Greater (sym (p.1 k d high l)) in omega (arith, b, same))
-  (cases_lt k i))))
+    (λ low same. let b : (get_or rs k d).region.0 < g.0 = ranked (get_or rs k d).region.0 g.0 an_order.Less (sym (p.0 k d (omega arith) low)) in omega (arith, b, same))
+    (λ high same. let b : g.0 < (get_or rs k d).region.0 = ranked (get_or rs k d).region.0 g.0 an_order.Greater (sym (p.1 k d high l)) in omega (arith, b, same))
+    (cases_lt k i))))

@@ -33,10 +33,10 @@ use Rattle.hx_replica.proofs.Planning.{found_there}
 -- the server's slots keep marks at key regions
 pub marked_inside : (i : Inside) (v : ServerValue) → value_of i ≡ v → IsServer i → AreMarked v
 marked_inside i v seen is = subst AreMarked seen (λ place r e.
-  let rs = i.replicas.items in
-  let d : Replica = record { region = r.region; installed = r.installed; store = record { region = r.region; marks = is_key_region i.space r.region; states = []; rooms = [] } } in
-  subst (λ (z : ReplicaState). AllByRecursion (λ (t : KeyState). t.marks ≡ is_key_region i.space z.region) z.states) (view_at rs place d r e)
-  (replica_at i.space rs place d is.replicas_are.each (below_views rs place r e)).marked)
+    let rs = i.replicas.items in
+    let d : Replica = record { region = r.region; installed = r.installed; store = record { region = r.region; marks = is_key_region i.space r.region; states = []; rooms = [] } } in
+    subst (λ (z : ReplicaState). AllByRecursion (λ (t : KeyState). t.marks ≡ is_key_region i.space z.region) z.states) (view_at rs place d r e)
+    (replica_at i.space rs place d is.replicas_are.each (below_views rs place r e)).marked)
 
 -- so many replicas are inside
 pub within : (i : Inside) (v : ServerValue) (place : ℕ) → value_of i ≡ v → place < length v.state.replicas → place < length i.replicas.items
@@ -58,9 +58,9 @@ pub asked : (i : Inside) (v : ServerValue) (place : ℕ) (key : List ℕ) (from 
     → place < length i.replicas.items → y ≡ get_or i.replicas.items place y → state_at store key ≡ state_in i.space (view_of y) key → IsSlotInput i.space y.region (state_at store key) from m
 asked i v place key from m y store seen can l is same =
     let at : slice_get v.state.replicas place ≡ Some (view_of y) =
-        ap (λ (x : ServerValue). slice_get x.state.replicas place) (sym seen)
-        ∙ slice_get-get_or (views_of i.replicas.items) place (view_of y) (let n = length-map i.replicas.items view_of in omega (arith, n))
-        ∙ ap (λ (z : ReplicaState). Some z) (get_or-map view_of i.replicas.items place y (view_of y) l ∙ ap view_of (sym is)) in
+    ap (λ (x : ServerValue). slice_get x.state.replicas place) (sym seen)
+    ∙ slice_get-get_or (views_of i.replicas.items) place (view_of y) (let n = length-map i.replicas.items view_of in omega (arith, n))
+    ∙ ap (λ (z : ReplicaState). Some z) (get_or-map view_of i.replicas.items place y (view_of y) l ∙ ap view_of (sym is)) in
     subst (λ (s : KeyState). IsSlotInput i.space y.region s from m) (sym same)
     (subst (λ (x : Space). IsSlotInput x y.region (state_in x (view_of y) key) from m) (ap (λ (x : ServerValue). x.space) (sym seen)) (can.asked (view_of y) at))
 
@@ -86,7 +86,7 @@ module _ (i : Inside) (place : ℕ) (key : List ℕ) (y : Replica) (store : Stor
   pub room_at : (n : ℕ) → HasRoom key n store → IsSomeAnd (slice_get (rooms_of (set rs place stored)) place) (λ (rooms : List Room). IsSomeAnd (room_in key rooms) (λ spare. n ≤ spare))
   room_at n room =
       subst (λ (o : Option (List Room)). IsSomeAnd o (λ (rooms : List Room). IsSomeAnd (room_in key rooms) (λ spare. n ≤ spare)))
-        (sym (put_there i.space rs place y store is.replicas_are l at (λ (r : Replica). r.store.rooms))) room
+      (sym (put_there i.space rs place y store is.replicas_are l at (λ (r : Replica). r.store.rooms))) room
 
 -- the change of a plan that changes a slot
 pub planned : (v : ServerValue) (input : Input) (change : Change) (place : ℕ) (key : List ℕ) (slot : SlotChange) → change ≡ a_change.Slot place key slot → IsChange v input change → IsChangeOn v input place key slot

@@ -10,3 +10,4 @@ pub mod Planning
 pub mod Asking
 pub mod Changing
 pub mod Inside
+pub mod Examples

@@ -73,8 +73,8 @@ moved_planned v id from m place key made plan can at is room k e =
     subst (IsPlanOn v) (sym (e ∙ ap (λ (x : List ℕ). moved_plan v.state.id (Deliver id from m) place x made) k))
     (record {
       entry = ap (λ (posts : List Post). record { actor = Server v.state.id; input = Deliver id from m; outputs = posts; notes = made.notes }) so.posts
-        ∙ ap (λ (notes : List Note). record { actor = Server v.state.id; input = Deliver id from m; outputs = slot.posts; notes = notes }) so.notes
-        ∙ ap (entry_by v (Deliver id from m)) (sym step);
+          ∙ ap (λ (notes : List Note). record { actor = Server v.state.id; input = Deliver id from m; outputs = slot.posts; notes = notes }) so.notes
+          ∙ ap (entry_by v (Deliver id from m)) (sym step);
       change = record {
         replica = r;
         found = at.at_place;
@@ -101,11 +101,11 @@ module _ (old new : ServerValue) (server : ServerId) (input : Input) (id : PostI
   pub nothing_prepared : (plan : Plan) → None ≡ option_map (λ (r : Replica). Some r) (heard old.space old.state m) → plan ≡ unmoved_plan server input → IsPlanOn new plan
   nothing_prepared plan none e =
       unmoved_planned new id from m plan still (sym heard_still ∙ found_nowhere (heard old.space old.state m) none)
-        (e ∙ ap (unmoved_plan server) is ∙ ap (λ (s : ServerId). unmoved_plan s (Deliver id from m)) me_still)
+      (e ∙ ap (unmoved_plan server) is ∙ ap (λ (s : ServerId). unmoved_plan s (Deliver id from m)) me_still)
 
   pub move_prepared : (place : ℕ) (key : List ℕ) (made : SlotMade) (plan : Plan) → Some (slice_get old.state.replicas place) ≡ option_map (λ (r : Replica). Some r) (heard old.space old.state m) → key ≡ key_in m
       → IsMadeAt new place from m made → HasRoomAt place key 1 new → plan ≡ moved_plan server input place key made → IsPlanOn new plan
   move_prepared place key made plan at k so room e =
       moved_planned new id from m place key made plan still
-        (found_there new.state.replicas place (heard new.space new.state m) (ap (λ (x : ServerState). Some (slice_get x.replicas place)) state ∙ at ∙ ap (option_map (λ (r : Replica). Some r)) heard_still)) so room k
-        (e ∙ ap (λ (i : Input). moved_plan server i place key made) is ∙ ap (λ (s : ServerId). moved_plan s (Deliver id from m) place key made) me_still)
+      (found_there new.state.replicas place (heard new.space new.state m) (ap (λ (x : ServerState). Some (slice_get x.replicas place)) state ∙ at ∙ ap (option_map (λ (r : Replica). Some r)) heard_still)) so room k
+      (e ∙ ap (λ (i : Input). moved_plan server i place key made) is ∙ ap (λ (s : ServerId). moved_plan s (Deliver id from m) place key made) me_still)

@@ -4,3 +4,4 @@ pub mod Hearing
 pub mod Servers
 pub mod Inside
 pub mod Plans
+pub mod Examples

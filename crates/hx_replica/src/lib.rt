@@ -12,3 +12,6 @@ mod spots;
 
 pub use plans::Plan;
 pub use servers::Server;
+
+#[cfg(test)]
+mod tests;

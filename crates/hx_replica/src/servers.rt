@@ -157,7 +157,10 @@ impl Server {
                 update,
             } => self.installed(*epoch, *region, &update.key),
             Message::Ack {
-                epoch, region, key, ..
+                epoch,
+                region,
+                key,
+                ..
             } => self.installed(*epoch, *region, key),
             _ => None,
         }

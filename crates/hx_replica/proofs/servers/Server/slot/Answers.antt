@@ -18,5 +18,5 @@ pub returns-clause-none : goal.returns-clause-none
 returns-clause-none c =
     let here = is_here c.self.inside c.args.self.now c.args.region c.in_ok-replica.replica c.index.result.now c.self.view_is c.self.invariant c.index.ensures (rw c.as_slice.ensures.value at c.in_ok-replica.ensures) in
     if_none_then c.slot.result
-      (λ e. if_there _ (replica_of c.args.region c.args.self.now.state.replicas) _ here.found (sym (here.state c.args.key.now) ∙ e ∙ here.empty c.args.key.now))
-      c.slot.ensures.none
+    (λ e. if_there _ (replica_of c.args.region c.args.self.now.state.replicas) _ here.found (sym (here.state c.args.key.now) ∙ e ∙ here.empty c.args.key.now))
+    c.slot.ensures.none

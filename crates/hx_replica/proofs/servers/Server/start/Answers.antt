@@ -16,8 +16,8 @@ invariant_of-result c = record {
   valid = subst IsSpace (sym c.in_ok-space.ensures) c.requires.space;
   map_is = c.in_ok-map.ensures ∙ sym c.in_ok-space.ensures;
   replicas_are =
-    subst (λ (x : Space). AreReplicas x c.in_ok-replicas.replicas.items) (sym c.in_ok-space.ensures)
-    (subst (AreReplicas c.args.space.now) (sym c.in_ok-replicas.ensures) (first_ones c.args.space.now c.in_ok-config.config c.args.id));
+      subst (λ (x : Space). AreReplicas x c.in_ok-replicas.replicas.items) (sym c.in_ok-space.ensures)
+      (subst (AreReplicas c.args.space.now) (sym c.in_ok-replicas.ensures) (first_ones c.args.space.now c.in_ok-config.config c.args.id));
 }
 
 pub returns-clause-state : goal.returns-clause-state

@@ -20,8 +20,8 @@ returns-in_err-reserve-clause-state c =
 pub step_store-requires-clause-input : goal.step_store-requires-clause-input
 step_store-requires-clause-input c =
     asked c.self.inside c.args.self.now c.args.heard.now.replica c.args.heard.now.key.now c.args.from c.args.message.now c.index_mut-replica.result.now c.reserve.new.self c.self.view_is c.requires
-      (within c.self.inside c.args.self.now c.args.heard.now.replica c.self.view_is c.requires.within) c.index_mut-replica.ensures.value
-      (state_same c.self.inside.space c.self.inside.replicas.items c.args.heard.now.replica c.index_mut-replica.result.now c.reserve.new.self c.self.invariant.replicas_are (within c.self.inside c.args.self.now c.args.heard.now.replica c.self.view_is c.requires.within) c.index_mut-replica.ensures.value c.args.heard.now.key.now c.reserve.ensures.marks c.reserve.ensures.states)
+    (within c.self.inside c.args.self.now c.args.heard.now.replica c.self.view_is c.requires.within) c.index_mut-replica.ensures.value
+    (state_same c.self.inside.space c.self.inside.replicas.items c.args.heard.now.replica c.index_mut-replica.result.now c.reserve.new.self c.self.invariant.replicas_are (within c.self.inside c.args.self.now c.args.heard.now.replica c.self.view_is c.requires.within) c.index_mut-replica.ensures.value c.args.heard.now.key.now c.reserve.ensures.marks c.reserve.ensures.states)
 
 pub invariant_of-self-2 : goal.invariant_of-self-2
 invariant_of-self-2 c = record {
@@ -33,8 +33,8 @@ invariant_of-self-2 c = record {
 pub returns-clause-made : goal.returns-clause-made
 returns-clause-made c =
     IfOk-weaker c.step_store.result _ _
-      (λ made h. made_at c.self.inside c.args.heard.now.replica c.args.heard.now.key.now c.index_mut-replica.result.now c.reserve.new.self c.self.invariant (within c.self.inside c.args.self.now c.args.heard.now.replica c.self.view_is c.requires.within) c.index_mut-replica.ensures.value c.args.from c.args.message.now made c.reserve.ensures.marks c.requires.key_is h)
-      c.step_store.ensures
+    (λ made h. made_at c.self.inside c.args.heard.now.replica c.args.heard.now.key.now c.index_mut-replica.result.now c.reserve.new.self c.self.invariant (within c.self.inside c.args.self.now c.args.heard.now.replica c.self.view_is c.requires.within) c.index_mut-replica.ensures.value c.args.from c.args.message.now made c.reserve.ensures.marks c.requires.key_is h)
+    c.step_store.ensures
 
 pub returns-clause-room : goal.returns-clause-room
 returns-clause-room c = on_ok c.step_store.result (room_at c.self.inside c.args.heard.now.replica c.args.heard.now.key.now c.index_mut-replica.result.now c.reserve.new.self c.self.invariant (within c.self.inside c.args.self.now c.args.heard.now.replica c.self.view_is c.requires.within) c.index_mut-replica.ensures.value 1 c.in_ok-reserve.ensures.room)

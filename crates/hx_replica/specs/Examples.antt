@@ -1,0 +1,25 @@
+-- What the test is of: a space of one region on one server, and a put there.
+use Rattle.std.specs.Prelude.{ℕ, [], ◌∷◌}
+use Rattle.hx_types.specs.declared.spaces.Space.{Space}
+use Rattle.hx_types.specs.declared.traces.Input.{Input}
+use Rattle.hx_types.specs.declared.calls.Op.TheVariants.{Put}
+use Rattle.hx_types.specs.declared.messages.Message.TheVariants.{Call}
+use Rattle.hx_types.specs.declared.names.Actor.TheVariants.{Session}
+use Rattle.hx_types.specs.declared.traces.Input.TheVariants.{Deliver}
+
+abbrev pub small : Space
+small =
+    record {
+      name = 115 ∷ [];
+      key_name = 107 ∷ [];
+      key_parts = 1;
+      attributes = [];
+      subspaces = [];
+      servers = 1;
+      tolerate = 0;
+    }
+
+-- session 1 puts an object of defaults for a key
+abbrev pub put_of : ℕ → Input
+put_of epoch =
+    Deliver (record { entry = 1; place = 0 }) (Session (record { 0 = 1 })) (Call (record { 0 = epoch }) 1 (Put (97 ∷ []) []))
