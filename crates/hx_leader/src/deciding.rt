@@ -108,7 +108,15 @@ fn assigned(
     ensures { IfOk result (λ update. update ≡ with_places map.now config.now slot.now.state caller (latest_of slot.now.region slot.now.state) effect) }
 {
     let new = effect.object.as_ref();
-    let places = places(alloc, map, slot.key(), slot.latest(), new, effect.changes, slot)?;
+    let places = places(
+        alloc,
+        map,
+        slot.key(),
+        slot.latest(),
+        new,
+        effect.changes,
+        slot,
+    )?;
     match first_lost(config, &places) {
         None => Ok(granted(alloc, slot, caller, effect, places)?),
         Some(region) => Ok(refused(alloc, map, config, slot, caller, region)?),

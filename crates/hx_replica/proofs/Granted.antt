@@ -67,10 +67,10 @@ module _ (space : Space) (valid : IsSpace space) (config : Config) (g : RegionId
       subst (IsGranted g s) (sym (decides space config g s caller op u e))
       (
       when_some_both (first_lost config (places_of space s.base.key old (effect_of space old op).object (effect_of space old op).changes (top_of s) (touches_of s)))
-        (granted s caller (effect_of space old op) (places_of space s.base.key old (effect_of space old op).object (effect_of space old op).changes (top_of s) (touches_of s)))
-        (λ (r : RegionId). granted s caller (refusal space config s old r).0 (refusal space config s old r).1) (IsGranted g s)
-        (λ n. granted_is (effect_of space old op) old (effect_of space old op).object (effect_of space old op).changes (touches_of s) (touched_by (top_of s) (touches_of s) touches))
-        (λ r n. granted_is (refusal space config s old r).0 old old false [] (λ t i. absurd i))
+      (granted s caller (effect_of space old op) (places_of space s.base.key old (effect_of space old op).object (effect_of space old op).changes (top_of s) (touches_of s)))
+      (λ (r : RegionId). granted s caller (refusal space config s old r).0 (refusal space config s old r).1) (IsGranted g s)
+      (λ n. granted_is (effect_of space old op) old (effect_of space old op).object (effect_of space old op).changes (touches_of s) (touched_by (top_of s) (touches_of s) touches))
+      (λ r n. granted_is (refusal space config s old r).0 old old false [] (λ t i. absurd i))
       )
     where
       old : Option (List Value)

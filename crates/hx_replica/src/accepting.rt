@@ -37,7 +37,14 @@ pub fn accepted(
     let mut ends = Vec::new(alloc);
     pass_on_all(alloc, spot, taken.as_slice(), &mut posts, &mut ends)?;
     let line = line_of(alloc, slot, taken.as_slice())?;
-    tell_settled(alloc, spot, slot, line.as_slice(), ends.as_slice(), &mut posts)?;
+    tell_settled(
+        alloc,
+        spot,
+        slot,
+        line.as_slice(),
+        ends.as_slice(),
+        &mut posts,
+    )?;
     Ok(Acceptance { posts, ends })
 }
 

@@ -16,7 +16,9 @@ pub enum SlotChange {
         ends: Vec<Version>,
     },
     /// A version is acknowledged.
-    Acknowledge { version: Version },
+    Acknowledge {
+        version: Version,
+    },
 }
 
 /// What a step posts and notes of a slot, and how it changes it.

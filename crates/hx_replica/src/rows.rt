@@ -120,9 +120,7 @@ fn write(
             Ok(saying(alloc, reply(spot, caller, version, answer))?)
         }
         Decision::Wait(version) => Ok(wait(alloc, spot, slot, caller, version)?),
-        Decision::Stuck(region) => {
-            Ok(saying(alloc, doubt(spot, caller, Version(0), region))?)
-        }
+        Decision::Stuck(region) => { Ok(saying(alloc, doubt(spot, caller, Version(0), region))?) }
         Decision::Assign(update) => Ok(assign(alloc, spot, slot, update)?),
     }
 }
@@ -148,12 +146,7 @@ fn wait(
 }
 
 /// The update that a write is given is noted, and accepted as the next one.
-fn assign(
-    alloc: Global,
-    spot: &Spot,
-    slot: &Slot,
-    update: Update,
-) -> Result<SlotMade, Memory>
+fn assign(alloc: Global, spot: &Spot, slot: &Slot, update: Update) -> Result<SlotMade, Memory>
     requires coming { IsComing spot.now.region slot.now.state update }
     requires region { slot.now.region ≡ spot.now.region }
     ensures { IfOk result (λ made. IsMade spot.now.region slot.now.state update.key (decided (spot_seen spot.now) slot.now.state update.caller (a_decision.Assign update)) made) }
@@ -199,12 +192,7 @@ fn known(alloc: Global, spot: &Spot, slot: &Slot, update: &Update) -> Result<Pos
 }
 
 /// An update above the top is offered to the slot.
-fn accept(
-    alloc: Global,
-    spot: &Spot,
-    slot: &Slot,
-    update: Update,
-) -> Result<SlotMade, Memory>
+fn accept(alloc: Global, spot: &Spot, slot: &Slot, update: Update) -> Result<SlotMade, Memory>
     requires coming { IsComing spot.now.region slot.now.state update }
     requires region { slot.now.region ≡ spot.now.region }
     ensures { IfOk result (λ made. IsMade spot.now.region slot.now.state update.key (by_moves (spot_seen spot.now) (accepting (spot_seen spot.now) slot.now.state (offered spot.now.region slot.now.state update))) made) }

@@ -155,12 +155,7 @@ pub fn acknowledge_back(
 
 /// Tells of an update that is committed: the previous replica of its chain, or where there is none
 /// its caller.
-pub fn tell(
-    alloc: Global,
-    spot: &Spot,
-    update: &Update,
-    posts: &mut Posts,
-) -> Result<(), Memory>
+pub fn tell(alloc: Global, spot: &Spot, update: &Update, posts: &mut Posts) -> Result<(), Memory>
     requires placed { IsPlacedIn spot.now.region update.now }
     requires few { length update.now.places ≤ 17 }
     ensures { OnOk result (posts.new ≡ posts.old ++ told_of (spot_seen spot.now) update.now) }

@@ -189,14 +189,13 @@ moved_states g marks key moves old new held m =
     } in
     let now : m.before.slot.state ≡ state_among marks key (states_of old) = sym (found g marks key old held.each held.ordered ∙ ap (λ o. when_some o (new_state marks key) state_in) m.found) in
     let state : m.after.slot.state ≡ moved_all (moves g (state_among marks key (states_of old))) (state_among marks key (states_of old)) =
-      m.state ∙ ap (λ (r : RegionId). moved_all (moves r m.before.slot.state) m.before.slot.state) was.region ∙ ap (λ (s : KeyState). moved_all (moves g s) s) now in
-    let there : IsSome (held_at m.after.slot.state.base.key old) = subst (λ (k : List ℕ). IsSome (held_at k old)) (sym key_is) (subst (λ (o : Option Held). IsSome o) (sym m.found) refl) in
-    (
+    m.state ∙ ap (λ (r : RegionId). moved_all (moves r m.before.slot.state) m.before.slot.state) was.region ∙ ap (λ (s : KeyState). moved_all (moves g s) s) now in
+    let there : IsSome (held_at m.after.slot.state.base.key old) = subst (λ (k : List ℕ). IsSome (held_at k old)) (sym key_is) (subst (λ (o : Option Held). IsSome o) (sym m.found) refl) in (
       record { each = subst (Each g marks) (sym m.set) (set_each g marks key m.after same old held.each); ordered = m.ordered },
       ap states_of m.set
-      ∙ ap (λ (k : List ℕ). states_of (set_at k old m.after)) (sym key_is)
-      ∙ sym (put g marks m.after.slot.state m.after m.opened refl old held.each held.ordered there)
-      ∙ ap (λ (s : KeyState). with_state s (states_of old)) state,
+          ∙ ap (λ (k : List ℕ). states_of (set_at k old m.after)) (sym key_is)
+          ∙ sym (put g marks m.after.slot.state m.after m.opened refl old held.each held.ordered there)
+          ∙ ap (λ (s : KeyState). with_state s (states_of old)) state,
     )
 
 -- setting an entry keeps the keys

@@ -94,8 +94,7 @@ widened_held g marks key es new h w held e opened state region set =
       region = region ∙ was.region;
       marks_are = ap (λ (s : KeyState). s.marks) state ∙ was.marks_are;
       closed = λ c. state ∙ was.closed (sym opened ∙ c);
-    } in
-    (
+    } in (
       record {
         each = subst (Each g marks) (sym set) (set_each g marks key w same es held.each);
         ordered = subst (Ascend g marks) (sym set) (set_keeps key w es held.ordered);

@@ -18,8 +18,8 @@ returns c =
     let told = pending_seen c.args.version s c.as_slice.result.now lined in
     elim c.if-is_pending.branch [
       | then-is_pending+in_ok-tell_settled w ↦
-        w.posts-is
-        ∙ ack_posts spot s c.args.version c.as_slice.result.now w.tell_settled.new.posts lined (sym told ∙ sym c.is_pending.ensures ∙ w.if-is_pending.true)
+          w.posts-is
+          ∙ ack_posts spot s c.args.version c.as_slice.result.now w.tell_settled.new.posts lined (sym told ∙ sym c.is_pending.ensures ∙ w.if-is_pending.true)
           (
           w.in_ok-tell_settled.ensures
           ∙ ap (λ (ps : List Post). ps ++ flat_map (λ (b : Bor Update). told_of spot b.now) (settled_among s.acked (c.args.version ∷ []) w.as_slice-then-is_pending.result.now)) c.new-posts.ensures

@@ -9,12 +9,12 @@ use Rattle.hx_store.proofs.maps.accept_at.Goals as goal
 pub accept-requires-clause-offer : goal.accept-requires-clause-offer
 accept-requires-clause-offer c =
     of_some (λ (h : Held). CanBeOffered h.slot.region c.args.update c.args.place) (held_at c.args.update.key c.args.slots.now.entries) c.in-Some.held.now
-      (asked c.as_str.result.now c.args.update.key c.args.slots.now.entries c.in-Some.held.now c.as_str.ensures (sym c.in-Some.ensures.value)) c.requires.offer
+    (asked c.as_str.result.now c.args.update.key c.args.slots.now.entries c.in-Some.held.now c.as_str.ensures (sym c.in-Some.ensures.value)) c.requires.offer
 
 pub accept-requires-clause-pending : goal.accept-requires-clause-pending
 accept-requires-clause-pending c =
     of_some (λ (h : Held). ArePending (moved_all (offered h.slot.region h.slot.state c.args.update) h.slot.state) c.args.ends.now) (held_at c.args.update.key c.args.slots.now.entries) c.in-Some.held.now
-      (asked c.as_str.result.now c.args.update.key c.args.slots.now.entries c.in-Some.held.now c.as_str.ensures (sym c.in-Some.ensures.value)) c.requires.pending
+    (asked c.as_str.result.now c.args.update.key c.args.slots.now.entries c.in-Some.held.now c.as_str.ensures (sym c.in-Some.ensures.value)) c.requires.pending
 
 pub returns : goal.returns
 returns c = record {
@@ -31,4 +31,4 @@ returns c = record {
 pub accept-requires-clause-spare : goal.accept-requires-clause-spare
 accept-requires-clause-spare c =
     of_some (λ (h : Held). 0 < h.slot.spare) (held_at c.args.update.key c.args.slots.now.entries) c.in-Some.held.now
-      (asked c.as_str.result.now c.args.update.key c.args.slots.now.entries c.in-Some.held.now c.as_str.ensures (sym c.in-Some.ensures.value)) c.requires.room
+    (asked c.as_str.result.now c.args.update.key c.args.slots.now.entries c.in-Some.held.now c.as_str.ensures (sym c.in-Some.ensures.value)) c.requires.room

@@ -8,25 +8,25 @@ pub returns-clause-held : goal.returns-clause-held
 returns-clause-held c =
     (
     made c.args.region c.args.marks c.args.key.now c.args.slots.now.entries c.insert.new.self.entries c.in_ok-name.name (record { slot = c.new-slot.result; opened = false }) c.requires
-      (none_lent c.held.result (held_at c.args.key.now c.args.slots.now.entries) c.held.ensures (sym c.is_some.ensures ∙ c.if-is_some.false))
-      (c.in_ok-name.ensures.ok ∙ c.as_str.ensures) refl c.new-slot.ensures.region (c.new-slot.ensures.state ∙ ap (new_state c.args.marks) c.in_ok-copy.ensures)
-      c.in_ok-insert.ensures.entries c.in_ok-insert.ensures.ordered
+    (none_lent c.held.result (held_at c.args.key.now c.args.slots.now.entries) c.held.ensures (sym c.is_some.ensures ∙ c.if-is_some.false))
+    (c.in_ok-name.ensures.ok ∙ c.as_str.ensures) refl c.new-slot.ensures.region (c.new-slot.ensures.state ∙ ap (new_state c.args.marks) c.in_ok-copy.ensures)
+    c.in_ok-insert.ensures.entries c.in_ok-insert.ensures.ordered
     ).held
 
 pub returns-clause-states : goal.returns-clause-states
 returns-clause-states c =
     (
     made c.args.region c.args.marks c.args.key.now c.args.slots.now.entries c.insert.new.self.entries c.in_ok-name.name (record { slot = c.new-slot.result; opened = false }) c.requires
-      (none_lent c.held.result (held_at c.args.key.now c.args.slots.now.entries) c.held.ensures (sym c.is_some.ensures ∙ c.if-is_some.false))
-      (c.in_ok-name.ensures.ok ∙ c.as_str.ensures) refl c.new-slot.ensures.region (c.new-slot.ensures.state ∙ ap (new_state c.args.marks) c.in_ok-copy.ensures)
-      c.in_ok-insert.ensures.entries c.in_ok-insert.ensures.ordered
+    (none_lent c.held.result (held_at c.args.key.now c.args.slots.now.entries) c.held.ensures (sym c.is_some.ensures ∙ c.if-is_some.false))
+    (c.in_ok-name.ensures.ok ∙ c.as_str.ensures) refl c.new-slot.ensures.region (c.new-slot.ensures.state ∙ ap (new_state c.args.marks) c.in_ok-copy.ensures)
+    c.in_ok-insert.ensures.entries c.in_ok-insert.ensures.ordered
     ).states
 
 pub returns-clause-found : goal.returns-clause-found
 returns-clause-found c =
     (
     made c.args.region c.args.marks c.args.key.now c.args.slots.now.entries c.insert.new.self.entries c.in_ok-name.name (record { slot = c.new-slot.result; opened = false }) c.requires
-      (none_lent c.held.result (held_at c.args.key.now c.args.slots.now.entries) c.held.ensures (sym c.is_some.ensures ∙ c.if-is_some.false))
-      (c.in_ok-name.ensures.ok ∙ c.as_str.ensures) refl c.new-slot.ensures.region (c.new-slot.ensures.state ∙ ap (new_state c.args.marks) c.in_ok-copy.ensures)
-      c.in_ok-insert.ensures.entries c.in_ok-insert.ensures.ordered
+    (none_lent c.held.result (held_at c.args.key.now c.args.slots.now.entries) c.held.ensures (sym c.is_some.ensures ∙ c.if-is_some.false))
+    (c.in_ok-name.ensures.ok ∙ c.as_str.ensures) refl c.new-slot.ensures.region (c.new-slot.ensures.state ∙ ap (new_state c.args.marks) c.in_ok-copy.ensures)
+    c.in_ok-insert.ensures.entries c.in_ok-insert.ensures.ordered
     ).there

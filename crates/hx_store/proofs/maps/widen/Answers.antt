@@ -8,8 +8,8 @@ returns-clause-held c =
     let w : Held = record { slot = c.reserve.new.self; opened = c.in-Some.held.now.opened } in
     (
     widened_held c.args.region c.args.marks c.args.key.now c.args.slots.now.entries (c.get_mut.follows.lender w).entries c.in-Some.held.now w c.requires.held
-      (asked c.as_str.result.now c.args.key.now c.args.slots.now.entries c.in-Some.held.now c.as_str.ensures (sym c.in-Some.ensures.value)) refl c.reserve.ensures.state c.reserve.ensures.region
-      (set_asked c.as_str.result.now c.args.key.now c.args.slots.now.entries (c.get_mut.follows.lender w).entries w c.as_str.ensures (c.get_mut.follows.holds w).0)
+    (asked c.as_str.result.now c.args.key.now c.args.slots.now.entries c.in-Some.held.now c.as_str.ensures (sym c.in-Some.ensures.value)) refl c.reserve.ensures.state c.reserve.ensures.region
+    (set_asked c.as_str.result.now c.args.key.now c.args.slots.now.entries (c.get_mut.follows.lender w).entries w c.as_str.ensures (c.get_mut.follows.holds w).0)
     ).0
 
 pub returns-clause-states : goal.returns-clause-states
@@ -17,6 +17,6 @@ returns-clause-states c =
     let w : Held = record { slot = c.reserve.new.self; opened = c.in-Some.held.now.opened } in
     (
     widened_held c.args.region c.args.marks c.args.key.now c.args.slots.now.entries (c.get_mut.follows.lender w).entries c.in-Some.held.now w c.requires.held
-      (asked c.as_str.result.now c.args.key.now c.args.slots.now.entries c.in-Some.held.now c.as_str.ensures (sym c.in-Some.ensures.value)) refl c.reserve.ensures.state c.reserve.ensures.region
-      (set_asked c.as_str.result.now c.args.key.now c.args.slots.now.entries (c.get_mut.follows.lender w).entries w c.as_str.ensures (c.get_mut.follows.holds w).0)
+    (asked c.as_str.result.now c.args.key.now c.args.slots.now.entries c.in-Some.held.now c.as_str.ensures (sym c.in-Some.ensures.value)) refl c.reserve.ensures.state c.reserve.ensures.region
+    (set_asked c.as_str.result.now c.args.key.now c.args.slots.now.entries (c.get_mut.follows.lender w).entries w c.as_str.ensures (c.get_mut.follows.holds w).0)
     ).1

@@ -10,14 +10,14 @@ accept_at-requires-clause-room c = has_room c.self.inside.region c.self.inside.m
 pub accept_at-requires-clause-offer : goal.accept_at-requires-clause-offer
 accept_at-requires-clause-offer c =
     each_found c.self.inside.region c.self.inside.marks c.self.inside.slots.entries c.args.self.now c.self.view_is c.self.invariant c.args.update.key
-      (λ (g : RegionId) (s : KeyState). CanBeOffered g c.args.update c.args.place) c.requires.offer
-      (is_there c.self.inside.region c.self.inside.marks c.self.inside.slots.entries c.args.self.now c.self.view_is c.self.invariant c.args.update.key 1 c.requires.room)
+    (λ (g : RegionId) (s : KeyState). CanBeOffered g c.args.update c.args.place) c.requires.offer
+    (is_there c.self.inside.region c.self.inside.marks c.self.inside.slots.entries c.args.self.now c.self.view_is c.self.invariant c.args.update.key 1 c.requires.room)
 
 pub accept_at-requires-clause-pending : goal.accept_at-requires-clause-pending
 accept_at-requires-clause-pending c =
     each_found c.self.inside.region c.self.inside.marks c.self.inside.slots.entries c.args.self.now c.self.view_is c.self.invariant c.args.update.key
-      (λ (g : RegionId) (s : KeyState). ArePending (moved_all (offered g s c.args.update) s) c.args.ends.now) c.requires.pending
-      (is_there c.self.inside.region c.self.inside.marks c.self.inside.slots.entries c.args.self.now c.self.view_is c.self.invariant c.args.update.key 1 c.requires.room)
+    (λ (g : RegionId) (s : KeyState). ArePending (moved_all (offered g s c.args.update) s) c.args.ends.now) c.requires.pending
+    (is_there c.self.inside.region c.self.inside.marks c.self.inside.slots.entries c.args.self.now c.self.view_is c.self.invariant c.args.update.key 1 c.requires.room)
 
 pub invariant_of-self : goal.invariant_of-self
 invariant_of-self c =
