@@ -1,5 +1,4 @@
 use Rattle.std.proofs.Common.{refl}
-use Rattle.hx_world.specs.declared.hosts.Host.{Host}
 use Rattle.hx_world.specs.Starting.{IsNewHost}
 use Rattle.hx_world.proofs.Seating.{at_push}
 use Rattle.hx_world.proofs.starting.start_hosts.Goals as goal
