@@ -15,7 +15,7 @@ use Rattle.hx_world.specs.declared.ends.Drained.TheVariants.{Quiet, Spent}
 use Rattle.hx_tool.specs.Causes.{IsWholeRun}
 
 pub runnable : (script : Script) → IsBuilt script → IsRunnable script
-runnable script built = record { valid = built.valid; calls = built.calls; no_steps = built.no_steps }
+runnable script built = record { valid = built.valid; calls = built.calls }
 
 -- without steps the schedule begins with the empty trace
 from_nothing : (script : Script) → script.steps ≡ [] → stepped script [] (map (λ (s : ℕ × Step). s.1) script.steps) ≡ []

@@ -1,45 +1,34 @@
-ghost use Rattle.std.specs.Prelude.{◌≡◌, ◌↔◌, true, List, [], IsTrue};
+ghost use Rattle.std.specs.Prelude.{◌≡◌, ◌↔◌, List, [], IsTrue};
 ghost use Rattle.std.specs.List.{All};
-ghost use Rattle.hx_types.specs.declared.calls.Op.{Op};
 ghost use Rattle.hx_types.specs.Fitting.{IsScript};
-ghost use Rattle.hx_model.specs.Built.{IsBuilt, is_put_or_get};
+ghost use Rattle.hx_model.specs.Built.{AreKeyCalls, IsBuilt};
+ghost use Rattle.hx_model.specs.SessionSteps.{is_key_call};
 
-use hx_types::{Calls, Op, Script, Space};
+use hx_types::{Calls, Op, Script};
 
-/// Whether `replay` can run the script today: one region on one server, at most one session of
-/// puts and gets, and no steps.
+/// Whether `replay` can run the script today: any space, and sessions whose calls are puts, gets,
+/// dels and conditional puts; no steps.
 pub fn is_built(script: &Script) -> bool
     requires { IsScript script.now }
     ensures { IsTrue result ↔ IsBuilt script.now }
 {
-    has_one_region(&script.space)
-        && script.sessions.len() <= 1
-        && have_puts_and_gets(script.sessions.as_slice())
-        && script.steps.is_empty()
+    have_key_calls(script.sessions.as_slice()) && script.steps.is_empty()
 }
 
-fn has_one_region(space: &Space) -> bool
-    ensures { IsTrue result ↔ ((space.now.key_parts ≡ 1) × (space.now.subspaces ≡ []) × (space.now.servers ≡ 1) × (space.now.tolerate ≡ 0)) }
+fn have_key_calls(sessions: &[Calls]) -> bool
+    ensures { IsTrue result ↔ All AreKeyCalls sessions.now }
 {
-    space.key_parts == 1 && space.subspaces.is_empty() && space.servers == 1 && space.tolerate == 0
+    sessions.iter().all(|calls| are_key_calls(calls.as_slice()))
 }
 
-fn have_puts_and_gets(sessions: &[Calls]) -> bool
-    ensures { IsTrue result ↔ All (λ (calls : List Op). All (λ (op : Op). is_put_or_get op ≡ true) calls) sessions.now }
+fn are_key_calls(calls: &[Op]) -> bool
+    ensures { IsTrue result ↔ AreKeyCalls calls.now }
 {
-    sessions
-        .iter()
-        .all(|calls| are_puts_and_gets(calls.as_slice()))
+    calls.iter().all(is_key_call)
 }
 
-fn are_puts_and_gets(calls: &[Op]) -> bool
-    ensures { IsTrue result ↔ All (λ (op : Op). is_put_or_get op ≡ true) calls.now }
+fn is_key_call(op: &Op) -> bool
+    ensures { result ≡ is_key_call op.now }
 {
-    calls.iter().all(is_put_or_get)
-}
-
-fn is_put_or_get(op: &Op) -> bool
-    ensures { result ≡ is_put_or_get op.now }
-{
-    matches!(op, Op::Put { .. } | Op::Get { .. })
+    op.key().is_some()
 }

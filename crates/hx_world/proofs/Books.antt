@@ -8,7 +8,7 @@ use Rattle.hx_types.specs.declared.spaces.Attribute.{Attribute}
 use Rattle.hx_types.specs.declared.spaces.Axis.{Axis}
 use Rattle.hx_types.specs.declared.traces.Script.{Script}
 use Rattle.hx_types.specs.Spaces.{ArePart, AssignFits, Fits, IsKind, IsName, IsSpace, IsSubspaceOf, is_word}
-use Rattle.hx_model.specs.Built.{is_put_or_get}
+use Rattle.hx_model.specs.SessionSteps.{is_key_call}
 use Rattle.hx_world.specs.Examples.{axis_of, books, genre_is, one_call, script_of, three_calls, year_is}
 use Rattle.hx_world.specs.Runnable.{IsRunnable}
 
@@ -60,7 +60,7 @@ books_are_space =
     }
 
 abbrev IsSmallCall : Op → Type 0
-IsSmallCall op = is_put_or_get op ≡ true
+IsSmallCall op = is_key_call op ≡ true
 
 -- a session of calls that fit
 runs : (calls : List Op) → length calls ≤ 16384 → All (Fits books) calls → All IsSmallCall calls → IsRunnable (script_of calls)
@@ -75,7 +75,6 @@ runs calls few fit small =
             few_steps = omega arith;
           };
       calls = All-from_recursion (λ (own : List Op). All IsSmallCall own) (calls ∷ []) (small, tt);
-      no_steps = refl;
     }
 
 three_fit : All (Fits books) three_calls

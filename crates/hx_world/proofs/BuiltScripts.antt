@@ -4,4 +4,4 @@ use Rattle.hx_model.specs.Built.{IsBuilt}
 use Rattle.hx_world.specs.Runnable.{IsRunnable}
 
 pub built-runnable : (script : Script) → IsBuilt script → IsRunnable script
-built-runnable script built = record { valid = built.valid; calls = built.calls; no_steps = built.no_steps }
+built-runnable script built = record { valid = built.valid; calls = built.calls }

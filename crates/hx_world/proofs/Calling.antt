@@ -1,4 +1,4 @@
--- The steps of a session of puts and gets, as a world keeps it.
+-- The steps of a session whose calls are on keys, as a world keeps it.
 use Rattle.std.proofs.Common.{◌≡◌, inl, inr, ℕ, zero, suc, ◌+◌, ◌-◌, ◌<◌, ◌≤◌, Bool, true, false, ◌&&◌, List, [], ◌∷◌, length, Option, Some, None, refl, sym, ap, ◌∙◌, subst, arith, add-one, cond, eqb}
 use Rattle.std.specs.Prelude.{slice_get, sum_by}
 use Rattle.std.specs.List.{All}
@@ -22,7 +22,6 @@ use Rattle.hx_types.specs.Effects.{key_of}
 use Rattle.hx_types.specs.Fitting.{calls_of, numbered}
 use Rattle.hx_types.specs.Spaces.{IsSpace}
 use Rattle.hx_types.specs.Words.{IsIn, when_some}
-use Rattle.hx_model.specs.Built.{is_put_or_get}
 use Rattle.hx_model.specs.Regions.{key_region}
 use Rattle.hx_model.specs.SessionSteps.{SessionState, SessionStep, awaits as model_awaits, begin, call_to, ending, is_key_call, lost_answer, no_version, send_to, session_step, staying, with_note}
 use Rattle.hx_model.specs.Steady.{IsFixed, reconfigures}
@@ -35,7 +34,7 @@ use Rattle.hx_world.specs.Runnable.{IsRunnable}
 use Rattle.hx_world.specs.Sessions.{awaits, begun_now, call_post, heard_now}
 
 abbrev IsRunnableCall : Op → Type 0
-IsRunnableCall op = is_put_or_get op ≡ true
+IsRunnableCall op = is_key_call op ≡ true
 
 abbrev AreRunnable : List Op → Type 0
 AreRunnable calls = All IsRunnableCall calls
@@ -47,16 +46,16 @@ calls_listed sessions all (suc n) =
     (λ e. All-nil IsRunnableCall)
     (λ (calls : List Op) e. all-in AreRunnable sessions calls all (in-slice_get sessions n calls e))
 
--- each call of a runnable script is a put or a get
-pub call_runnable : (script : Script) → IsRunnable script → (u : SessionId) (i : ℕ) (op : Op) → slice_get (calls_of script u) i ≡ Some op → is_put_or_get op ≡ true
+-- each call of a runnable script is on a key
+pub call_runnable : (script : Script) → IsRunnable script → (u : SessionId) (i : ℕ) (op : Op) → slice_get (calls_of script u) i ≡ Some op → is_key_call op ≡ true
 call_runnable script runnable u i op e =
     all-in IsRunnableCall (calls_of script u) op (calls_listed script.sessions runnable.calls u.0) (in-slice_get (calls_of script u) i op e)
 
-fixed_call : (op : Op) → is_put_or_get op ≡ true → reconfigures op ≡ false
+fixed_call : (op : Op) → is_key_call op ≡ true → reconfigures op ≡ false
 fixed_call (Put key sets) h = refl
 fixed_call (Get key) h = refl
-fixed_call (Del key) h = cc
-fixed_call (Cput key tests sets) h = cc
+fixed_call (Del key) h = refl
+fixed_call (Cput key tests sets) h = refl
 fixed_call (Search terms) h = cc
 fixed_call (Stop server) h = cc
 fixed_call (Add server region) h = cc
@@ -110,19 +109,20 @@ module _ (script : Script) (valid : IsSpace script.space) (u : SessionId) (s : S
       )
       ∙ ap (λ (o : Option ServerId). with_note (a_note.Began (s.begun + 1)) (record { state = session_with script u (begun_now s) true; posts = call_to (begun_state script u s) op o; notes = [] })) head
 
-  begin_is : (sent : Bool) (op : Op) (key : List ℕ) (leader : ServerId) → is_put_or_get op ≡ true → key_of op ≡ Some key → head_of (first_config script.space) (key_region script.space key) ≡ Some leader
+  begin_is : (sent : Bool) (op : Op) (key : List ℕ) (leader : ServerId) → is_key_call op ≡ true → key_of op ≡ Some key → head_of (first_config script.space) (key_region script.space key) ≡ Some leader
       → begin script.space (session_with script u s sent) op ≡ begun_step script u s leader op
   begin_is sent (Put k sets) key leader h e head = let same : k ≡ key = cc in sent_is (Put k sets) k leader (subst (λ (j : List ℕ). head_of (first_config script.space) (key_region script.space j) ≡ Some leader) (sym same) head)
   begin_is sent (Get k) key leader h e head = let same : k ≡ key = cc in sent_is (Get k) k leader (subst (λ (j : List ℕ). head_of (first_config script.space) (key_region script.space j) ≡ Some leader) (sym same) head)
-  begin_is sent (Del k) key leader h e head = cc
-  begin_is sent (Cput k tests sets) key leader h e head = cc
+  begin_is sent (Del k) key leader h e head = let same : k ≡ key = cc in sent_is (Del k) k leader (subst (λ (j : List ℕ). head_of (first_config script.space) (key_region script.space j) ≡ Some leader) (sym same) head)
+  begin_is sent (Cput k tests sets) key leader h e head =
+      let same : k ≡ key = cc in sent_is (Cput k tests sets) k leader (subst (λ (j : List ℕ). head_of (first_config script.space) (key_region script.space j) ≡ Some leader) (sym same) head)
   begin_is sent (Search terms) key leader h e head = cc
   begin_is sent (Stop server) key leader h e head = cc
   begin_is sent (Add server region) key leader h e head = cc
 
   -- an idle session's turn
   pub tick_is : (sent : Bool) (op : Op) (key : List ℕ) (leader : ServerId) → s.under_way ≡ false → slice_get (calls_of script u) s.begun ≡ Some op
-      → is_put_or_get op ≡ true → key_of op ≡ Some key → head_of (first_config script.space) (key_region script.space key) ≡ Some leader
+      → is_key_call op ≡ true → key_of op ≡ Some key → head_of (first_config script.space) (key_region script.space key) ≡ Some leader
       → session_step script.space (session_with script u s sent) Tick ≡ begun_step script u s leader op
   tick_is sent op key leader off found h e head =
       let next : numbered (calls_of script u) (s.begun + 1) ≡ Some op = rw add-one found in
@@ -146,15 +146,6 @@ module _ (script : Script) (valid : IsSpace script.space) (u : SessionId) (s : S
   and_true true = refl
   and_true false = refl
 
-  key_call : (op : Op) → is_put_or_get op ≡ true → is_key_call op ≡ true
-  key_call (Put key sets) h = refl
-  key_call (Get key) h = refl
-  key_call (Del key) h = refl
-  key_call (Cput key tests sets) h = refl
-  key_call (Search terms) h = cc
-  key_call (Stop server) h = cc
-  key_call (Add server region) h = cc
-
   numbered_from : (xs : List Op) (n : ℕ) → 0 < n → n ≤ length xs → (x : Op) × (numbered xs n ≡ Some x) × (slice_get xs (n - 1) ≡ Some x)
   numbered_from xs zero some within = absurd (omega arith)
   numbered_from xs (suc n) some within =
@@ -172,7 +163,7 @@ module _ (script : Script) (valid : IsSpace script.space) (u : SessionId) (s : S
       by false off = and_false (eqb number s.begun)
       by true on =
           let f = numbered_from (calls_of script u) s.begun (begun on) within in
-          let key : is_key_call f.0 ≡ true = key_call f.0 (call_runnable script runnable u (s.begun - 1) f.0 f.2) in
+          let key : is_key_call f.0 ≡ true = call_runnable script runnable u (s.begun - 1) f.0 f.2 in
           rw (f.1, key) (and_true (eqb number s.begun))
 
   heard_by : (sent b : Bool) (number : ℕ) (version : Version) (answer : Answer) → (b ≡ true → number ≡ s.begun)

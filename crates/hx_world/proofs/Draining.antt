@@ -20,7 +20,7 @@ use Rattle.hx_types.specs.Configs.{first_config, head_of}
 use Rattle.hx_types.specs.Effects.{key_of}
 use Rattle.hx_types.specs.Posts.{IsSessionOf}
 use Rattle.hx_types.specs.Spaces.{IsServerOf}
-use Rattle.hx_model.specs.Built.{is_put_or_get}
+use Rattle.hx_model.specs.SessionSteps.{is_key_call}
 use Rattle.hx_model.specs.Regions.{key_region}
 use Rattle.hx_model.specs.Runs.{post_named, server_of}
 use Rattle.hx_model.specs.Schedule.{entries_of, next_entry, undelivered, with_entry}
@@ -56,7 +56,7 @@ some_told : {A : Type 0} (o : Option A) (P : A → Type 0) → IsSomeAnd o P →
 some_told None P h = absurd h
 some_told (Some x) P h = refl
 
-on_key : (op : Op) → is_put_or_get op ≡ true → key_of op ≡ None → ⊥
+on_key : (op : Op) → is_key_call op ≡ true → key_of op ≡ None → ⊥
 on_key (Put key sets) h e = cc
 on_key (Get key) h e = cc
 on_key (Del key) h e = cc

@@ -12,4 +12,3 @@ pub mod Draining
 pub mod Beginning
 pub mod Spending
 pub mod Books
-pub mod BuiltScripts

@@ -19,7 +19,7 @@ use Rattle.hx_types.specs.Effects.{key_of}
 use Rattle.hx_types.specs.Posts.{ActorExists, IsSessionOf, IsSoundPost, goes_between}
 use Rattle.hx_types.specs.Spaces.{IsServerOf}
 use Rattle.hx_types.specs.Words.{post}
-use Rattle.hx_model.specs.Built.{is_put_or_get}
+use Rattle.hx_model.specs.SessionSteps.{is_key_call}
 use Rattle.hx_model.specs.Runs.{has_halted, is_actor, post_named, server_of}
 use Rattle.hx_model.specs.ServerSteps.{ServerState}
 use Rattle.hx_replica.specs.Servers.{CanTake, HasSmallVersions, IsHandled, IsSoundDelivery}
@@ -33,14 +33,8 @@ use Rattle.hx_world.proofs.Calling.{is_fixed}
 use Rattle.hx_world.proofs.Naming.{named_within}
 use Rattle.hx_world.proofs.Tallies.{few_in_all}
 
-handled_call : (op : Op) → is_put_or_get op ≡ true → IsSome (key_of op)
-handled_call (Put key sets) h = refl
-handled_call (Get key) h = refl
-handled_call (Del key) h = refl
-handled_call (Cput key tests sets) h = refl
-handled_call (Search terms) h = cc
-handled_call (Stop server) h = cc
-handled_call (Add server region) h = cc
+handled_call : (op : Op) → is_key_call op ≡ true → IsSome (key_of op)
+handled_call op h = h
 
 -- a plain message to a server is one that it handles
 handled : (from : Actor) (s : ServerId) (m : Message) → IsPlain m → goes_between from (Server s) m ≡ true → IsHandled m

@@ -13,7 +13,7 @@ use Rattle.hx_types.specs.Configs.{first_config}
 use Rattle.hx_types.specs.Fitting.{calls_of}
 use Rattle.hx_types.specs.Words.{IsIn}
 use Rattle.std.specs.Prelude.{⊤}
-use Rattle.hx_model.specs.Built.{is_put_or_get}
+use Rattle.hx_model.specs.SessionSteps.{is_key_call}
 use Rattle.hx_model.specs.Runs.{IsRun, server_of, session_of}
 use Rattle.hx_model.specs.Schedule.{entries_of, undelivered}
 use Rattle.hx_model.specs.SessionSteps.{SessionState}
@@ -64,9 +64,9 @@ pub record IsSession (script : Script) (trace : List Entry) (place : ℕ) (s : S
   pub begun : s.under_way ≡ true → 0 < s.begun
   pub entries : s.entries ≡ entries_of (Session (session_at place)) trace
 
--- what actors tell one another in a world: calls that are puts or gets, replies, updates and acknowledgements
+-- what actors tell one another in a world: calls on keys, replies, updates and acknowledgements
 abbrev pub IsPlain : Message → Type 0
-IsPlain (a_message.Call epoch number op) = is_put_or_get op ≡ true
+IsPlain (a_message.Call epoch number op) = is_key_call op ≡ true
 IsPlain (a_message.Reply number version answer) = ⊤
 IsPlain (a_message.Update epoch g u) = ⊤
 IsPlain (a_message.Ack epoch g key version) = ⊤

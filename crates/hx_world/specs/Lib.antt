@@ -1,5 +1,4 @@
 pub use Rattle.hx_types.specs.Effects
-pub use Rattle.hx_model.specs.Built
 pub use Rattle.hx_model.specs.Runs
 pub use Rattle.hx_model.specs.Schedule
 pub use Rattle.hx_model.specs.Steady

@@ -1,4 +1,4 @@
--- What a session of puts and gets does, in terms of what a world keeps of it.
+-- What a session whose calls are on keys does, in terms of what a world keeps of it.
 use Rattle.std.specs.Prelude.{◌≡◌, ℕ, ◌+◌, Bool, true, false, not, ◌&&◌, List, [], ◌∷◌, if◌then◌else◌, nat_lt, length, ◌==◌}
 use Rattle.hx_types.specs.declared.calls.Answer.{Answer}
 use Rattle.hx_types.specs.declared.messages.Message.{Message}
