@@ -1,3 +1,5 @@
+pub mod Stepping
 pub mod Scheduling
 pub mod Making
+pub mod Judging
 pub mod Fixed

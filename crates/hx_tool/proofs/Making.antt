@@ -1,5 +1,5 @@
 -- What a command makes of a text, by what it makes of its script.
-use Rattle.std.proofs.Common.{◌≡◌, ℕ, List, Option, refl, sym, subst}
+use Rattle.std.proofs.Common.{◌≡◌, ◌≤◌, ◌⊎◌, inl, inr, ℕ, List, Option, refl, sym, subst, length, reverse}
 use Rattle.std.specs.Prelude.{Ok}
 use Rattle.std.specs.declared.string.String.{String}
 use Rattle.std.specs.declared.alloc.Global.{Global}
@@ -7,25 +7,52 @@ use Rattle.hx_types.specs.declared.names.Actor.{Actor}
 use Rattle.hx_types.specs.declared.traces.Entry.{Entry}
 use Rattle.hx_types.specs.declared.traces.Script.{Script}
 use Rattle.hx_model.specs.Built.{IsBuilt}
+use Rattle.hx_script.specs.declared.errors.Reason.{Reason}
+use Rattle.hx_script.specs.declared.errors.Reason.TheVariants as a_reason
 use Rattle.hx_script.specs.Texts.{script_of}
-use Rattle.hx_tool.specs.Causes.{IsMadeOf, IsReplay, IsTaken, IsWorn, ReadsText}
+use Rattle.hx_tool.specs.Causes.{IsAnswer, IsJudged, IsMade, IsMadeOf, IsRefused, IsReplay, IsSteppable, IsStopped, IsTaken, IsWorn, IsWornRun, ReadsText, limit, outcome_of}
 use Rattle.hx_tool.specs.Commands.{Says}
+use Rattle.hx_tool.specs.Steps.{IsRefusedAt}
 use Rattle.hx_tool.specs.declared.outcomes.Made.{Made}
-use Rattle.hx_tool.specs.declared.outcomes.Made.TheVariants.{Whole, Worn}
+use Rattle.hx_tool.specs.declared.outcomes.Made.TheVariants.{Whole, Refused, Worn}
 use Rattle.hx_tool.specs.declared.outcomes.Outcome.{Outcome}
 use Rattle.hx_tool.specs.declared.outcomes.Outcome.TheVariants as an_outcome
 use Rattle.hx_tool.specs.declared.words.Command.{Command}
-use Rattle.hx_tool.specs.declared.words.Command.TheVariants.{Replay}
+use Rattle.hx_tool.specs.declared.words.Command.TheVariants.{Replay, Plan}
+use Rattle.hx_tool.proofs.Stepping.{taken-not-refused, worn-not-refused}
 
 pub made_of_replay : (text : List ℕ) (script : Script) (made : Made) → script_of text ≡ Ok script → IsBuilt script → IsReplay script made → IsMadeOf Replay text made
 made_of_replay text script (Whole answered) is built replayed = record { script = script; text_is = is; taken = built; made = replayed }
+made_of_replay text script (Refused line trace) is built stopped = (refl, record { script = script; text_is = is; taken = built; stopped = stopped })
 made_of_replay text script (Worn a trace) is built worn = (refl, record { script = script; text_is = is; taken = built; worn = worn })
 
--- a command makes something of a text that it takes alone
-pub made_is_taken : (command : Command) (text : List ℕ) (made : Made) → IsMadeOf command text made → IsTaken command text
-made_is_taken command text (Whole answered) made = record { script = made.script; text_is = made.text_is; taken = made.taken }
-made_is_taken command text (Worn a trace) made =
-    subst (λ (c : Command). IsTaken c text) (sym made.0) (record { script = made.1.script; text_is = made.1.text_is; taken = made.1.taken })
+-- no step is refused of a script that has an answer
+answered-steppable : (command : Command) (script : Script) (trace : List Entry) (bytes : List ℕ) → IsMade command script trace bytes → IsSteppable command script
+answered-steppable Replay script trace bytes made = taken-not-refused script made.taken
+answered-steppable Plan script trace bytes made = tt
+
+worn-steppable : (script : Script) (trace : List Entry) (a : Actor) → IsWornRun script trace a → (line : ℕ) (t : List Entry) → IsRefusedAt script line t → ⊥
+worn-steppable script trace a worn = by worn.ends
+  where
+    by : _ → (line : ℕ) (t : List Entry) → IsRefusedAt script line t → ⊥
+    by (inl at) = worn-not-refused script trace a at
+    by (inr after) = taken-not-refused script after.taken
+
+-- what a command makes of a text judges its outcome
+pub made_is_judged : (command : Command) (text : List ℕ) (made : Made) → length text ≤ limit → IsMadeOf command text made → IsJudged command text (outcome_of made)
+made_is_judged command text (Whole answered) short made =
+    (short, record { script = made.script; text_is = made.text_is; taken = made.taken; steppable = answered-steppable command made.script answered.trace answered.bytes.items made.made })
+made_is_judged command text (Refused line trace) short made =
+    (
+      short,
+      inr (record { replays = made.0; by_step = refl; script = made.1.script; text_is = made.1.text_is; taken = made.1.taken; trace = trace; refused = made.1.stopped.refused }),
+    )
+made_is_judged command text (Worn a trace) short made =
+    (
+      short,
+      subst (λ (c : Command). IsTaken c text) (sym made.0)
+      (record { script = made.1.script; text_is = made.1.text_is; taken = made.1.taken; steppable = worn-steppable made.1.script trace a made.1.worn }),
+    )
 
 -- what is told where a worn actor ended the replay
 pub told_worn :
@@ -44,4 +71,27 @@ told_worn words before after command made trace given outcome actor a says read 
       subst (λ (c : Command). Says words c) worn.0 says,
       read.1,
       subst (λ (t : List Entry). IsWorn read.0 t a) (sym same) (subst (λ (b : Actor). IsWorn read.0 trace b) same_actor worn.1),
+    )
+
+-- what is told where a step was refused
+pub told_refused :
+    (words : List (String Global)) (before after : Option (List ℕ)) (command : Command) (made : Made) (trace given : List Entry) (outcome : Outcome) (at line : ℕ) (reason : Reason)
+    → Says words command
+    → ((text : List ℕ) × ReadsText before after text × IsMadeOf command text made)
+    → made ≡ Refused at trace
+    → given ≡ trace
+    → outcome ≡ an_outcome.Refused at a_reason.Step
+    → outcome ≡ an_outcome.Refused line reason
+    → (text : List ℕ) × ReadsText before after text × (IsRefused text line reason ⊎ ((reason ≡ a_reason.Step) × Says words Replay × IsStopped text line given))
+told_refused words before after command made trace given outcome at line reason says read is same ends told =
+    let stopped : IsMadeOf command read.0 (Refused at trace) = subst (λ (m : Made). IsMadeOf command read.0 m) is read.2 in
+    let same_line : at ≡ line = cc in
+    let same_reason : reason ≡ a_reason.Step = cc in (
+      read.0,
+      read.1,
+      inr (
+        same_reason,
+        subst (λ (c : Command). Says words c) stopped.0 says,
+        subst (λ (t : List Entry). IsStopped read.0 line t) (sym same) (subst (λ n. IsStopped read.0 n trace) same_line stopped.1),
+      ),
     )

@@ -1,5 +1,5 @@
 -- What made the program end as it did.
-use Rattle.std.specs.Prelude.{◌≡◌, ℕ, ◌+◌, ◌<◌, ◌≤◌, List, [], length, map, reverse, Option, Result, Ok, Err, ⊤}
+use Rattle.std.specs.Prelude.{◌≡◌, ◌⊎◌, ℕ, ◌+◌, ◌<◌, ◌≤◌, List, [], length, map, reverse, Option, Result, Ok, Err, ⊤}
 use Rattle.std.specs.Io.KnownBytes.{Consumes, IsAtEnd}
 use Rattle.hx_io.specs.Causes.{Rose}
 use Rattle.hx_io.specs.Pieces.{ConsumesExactly}
@@ -15,18 +15,20 @@ use Rattle.hx_model.specs.Runs.{IsRun}
 use Rattle.hx_model.specs.Schedule.{IsScheduled, scheduled, stepped}
 use Rattle.hx_model.specs.Steady.{HasNoHalts}
 use Rattle.hx_script.specs.declared.errors.Reason.{Reason}
+use Rattle.hx_script.specs.declared.errors.Reason.TheVariants as a_reason
 use Rattle.hx_script.specs.declared.errors.ScriptError.{ScriptError}
 use Rattle.hx_script.specs.declared.errors.ScriptError.TheVariants as a_script_error
 use Rattle.hx_script.specs.Texts.{script_of}
 use Rattle.hx_report.specs.Reporting.{IsReport}
 use Rattle.hx_world.specs.Worlds.{HasFewEntries, IsWornOut}
 use Rattle.hx_tool.specs.declared.outcomes.Made.{Made}
-use Rattle.hx_tool.specs.declared.outcomes.Made.TheVariants.{Whole, Worn}
+use Rattle.hx_tool.specs.declared.outcomes.Made.TheVariants.{Whole, Refused, Worn}
 use Rattle.hx_tool.specs.declared.outcomes.Outcome.{Outcome}
 use Rattle.hx_tool.specs.declared.outcomes.Outcome.TheVariants as an_outcome
 use Rattle.hx_tool.specs.declared.words.Command.{Command}
 use Rattle.hx_tool.specs.declared.words.Command.TheVariants as a_command
 use Rattle.hx_tool.specs.Plans.{plans_text}
+use Rattle.hx_tool.specs.Steps.{AreTaken, IsRefusedAt, IsWornAtStep}
 
 -- how many bytes a text may have
 abbrev pub limit : ℕ
@@ -52,11 +54,17 @@ abbrev pub Takes : Command → Script → Type 0
 Takes a_command.Replay script = IsBuilt script
 Takes a_command.Plan script = ⊤
 
--- the text is that of a script that the command takes
+-- no step of the script is refused; `plan` takes none
+abbrev pub IsSteppable : Command → Script → Type 0
+IsSteppable a_command.Replay script = (line : ℕ) (trace : List Entry) → ¬ IsRefusedAt script line trace
+IsSteppable a_command.Plan script = ⊤
+
+-- the text is that of a script that the command takes, and no step of it is refused
 pub record IsTaken (command : Command) (text : List ℕ) : Type 0 where
   pub script : Script
   pub text_is : script_of text ≡ Ok script
   pub taken : Takes command script
+  pub steppable : IsSteppable command script
 
 -- the text is that of a script that the command doesn't take yet
 pub record IsUnbuilt (command : Command) (text : List ℕ) : Type 0 where
@@ -68,24 +76,45 @@ pub record IsUnbuilt (command : Command) (text : List ℕ) : Type 0 where
 abbrev pub IsRefused : List ℕ → ℕ → Reason → Type 0
 IsRefused text line reason = script_of text ≡ Err (a_script_error.Refused line reason)
 
--- the run of the script that the schedule gives, until there is nothing left to do
+-- `replay` takes the text's script and refuses the step that stands on that line
+pub record IsRefusedByStep (command : Command) (text : List ℕ) (line : ℕ) (reason : Reason) : Type 0 where
+  pub replays : command ≡ a_command.Replay
+  pub by_step : reason ≡ a_reason.Step
+  pub script : Script
+  pub text_is : script_of text ≡ Ok script
+  pub taken : IsBuilt script
+  pub trace : List Entry
+  pub refused : IsRefusedAt script line trace
+
+-- the text is refused at that line, or the step that stands there
+abbrev pub IsRefusedUnder : Command → List ℕ → ℕ → Reason → Type 0
+IsRefusedUnder command text line reason = IsRefused text line reason ⊎ IsRefusedByStep command text line reason
+
+-- the run that the script's steps and then the schedule give, until there is nothing left to do
 pub record IsWholeRun (script : Script) (trace : List Entry) : Type 0 where
   pub run : IsRun script (reverse trace)
   pub still : HasNoHalts (reverse trace)
+  pub taken : AreTaken script
   pub scheduled : IsScheduled script (reverse trace)
   pub few : HasFewEntries (reverse trace)
 
--- the run that the schedule of the script begins with, up to where its next entry is one of this actor, which has made 1,048,576 entries
-pub record IsWornRun (script : Script) (trace : List Entry) (a : Actor) : Type 0 where
+-- the steps were taken, and the schedule comes to an entry of this actor, which has made 1,048,576 entries
+pub record IsWornAfterSteps (script : Script) (trace : List Entry) (a : Actor) : Type 0 where
+  pub taken : AreTaken script
   pub entries : ℕ
   pub trace_is : reverse trace ≡ scheduled script (stepped script [] (map (λ (s : ℕ × Step). s.1) script.steps)) entries
-  pub run : IsRun script (reverse trace)
-  pub few : HasFewEntries (reverse trace)
   pub worn_out : IsWornOut script (reverse trace) a
 
--- the trace is the run of the script that the schedule gives, each key's history is linear, and the report tells of it
+-- the run that the steps and the schedule of the script begin with, up to where the next entry is one of this actor, which has made 1,048,576 entries
+pub record IsWornRun (script : Script) (trace : List Entry) (a : Actor) : Type 0 where
+  pub run : IsRun script (reverse trace)
+  pub few : HasFewEntries (reverse trace)
+  pub ends : IsWornAtStep script trace a ⊎ IsWornAfterSteps script trace a
+
+-- the trace is the run of the script that its steps and the schedule give, each key's history is linear, and the report tells of it
 pub record IsReplayed (script : Script) (trace : List Entry) (report : List ℕ) : Type 0 where
   pub run : IsRun script (reverse trace)
+  pub taken : AreTaken script
   pub scheduled : IsScheduled script (reverse trace)
   pub few : HasFewEntries (reverse trace)
   pub linear : (key : List ℕ) → IsLinear script (reverse trace) key
@@ -115,21 +144,35 @@ pub record IsWorn (text : List ℕ) (trace : List Entry) (a : Actor) : Type 0 wh
   pub taken : IsBuilt script
   pub worn : IsWornRun script trace a
 
+-- a run of the script that ends where the step on that line is refused
+pub record IsCutShort (script : Script) (line : ℕ) (trace : List Entry) : Type 0 where
+  pub run : IsRun script (reverse trace)
+  pub refused : IsRefusedAt script line trace
+
+-- the text is that of a script that `replay` takes, and the trace the run of it that ends where the step on that line is refused
+pub record IsStopped (text : List ℕ) (line : ℕ) (trace : List Entry) : Type 0 where
+  pub script : Script
+  pub text_is : script_of text ≡ Ok script
+  pub taken : IsBuilt script
+  pub stopped : IsCutShort script line trace
+
 -- what a replay makes of a script
 abbrev pub IsReplay : Script → Made → Type 0
 IsReplay script (Whole answered) = IsReplayed script answered.trace answered.bytes.items
+IsReplay script (Refused line trace) = IsCutShort script line trace
 IsReplay script (Worn a trace) = IsWornRun script trace a
 
--- what a command makes of a text: an answer, or under `replay` a run that a worn actor ends
+-- what a command makes of a text: an answer, or under `replay` a run that ends at a step that is refused or where an actor is worn
 abbrev pub IsMadeOf : Command → List ℕ → Made → Type 0
 IsMadeOf command text (Whole answered) = IsAnswer command text answered.trace answered.bytes.items
+IsMadeOf command text (Refused line trace) = (command ≡ a_command.Replay) × IsStopped text line trace
 IsMadeOf command text (Worn a trace) = (command ≡ a_command.Replay) × IsWorn text trace a
 
 -- what a source that tells its bytes says of each outcome
 abbrev pub IsJudged : Command → List ℕ → Outcome → Type 0
 IsJudged command text an_outcome.Fine = (length text ≤ limit) × IsTaken command text
 IsJudged command text an_outcome.Usage = ⊥
-IsJudged command text (an_outcome.Refused line reason) = (length text ≤ limit) × IsRefused text line reason
+IsJudged command text (an_outcome.Refused line reason) = (length text ≤ limit) × IsRefusedUnder command text line reason
 IsJudged command text an_outcome.Unbuilt = (length text ≤ limit) × IsUnbuilt command text
 IsJudged command text an_outcome.TooLarge = limit < length text
 IsJudged command text an_outcome.ReadFault = ⊤
@@ -141,7 +184,7 @@ IsJudged command text (an_outcome.Worn a) = (length text ≤ limit) × IsTaken c
 abbrev pub IsFaulty : Command → List ℕ → Outcome → Type 0
 IsFaulty command text an_outcome.Fine = ⊥
 IsFaulty command text an_outcome.Usage = ⊥
-IsFaulty command text (an_outcome.Refused line reason) = (length text ≤ limit) × IsRefused text line reason
+IsFaulty command text (an_outcome.Refused line reason) = (length text ≤ limit) × IsRefusedUnder command text line reason
 IsFaulty command text an_outcome.Unbuilt = (length text ≤ limit) × IsUnbuilt command text
 IsFaulty command text an_outcome.TooLarge = limit < length text
 IsFaulty command text an_outcome.ReadFault = ⊥
@@ -175,7 +218,13 @@ IsCause command before after faults_before faults_after an_outcome.WriteFault = 
 IsCause command before after faults_before faults_after an_outcome.Memory = ⊤
 IsCause command before after faults_before faults_after (an_outcome.Worn a) = ⊥
 
+-- the outcome with which a made value ends, faults of writing aside
+abbrev pub outcome_of : Made → Outcome
+outcome_of (Whole answered) = an_outcome.Fine
+outcome_of (Refused line trace) = an_outcome.Refused line a_reason.Step
+outcome_of (Worn a trace) = an_outcome.Worn a
+
 -- the outcome of a call that made a value, or ended before
-abbrev pub IsJudgedResult : {T : Type 0} → Command → List ℕ → Result T Outcome → Type 0
-IsJudgedResult command text (Ok made) = IsJudged command text an_outcome.Fine
+abbrev pub IsJudgedResult : Command → List ℕ → Result Made Outcome → Type 0
+IsJudgedResult command text (Ok made) = IsJudged command text (outcome_of made)
 IsJudgedResult command text (Err outcome) = IsJudged command text outcome

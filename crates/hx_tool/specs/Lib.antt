@@ -1,4 +1,5 @@
 pub mod Commands
 pub mod Outcomes
 pub mod Plans
+pub mod Steps
 pub mod Causes

@@ -63,11 +63,22 @@ IsSilent WriteFault = ⊥
 IsSilent Memory = Unit {0}
 IsSilent (Worn a) = Unit {0}
 
+-- a reason for which a text is refused, and not a step
+abbrev pub IsOfText : Reason → Type 0
+IsOfText a_reason.Token = Unit {0}
+IsOfText a_reason.Order = Unit {0}
+IsOfText a_reason.Unknown = Unit {0}
+IsOfText a_reason.Twice = Unit {0}
+IsOfText a_reason.TypeOf = Unit {0}
+IsOfText a_reason.Bounds = Unit {0}
+IsOfText a_reason.Limit = Unit {0}
+IsOfText a_reason.Step = ⊥
+
 -- with this outcome there is no trace
 abbrev pub HasNoTrace : Outcome → Type 0
 HasNoTrace Fine = ⊥
 HasNoTrace Usage = Unit {0}
-HasNoTrace (Refused line reason) = Unit {0}
+HasNoTrace (Refused line reason) = IsOfText reason
 HasNoTrace Unbuilt = Unit {0}
 HasNoTrace TooLarge = Unit {0}
 HasNoTrace ReadFault = Unit {0}

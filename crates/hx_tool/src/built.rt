@@ -1,18 +1,20 @@
-ghost use Rattle.std.specs.Prelude.{◌≡◌, ◌↔◌, List, [], IsTrue};
+ghost use Rattle.std.specs.Prelude.{◌≡◌, ◌↔◌, ℕ, List, [], IsTrue};
 ghost use Rattle.std.specs.List.{All};
+ghost use Rattle.hx_types.specs.declared.traces.Step.{Step};
 ghost use Rattle.hx_types.specs.Fitting.{IsScript};
-ghost use Rattle.hx_model.specs.Built.{AreKeyCalls, IsBuilt};
+ghost use Rattle.hx_model.specs.Built.{AreKeyCalls, IsBuilt, IsBuiltStep};
+ghost use Rattle.hx_model.specs.Runs.{is_actor};
 ghost use Rattle.hx_model.specs.SessionSteps.{is_key_call};
 
-use hx_types::{Calls, Op, Script};
+use hx_types::{Actor, Calls, Op, Script, Step};
 
-/// Whether `replay` can run the script today: any space, and sessions whose calls are puts, gets,
-/// dels and conditional puts; no steps.
+/// Whether `replay` can run the script today: any space; sessions whose calls are puts, gets, dels
+/// and conditional puts; steps that deliver a post or let an actor go on.
 pub fn is_built(script: &Script) -> bool
     requires { IsScript script.now }
     ensures { IsTrue result ↔ IsBuilt script.now }
 {
-    have_key_calls(script.sessions.as_slice()) && script.steps.is_empty()
+    have_key_calls(script.sessions.as_slice()) && have_built_steps(script)
 }
 
 fn have_key_calls(sessions: &[Calls]) -> bool
@@ -31,4 +33,30 @@ fn is_key_call(op: &Op) -> bool
     ensures { result ≡ is_key_call op.now }
 {
     op.key().is_some()
+}
+
+fn have_built_steps(script: &Script) -> bool
+    ensures { IsTrue result ↔ All (λ (s : ℕ × Step). IsBuiltStep script.now s.1) script.now.steps }
+{
+    script.steps.as_slice().iter().all(|step| is_built_step(script, &step.1))
+}
+
+fn is_built_step(script: &Script, step: &Step) -> bool
+    ensures { IsTrue result ↔ IsBuiltStep script.now step.now }
+{
+    match step {
+        Step::Deliver(_) => true,
+        Step::Tick(actor) => is_actor(script, *actor),
+        Step::Halt(_) => false,
+    }
+}
+
+fn is_actor(script: &Script, actor: Actor) -> bool
+    ensures { result ≡ is_actor script.now actor }
+{
+    match actor {
+        Actor::Coordinator => true,
+        Actor::Server(server) => 0 < server.0 && server.0 <= script.space.servers,
+        Actor::Session(session) => 0 < session.0 && session.0 as usize <= script.sessions.len(),
+    }
 }

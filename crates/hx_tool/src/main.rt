@@ -12,6 +12,7 @@ mod outcomes;
 mod plans;
 mod program;
 mod replaying;
+mod steps;
 mod top;
 mod words;
 

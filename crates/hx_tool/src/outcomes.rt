@@ -14,7 +14,8 @@ pub enum Outcome {
     Fine,
     /// The words are no command.
     Usage,
-    /// The text is no script: its first faulty line, from 1, and what is wrong with it.
+    /// The text is no script: its first faulty line, from 1, and what is wrong with it. Or, for the
+    /// reason `Step`: the line of the first step that a replay can't take.
     Refused { line: u64, reason: Reason },
     /// The text is a script, but not of the form that `replay` can run today.
     Unbuilt,
@@ -45,7 +46,9 @@ pub struct Answered {
 pub enum Made {
     /// The answer.
     Whole(Answered),
-    /// A replay that ended where this actor had made all its entries, and the steps up to there.
+    /// A replay that ended at the step on this line, which can't be taken, and the entries before it.
+    Refused { line: u64, trace: Trace },
+    /// A replay that ended where this actor had made all its entries, and the entries up to there.
     Worn { actor: Actor, trace: Trace },
 }
 
@@ -55,8 +58,9 @@ pub struct Done {
     /// The status with which the process ends.
     pub status: u8,
     pub outcome: Outcome,
-    /// The steps of all actors, up to the worn actor's where the outcome is `Worn`; else empty
-    /// where there is no answer, and under `plan`.
+    /// The steps of all actors, up to the worn actor's where the outcome is `Worn`, and up to the step
+    /// that can't be taken where that is refused; else empty where there is no answer, and under
+    /// `plan`.
     pub trace: Trace,
 }
 

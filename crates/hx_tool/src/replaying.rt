@@ -1,11 +1,15 @@
-ghost use Rattle.std.specs.Prelude.{◌≡◌, ◌⊎◌, IfOk, IfErr, reverse};
+ghost use Rattle.std.specs.Prelude.{◌≡◌, ◌⊎◌, ℕ, [], IfOk, IfErr, map, reverse};
+ghost use Rattle.hx_types.specs.declared.traces.Step.{Step};
+ghost use Rattle.hx_model.specs.Schedule.{stepped};
 ghost use Rattle.hx_types.specs.Fitting.{IsScript};
 ghost use Rattle.hx_model.specs.Built.{IsBuilt};
 ghost use Rattle.hx_report.specs.Reporting.{IsReport};
 ghost use Rattle.hx_tool.specs.Causes.{IsReplay, IsReplayed, IsWholeRun};
+ghost use Rattle.hx_tool.specs.Steps.{AreTaken};
 
 use crate::built::is_built;
 use crate::outcomes::{Answered, Made, Outcome};
+use crate::steps::{Stopped, take_steps};
 use hx_types::{Memory, Script, Trace};
 use hx_world::{DrainError, Drained, World};
 use std::alloc::Global;
@@ -23,13 +27,36 @@ pub fn replay(alloc: Global, script: &Script) -> Result<Made, Outcome>
     Ok(replay_built(alloc, script)?)
 }
 
-/// Runs the script by the schedule until there is nothing left to do, or an actor is worn.
-#[tactic(auto, using(crate::proofs::Scheduling::runnable))]
+/// Takes the script's steps and goes on by the schedule.
 fn replay_built(alloc: Global, script: &Script) -> Result<Made, Memory>
     requires { IsBuilt script.now }
     ensures { IfOk result (IsReplay script.now) }
 {
     let mut world = World::start(alloc, script)?;
+    match take_steps(alloc, script, &mut world) {
+        Ok(()) => finish(alloc, script, world),
+        Err(Stopped::Memory) => Err(Memory),
+        Err(Stopped::Refused(line)) => Ok(Made::Refused {
+            line,
+            trace: world.into_trace(),
+        }),
+        Err(Stopped::Worn(actor)) => Ok(Made::Worn {
+            actor,
+            trace: world.into_trace(),
+        }),
+    }
+}
+
+/// Runs a world whose script's steps were taken by the schedule, until there is nothing left to do
+/// or an actor is worn.
+fn finish(alloc: Global, script: &Script, world: World) -> Result<Made, Memory>
+    requires built { IsBuilt script.now }
+    requires script { world.script ≡ script.now }
+    requires taken { AreTaken script.now }
+    requires stepped { reverse world.trace ≡ stepped script.now [] (map (λ (s : ℕ × Step). s.1) script.now.steps) }
+    ensures { IfOk result (IsReplay script.now) }
+{
+    let mut world = world;
     match world.drain(alloc, u64::MAX) {
         Ok(Drained::Quiet) => Ok(Made::Whole(answered(alloc, script, world.into_trace())?)),
         Ok(Drained::Spent) => unreachable!(),

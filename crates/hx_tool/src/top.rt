@@ -3,8 +3,9 @@ ghost use Rattle.std.specs.Io.KnownBytes.{Appends};
 ghost use Rattle.hx_io.specs.Causes.{Rose};
 ghost use Rattle.hx_io.specs.Pieces.{AppendsPrefix, ConsumesExactly};
 ghost use Rattle.hx_script.specs.declared.errors.Reason.{Reason};
+ghost use Rattle.hx_script.specs.declared.errors.Reason.TheVariants as a_reason;
 ghost use Rattle.hx_types.specs.declared.names.Actor.{Actor};
-ghost use Rattle.hx_tool.specs.Causes.{IsAnswer, IsCause, IsFaulty, IsJudged, IsJudgedResult, IsMadeOf, IsRefused, IsTaken, IsUnbuilt, IsWorn, ReadsText, limit};
+ghost use Rattle.hx_tool.specs.Causes.{IsAnswer, IsCause, IsFaulty, IsJudged, IsJudgedResult, IsMadeOf, IsRefused, IsStopped, IsTaken, IsUnbuilt, IsWorn, ReadsText, limit};
 ghost use Rattle.hx_tool.specs.Commands.{Says};
 ghost use Rattle.hx_tool.specs.Outcomes.{HasNoTrace, IsSilent, status_of};
 ghost use Rattle.hx_tool.specs.declared.outcomes.Outcome.{Outcome};
@@ -14,6 +15,7 @@ use crate::answering::answer;
 use crate::outcomes::{Answered, Done, Made, Outcome, status};
 use crate::words::{Command, command_of};
 use hx_io::{Sink, Source, read_all, write_all};
+use hx_script::Reason;
 use hx_types::{Actor, Trace};
 use std::alloc::Global;
 
@@ -22,9 +24,9 @@ const LIMIT: usize = 16_777_216;
 
 /// The program: it takes its words, the source of its script and the sink of its answer.
 ///
-/// It reads the source to its end. With the words `replay` it runs the script by the schedule until
-/// there is nothing left to do, and writes the report; with the words `plan` it writes which
-/// regions each search of the script asks.
+/// It reads the source to its end. With the words `replay` it takes the script's steps, goes on by
+/// the schedule until there is nothing left to do, and writes the report; with the words `plan` it
+/// writes which regions each search of the script asks.
 ///
 /// # Errors
 ///
@@ -42,19 +44,20 @@ pub fn hyperstore<S: Source, K: Sink>(
     ensures status { result.status ≡ status_of result.outcome }
 
     // With status 0 the text that the source gave is that of a script which the command takes.
-    // Under `replay` the trace is its run by the schedule, each key's history is linear, and the
-    // report was written and nothing else; under `plan` the plans of its searches.
+    // Under `replay` the trace is its run by its steps and the schedule, each key's history is
+    // linear, and the report was written and nothing else; under `plan` the plans of its searches.
     ensures fine { result.outcome ≡ Outcome.Fine → (command : Command) × (text : List ℕ) × (bytes : List ℕ)
         × Says words.now command
         × ReadsText (S.left source.old) (S.left source.new) text
         × IsAnswer command text result.trace bytes
         × Appends (K.held sink.old) (K.held sink.new) bytes }
 
-    // What each other outcome comes from.
+    // What each other outcome comes from. A replay that refuses a step hands back the run before it.
     ensures usage { (result.outcome ≡ Outcome.Usage) ↔ ((command : Command) → ¬ Says words.now command) }
     ensures refused { (line : ℕ) (reason : Reason) → result.outcome ≡ Outcome.Refused line reason → (text : List ℕ)
         × ReadsText (S.left source.old) (S.left source.new) text
-        × IsRefused text line reason }
+        × (IsRefused text line reason
+        ⊎ ((reason ≡ a_reason.Step) × Says words.now Command.Replay × IsStopped text line result.trace)) }
     ensures unbuilt { result.outcome ≡ Outcome.Unbuilt → (command : Command) × (text : List ℕ)
         × Says words.now command
         × ReadsText (S.left source.old) (S.left source.new) text
@@ -90,7 +93,8 @@ pub fn hyperstore<S: Source, K: Sink>(
         → (result.outcome ≡ Outcome.Fine) ⊎ (result.outcome ≡ Outcome.Memory)
         ⊎ ((a : Actor) × (result.outcome ≡ Outcome.Worn a)) }
 
-    // Nothing is written with the other outcomes, and there is no trace but with `Worn`.
+    // Nothing is written with the other outcomes, and there is no trace but where an actor is worn or
+    // a step is refused.
     ensures silent { IsSilent result.outcome → sink.new ≡ sink.old }
     ensures no_trace { HasNoTrace result.outcome → result.trace ≡ [] }
     ensures untouched { result.outcome ≡ Outcome.Usage → source.new ≡ source.old }
@@ -104,6 +108,7 @@ pub fn hyperstore<S: Source, K: Sink>(
     };
     match read_and_answer(alloc, command, source) {
         Ok(Made::Whole(made)) => write(sink, made),
+        Ok(Made::Refused { line, trace }) => refused(line, trace),
         Ok(Made::Worn { actor, trace }) => worn(actor, trace),
         Err(outcome) => silent(alloc, outcome),
     }
@@ -118,6 +123,23 @@ fn silent(alloc: Global, outcome: Outcome) -> Done
         status: status(outcome),
         outcome,
         trace: Trace::new(alloc),
+    }
+}
+
+/// A replay that ended at a step which can't be taken: its trace, and nothing to write.
+fn refused(line: u64, trace: Trace) -> Done
+    ensures outcome { result.outcome ≡ Outcome.Refused line a_reason.Step }
+    ensures status { result.status ≡ status_of result.outcome }
+    ensures trace { result.trace ≡ trace }
+{
+    let outcome = Outcome::Refused {
+        line,
+        reason: Reason::Step,
+    };
+    Done {
+        status: status(outcome),
+        outcome,
+        trace,
     }
 }
 
@@ -136,7 +158,7 @@ fn worn(actor: Actor, trace: Trace) -> Done
 }
 
 /// Reads the source to its end and answers its text.
-#[tactic(auto, using(crate::proofs::Making::made_is_taken))]
+#[tactic(auto, using(crate::proofs::Making::made_is_judged))]
 fn read_and_answer<S: Source>(
     alloc: Global,
     command: Command,

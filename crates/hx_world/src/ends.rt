@@ -21,6 +21,23 @@ pub enum DrainError {
     Worn(Actor),
 }
 
+/// Why a step of a script was not taken. The world is as before.
+#[derive(Clone, Copy)]
+pub enum StepError {
+    /// There is no memory for its entry.
+    Memory,
+    /// The post was never sent.
+    Unsent,
+    /// The actor has halted.
+    Halted,
+    /// A halt of an actor that is no server.
+    NotServer,
+    /// A tick of an actor that has nothing to do.
+    Idle,
+    /// The actor has made 1,048,576 entries and makes no more.
+    Worn(Actor),
+}
+
 impl From<Memory> for DrainError {
     ghost from_gives = { λ _ e. e ≡ Memory };
 

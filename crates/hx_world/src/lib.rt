@@ -12,7 +12,7 @@ mod sessions;
 mod starting;
 mod worlds;
 
-pub use ends::{DrainError, Drained};
+pub use ends::{DrainError, Drained, StepError};
 pub use worlds::World;
 
 #[cfg(test)]

