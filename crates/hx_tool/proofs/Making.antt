@@ -10,9 +10,9 @@ use Rattle.hx_model.specs.Built.{IsBuilt}
 use Rattle.hx_script.specs.declared.errors.Reason.{Reason}
 use Rattle.hx_script.specs.declared.errors.Reason.TheVariants as a_reason
 use Rattle.hx_script.specs.Texts.{script_of}
-use Rattle.hx_tool.specs.Causes.{IsAnswer, IsJudged, IsMade, IsMadeOf, IsRefused, IsReplay, IsSteppable, IsStopped, IsTaken, IsWorn, IsWornRun, ReadsText, limit, outcome_of}
+use Rattle.hx_tool.specs.Causes.{IsAnswer, IsJudged, IsMade, IsMadeOf, IsRefused, IsReplay, IsSteppable, IsStopped, IsTaken, IsWorn, IsWornAfterSteps, IsWornRun, ReadsText, limit, outcome_of}
 use Rattle.hx_tool.specs.Commands.{Says}
-use Rattle.hx_tool.specs.Steps.{IsRefusedAt}
+use Rattle.hx_tool.specs.Steps.{IsRefusedAt, IsWornAtStep}
 use Rattle.hx_tool.specs.declared.outcomes.Made.{Made}
 use Rattle.hx_tool.specs.declared.outcomes.Made.TheVariants.{Whole, Refused, Worn}
 use Rattle.hx_tool.specs.declared.outcomes.Outcome.{Outcome}
@@ -34,7 +34,7 @@ answered-steppable Plan script trace bytes made = tt
 worn-steppable : (script : Script) (trace : List Entry) (a : Actor) → IsWornRun script trace a → (line : ℕ) (t : List Entry) → IsRefusedAt script line t → ⊥
 worn-steppable script trace a worn = by worn.ends
   where
-    by : _ → (line : ℕ) (t : List Entry) → IsRefusedAt script line t → ⊥
+    by : IsWornAtStep script trace a ⊎ IsWornAfterSteps script trace a → (line : ℕ) (t : List Entry) → IsRefusedAt script line t → ⊥
     by (inl at) = worn-not-refused script trace a at
     by (inr after) = taken-not-refused script after.taken
 

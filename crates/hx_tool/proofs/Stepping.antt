@@ -53,7 +53,3 @@ taken-not-refused script taken line trace refused = let both : None ≡ Some _ =
 -- where they stop at a worn actor none is refused
 pub worn-not-refused : (script : Script) (worn : List Entry) (a : Actor) → IsWornAtStep script worn a → (line : ℕ) (trace : List Entry) → IsRefusedAt script line trace → ⊥
 worn-not-refused script worn a h line trace refused = refused-differs script line trace _ h.stops (λ (no : IsRefusal (WornFault a)). absurd no) refused
-
--- one line is refused
-pub same-line : (script : Script) (l m : ℕ) (t u : List Entry) → IsRefusedAt script l t → IsRefusedAt script m u → l ≡ m
-same-line script l m t u a b = ap (λ (s : Stop). s.line) (same_stop (stop_of script [] script.steps) _ _ a.stops b.stops)

@@ -7,6 +7,7 @@ pub returns : goal.returns
 returns c =
     record {
       run = c.requires.whole.run;
+      taken = c.requires.whole.taken;
       scheduled = c.requires.whole.scheduled;
       few = c.requires.whole.few;
       linear =

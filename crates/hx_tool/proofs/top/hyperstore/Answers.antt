@@ -3,9 +3,11 @@ use Rattle.std.proofs.Common.{◌≡◌, ◌⊎◌, ℕ, List, Option, refl, sub
 use Rattle.hx_types.specs.declared.names.Actor.{Actor}
 use Rattle.hx_tool.specs.Causes.{IsCause}
 use Rattle.hx_tool.specs.declared.outcomes.Outcome.{Outcome}
-use Rattle.hx_tool.specs.declared.outcomes.Outcome.TheVariants.{Fine, Usage, Worn, WriteFault}
+use Rattle.hx_tool.specs.declared.outcomes.Outcome.TheVariants.{Fine, Usage, Refused, Worn, WriteFault}
+use Rattle.hx_script.specs.declared.errors.Reason.{Reason}
 use Rattle.hx_tool.specs.declared.words.Command.{Command}
-use Rattle.hx_tool.proofs.Making.{told_worn}
+use Rattle.hx_tool.proofs.Judging.{refused_is_not_taken}
+use Rattle.hx_tool.proofs.Making.{told_refused, told_worn}
 use Rattle.hx_tool.proofs.top.hyperstore.Goals as goal
 
 written_is_not_usage : (outcome : Outcome) → (outcome ≡ Fine) ⊎ (outcome ≡ WriteFault) → outcome ≡ Usage → ⊥
@@ -14,6 +16,9 @@ written_is_not_usage outcome (inr fault) usage = absurd (cc)
 
 worn_is_not_usage : (outcome : Outcome) (a : Actor) → outcome ≡ Worn a → outcome ≡ Usage → ⊥
 worn_is_not_usage outcome a worn usage = absurd (cc)
+
+refused_is_not_usage : (outcome : Outcome) (line : ℕ) (reason : Reason) → outcome ≡ Refused line reason → outcome ≡ Usage → ⊥
+refused_is_not_usage outcome line reason refused usage = absurd (cc)
 
 cause_is_not_usage :
     (command : Command) (before after : Option (List ℕ)) (m n : ℕ) (outcome : Outcome)
@@ -27,6 +32,21 @@ returns-in-Ok-Whole-clause-usage g c = (
   λ usage command says. written_is_not_usage c.write.result.outcome c.write.ensures.ends usage,
   λ none. absurd (none c.in-Some.command ((c.in-Some.ensures c.in-Some.command).0 refl)),
 )
+
+pub returns-in-Ok-Refused-clause-usage : goal.returns-in-Ok-Refused-clause-usage
+returns-in-Ok-Refused-clause-usage g c = (
+  λ usage command says. refused_is_not_usage c.refused.result.outcome _ _ c.refused.ensures.outcome usage,
+  λ none. absurd (none c.in-Some.command ((c.in-Some.ensures c.in-Some.command).0 refl)),
+)
+
+pub returns-in-Ok-Refused-clause-refused : goal.returns-in-Ok-Refused-clause-refused
+returns-in-Ok-Refused-clause-refused g c line reason told =
+    told_refused _ _ _ c.in-Some.command c.in-Ok-Refused.field-0 _ _ c.refused.result.outcome _ line reason
+    ((c.in-Some.ensures c.in-Some.command).0 refl) c.in-Ok-Refused.ensures.answer c.in-Ok-Refused.field-0-is (rw c.in-Ok-Refused.field-0-is at c.refused.ensures.trace) (rw c.in-Ok-Refused.field-0-is at c.refused.ensures.outcome) told
+
+pub returns-in-Ok-Refused-clause-complete : goal.returns-in-Ok-Refused-clause-complete
+returns-in-Ok-Refused-clause-complete g c command text says left short taken source sink =
+    absurd (refused_is_not_taken command c.in-Some.command text _ c.in-Ok-Refused.field-0 _ _ ((c.in-Some.ensures command).1 says) left c.in-Ok-Refused.ensures.judged c.in-Ok-Refused.field-0-is taken)
 
 pub returns-in-Ok-Worn-clause-usage : goal.returns-in-Ok-Worn-clause-usage
 returns-in-Ok-Worn-clause-usage g c = (

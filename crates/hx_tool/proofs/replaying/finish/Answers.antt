@@ -1,16 +1,16 @@
 -- So many entries a world never makes; and when it is quiet, its trace is the whole run.
 use Rattle.std.proofs.Common.{lit<, reverse}
 use Rattle.hx_tool.proofs.Scheduling.{never_spent, quietly, whole_run}
-use Rattle.hx_tool.proofs.replaying.replay_built.Goals as goal
+use Rattle.hx_tool.proofs.replaying.finish.Goals as goal
 
 pub answered-requires-clause-whole : goal.answered-requires-clause-whole
 answered-requires-clause-whole c =
-    whole_run c.args.script.now c.in_ok-world.world c.drain.new.self c.into_trace.result 18446744073709551615
-    c.requires c.in_ok-world.ensures
-    (quietly c.in_ok-world.world.script 18446744073709551615 (reverse c.in_ok-world.world.trace) (reverse c.drain.new.self.trace) c.in-Ok-Quiet.field-0 c.in-Ok-Quiet.ensures.drained c.in-Ok-Quiet.field-0-is)
+    whole_run c.args.script.now c.args.world c.drain.new.self c.into_trace.result 18446744073709551615
+    c.requires.taken c.requires.script c.requires.stepped
+    (quietly c.args.world.script 18446744073709551615 (reverse c.args.world.trace) (reverse c.drain.new.self.trace) c.in-Ok-Quiet.field-0 c.in-Ok-Quiet.ensures.drained c.in-Ok-Quiet.field-0-is)
     c.into_trace.ensures.trace c.in-Ok-Quiet.ensures.script c.into_trace.ensures.run c.into_trace.ensures.still c.into_trace.ensures.few
 
 pub unreachable-requires : goal.unreachable-requires
 unreachable-requires c =
-    never_spent c.in_ok-world.world.script 18446744073709551615 (reverse c.in_ok-world.world.trace) c.drain.new.self.trace c.in-Ok-Spent.field-0
+    never_spent c.args.world.script 18446744073709551615 (reverse c.args.world.trace) c.drain.new.self.trace c.in-Ok-Spent.field-0
     c.in-Ok-Spent.ensures.drained c.in-Ok-Spent.field-0-is c.in-Ok-Spent.ensures.most (lit< tt)
