@@ -1,5 +1,5 @@
 -- The scripts that the program can run today; each further part of the store widens this form.
-use Rattle.std.specs.Prelude.{◌≡◌, ℕ, true, List, ⊤}
+use Rattle.std.specs.Prelude.{◌≡◌, ℕ, true, false, List, ⊤}
 use Rattle.std.specs.List.{All}
 use Rattle.hx_types.specs.declared.calls.Op.{Op}
 use Rattle.hx_types.specs.declared.traces.Script.{Script}
@@ -7,11 +7,11 @@ use Rattle.hx_types.specs.declared.traces.Step.{Step}
 use Rattle.hx_types.specs.declared.traces.Step.TheVariants.{Deliver, Tick, Halt}
 use Rattle.hx_types.specs.Fitting.{IsScript}
 use Rattle.hx_model.specs.Runs.{is_actor}
-use Rattle.hx_model.specs.SessionSteps.{is_key_call}
+use Rattle.hx_model.specs.Steady.{reconfigures}
 
--- each call of the session is on a key: a put, a get, a del or a conditional put
-abbrev pub AreKeyCalls : List Op → Type 0
-AreKeyCalls calls = All (λ (op : Op). is_key_call op ≡ true) calls
+-- no call of the session asks for another configuration: puts, gets, dels, conditional puts and searches
+abbrev pub AreSteadyCalls : List Op → Type 0
+AreSteadyCalls calls = All (λ (op : Op). reconfigures op ≡ false) calls
 
 -- a delivery, or a tick of one of the script's actors
 abbrev pub IsBuiltStep : Script → Step → Type 0
@@ -19,8 +19,8 @@ IsBuiltStep script (Deliver id) = ⊤
 IsBuiltStep script (Tick a) = is_actor script a ≡ true
 IsBuiltStep script (Halt a) = ⊥
 
--- any space, sessions whose calls are on keys, and steps that deliver a post or let an actor go on
+-- any space, sessions whose calls ask for no other configuration, and steps that deliver a post or let an actor go on
 pub record IsBuilt (script : Script) : Type 0 where
   pub valid : IsScript script
-  pub calls : All AreKeyCalls script.sessions
+  pub calls : All AreSteadyCalls script.sessions
   pub steps : All (λ (s : ℕ × Step). IsBuiltStep script s.1) script.steps

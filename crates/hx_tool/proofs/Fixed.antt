@@ -1,15 +1,13 @@
--- A script of calls on keys asks for no other configuration.
-use Rattle.std.proofs.Common.{◌≡◌, ℕ, zero, suc, true, false, List, [], ◌∷◌, refl, subst, Some, None}
+-- A script of the built form asks for no other configuration.
+use Rattle.std.proofs.Common.{◌≡◌, ℕ, zero, suc, false, List, [], ◌∷◌, refl, subst, Some, None}
 use Rattle.std.specs.Prelude.{slice_get, Option}
 use Rattle.std.specs.List.{All, AllByRecursion}
 use Rattle.std.proofs.lemmas.List.Elements.{recursion_from_All}
 use Rattle.hx_types.specs.declared.calls.Op.{Op}
-use Rattle.hx_types.specs.declared.calls.Op.TheVariants.{Put, Get, Del, Cput, Search, Stop, Add}
 use Rattle.hx_types.specs.declared.traces.Script.{Script}
 use Rattle.hx_types.specs.Fitting.{numbered}
 use Rattle.hx_types.specs.Words.{when_some}
-use Rattle.hx_model.specs.Built.{AreKeyCalls, IsBuilt}
-use Rattle.hx_model.specs.SessionSteps.{is_key_call}
+use Rattle.hx_model.specs.Built.{AreSteadyCalls, IsBuilt}
 use Rattle.hx_model.specs.Steady.{IsFixed, reconfigures}
 
 -- what holds of each element holds of the one that is found
@@ -22,30 +20,18 @@ numbered_has : {A : Type 0} (P : A → Type 0) (xs : List A) (n : ℕ) (x : A) �
 numbered_has P xs zero x h e = absurd (cc)
 numbered_has P xs (suc n) x h e = found_has P xs n x (recursion_from_All P xs h) e
 
-fixed_op : (op : Op) → is_key_call op ≡ true → reconfigures op ≡ false
-fixed_op (Put key sets) e = refl
-fixed_op (Get key) e = refl
-fixed_op (Del key) e = refl
-fixed_op (Cput key tests sets) e = refl
-fixed_op (Search terms) e = absurd (cc)
-fixed_op (Stop server) e = absurd (cc)
-fixed_op (Add server region) e = absurd (cc)
-
 -- the calls of a session, if there is one
 op_among :
     (sessions : List (List Op)) (found : Option (List Op)) (n : ℕ) (op : Op)
-    → ((calls : List Op) → found ≡ Some calls → All (λ (o : Op). is_key_call o ≡ true) calls)
+    → ((calls : List Op) → found ≡ Some calls → AreSteadyCalls calls)
     → numbered (when_some found [] (λ (calls : List Op). calls)) n ≡ Some op
-    → is_key_call op ≡ true
+    → reconfigures op ≡ false
 op_among sessions None zero op h e = absurd (cc)
 op_among sessions None (suc n) op h e = absurd (cc)
-op_among sessions (Some calls) n op h e = numbered_has (λ (o : Op). is_key_call o ≡ true) calls n op (h calls refl) e
+op_among sessions (Some calls) n op h e = numbered_has (λ (o : Op). reconfigures o ≡ false) calls n op (h calls refl) e
 
 pub built_is_fixed : (script : Script) → IsBuilt script → IsFixed script
 built_is_fixed script built c op e =
-    fixed_op op
-    (
     op_among script.sessions (numbered script.sessions c.session.0) c.number op
-    (λ calls f. numbered_has (λ (calls : List Op). All (λ (o : Op). is_key_call o ≡ true) calls) script.sessions c.session.0 calls built.calls f)
+    (λ calls f. numbered_has AreSteadyCalls script.sessions c.session.0 calls built.calls f)
     e
-    )

@@ -7,21 +7,26 @@ use Rattle.hx_script.specs.declared.errors.Reason.{Reason}
 use Rattle.hx_script.specs.declared.errors.Reason.TheVariants as a_reason
 use Rattle.hx_script.specs.Texts.{script_of}
 use Rattle.hx_tool.specs.Causes.{IsJudgedResult, IsRefusedUnder, IsSteppable, IsTaken}
+use Rattle.hx_tool.specs.Commands.{Replays}
+use Rattle.hx_tool.specs.Steps.{IsRefusedAt}
 use Rattle.hx_tool.specs.declared.outcomes.Made.{Made}
 use Rattle.hx_tool.specs.declared.outcomes.Made.TheVariants.{Refused}
 use Rattle.hx_tool.specs.declared.words.Command.{Command}
-use Rattle.hx_tool.specs.declared.words.Command.TheVariants as a_command
+use Rattle.hx_tool.specs.declared.words.Command.TheVariants.{Replay, Plan}
 
 one_script : (text : List ℕ) (a b : Script) → script_of text ≡ Ok a → script_of text ≡ Ok b → a ≡ b
 one_script text a b e f = cc
+
+none-refused : (command : Command) (script : Script) → Replays command → IsSteppable command script → (line : ℕ) (trace : List Entry) → IsRefusedAt script line trace → ⊥
+none-refused (Replay with_trace) script replays steppable = steppable
+none-refused Plan script replays steppable = absurd replays
 
 module _ (command : Command) (text : List ℕ) (line : ℕ) (reason : Reason) where
   taken_refused : IsTaken command text → IsRefusedUnder command text line reason → ⊥
   taken_refused taken (inl refused) = let a = taken.text_is in absurd (cc)
   taken_refused taken (inr by) =
       let same = one_script text taken.script by.script taken.text_is by.text_is in
-      let steppable : IsSteppable a_command.Replay by.script = subst (λ (c : Command). IsSteppable c by.script) by.replays (subst (λ (s : Script). IsSteppable command s) same taken.steppable) in
-      steppable line by.trace by.refused
+      none-refused command by.script by.replays (subst (λ (s : Script). IsSteppable command s) same taken.steppable) line by.trace by.refused
 
 -- a script with an answer has no step that is refused
 pub refused_is_not_taken : (command own : Command) (text : List ℕ) (before : Option (List ℕ)) (made : Made) (line : ℕ) (trace : List Entry) → Some own ≡ Some command → before ≡ Some text

@@ -1,5 +1,5 @@
 -- What a command makes of a text, by what it makes of its script.
-use Rattle.std.proofs.Common.{◌≡◌, ◌≤◌, ◌⊎◌, inl, inr, ℕ, List, Option, refl, sym, subst, length, reverse}
+use Rattle.std.proofs.Common.{◌≡◌, ◌≤◌, ◌⊎◌, inl, inr, Bool, ℕ, List, Option, refl, sym, subst, length, reverse}
 use Rattle.std.specs.Prelude.{Ok}
 use Rattle.std.specs.declared.string.String.{String}
 use Rattle.std.specs.declared.alloc.Global.{Global}
@@ -11,7 +11,7 @@ use Rattle.hx_script.specs.declared.errors.Reason.{Reason}
 use Rattle.hx_script.specs.declared.errors.Reason.TheVariants as a_reason
 use Rattle.hx_script.specs.Texts.{script_of}
 use Rattle.hx_tool.specs.Causes.{IsAnswer, IsJudged, IsMade, IsMadeOf, IsRefused, IsReplay, IsSteppable, IsStopped, IsTaken, IsWorn, IsWornAfterSteps, IsWornRun, ReadsText, limit, outcome_of}
-use Rattle.hx_tool.specs.Commands.{Says}
+use Rattle.hx_tool.specs.Commands.{Replays, Says}
 use Rattle.hx_tool.specs.Steps.{IsRefusedAt, IsWornAtStep}
 use Rattle.hx_tool.specs.declared.outcomes.Made.{Made}
 use Rattle.hx_tool.specs.declared.outcomes.Made.TheVariants.{Whole, Refused, Worn}
@@ -21,14 +21,14 @@ use Rattle.hx_tool.specs.declared.words.Command.{Command}
 use Rattle.hx_tool.specs.declared.words.Command.TheVariants.{Replay, Plan}
 use Rattle.hx_tool.proofs.Stepping.{taken-not-refused, worn-not-refused}
 
-pub made_of_replay : (text : List ℕ) (script : Script) (made : Made) → script_of text ≡ Ok script → IsBuilt script → IsReplay script made → IsMadeOf Replay text made
-made_of_replay text script (Whole answered) is built replayed = record { script = script; text_is = is; taken = built; made = replayed }
-made_of_replay text script (Refused line trace) is built stopped = (refl, record { script = script; text_is = is; taken = built; stopped = stopped })
-made_of_replay text script (Worn a trace) is built worn = (refl, record { script = script; text_is = is; taken = built; worn = worn })
+pub made_of_replay : (with_trace : Bool) (text : List ℕ) (script : Script) (made : Made) → script_of text ≡ Ok script → IsBuilt script → IsReplay with_trace script made → IsMadeOf (Replay with_trace) text made
+made_of_replay with_trace text script (Whole answered) is built replayed = record { script = script; text_is = is; taken = built; made = replayed }
+made_of_replay with_trace text script (Refused line trace) is built stopped = (tt, record { script = script; text_is = is; taken = built; stopped = stopped })
+made_of_replay with_trace text script (Worn a trace) is built worn = (tt, record { script = script; text_is = is; taken = built; worn = worn })
 
 -- no step is refused of a script that has an answer
 answered-steppable : (command : Command) (script : Script) (trace : List Entry) (bytes : List ℕ) → IsMade command script trace bytes → IsSteppable command script
-answered-steppable Replay script trace bytes made = taken-not-refused script made.taken
+answered-steppable (Replay with_trace) script trace bytes made = taken-not-refused script made.taken
 answered-steppable Plan script trace bytes made = tt
 
 worn-steppable : (script : Script) (trace : List Entry) (a : Actor) → IsWornRun script trace a → (line : ℕ) (t : List Entry) → IsRefusedAt script line t → ⊥
@@ -37,6 +37,11 @@ worn-steppable script trace a worn = by worn.ends
     by : IsWornAtStep script trace a ⊎ IsWornAfterSteps script trace a → (line : ℕ) (t : List Entry) → IsRefusedAt script line t → ⊥
     by (inl at) = worn-not-refused script trace a at
     by (inr after) = taken-not-refused script after.taken
+
+-- a command that replays takes a text of a script that is built and of which no step is refused
+worn-taken : (command : Command) (text : List ℕ) (script : Script) → Replays command → script_of text ≡ Ok script → IsBuilt script → ((line : ℕ) (t : List Entry) → IsRefusedAt script line t → ⊥) → IsTaken command text
+worn-taken (Replay with_trace) text script replays is built steppable = record { script = script; text_is = is; taken = built; steppable = steppable }
+worn-taken Plan text script replays is built steppable = absurd replays
 
 -- what a command makes of a text judges its outcome
 pub made_is_judged : (command : Command) (text : List ℕ) (made : Made) → length text ≤ limit → IsMadeOf command text made → IsJudged command text (outcome_of made)
@@ -48,11 +53,7 @@ made_is_judged command text (Refused line trace) short made =
       inr (record { replays = made.0; by_step = refl; script = made.1.script; text_is = made.1.text_is; taken = made.1.taken; trace = trace; refused = made.1.stopped.refused }),
     )
 made_is_judged command text (Worn a trace) short made =
-    (
-      short,
-      subst (λ (c : Command). IsTaken c text) (sym made.0)
-      (record { script = made.1.script; text_is = made.1.text_is; taken = made.1.taken; steppable = worn-steppable made.1.script trace a made.1.worn }),
-    )
+    (short, worn-taken command text made.1.script made.0 made.1.text_is made.1.taken (worn-steppable made.1.script trace a made.1.worn))
 
 -- what is told where a worn actor ended the replay
 pub told_worn :
@@ -63,12 +64,12 @@ pub told_worn :
     → given ≡ trace
     → outcome ≡ an_outcome.Worn actor
     → outcome ≡ an_outcome.Worn a
-    → (text : List ℕ) × Says words Replay × ReadsText before after text × IsWorn text given a
+    → (text : List ℕ) × ((own : Command) × Says words own × Replays own) × ReadsText before after text × IsWorn text given a
 told_worn words before after command made trace given outcome actor a says read is same ends told =
     let worn : IsMadeOf command read.0 (Worn actor trace) = subst (λ (m : Made). IsMadeOf command read.0 m) is read.2 in
     let same_actor : actor ≡ a = cc in (
       read.0,
-      subst (λ (c : Command). Says words c) worn.0 says,
+      (command, says, worn.0),
       read.1,
       subst (λ (t : List Entry). IsWorn read.0 t a) (sym same) (subst (λ (b : Actor). IsWorn read.0 trace b) same_actor worn.1),
     )
@@ -82,7 +83,7 @@ pub told_refused :
     → given ≡ trace
     → outcome ≡ an_outcome.Refused at a_reason.Step
     → outcome ≡ an_outcome.Refused line reason
-    → (text : List ℕ) × ReadsText before after text × (IsRefused text line reason ⊎ ((reason ≡ a_reason.Step) × Says words Replay × IsStopped text line given))
+    → (text : List ℕ) × ReadsText before after text × (IsRefused text line reason ⊎ ((reason ≡ a_reason.Step) × ((own : Command) × Says words own × Replays own) × IsStopped text line given))
 told_refused words before after command made trace given outcome at line reason says read is same ends told =
     let stopped : IsMadeOf command read.0 (Refused at trace) = subst (λ (m : Made). IsMadeOf command read.0 m) is read.2 in
     let same_line : at ≡ line = cc in
@@ -91,7 +92,7 @@ told_refused words before after command made trace given outcome at line reason 
       read.1,
       inr (
         same_reason,
-        subst (λ (c : Command). Says words c) stopped.0 says,
+        (command, says, stopped.0),
         subst (λ (t : List Entry). IsStopped read.0 line t) (sym same) (subst (λ n. IsStopped read.0 n trace) same_line stopped.1),
       ),
     )

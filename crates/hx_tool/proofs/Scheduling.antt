@@ -16,9 +16,10 @@ use Rattle.hx_world.specs.declared.ends.Drained.{Drained}
 use Rattle.hx_world.specs.declared.ends.Drained.TheVariants.{Quiet, Spent}
 use Rattle.hx_tool.specs.Causes.{IsWholeRun, IsWornAfterSteps, IsWornRun}
 use Rattle.hx_tool.specs.Steps.{AreTaken}
+use Rattle.hx_tool.proofs.Fixed.{built_is_fixed}
 
 pub runnable : (script : Script) → IsBuilt script → IsRunnable script
-runnable script built = record { valid = built.valid; calls = built.calls }
+runnable script built = record { valid = built.valid; fixed = built_is_fixed script built }
 
 -- the trace after all steps of the script
 abbrev pub after_steps : Script → List Entry

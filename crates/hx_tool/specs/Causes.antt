@@ -1,10 +1,11 @@
 -- What made the program end as it did.
-use Rattle.std.specs.Prelude.{◌≡◌, ◌⊎◌, ℕ, ◌+◌, ◌<◌, ◌≤◌, List, [], length, map, reverse, Option, Result, Ok, Err, ⊤}
+use Rattle.std.specs.Prelude.{◌≡◌, ◌⊎◌, Bool, ℕ, ◌+◌, ◌<◌, ◌≤◌, List, [], length, map, reverse, Option, Some, Result, Ok, Err, ⊤}
 use Rattle.std.specs.Io.KnownBytes.{Consumes, IsAtEnd}
 use Rattle.hx_io.specs.Causes.{Rose}
 use Rattle.hx_io.specs.Pieces.{ConsumesExactly}
 use Rattle.hx_io.specs.declared.errors.ReadError.{ReadError}
 use Rattle.hx_io.specs.declared.errors.ReadError.TheVariants as a_read_error
+use Rattle.hx_types.specs.declared.calls.Caller.{Caller}
 use Rattle.hx_types.specs.declared.names.Actor.{Actor}
 use Rattle.hx_types.specs.declared.traces.Entry.{Entry}
 use Rattle.hx_types.specs.declared.traces.Script.{Script}
@@ -13,6 +14,7 @@ use Rattle.hx_model.specs.Built.{IsBuilt}
 use Rattle.hx_model.specs.Linear.{IsLinear}
 use Rattle.hx_model.specs.Runs.{IsRun}
 use Rattle.hx_model.specs.Schedule.{IsScheduled, scheduled, stepped}
+use Rattle.hx_model.specs.Searching.{FinishedSearch, IsSearchTrue, IsSearchWhole, search_of}
 use Rattle.hx_model.specs.Steady.{HasNoHalts}
 use Rattle.hx_script.specs.declared.errors.Reason.{Reason}
 use Rattle.hx_script.specs.declared.errors.Reason.TheVariants as a_reason
@@ -27,6 +29,7 @@ use Rattle.hx_tool.specs.declared.outcomes.Outcome.{Outcome}
 use Rattle.hx_tool.specs.declared.outcomes.Outcome.TheVariants as an_outcome
 use Rattle.hx_tool.specs.declared.words.Command.{Command}
 use Rattle.hx_tool.specs.declared.words.Command.TheVariants as a_command
+use Rattle.hx_tool.specs.Commands.{Replays}
 use Rattle.hx_tool.specs.Plans.{plans_text}
 use Rattle.hx_tool.specs.Steps.{AreTaken, IsRefusedAt, IsWornAtStep}
 
@@ -51,12 +54,12 @@ pub record ReadsText (before after : Option (List ℕ)) (text : List ℕ) : Type
 
 -- which scripts a command takes: `replay` those of the form that is built, `plan` each
 abbrev pub Takes : Command → Script → Type 0
-Takes a_command.Replay script = IsBuilt script
+Takes (a_command.Replay with_trace) script = IsBuilt script
 Takes a_command.Plan script = ⊤
 
 -- no step of the script is refused; `plan` takes none
 abbrev pub IsSteppable : Command → Script → Type 0
-IsSteppable a_command.Replay script = (line : ℕ) (trace : List Entry) → ¬ IsRefusedAt script line trace
+IsSteppable (a_command.Replay with_trace) script = (line : ℕ) (trace : List Entry) → ¬ IsRefusedAt script line trace
 IsSteppable a_command.Plan script = ⊤
 
 -- the text is that of a script that the command takes, and no step of it is refused
@@ -78,7 +81,7 @@ IsRefused text line reason = script_of text ≡ Err (a_script_error.Refused line
 
 -- `replay` takes the text's script and refuses the step that stands on that line
 pub record IsRefusedByStep (command : Command) (text : List ℕ) (line : ℕ) (reason : Reason) : Type 0 where
-  pub replays : command ≡ a_command.Replay
+  pub replays : Replays command
   pub by_step : reason ≡ a_reason.Step
   pub script : Script
   pub text_is : script_of text ≡ Ok script
@@ -111,14 +114,20 @@ pub record IsWornRun (script : Script) (trace : List Entry) (a : Actor) : Type 0
   pub few : HasFewEntries (reverse trace)
   pub ends : IsWornAtStep script trace a ⊎ IsWornAfterSteps script trace a
 
--- the trace is the run of the script that its steps and the schedule give, each key's history is linear, and the report tells of it
-pub record IsReplayed (script : Script) (trace : List Entry) (report : List ℕ) : Type 0 where
+-- the finished search holds every match that was committed before it began and not changed meanwhile, and only versions that were committed or under way during it
+pub record IsSearchWell (script : Script) (trace : List Entry) (s : FinishedSearch) : Type 0 where
+  pub true_rows : IsSearchTrue script trace s
+  pub whole : (key : List ℕ) → IsSearchWhole script trace key s
+
+-- the trace is the run of the script that its steps and the schedule give, each key's history is linear, each finished search is whole and true, and the report tells of it
+pub record IsReplayed (with_trace : Bool) (script : Script) (trace : List Entry) (report : List ℕ) : Type 0 where
   pub run : IsRun script (reverse trace)
   pub taken : AreTaken script
   pub scheduled : IsScheduled script (reverse trace)
   pub few : HasFewEntries (reverse trace)
   pub linear : (key : List ℕ) → IsLinear script (reverse trace) key
-  pub report_is : IsReport script (reverse trace) report
+  pub searches : (c : Caller) (s : FinishedSearch) → search_of script (reverse trace) c ≡ Some s → IsSearchWell script (reverse trace) s
+  pub report_is : IsReport script (reverse trace) report with_trace
 
 -- the plans of the script's searches, and no trace
 pub record IsPlanned (script : Script) (trace : List Entry) (plans : List ℕ) : Type 0 where
@@ -127,7 +136,7 @@ pub record IsPlanned (script : Script) (trace : List Entry) (plans : List ℕ) :
 
 -- the trace and the bytes that a command makes of a script
 abbrev pub IsMade : Command → Script → List Entry → List ℕ → Type 0
-IsMade a_command.Replay script trace bytes = IsReplayed script trace bytes
+IsMade (a_command.Replay with_trace) script trace bytes = IsReplayed with_trace script trace bytes
 IsMade a_command.Plan script trace bytes = IsPlanned script trace bytes
 
 -- the text is that of a script that the command takes, and the trace and the bytes are what it makes of it
@@ -157,16 +166,16 @@ pub record IsStopped (text : List ℕ) (line : ℕ) (trace : List Entry) : Type 
   pub stopped : IsCutShort script line trace
 
 -- what a replay makes of a script
-abbrev pub IsReplay : Script → Made → Type 0
-IsReplay script (Whole answered) = IsReplayed script answered.trace answered.bytes.items
-IsReplay script (Refused line trace) = IsCutShort script line trace
-IsReplay script (Worn a trace) = IsWornRun script trace a
+abbrev pub IsReplay : Bool → Script → Made → Type 0
+IsReplay with_trace script (Whole answered) = IsReplayed with_trace script answered.trace answered.bytes.items
+IsReplay with_trace script (Refused line trace) = IsCutShort script line trace
+IsReplay with_trace script (Worn a trace) = IsWornRun script trace a
 
 -- what a command makes of a text: an answer, or under `replay` a run that ends at a step that is refused or where an actor is worn
 abbrev pub IsMadeOf : Command → List ℕ → Made → Type 0
 IsMadeOf command text (Whole answered) = IsAnswer command text answered.trace answered.bytes.items
-IsMadeOf command text (Refused line trace) = (command ≡ a_command.Replay) × IsStopped text line trace
-IsMadeOf command text (Worn a trace) = (command ≡ a_command.Replay) × IsWorn text trace a
+IsMadeOf command text (Refused line trace) = Replays command × IsStopped text line trace
+IsMadeOf command text (Worn a trace) = Replays command × IsWorn text trace a
 
 -- what a source that tells its bytes says of each outcome
 abbrev pub IsJudged : Command → List ℕ → Outcome → Type 0

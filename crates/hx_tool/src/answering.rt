@@ -23,7 +23,7 @@ pub fn answer(alloc: Global, command: Command, text: &[u8]) -> Result<Made, Outc
     let script = hx_script::read(alloc, text)?;
     hx_script::scripts_are_valid();
     match command {
-        Command::Replay => replay(alloc, &script),
+        Command::Replay { with_trace } => replay(alloc, &script, with_trace),
         Command::Plan => Ok(Made::Whole(plan(alloc, &script)?)),
     }
 }

@@ -2,37 +2,40 @@ ghost use Rattle.std.specs.Prelude.{◌≡◌, ◌↔◌, ℕ, List, [], IsTrue}
 ghost use Rattle.std.specs.List.{All};
 ghost use Rattle.hx_types.specs.declared.traces.Step.{Step};
 ghost use Rattle.hx_types.specs.Fitting.{IsScript};
-ghost use Rattle.hx_model.specs.Built.{AreKeyCalls, IsBuilt, IsBuiltStep};
+ghost use Rattle.hx_model.specs.Built.{AreSteadyCalls, IsBuilt, IsBuiltStep};
 ghost use Rattle.hx_model.specs.Runs.{is_actor};
-ghost use Rattle.hx_model.specs.SessionSteps.{is_key_call};
+ghost use Rattle.hx_model.specs.Steady.{reconfigures};
 
 use hx_types::{Actor, Calls, Op, Script, Step};
 
-/// Whether `replay` can run the script today: any space; sessions whose calls are puts, gets, dels
-/// and conditional puts; steps that deliver a post or let an actor go on.
+/// Whether `replay` can run the script today: any space; sessions whose calls are puts, gets, dels,
+/// conditional puts and searches; steps that deliver a post or let an actor go on.
 pub fn is_built(script: &Script) -> bool
     requires { IsScript script.now }
     ensures { IsTrue result ↔ IsBuilt script.now }
 {
-    have_key_calls(script.sessions.as_slice()) && have_built_steps(script)
+    have_steady_calls(script.sessions.as_slice()) && have_built_steps(script)
 }
 
-fn have_key_calls(sessions: &[Calls]) -> bool
-    ensures { IsTrue result ↔ All AreKeyCalls sessions.now }
+fn have_steady_calls(sessions: &[Calls]) -> bool
+    ensures { IsTrue result ↔ All AreSteadyCalls sessions.now }
 {
-    sessions.iter().all(|calls| are_key_calls(calls.as_slice()))
+    sessions
+        .iter()
+        .all(|calls| are_steady_calls(calls.as_slice()))
 }
 
-fn are_key_calls(calls: &[Op]) -> bool
-    ensures { IsTrue result ↔ AreKeyCalls calls.now }
+fn are_steady_calls(calls: &[Op]) -> bool
+    ensures { IsTrue result ↔ AreSteadyCalls calls.now }
 {
-    calls.iter().all(is_key_call)
+    calls.iter().all(|op| !reconfigures(op))
 }
 
-fn is_key_call(op: &Op) -> bool
-    ensures { result ≡ is_key_call op.now }
+/// Whether the call asks for another configuration.
+fn reconfigures(op: &Op) -> bool
+    ensures { result ≡ reconfigures op.now }
 {
-    op.key().is_some()
+    matches!(op, Op::Stop { .. } | Op::Add { .. })
 }
 
 fn have_built_steps(script: &Script) -> bool

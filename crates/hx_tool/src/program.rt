@@ -9,12 +9,13 @@ use std::{env, io};
 /// What `hx --help` prints.
 const HELP: &[u8] = b"hx: a searchable key-value store whose histories are proved linear
 
-usage: hx replay < SCRIPT
+usage: hx replay [--trace] < SCRIPT
        hx plan < SCRIPT
 
 Commands:
   replay       run the script that stands on standard input, and write every
-               reply and every key's history on standard output
+               reply and every key's history on standard output;
+               with --trace every step of every actor too
   plan         write which regions each search of the script asks
 
 Options:

@@ -6,7 +6,7 @@ ghost use Rattle.hx_script.specs.declared.errors.Reason.{Reason};
 ghost use Rattle.hx_script.specs.declared.errors.Reason.TheVariants as a_reason;
 ghost use Rattle.hx_types.specs.declared.names.Actor.{Actor};
 ghost use Rattle.hx_tool.specs.Causes.{IsAnswer, IsCause, IsFaulty, IsJudged, IsJudgedResult, IsMadeOf, IsRefused, IsStopped, IsTaken, IsUnbuilt, IsWorn, ReadsText, limit};
-ghost use Rattle.hx_tool.specs.Commands.{Says};
+ghost use Rattle.hx_tool.specs.Commands.{Replays, Says};
 ghost use Rattle.hx_tool.specs.Outcomes.{HasNoTrace, IsSilent, status_of};
 ghost use Rattle.hx_tool.specs.declared.outcomes.Outcome.{Outcome};
 ghost use Rattle.hx_tool.specs.declared.words.Command.{Command};
@@ -25,7 +25,8 @@ const LIMIT: usize = 16_777_216;
 /// The program: it takes its words, the source of its script and the sink of its answer.
 ///
 /// It reads the source to its end. With the words `replay` it takes the script's steps, goes on by
-/// the schedule until there is nothing left to do, and writes the report; with the words `plan` it
+/// the schedule until there is nothing left to do, and writes the report, and with the words
+/// `replay --trace` every entry and its posts in it too; with the words `plan` it
 /// writes which regions each search of the script asks.
 ///
 /// # Errors
@@ -57,7 +58,7 @@ pub fn hyperstore<S: Source, K: Sink>(
     ensures refused { (line : ℕ) (reason : Reason) → result.outcome ≡ Outcome.Refused line reason → (text : List ℕ)
         × ReadsText (S.left source.old) (S.left source.new) text
         × (IsRefused text line reason
-        ⊎ ((reason ≡ a_reason.Step) × Says words.now Command.Replay × IsStopped text line result.trace)) }
+        ⊎ ((reason ≡ a_reason.Step) × ((command : Command) × Says words.now command × Replays command) × IsStopped text line result.trace)) }
     ensures unbuilt { result.outcome ≡ Outcome.Unbuilt → (command : Command) × (text : List ℕ)
         × Says words.now command
         × ReadsText (S.left source.old) (S.left source.new) text
@@ -75,7 +76,7 @@ pub fn hyperstore<S: Source, K: Sink>(
     // Under `replay` the schedule came to an entry of an actor that has made all its entries. The
     // trace is the run up to there.
     ensures worn { (a : Actor) → result.outcome ≡ Outcome.Worn a → (text : List ℕ)
-        × Says words.now Command.Replay
+        × ((command : Command) × Says words.now command × Replays command)
         × ReadsText (S.left source.old) (S.left source.new) text
         × IsWorn text result.trace a }
 
