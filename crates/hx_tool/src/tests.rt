@@ -23,6 +23,23 @@ const NUMBER_REPORT: &str =
 const BOOKS: &str =
     "hx 1\nspace books\nkey name 2\nstring genre\nint year 1900 2099\nsubspace genre 4\nsubspace year 2\nservers 4\n";
 
+const BOOKS_REPORT: &str =
+    "report 1\nspace books\nkey name 2\nstring genre\nint year 1900 2099\nsubspace genre 4\nsubspace year 2\nservers 4\ntolerate 1\n";
+
+const PUTS: &str = "put \"a\" genre=\"b\" year=1999\nget \"a\"\nput \"a\" genre=\"d\"\n";
+
+const PUTS_REPORT: &str =
+    "call u1.1 begin 1 end 13 put \"a\" genre=\"b\" year=1999 -> done version 1\ncall u1.2 begin 14 end 16 get \"a\" -> found version 1 genre=\"b\" year=1999\ncall u1.3 begin 17 end 33 put \"a\" genre=\"d\" -> done version 2\nhistory \"a\"\nitem 1 u1.1 done present genre=\"b\" year=1999\nitem 1 u1.2 found present genre=\"b\" year=1999\nitem 2 u1.3 done present genre=\"d\" year=1999\n";
+
+const CPUT_REPORT: &str =
+    "call u1.1 begin 1 end 5 cput \"a\" if genre=\"b\" set year=2000 -> notfound version 1\nhistory \"a\"\nitem 1 u1.1 notfound absent\n";
+
+const DEL_REPORT: &str =
+    "call u1.1 begin 1 end 5 del \"a\" -> notfound version 1\nhistory \"a\"\nitem 1 u1.1 notfound absent\n";
+
+const DEFAULTS_REPORT: &str =
+    "call u1.1 begin 1 end 13 put \"a\" -> done version 1\nhistory \"a\"\nitem 1 u1.1 done present genre=\"\" year=1900\n";
+
 const SEARCHES: &str =
     "session 1\nsearch year=1990..2010\nsearch year=2099\nsearch genre=\"b\"\nsearch name=\"b\"\nsearch\n";
 
@@ -108,18 +125,46 @@ fn each_search_has_its_plan(rt: HostRuntime) -> Result<(), Fail> {
     Ok(())
 }
 
+/// Whether `replay` makes so many entries of the calls of one session on books, and writes this after
+/// the lines of the space.
+fn replays_books(alloc: Global, calls: &str, entries: usize, wanted: &str) -> Result<bool, Fail> {
+    let text = format!(in alloc; "{BOOKS}tolerate 1\nsession 1\n{calls}")?;
+    let report = format!(in alloc; "{BOOKS_REPORT}{wanted}epoch 1 servers 1,2,3,4 lost -\nend\n")?;
+    writes(alloc, "replay", text.as_str(), entries, report.as_str())
+}
+
+#[test]
+fn a_space_without_calls_is_reported(rt: HostRuntime) -> Result<(), Fail> {
+    assert!(rt; replays_books(rt.alloc(), "", 0, "")?);
+    Ok(())
+}
+
+#[test]
+fn updates_travel_along_chains(rt: HostRuntime) -> Result<(), Fail> {
+    assert!(rt; replays_books(rt.alloc(), PUTS, 33, PUTS_REPORT)?);
+    Ok(())
+}
+
+#[test]
+fn calls_on_absent_objects_are_reported(rt: HostRuntime) -> Result<(), Fail> {
+    let alloc = rt.alloc();
+    let cput = "cput \"a\" if genre=\"b\" set year=2000\n";
+    assert!(rt; replays_books(alloc, cput, 5, CPUT_REPORT)?);
+    assert!(rt; replays_books(alloc, "del \"a\"\n", 5, DEL_REPORT)?);
+    assert!(rt; replays_books(alloc, "put \"a\"\n", 13, DEFAULTS_REPORT)?);
+    Ok(())
+}
+
 #[test]
 fn larger_scripts_are_unbuilt(rt: HostRuntime) -> Result<(), Fail> {
     let alloc = rt.alloc();
-    let text = format!(in alloc; "{BOOKS}tolerate 1\n")?;
-    assert!(rt; refuses(alloc, "replay", text.as_bytes(), Outcome::Unbuilt)?);
-    let head = "hx 1\nspace one\nkey k 1\nservers 1\ntolerate 0\n";
     for lines in [
-        "session 1\nsession 2\n",
-        "session 1\ndel \"a\"\n",
+        "session 1\nget \"a\"\nsearch\n",
+        "session 1\nsession 2\nstop 1\n",
+        "session 1\nadd 1 0\n",
         "steps\ntick c\n",
     ] {
-        let text = format!(in alloc; "{head}{lines}")?;
+        let text = format!(in alloc; "{BOOKS}tolerate 1\n{lines}")?;
         assert!(rt; refuses(alloc, "replay", text.as_bytes(), Outcome::Unbuilt)?);
     }
     Ok(())
