@@ -15,7 +15,7 @@ use Rattle.hx_types.specs.declared.traces.Input.{Input}
 use Rattle.hx_types.specs.declared.updates.Place.{Place}
 use Rattle.hx_types.specs.declared.messages.Message.TheVariants as a_message
 use Rattle.hx_types.specs.declared.names.Actor.TheVariants.{Coordinator, Server, Session}
-use Rattle.hx_types.specs.declared.traces.Input.TheVariants.{Tick, Halt, Deliver}
+use Rattle.hx_types.specs.declared.traces.Input.TheVariants.{Deliver}
 use Rattle.hx_types.specs.Configs.{is_lost}
 use Rattle.hx_types.specs.Effects.{key_of}
 use Rattle.hx_types.specs.Posts.{goes_between, has_place_in}
@@ -30,7 +30,7 @@ use Rattle.hx_slot.specs.States.{IsPlacedIn}
 use Rattle.hx_replica.specs.Hearing.{heard, leading}
 use Rattle.hx_replica.specs.Made.{IsSessionActor, IsSlotInput, key_in}
 use Rattle.hx_replica.specs.Plans.{CanStep}
-use Rattle.hx_replica.specs.Servers.{CanTake, CanTakeNow, IsNow, HasSmallVersions, IsHandledNow, IsSoundDelivery, ServerValue}
+use Rattle.hx_replica.specs.Servers.{CanTake, HasSmallVersions, IsHandled, IsSoundDelivery, ServerValue}
 use Rattle.hx_replica.proofs.Hearing.{found_region, hearing_found, installed_some, led}
 use Rattle.hx_replica.proofs.Planning.{found_there}
 
@@ -94,7 +94,7 @@ call_region space s epoch (Some key) r e =
 
 -- a slot that hears a message can be asked
 pub slot_input : (space : Space) (s : ServerState) (from : Actor) (m : Message) (r : Replica)
-    → IsHandledNow m → IsSoundDelivery space s.id from m → HasSmallVersions s → heard space s m ≡ Some r
+    → IsHandled m → IsSoundDelivery space s.id from m → HasSmallVersions s → heard space s m ≡ Some r
     → AllByRecursion (λ (t : KeyState). t.marks ≡ is_key_region space r.region) r.states
     → IsSlotInput space r.region (state_in space r (key_in m)) from m
 slot_input space s from (a_message.Call epoch number op) r h sound small e marked =
@@ -122,10 +122,10 @@ abbrev pub AreMarked : ServerValue → Type 0
 AreMarked v = (place : ℕ) (r : Replica) → slice_get v.state.replicas place ≡ Some r → AllByRecursion (λ (t : KeyState). t.marks ≡ is_key_region v.space r.region) r.states
 
 -- the replica that hears a message can step
-pub can_step : (v : ServerValue) (input : Input) (id : PostId) (from : Actor) (m : Message) (place : ℕ) (key : List ℕ) → AreMarked v → CanTakeNow v.space v.state input → input ≡ Deliver id from m
+pub can_step : (v : ServerValue) (input : Input) (id : PostId) (from : Actor) (m : Message) (place : ℕ) (key : List ℕ) → AreMarked v → CanTake v.space v.state input → input ≡ Deliver id from m
     → Some (slice_get v.state.replicas place) ≡ option_map (λ (r : Replica). Some r) (heard v.space v.state m) → key ≡ key_in m → CanStep v.space v.state place key from m
 can_step v input id from m place key marked can is at k =
-    let now : CanTakeNow v.space v.state (Deliver id from m) = subst (CanTakeNow v.space v.state) is can in
+    let now : CanTake v.space v.state (Deliver id from m) = subst (CanTake v.space v.state) is can in
     let there = found_there v.state.replicas place (heard v.space v.state m) at in
     record {
       key_is = k;
@@ -135,8 +135,3 @@ can_step v input id from m place key marked can is at k =
           (slot_input v.space v.state from m r now.input_to.0 now.input_to.1 now.small same (marked place r e));
       within = slice_get_within v.state.replicas place there.replica there.at_place;
     }
-
-pub now_of : (space : Space) (s : ServerState) (input : Input) → CanTake space s input → IsNow input → CanTakeNow space s input
-now_of space s Tick can is = absurd is
-now_of space s Halt can is = absurd is
-now_of space s (Deliver id from m) can is = record { running = can.running; input_to = (is, can.input_to.1); small = can.small }

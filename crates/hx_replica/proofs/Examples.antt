@@ -54,7 +54,7 @@ put_fits : (epoch : ℕ) → epoch ≤ 2 → CanTake small (server_at_start smal
 put_fits epoch l = record {
   running = refl;
   input_to = (
-    tt,
+    refl,
     record {
       sessions = 1;
       entry = 1;

@@ -23,7 +23,7 @@ use Rattle.hx_replica.specs.declared.plans.Change.TheVariants as a_change
 use Rattle.hx_replica.specs.Hearing.{heard}
 use Rattle.hx_replica.specs.Made.{IsMade, key_in, slot_step_of}
 use Rattle.hx_replica.specs.Plans.{HasRoomAt, IsMadeAt, IsPlanOn}
-use Rattle.hx_replica.specs.Servers.{CanTakeNow, ServerValue}
+use Rattle.hx_replica.specs.Servers.{CanTake, ServerValue}
 use Rattle.hx_replica.proofs.Hearing.{message_heard, message_unheard}
 
 -- a replica that was found by its place
@@ -40,7 +40,7 @@ pub found_nowhere : (o : Option Replica) → None ≡ option_map (λ (r : Replic
 found_nowhere None e = refl
 found_nowhere (Some r) e = absurd cc
 
-running_step : (v : ServerValue) (id : PostId) (from : Actor) (m : Message) → CanTakeNow v.space v.state (Deliver id from m) → server_step v.space v.state (Deliver id from m) ≡ message_step v.space v.state from m
+running_step : (v : ServerValue) (id : PostId) (from : Actor) (m : Message) → CanTake v.space v.state (Deliver id from m) → server_step v.space v.state (Deliver id from m) ≡ message_step v.space v.state from m
 running_step v id from m can = cond-false v.state.halted (unmoved v.state) _ can.running
 
 -- the plans of a step that moves nothing, and of one of a slot
@@ -54,14 +54,14 @@ abbrev entry_by : ServerValue → Input → ServerStep → Entry
 entry_by v input step = entry_of (Server v.state.id) input (record { posts = step.posts; notes = step.notes })
 
 -- no replica hears the message
-unmoved_planned : (v : ServerValue) (id : PostId) (from : Actor) (m : Message) (plan : Plan) → CanTakeNow v.space v.state (Deliver id from m) → heard v.space v.state m ≡ None
+unmoved_planned : (v : ServerValue) (id : PostId) (from : Actor) (m : Message) (plan : Plan) → CanTake v.space v.state (Deliver id from m) → heard v.space v.state m ≡ None
     → plan ≡ unmoved_plan v.state.id (Deliver id from m) → IsPlanOn v plan
 unmoved_planned v id from m plan can none e =
     let step : server_step v.space v.state (Deliver id from m) ≡ unmoved v.state = running_step v id from m can ∙ message_unheard v.space v.state from m can.input_to.0 none in
     subst (IsPlanOn v) (sym e) (record { entry = ap (entry_by v (Deliver id from m)) (sym step); change = ap (λ (s : ServerStep). s.state) step })
 
 -- the replica at the place hears it, and its slot makes this
-moved_planned : (v : ServerValue) (id : PostId) (from : Actor) (m : Message) (place : ℕ) (key : List ℕ) (made : SlotMade) (plan : Plan) → CanTakeNow v.space v.state (Deliver id from m)
+moved_planned : (v : ServerValue) (id : PostId) (from : Actor) (m : Message) (place : ℕ) (key : List ℕ) (made : SlotMade) (plan : Plan) → CanTake v.space v.state (Deliver id from m)
     → IsFound v.state.replicas place (heard v.space v.state m) → IsMadeAt v place from m made → HasRoomAt place key 1 v → key ≡ key_in m
     → plan ≡ moved_plan v.state.id (Deliver id from m) place key made → IsPlanOn v plan
 moved_planned v id from m place key made plan can at is room k e =
@@ -85,12 +85,12 @@ moved_planned v id from m place key made plan can at is room k e =
     })
 
 -- room was made since the input came
-module _ (old new : ServerValue) (server : ServerId) (input : Input) (id : PostId) (from : Actor) (m : Message) (can : CanTakeNow old.space old.state input) (is : input ≡ Deliver id from m) (me : server ≡ old.state.id)
+module _ (old new : ServerValue) (server : ServerId) (input : Input) (id : PostId) (from : Actor) (m : Message) (can : CanTake old.space old.state input) (is : input ≡ Deliver id from m) (me : server ≡ old.state.id)
     (space : new.space ≡ old.space) (state : new.state ≡ old.state) where
-  still : CanTakeNow new.space new.state (Deliver id from m)
+  still : CanTake new.space new.state (Deliver id from m)
   still =
-      subst (λ (x : ServerState). CanTakeNow new.space x (Deliver id from m)) (sym state)
-      (subst (λ (x : Space). CanTakeNow x old.state (Deliver id from m)) (sym space) (subst (CanTakeNow old.space old.state) is can))
+      subst (λ (x : ServerState). CanTake new.space x (Deliver id from m)) (sym state)
+      (subst (λ (x : Space). CanTake x old.state (Deliver id from m)) (sym space) (subst (CanTake old.space old.state) is can))
 
   heard_still : heard old.space old.state m ≡ heard new.space new.state m
   heard_still = ap (λ (x : Space). heard x old.state m) (sym space) ∙ ap (λ (x : ServerState). heard new.space x m) (sym state)

@@ -28,23 +28,12 @@ abbrev pub server_entry : Space → ServerState → Input → Entry
 server_entry space s input =
     let step = server_step space s input in entry_of (Server s.id) input (record { posts = step.posts; notes = step.notes })
 
--- the messages that a server can take: all but those that bring a replica to another configuration
+-- the messages that a server can take today: calls on a key, updates and acknowledgements
 abbrev pub IsHandled : Message → Type 0
-IsHandled (a_message.Snap epoch g snapshot pending) = ⊥
-IsHandled (a_message.Install config) = ⊥
-IsHandled other = ⊤
-
--- a stub: the messages whose step is written so far
-abbrev pub IsHandledNow : Message → Type 0
-IsHandledNow (a_message.Call epoch number op) = IsSome (key_of op)
-IsHandledNow (a_message.Update epoch g u) = ⊤
-IsHandledNow (a_message.Ack epoch g key version) = ⊤
-IsHandledNow other = ⊥
-
-abbrev pub IsNow : Input → Type 0
-IsNow Tick = ⊥
-IsNow Halt = ⊥
-IsNow (Deliver id from m) = IsHandledNow m
+IsHandled (a_message.Call epoch number op) = IsSome (key_of op)
+IsHandled (a_message.Update epoch g u) = ⊤
+IsHandled (a_message.Ack epoch g key version) = ⊤
+IsHandled other = ⊥
 
 -- the post is sound for some number of sessions, and no version in it is above 2^62
 pub record IsSoundDelivery (space : Space) (s : ServerId) (from : Actor) (m : Message) : Type 0 where
@@ -58,7 +47,7 @@ abbrev pub HasSmallVersions : ServerState → Type 0
 HasSmallVersions s = (r : Replica) → IsIn r s.replicas → (t : KeyState) → IsIn t r.states → top_of t ≤ 2 ^ 62
 
 abbrev pub IsInputTo : Space → ServerId → Input → Type 0
-IsInputTo space s Tick = ⊤
+IsInputTo space s Tick = ⊥
 IsInputTo space s Halt = ⊥
 IsInputTo space s (Deliver id from m) = IsHandled m × IsSoundDelivery space s from m
 
@@ -66,14 +55,4 @@ IsInputTo space s (Deliver id from m) = IsHandled m × IsSoundDelivery space s f
 pub record CanTake (space : Space) (s : ServerState) (input : Input) : Type 0 where
   pub running : s.halted ≡ false
   pub input_to : IsInputTo space s.id input
-  pub small : HasSmallVersions s
-
-abbrev pub IsInputToNow : Space → ServerId → Input → Type 0
-IsInputToNow space s Tick = ⊥
-IsInputToNow space s Halt = ⊥
-IsInputToNow space s (Deliver id from m) = IsHandledNow m × IsSoundDelivery space s from m
-
-pub record CanTakeNow (space : Space) (s : ServerState) (input : Input) : Type 0 where
-  pub running : s.halted ≡ false
-  pub input_to : IsInputToNow space s.id input
   pub small : HasSmallVersions s

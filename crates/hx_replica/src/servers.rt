@@ -1,4 +1,4 @@
-ghost use Rattle.std.specs.Prelude.{◌≡◌, ◌<◌, ◌≤◌, true, IfOk, IfNone, IfSome, IsSomeAnd, OnOk, Some, None, slice_get};
+ghost use Rattle.std.specs.Prelude.{◌≡◌, ◌<◌, ◌≤◌, IfOk, IfNone, IfSome, IsSomeAnd, OnOk, Some, None, slice_get};
 ghost use Rattle.std.specs.Option.{option_map};
 ghost use Rattle.hx_types.specs.Effects.{key_of};
 ghost use Rattle.hx_types.specs.Spaces.{IsServerOf, IsSpace};
@@ -10,7 +10,7 @@ ghost use Rattle.hx_replica.specs.Hearing.{heard, leading};
 ghost use Rattle.hx_store.specs.Stores.{HasRoom, state_at};
 ghost use Rattle.hx_replica.specs.Made.{IsMade, IsSlotInput, key_in, slot_step_of, spot_seen};
 ghost use Rattle.hx_replica.specs.Plans.{CanStep, HasRoomAt, IsMadeAt, IsPlanOn};
-ghost use Rattle.hx_replica.specs.Servers.{CanTake, CanTakeNow, IsNow, server_entry};
+ghost use Rattle.hx_replica.specs.Servers.{CanTake, server_entry};
 
 use crate::made::SlotMade;
 use crate::plans::{Change, Plan, moved, unmoved};
@@ -88,20 +88,6 @@ impl Server {
     /// the room for further updates changes.
     pub fn prepare(&mut self, alloc: Global, input: &Input) -> Result<Plan, Memory>
         requires { CanTake self.old.space self.old.state input.now }
-        ensures plan { IfOk result (IsPlanOn self.new) }
-        ensures input { IfOk result (λ plan. plan.entry.input ≡ input.now) }
-        ensures space { self.new.space ≡ self.old.space }
-        ensures state { self.new.state ≡ self.old.state }
-    {
-        if is_now(input) {
-            self.prepare_now(alloc, input)
-        } else {
-            Err(Memory)
-        }
-    }
-
-    fn prepare_now(&mut self, alloc: Global, input: &Input) -> Result<Plan, Memory>
-        requires { CanTakeNow self.old.space self.old.state input.now }
         ensures plan { IfOk result (IsPlanOn self.new) }
         ensures input { IfOk result (λ plan. plan.entry.input ≡ input.now) }
         ensures space { self.new.space ≡ self.old.space }
@@ -242,21 +228,6 @@ impl Server {
             region: replica.region,
         };
         step_store(alloc, &spot, &replica.store, heard.key, from, message)
-    }
-}
-
-/// A stub: whether the step for this input is written so far.
-fn is_now(input: &Input) -> bool
-    ensures { result ≡ true → IsNow input.now }
-{
-    match input {
-        Input::Deliver { message, .. } => match message {
-            Message::Call { op, .. } => op.key().is_some(),
-            Message::Update { .. } => true,
-            Message::Ack { .. } => true,
-            _ => false,
-        },
-        _ => false,
     }
 }
 
