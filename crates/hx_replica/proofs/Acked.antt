@@ -1,15 +1,13 @@
 -- Rows of a server's table, as what is made of a slot.
-use Rattle.std.proofs.Common.{◌≡◌, ℕ, ◌≤◌, Bool, true, false, cond, ◌==◌, ◌||◌, List, [], ◌∷◌, ◌++◌, Option, None, Some, refl, ap, sym, ◌∙◌, subst}
-use Rattle.std.specs.Prelude.{◌⊎◌}
+use Rattle.std.proofs.Common.{◌≡◌, true, false, ◌==◌, ◌||◌, List, [], ◌∷◌, ◌++◌, refl, ap, sym, ◌∙◌}
 use Rattle.std.specs.Borrow.{Bor}
 use Rattle.std.specs.List.{flat_map, list_any}
 use Rattle.hx_types.specs.declared.messages.Post.{Post}
-use Rattle.hx_types.specs.declared.names.RegionId.{RegionId}
 use Rattle.hx_types.specs.declared.names.Version.{Version}
 use Rattle.hx_types.specs.declared.updates.Update.{Update}
 use Rattle.hx_types.specs.Words.{provided}
 use Rattle.hx_model.specs.ServerSteps.{Spot as ModelSpot, ack_step, accepting, move_posts, with_commits}
-use Rattle.hx_model.specs.Slots.{Acknowledge, KeyState, Move, acknowledged, commits, is_pending, moved_all, offered, pending_of, settled}
+use Rattle.hx_model.specs.Slots.{Acknowledge, KeyState, Move, commits, is_pending, moved_all, offered, pending_of, settled}
 use Rattle.hx_store.specs.Stores.{accepted, acknowledging}
 use Rattle.hx_replica.specs.Made.{IsAccepted, seen, settled_among, told_of}
 use Rattle.hx_replica.proofs.Offers.{marks_acked, told_commits}

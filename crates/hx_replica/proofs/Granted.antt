@@ -1,5 +1,5 @@
 -- The update that a leader assigns can be accepted by its slot.
-use Rattle.std.proofs.Common.{◌≡◌, inl, inr, ℕ, ◌+◌, ◌<◌, ◌≤◌, Bool, true, false, cond, List, [], ◌∷◌, length, Option, Some, None, refl, ap, sym, ◌∙◌, subst, arith}
+use Rattle.std.proofs.Common.{◌≡◌, inl, inr, ℕ, ◌<◌, ◌≤◌, Bool, false, List, [], ◌∷◌, length, Option, refl, ap, sym, subst, arith}
 use Rattle.std.specs.List.{All}
 use Rattle.std.proofs.lemmas.Bool.{cond-true, eq-eqb}
 use Rattle.std.proofs.lemmas.List.Elements.{All-head, All-tail}
@@ -11,18 +11,16 @@ use Rattle.hx_types.specs.declared.results.Decision.TheVariants as a_decision
 use Rattle.hx_types.specs.declared.results.Effect.{Effect}
 use Rattle.hx_types.specs.declared.snapshots.Touch.{Touch}
 use Rattle.hx_types.specs.declared.spaces.Space.{Space}
-use Rattle.hx_types.specs.declared.updates.Place.{Place}
 use Rattle.hx_types.specs.declared.updates.Update.{Update}
 use Rattle.hx_types.specs.declared.values.Value.{Value}
 use Rattle.hx_types.specs.Effects.{effect_of}
 use Rattle.hx_types.specs.Spaces.{IsSpace}
-use Rattle.hx_types.specs.Words.{IsIn, same_region}
-use Rattle.hx_model.specs.Leading.{assigned, decide, first_lost, granted, refusal}
+use Rattle.hx_types.specs.Words.{same_region}
+use Rattle.hx_model.specs.Leading.{decide, first_lost, granted, refusal}
 use Rattle.hx_model.specs.Neighbours.{place_number}
 use Rattle.hx_model.specs.Places.{places_of}
 use Rattle.hx_model.specs.Regions.{key_region}
 use Rattle.hx_model.specs.Slots.{KeyState, latest_of, top_of, touches_of}
-use Rattle.hx_slot.specs.States.{IsPlacedIn}
 use Rattle.hx_steady.proofs.Lists.{when_some_both}
 use Rattle.hx_sound.proofs.Assigned.{decides}
 use Rattle.hx_sound.proofs.Placed.{placed}

@@ -17,9 +17,8 @@ use Rattle.hx_types.specs.Posts.{goes_between}
 use Rattle.hx_types.specs.Words.{same_region, when_some}
 use Rattle.hx_model.specs.Regions.{key_region}
 use Rattle.hx_model.specs.ServerSteps.{Replica, ServerState, acked, at_slot, call_at, call_step, called, hearing, if_installed, message_step, replica_of, spot_of, state_in, unmoved, updated}
-use Rattle.hx_replica.specs.Hearing.{heard, leading}
+use Rattle.hx_replica.specs.Hearing.{IsOfOneSlot, heard, leading}
 use Rattle.hx_replica.specs.Made.{key_in, slot_step_of}
-use Rattle.hx_replica.specs.Servers.{IsHandled}
 
 same_number : (a b : RegionId) → same_region a b ≡ true → a ≡ b
 same_number a b e = let f : ℕ → RegionId = λ n. record { 0 = n } in ap f (eqb-true a.0 b.0 e)
@@ -94,10 +93,23 @@ message_heard space s from to (a_message.Ack epoch g key version) r b e = ap (ac
 message_heard space s from to other r b e = absurd cc
 
 -- nothing moves
-pub message_unheard : (space : Space) (s : ServerState) (from : Actor) (m : Message) → IsHandled m → heard space s m ≡ None → message_step space s from m ≡ unmoved s
+pub message_unheard : (space : Space) (s : ServerState) (from : Actor) (m : Message) → IsOfOneSlot m → heard space s m ≡ None → message_step space s from m ≡ unmoved s
 message_unheard space s Coordinator (a_message.Call epoch number op) h e = refl
 message_unheard space s (Server x) (a_message.Call epoch number op) h e = refl
 message_unheard space s (Session u) (a_message.Call epoch number op) h e = called_unheard space s epoch (record { session = u; number = number }) op (key_of op) e
+message_unheard space s from (a_message.Reply number version answer) h e = refl
 message_unheard space s from (a_message.Update epoch g u) h e = ap (updated space s u) e
 message_unheard space s from (a_message.Ack epoch g key version) h e = ap (acked space s key version.0) e
-message_unheard space s from other h e = absurd h
+message_unheard space s from (a_message.Ask epoch number g terms) h e = absurd h
+message_unheard space s from (a_message.Found epoch number g rows) h e = refl
+message_unheard space s from (a_message.Seal epoch) h e = absurd h
+message_unheard space s from (a_message.Sealed epoch) h e = refl
+message_unheard space s from (a_message.Install config) h e = absurd h
+message_unheard space s from a_message.Die h e = absurd h
+message_unheard space s from a_message.Gone h e = refl
+message_unheard space s from (a_message.StopServer number server) h e = refl
+message_unheard space s from (a_message.AddReplica number server g) h e = refl
+message_unheard space s from (a_message.Outcome number answer) h e = refl
+message_unheard space s from (a_message.Snap epoch g snapshot pending) h e = absurd h
+message_unheard space s from (a_message.Ready epoch g) h e = refl
+message_unheard space s from (a_message.Poll epoch) h e = refl

@@ -11,3 +11,5 @@ pub mod Asking
 pub mod Changing
 pub mod Inside
 pub mod Examples
+pub mod Sending
+pub mod Searching

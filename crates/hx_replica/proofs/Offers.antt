@@ -1,10 +1,10 @@
 -- What is posted of the moves of an offer, of the versions whose chain ends here, and of the commits that they bring.
-use Rattle.std.proofs.Common.{◌≡◌, ℕ, ◌+◌, ◌<◌, ◌≤◌, zero, suc, Bool, true, false, not, cond, ◌||◌, ◌==◌, List, [], ◌∷◌, ◌++◌, map, length, take, Option, None, Some, refl, ap, sym, ◌∙◌, subst, arith, append_assoc, add-one, one-add, nat_le}
+use Rattle.std.proofs.Common.{◌≡◌, ℕ, ◌+◌, ◌<◌, zero, suc, Bool, true, false, not, cond, ◌||◌, ◌==◌, List, [], ◌∷◌, ◌++◌, map, length, take, Option, None, Some, refl, ap, sym, ◌∙◌, subst, arith, append_assoc, add-one, one-add, nat_le}
 use Rattle.std.specs.Prelude.{⊤, slice_get}
 use Rattle.std.specs.Borrow.{Bor}
 use Rattle.std.specs.List.{All, filter, find, flat_map, list_any, prefix_len}
 use Rattle.std.specs.Option.{option_map}
-use Rattle.std.proofs.lemmas.Bool.{cond_both, cond-true, cond-false, eqb-true, eq-eqb, false≢true, leb-false, leb-true}
+use Rattle.std.proofs.lemmas.Bool.{cond-false, eqb-true, eq-eqb}
 use Rattle.std.proofs.lemmas.Bool.Decides.{nat_tests}
 use Rattle.std.proofs.lemmas.Grind.{flat_map-append}
 use Rattle.std.proofs.lemmas.List.{append-nil}
@@ -17,9 +17,9 @@ use Rattle.hx_types.specs.declared.updates.Place.{Place}
 use Rattle.hx_types.specs.declared.updates.Update.{Update}
 use Rattle.hx_types.specs.Words.{provided, same_region, when_some}
 use Rattle.hx_model.specs.Neighbours.{is_end, place_number}
-use Rattle.hx_model.specs.ServerSteps.{Spot as ModelSpot, accepting, end_marks, move_posts, next_at, passed_on, prev_at, with_commits}
-use Rattle.hx_model.specs.Slots.{Acknowledge, Commit, Hold, KeyState, Move, Take, after_at, commits, follows, moved, moved_all, offered, pending_above, pending_of, place_in, settled, taken, top_of, turns}
-use Rattle.hx_store.specs.Stores.{ArePending, accepted, acknowledging}
+use Rattle.hx_model.specs.ServerSteps.{Spot as ModelSpot, end_marks, move_posts, next_at, passed_on}
+use Rattle.hx_model.specs.Slots.{Acknowledge, Commit, Hold, KeyState, Move, Take, commits, follows, moved, moved_all, offered, pending_above, pending_of, place_in, settled, taken, top_of, turns}
+use Rattle.hx_store.specs.Stores.{ArePending, acknowledging}
 use Rattle.hx_store.proofs.Moves.{moved_all_append}
 use Rattle.hx_replica.specs.Made.{IsAccepted, IsNew, end_of, seen, settled_among, settles, told_of}
 

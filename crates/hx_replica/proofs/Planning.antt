@@ -20,7 +20,7 @@ use Rattle.hx_model.specs.Slots.{KeyState, Move, moved_all}
 use Rattle.hx_replica.specs.declared.made.SlotMade.{SlotMade}
 use Rattle.hx_replica.specs.declared.plans.Plan.{Plan}
 use Rattle.hx_replica.specs.declared.plans.Change.TheVariants as a_change
-use Rattle.hx_replica.specs.Hearing.{heard}
+use Rattle.hx_replica.specs.Hearing.{IsOfOneSlot, heard}
 use Rattle.hx_replica.specs.Made.{IsMade, key_in, slot_step_of}
 use Rattle.hx_replica.specs.Plans.{HasRoomAt, IsMadeAt, IsPlanOn}
 use Rattle.hx_replica.specs.Servers.{CanTake, ServerValue}
@@ -40,7 +40,7 @@ pub found_nowhere : (o : Option Replica) → None ≡ option_map (λ (r : Replic
 found_nowhere None e = refl
 found_nowhere (Some r) e = absurd cc
 
-running_step : (v : ServerValue) (id : PostId) (from : Actor) (m : Message) → CanTake v.space v.state (Deliver id from m) → server_step v.space v.state (Deliver id from m) ≡ message_step v.space v.state from m
+pub running_step : (v : ServerValue) (id : PostId) (from : Actor) (m : Message) → CanTake v.space v.state (Deliver id from m) → server_step v.space v.state (Deliver id from m) ≡ message_step v.space v.state from m
 running_step v id from m can = cond-false v.state.halted (unmoved v.state) _ can.running
 
 -- the plans of a step that moves nothing, and of one of a slot
@@ -54,10 +54,10 @@ abbrev entry_by : ServerValue → Input → ServerStep → Entry
 entry_by v input step = entry_of (Server v.state.id) input (record { posts = step.posts; notes = step.notes })
 
 -- no replica hears the message
-unmoved_planned : (v : ServerValue) (id : PostId) (from : Actor) (m : Message) (plan : Plan) → CanTake v.space v.state (Deliver id from m) → heard v.space v.state m ≡ None
+unmoved_planned : (v : ServerValue) (id : PostId) (from : Actor) (m : Message) (plan : Plan) → CanTake v.space v.state (Deliver id from m) → IsOfOneSlot m → heard v.space v.state m ≡ None
     → plan ≡ unmoved_plan v.state.id (Deliver id from m) → IsPlanOn v plan
-unmoved_planned v id from m plan can none e =
-    let step : server_step v.space v.state (Deliver id from m) ≡ unmoved v.state = running_step v id from m can ∙ message_unheard v.space v.state from m can.input_to.0 none in
+unmoved_planned v id from m plan can one none e =
+    let step : server_step v.space v.state (Deliver id from m) ≡ unmoved v.state = running_step v id from m can ∙ message_unheard v.space v.state from m one none in
     subst (IsPlanOn v) (sym e) (record { entry = ap (entry_by v (Deliver id from m)) (sym step); change = ap (λ (s : ServerStep). s.state) step })
 
 -- the replica at the place hears it, and its slot makes this
@@ -98,9 +98,9 @@ module _ (old new : ServerValue) (server : ServerId) (input : Input) (id : PostI
   me_still : server ≡ new.state.id
   me_still = me ∙ ap (λ (x : ServerState). x.id) (sym state)
 
-  pub nothing_prepared : (plan : Plan) → None ≡ option_map (λ (r : Replica). Some r) (heard old.space old.state m) → plan ≡ unmoved_plan server input → IsPlanOn new plan
-  nothing_prepared plan none e =
-      unmoved_planned new id from m plan still (sym heard_still ∙ found_nowhere (heard old.space old.state m) none)
+  pub nothing_prepared : (plan : Plan) → IsOfOneSlot m → None ≡ option_map (λ (r : Replica). Some r) (heard old.space old.state m) → plan ≡ unmoved_plan server input → IsPlanOn new plan
+  nothing_prepared plan one none e =
+      unmoved_planned new id from m plan still one (sym heard_still ∙ found_nowhere (heard old.space old.state m) none)
       (e ∙ ap (unmoved_plan server) is ∙ ap (λ (s : ServerId). unmoved_plan s (Deliver id from m)) me_still)
 
   pub move_prepared : (place : ℕ) (key : List ℕ) (made : SlotMade) (plan : Plan) → Some (slice_get old.state.replicas place) ≡ option_map (λ (r : Replica). Some r) (heard old.space old.state m) → key ≡ key_in m

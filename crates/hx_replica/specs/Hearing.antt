@@ -1,5 +1,5 @@
 -- Which replica hears a message on a key.
-use Rattle.std.specs.Prelude.{List, ℕ, if◌then◌else◌, Option, None}
+use Rattle.std.specs.Prelude.{List, ℕ, ⊤, if◌then◌else◌, Option, None}
 use Rattle.hx_types.specs.declared.messages.Message.{Message}
 use Rattle.hx_types.specs.declared.names.Epoch.{Epoch}
 use Rattle.hx_types.specs.declared.spaces.Space.{Space}
@@ -20,3 +20,12 @@ heard space s (a_message.Call epoch number op) = when_some (key_of op) None (lea
 heard space s (a_message.Update epoch g u) = if_installed (hearing s epoch g)
 heard space s (a_message.Ack epoch g key version) = if_installed (hearing s epoch g)
 heard space s other = None
+
+-- a message by which at most one slot moves
+abbrev pub IsOfOneSlot : Message → Type 0
+IsOfOneSlot (a_message.Ask epoch number g terms) = ⊥
+IsOfOneSlot (a_message.Seal epoch) = ⊥
+IsOfOneSlot (a_message.Install config) = ⊥
+IsOfOneSlot a_message.Die = ⊥
+IsOfOneSlot (a_message.Snap epoch g snapshot pending) = ⊥
+IsOfOneSlot other = ⊤

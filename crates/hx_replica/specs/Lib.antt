@@ -5,3 +5,4 @@ pub mod Servers
 pub mod Inside
 pub mod Plans
 pub mod Examples
+pub mod Ticking

@@ -1,8 +1,7 @@
 -- What a step makes of one slot: its posts and notes, and the change by which the slot makes the step's moves.
-use Rattle.std.specs.Prelude.{◌≡◌, ℕ, ◌<◌, ◌≤◌, ◌==◌, ◌||◌, Bool, true, ⊤, ◌^◌, IsSome, List, [], ◌∷◌, ◌++◌, length, take}
+use Rattle.std.specs.Prelude.{◌≡◌, ℕ, ◌<◌, ◌≤◌, ◌==◌, ◌||◌, Bool, true, ⊤, ◌^◌, IsSome, List, [], ◌∷◌, length, take}
 use Rattle.std.specs.Borrow.{Bor}
 use Rattle.std.specs.List.{All, flat_map, list_any, prefix_len}
-use Rattle.hx_types.specs.declared.calls.Caller.{Caller}
 use Rattle.hx_types.specs.declared.messages.Message.{Message}
 use Rattle.hx_types.specs.declared.messages.Post.{Post}
 use Rattle.hx_types.specs.declared.names.Actor.{Actor}
@@ -17,7 +16,7 @@ use Rattle.hx_types.specs.declared.spaces.Space.{Space}
 use Rattle.hx_types.specs.Effects.{key_of}
 use Rattle.hx_model.specs.Regions.{key_region}
 use Rattle.hx_types.specs.Words.{provided, when_some}
-use Rattle.hx_model.specs.ServerSteps.{SlotStep, Spot as ModelSpot, accepting, ack_step, by_posts, call_step, end_marks, move_posts, next_at, passed_on, prev_at, told_to, update_step}
+use Rattle.hx_model.specs.ServerSteps.{SlotStep, Spot as ModelSpot, accepting, ack_step, by_posts, call_step, end_marks, move_posts, next_at, prev_at, told_to, update_step}
 use Rattle.hx_model.specs.Neighbours.{is_end}
 use Rattle.hx_model.specs.Slots.{KeyState, Move, acknowledged, moved_all, offered, taken, top_of}
 use Rattle.hx_slot.specs.States.{IsPlacedIn}

@@ -1,16 +1,18 @@
 -- A step of a server that is ready to be made.
-use Rattle.std.specs.Prelude.{◌≡◌, ℕ, ◌<◌, ◌≤◌, List, IsSomeAnd, Some, length, slice_get}
+use Rattle.std.specs.Prelude.{◌≡◌, ℕ, ◌<◌, ◌≤◌, true, List, IsSomeAnd, Some, length, slice_get}
 use Rattle.hx_types.specs.declared.messages.Message.{Message}
+use Rattle.hx_types.specs.declared.messages.PostId.{PostId}
 use Rattle.hx_types.specs.declared.names.Actor.{Actor}
 use Rattle.hx_types.specs.declared.spaces.Space.{Space}
 use Rattle.hx_types.specs.declared.traces.Input.{Input}
+use Rattle.hx_types.specs.declared.traces.Input.TheVariants.{Deliver}
 use Rattle.hx_model.specs.ServerSteps.{Replica, ServerState, server_step, spot_of, state_in, with_slot}
 use Rattle.hx_model.specs.Slots.{moved_all}
 use Rattle.hx_store.specs.Stores.{Room, room_in}
 use Rattle.hx_replica.specs.declared.made.SlotChange.{SlotChange}
 use Rattle.hx_replica.specs.declared.made.SlotMade.{SlotMade}
 use Rattle.hx_replica.specs.declared.plans.Change.{Change}
-use Rattle.hx_replica.specs.declared.plans.Change.TheVariants.{Nothing, Slot}
+use Rattle.hx_replica.specs.declared.plans.Change.TheVariants.{Nothing, Seal, Halt, Slot}
 use Rattle.hx_replica.specs.declared.plans.Plan.{Plan}
 use Rattle.hx_replica.specs.Made.{ChangeFits, IsMade, IsSlotInput, key_in, moves_by, slot_step_of}
 use Rattle.hx_replica.specs.Servers.{ServerValue, server_entry}
@@ -18,6 +20,11 @@ use Rattle.hx_replica.specs.Servers.{ServerValue, server_entry}
 -- the replica at the place has room for n more updates of the key
 abbrev pub HasRoomAt : ℕ → List ℕ → ℕ → ServerValue → Type 0
 HasRoomAt place key n s = IsSomeAnd (slice_get s.rooms place) (λ (rooms : List Room). IsSomeAnd (room_in key rooms) (λ spare. n ≤ spare))
+
+-- the input brings the message
+pub record IsDelivery (input : Input) (from : Actor) (m : Message) : Type 0 where
+  pub id : PostId
+  pub is : input ≡ Deliver id from m
 
 -- the replica at the place hears the message, and its slot can be asked
 pub record CanStep (space : Space) (s : ServerState) (place : ℕ) (key : List ℕ) (from : Actor) (m : Message) : Type 0 where
@@ -41,6 +48,8 @@ pub record IsChangeOn (s : ServerValue) (input : Input) (place : ℕ) (key : Lis
 
 abbrev pub IsChange : ServerValue → Input → Change → Type 0
 IsChange s input Nothing = (server_step s.space s.state input).state ≡ s.state
+IsChange s input Seal = (server_step s.space s.state input).state ≡ record s.state { sealed = true }
+IsChange s input Halt = (server_step s.space s.state input).state ≡ record s.state { halted = true }
 IsChange s input (Slot place key change) = IsChangeOn s input place key change
 
 -- the plan is that of the server's step, and there is room for its change

@@ -28,12 +28,12 @@ abbrev pub server_entry : Space → ServerState → Input → Entry
 server_entry space s input =
     let step = server_step space s input in entry_of (Server s.id) input (record { posts = step.posts; notes = step.notes })
 
--- the messages that a server can take today: calls on a key, updates and acknowledgements
+-- the messages that a server can take today: all but configurations, snapshots and calls on no key
 abbrev pub IsHandled : Message → Type 0
 IsHandled (a_message.Call epoch number op) = IsSome (key_of op)
-IsHandled (a_message.Update epoch g u) = ⊤
-IsHandled (a_message.Ack epoch g key version) = ⊤
-IsHandled other = ⊥
+IsHandled (a_message.Install config) = ⊥
+IsHandled (a_message.Snap epoch g snapshot pending) = ⊥
+IsHandled other = ⊤
 
 -- the post is sound for some number of sessions, and no version in it is above 2^62
 pub record IsSoundDelivery (space : Space) (s : ServerId) (from : Actor) (m : Message) : Type 0 where
@@ -47,8 +47,8 @@ abbrev pub HasSmallVersions : ServerState → Type 0
 HasSmallVersions s = (r : Replica) → IsIn r s.replicas → (t : KeyState) → IsIn t r.states → top_of t ≤ 2 ^ 62
 
 abbrev pub IsInputTo : Space → ServerId → Input → Type 0
-IsInputTo space s Tick = ⊥
-IsInputTo space s Halt = ⊥
+IsInputTo space s Tick = ⊤
+IsInputTo space s Halt = ⊤
 IsInputTo space s (Deliver id from m) = IsHandled m × IsSoundDelivery space s from m
 
 -- the server can take the input

@@ -104,7 +104,7 @@ fn taken_from<'a>(
 }
 
 /// Each update goes to the next replica of its chain, or its chain ends here.
-fn pass_on_all(
+pub fn pass_on_all(
     alloc: Global,
     spot: &Spot,
     updates: &[&Update],

@@ -3,12 +3,14 @@
 
 mod accepting;
 mod made;
+mod members;
 mod plans;
 mod replicas;
 mod rows;
 mod servers;
 mod settling;
 mod spots;
+mod ticking;
 
 pub use plans::Plan;
 pub use servers::Server;

@@ -1,15 +1,20 @@
-ghost use Rattle.std.specs.Prelude.{◌≡◌, [], IfOk};
+ghost use Rattle.std.specs.Prelude.{◌≡◌, [], ◌∷◌, IfOk};
 ghost use Rattle.hx_types.specs.declared.names.Actor.TheVariants as an_actor;
+ghost use Rattle.hx_types.specs.Words.{post};
 ghost use Rattle.hx_replica.specs.declared.plans.Change.TheVariants as a_change;
 
 use crate::made::{SlotChange, SlotMade};
-use hx_types::{Actor, Entry, Exact, Input, Memory, Notes, Posts, ServerId, Text};
+use hx_types::{Actor, Entry, Exact, Input, Memory, Message, Notes, Post, Posts, ServerId, Text};
 use std::alloc::Global;
 
 /// What a step changes of its server.
 #[derive(Drop)]
 pub enum Change {
     Nothing,
+    /// The server takes part in its epoch no longer.
+    Seal,
+    /// The server takes no further step.
+    Halt,
     /// The slot of a key, at the replica with this place among the server's, makes its part.
     Slot {
         replica: usize,
@@ -34,20 +39,43 @@ impl Plan {
     }
 }
 
-/// The plan of a step that posts, notes and changes nothing.
-pub fn unmoved(alloc: Global, server: ServerId, input: &Input) -> Result<Plan, Memory>
-    ensures { IfOk result (λ plan. plan ≡ record { entry = record { actor = an_actor.Server server; input = input.now; outputs = []; notes = [] }; change = a_change.Nothing }) }
+/// The one post of a message to the coordinator.
+pub fn to_coordinator(alloc: Global, server: ServerId, message: Message) -> Result<Posts, Memory>
+    ensures { IfOk result (λ posts. posts ≡ post (an_actor.Server server) an_actor.Coordinator message ∷ []) }
+{
+    let mut posts = Posts::new(alloc);
+    posts.push(Post {
+        from: Actor::Server(server),
+        to: Actor::Coordinator,
+        message,
+    })?;
+    Ok(posts)
+}
+
+/// The plan of a step that makes these posts, notes nothing and changes this.
+pub fn said(
+    alloc: Global,
+    server: ServerId,
+    input: &Input,
+    posts: Posts,
+    change: Change,
+) -> Result<Plan, Memory>
+    ensures { IfOk result (λ plan. plan ≡ record { entry = record { actor = an_actor.Server server; input = input.now; outputs = posts; notes = [] }; change = change }) }
 {
     let entry = Entry {
         actor: Actor::Server(server),
         input: input.copy(alloc)?,
-        outputs: Posts::new(alloc),
+        outputs: posts,
         notes: Notes::new(alloc),
     };
-    Ok(Plan {
-        entry,
-        change: Change::Nothing,
-    })
+    Ok(Plan { entry, change })
+}
+
+/// The plan of a step that posts, notes and changes nothing.
+pub fn unmoved(alloc: Global, server: ServerId, input: &Input) -> Result<Plan, Memory>
+    ensures { IfOk result (λ plan. plan ≡ record { entry = record { actor = an_actor.Server server; input = input.now; outputs = []; notes = [] }; change = a_change.Nothing }) }
+{
+    said(alloc, server, input, Posts::new(alloc), Change::Nothing)
 }
 
 /// The plan of a step of which the slot of a key made this.

@@ -1,6 +1,5 @@
 ghost use Rattle.std.specs.Prelude.{◌≡◌, ◌<◌, ◌≤◌, IfOk, OnOk, Some, length, map, slice_get, slice_set};
 ghost use Rattle.std.specs.Option.{option_map};
-ghost use Rattle.hx_types.specs.Configs.{lists};
 ghost use Rattle.hx_types.specs.Subspaces.{region_count};
 ghost use Rattle.hx_model.specs.ServerSteps.{listed_regions, replica_of};
 ghost use Rattle.hx_store.specs.Stores.{HasRoom, after_moves, state_at};
@@ -8,6 +7,7 @@ ghost use Rattle.hx_replica.specs.Made.{ChangeFits, moves_by};
 ghost use Rattle.hx_replica.specs.Replicas.{AscendByRegion, first_replica, views_of};
 
 use crate::made::SlotChange;
+use crate::members::lists;
 use hx_store::Store;
 use hx_types::{Config, Memory, RegionId, ServerId, Space, Text};
 use std::alloc::Global;
@@ -18,16 +18,6 @@ pub struct Replica {
     pub region: RegionId,
     pub installed: bool,
     pub store: Store,
-}
-
-/// Whether a configuration has a server among the members of a region.
-fn lists(config: &Config, region: RegionId, server: ServerId) -> bool
-    ensures { result ≡ lists config.now region server }
-{
-    config
-        .members(region)
-        .iter()
-        .any(|member| member.server.0 == server.0)
 }
 
 /// A replica, installed and empty, of each region in which the configuration lists the server.

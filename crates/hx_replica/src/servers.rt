@@ -4,25 +4,27 @@ ghost use Rattle.hx_types.specs.Effects.{key_of};
 ghost use Rattle.hx_types.specs.Spaces.{IsServerOf, IsSpace};
 ghost use Rattle.hx_types.specs.Subspaces.{is_key_region};
 ghost use Rattle.hx_types.specs.Words.{when_some};
-ghost use Rattle.hx_model.specs.ServerSteps.{Replica as ReplicaState, hearing, if_installed, replica_of, server_at_start, server_step, state_in};
+ghost use Rattle.hx_model.specs.ServerSteps.{Replica as ReplicaState, asked, halting, hearing, if_installed, replica_of, seal_at, server_at_start, server_step, state_in, tick_step};
 ghost use Rattle.hx_model.specs.Slots.{new_state};
-ghost use Rattle.hx_replica.specs.Hearing.{heard, leading};
+ghost use Rattle.hx_replica.specs.Hearing.{IsOfOneSlot, heard, leading};
 ghost use Rattle.hx_store.specs.Stores.{HasRoom, state_at};
 ghost use Rattle.hx_replica.specs.Made.{IsMade, IsSlotInput, key_in, slot_step_of, spot_seen};
-ghost use Rattle.hx_replica.specs.Plans.{CanStep, HasRoomAt, IsMadeAt, IsPlanOn};
+ghost use Rattle.hx_replica.specs.Plans.{CanStep, HasRoomAt, IsDelivery, IsMadeAt, IsPlanOn};
 ghost use Rattle.hx_replica.specs.Servers.{CanTake, server_entry};
 
 use crate::made::SlotMade;
-use crate::plans::{Change, Plan, moved, unmoved};
+use crate::members::lists_ready;
+use crate::plans::{Change, Plan, moved, said, to_coordinator, unmoved};
 use crate::replicas::{Replica, change_slot, first_replicas, place_of};
 use crate::rows::step_slot;
 use crate::spots::Spot;
+use crate::ticking::tick_all;
 use hx_region::RegionMap;
 use hx_slot::Slot;
 use hx_store::Store;
 use hx_types::{
-    Actor, Config, Entry, Epoch, Exact, Input, Memory, Message, Op, RegionId, ServerId, Space,
-    Text, first_config,
+    Actor, Config, Entry, Epoch, Exact, Input, Memory, Message, Op, Post, Posts, RegionId,
+    ServerId, Space, Terms, Text, first_config,
 };
 use std::alloc::Global;
 use std::marker::Model;
@@ -93,16 +95,10 @@ impl Server {
         ensures space { self.new.space ≡ self.old.space }
         ensures state { self.new.state ≡ self.old.state }
     {
-        let Input::Deliver { from, message, .. } = input else {
-            unreachable!()
-        };
-        let id = self.id;
-        match self.heard(message) {
-            Some(heard) => {
-                let made = self.step(alloc, &heard, *from, message)?;
-                moved(alloc, id, input, heard.replica, heard.key, made)
-            }
-            None => unmoved(alloc, id, input),
+        match input {
+            Input::Tick => self.tick(alloc, input),
+            Input::Halt => self.halt(alloc, input),
+            Input::Deliver { from, message, .. } => self.deliver(alloc, input, *from, message),
         }
     }
 
@@ -114,14 +110,18 @@ impl Server {
         ensures state { self.new.state ≡ (server_step self.old.space self.old.state plan.entry.input).state }
     {
         let Plan { entry, change } = plan;
-        if let Change::Slot {
-            replica,
-            key,
-            change,
-        } = change
-        {
-            let replica = &mut self.replicas[replica];
-            change_slot(&mut replica.store, &key, change);
+        match change {
+            Change::Nothing => {}
+            Change::Seal => self.sealed = true,
+            Change::Halt => self.halted = true,
+            Change::Slot {
+                replica,
+                key,
+                change,
+            } => {
+                let replica = &mut self.replicas[replica];
+                change_slot(&mut replica.store, &key, change);
+            }
         }
         entry
     }
@@ -142,6 +142,147 @@ impl Server {
     {
         let replica = place_of(self.replicas.as_slice(), region)?;
         self.replicas[replica].store.slot(key)
+    }
+
+    /// What is pending is sent again; where the server is sealed, it says that instead.
+    fn tick(&self, alloc: Global, input: &Input) -> Result<Plan, Memory>
+        requires { server_step self.now.space self.now.state input.now ≡ tick_step self.now.space self.now.state }
+        ensures plan { IfOk result (IsPlanOn self.now) }
+        ensures input { IfOk result (λ plan. plan.entry.input ≡ input.now) }
+    {
+        let posts = self.sent_again(alloc)?;
+        said(alloc, self.id, input, posts, Change::Nothing)
+    }
+
+    /// The posts of a tick.
+    fn sent_again(&self, alloc: Global) -> Result<Posts, Memory>
+        ensures { IfOk result (λ posts. posts ≡ (tick_step self.now.space self.now.state).posts) }
+    {
+        if self.sealed {
+            let epoch = self.config.epoch;
+            return to_coordinator(alloc, self.id, Message::Sealed { epoch });
+        }
+        tick_all(
+            alloc,
+            &self.space,
+            &self.map,
+            &self.config,
+            self.id,
+            self.replicas.as_slice(),
+        )
+    }
+
+    /// The server stops for good, and says so.
+    fn halt(&self, alloc: Global, input: &Input) -> Result<Plan, Memory>
+        requires { server_step self.now.space self.now.state input.now ≡ halting self.now.state }
+        ensures plan { IfOk result (IsPlanOn self.now) }
+        ensures input { IfOk result (λ plan. plan.entry.input ≡ input.now) }
+    {
+        let posts = to_coordinator(alloc, self.id, Message::Gone)?;
+        said(alloc, self.id, input, posts, Change::Halt)
+    }
+
+    /// The server takes part in its epoch no longer, and says so. Another epoch's seal is nothing
+    /// to it.
+    fn seal(&self, alloc: Global, input: &Input, epoch: Epoch) -> Result<Plan, Memory>
+        requires { server_step self.now.space self.now.state input.now ≡ seal_at self.now.state epoch }
+        ensures plan { IfOk result (IsPlanOn self.now) }
+        ensures input { IfOk result (λ plan. plan.entry.input ≡ input.now) }
+    {
+        if epoch.0 != self.config.epoch.0 {
+            return unmoved(alloc, self.id, input);
+        }
+        let posts = to_coordinator(alloc, self.id, Message::Sealed { epoch })?;
+        said(alloc, self.id, input, posts, Change::Seal)
+    }
+
+    /// The step that a message makes.
+    fn deliver(
+        &mut self,
+        alloc: Global,
+        input: &Input,
+        from: Actor,
+        message: &Message,
+    ) -> Result<Plan, Memory>
+        requires can { CanTake self.old.space self.old.state input.now }
+        requires delivery { IsDelivery input.now from message.now }
+        ensures plan { IfOk result (IsPlanOn self.new) }
+        ensures input { IfOk result (λ plan. plan.entry.input ≡ input.now) }
+        ensures space { self.new.space ≡ self.old.space }
+        ensures state { self.new.state ≡ self.old.state }
+    {
+        match message {
+            Message::Ask {
+                epoch,
+                number,
+                region,
+                terms,
+            } => {
+                let posts = self.found(alloc, from, *epoch, *number, *region, terms)?;
+                said(alloc, self.id, input, posts, Change::Nothing)
+            }
+            Message::Seal { epoch } => self.seal(alloc, input, *epoch),
+            Message::Die => self.halt(alloc, input),
+            _ => self.take(alloc, input, from, message),
+        }
+    }
+
+    /// What a search finds in a region, where this server is a ready member of it.
+    fn found(
+        &self,
+        alloc: Global,
+        from: Actor,
+        epoch: Epoch,
+        number: u32,
+        region: RegionId,
+        terms: &Terms,
+    ) -> Result<Posts, Memory>
+        ensures { IfOk result (λ posts. posts ≡ (asked self.now.state from epoch number terms.now (if_installed (hearing self.now.state epoch region))).posts) }
+    {
+        let mut posts = Posts::new(alloc);
+        let Some(place) = self.installed_at(epoch, region) else {
+            return Ok(posts);
+        };
+        if lists_ready(&self.config, region, self.id) {
+            let rows = self.replicas[place].store.find(alloc, terms)?;
+            posts.push(Post {
+                from: Actor::Server(self.id),
+                to: from,
+                message: Message::Found {
+                    epoch,
+                    number,
+                    region,
+                    rows,
+                },
+            })?;
+        }
+        Ok(posts)
+    }
+
+    /// The step of the slot to which a message goes; where none hears it, nothing moves.
+    fn take(
+        &mut self,
+        alloc: Global,
+        input: &Input,
+        from: Actor,
+        message: &Message,
+    ) -> Result<Plan, Memory>
+        requires can { CanTake self.old.space self.old.state input.now }
+        requires delivery { IsDelivery input.now from message.now }
+        requires slot { IsOfOneSlot message.now }
+        ensures plan { IfOk result (IsPlanOn self.new) }
+        ensures input { IfOk result (λ plan. plan.entry.input ≡ input.now) }
+        ensures space { self.new.space ≡ self.old.space }
+        ensures state { self.new.state ≡ self.old.state }
+    {
+        let id = self.id;
+        match self.heard(message) {
+            Some(heard) => {
+                let made = self.step(alloc, &heard, from, message)?;
+                moved(alloc, id, input, heard.replica, heard.key, made)
+            }
+            None => unmoved(alloc, id, input),
+        }
     }
 
     /// The replica that hears a message on a key, if one does.
@@ -185,9 +326,17 @@ impl Server {
         ensures replica { option_map (λ h. slice_get self.now.state.replicas h.replica) result ≡ option_map Some (if_installed (hearing self.now.state epoch region)) }
         ensures key { IfSome result (λ h. h.key.now ≡ key.now) }
     {
-        let replica = self.hearing(epoch, region)?;
-        if self.replicas[replica].installed {
-            Some(Heard { replica, key })
+        let replica = self.installed_at(epoch, region)?;
+        Some(Heard { replica, key })
+    }
+
+    /// The place of the replica of a region, where it is installed.
+    fn installed_at(&self, epoch: Epoch, region: RegionId) -> Option<usize>
+        ensures { option_map (slice_get self.now.state.replicas) result ≡ option_map Some (if_installed (hearing self.now.state epoch region)) }
+    {
+        let place = self.hearing(epoch, region)?;
+        if self.replicas[place].installed {
+            Some(place)
         } else {
             None
         }

@@ -89,7 +89,8 @@ pub fn line_of<'a>(
     Ok(line)
 }
 
-fn pending_line<'a>(alloc: Global, slot: &'a Slot) -> Result<Vec<&'a Update>, Memory>
+/// The pending updates of a slot, the lowest version first.
+pub fn pending_line<'a>(alloc: Global, slot: &'a Slot) -> Result<Vec<&'a Update>, Memory>
     ensures line { IfOk result (λ line. seen line.items ≡ pending_of slot.now.state) }
     ensures here { IfOk result (λ line. All (IsHere slot.now.region) line.items) }
 {

@@ -24,6 +24,7 @@ mod slots;
 mod tables;
 mod touches;
 
+pub use line::Found;
 pub use slots::Slot;
 
 #[cfg(test)]

@@ -5,7 +5,7 @@ ghost use Rattle.hx_model.specs.Places.{touched_in};
 ghost use Rattle.hx_model.specs.Neighbours.{place_number};
 ghost use Rattle.hx_model.specs.ServerSteps.{state_from};
 ghost use Rattle.hx_model.specs.Slots.{Acknowledge, Forget, Hold, Take, ack_answer, acknowledged, follows, is_pending, latest_of, mark_of, moved, moved_all, new_state, object_of, offer_answer, offered, pending_of, settled, state_of_kept, taken, top_of, touches_of, turns};
-ghost use Rattle.hx_slot.specs.Entries.{IsHeld};
+ghost use Rattle.hx_slot.specs.Entries.{IsHeld, row_seen};
 ghost use Rattle.hx_slot.specs.Rooms.{IsGrown};
 ghost use Rattle.hx_slot.specs.States.{HasFewPlaces, IsLater, IsOrderly, IsPlacedIn, accepted_count, call_at, call_seen, committed_count, committed_state, object_at, object_seen};
 ghost use Rattle.hx_types.specs.declared.calls.Answer.{Answer};
@@ -21,7 +21,7 @@ use crate::acks::{
 use crate::early::{drop_version, early_at, turn_of};
 use crate::entries::{Placed, Taken};
 use crate::line::{
-    copy_row, last_version, only_object, rest_of, row_over, update_at, version_and_object,
+    Found, copy_row, last_version, only_object, rest_of, row_over, update_at, version_and_object,
 };
 use crate::marks::{mark_of, marks_over, newer, newest_of};
 use crate::rooms::{grow, insert_within};
@@ -174,6 +174,14 @@ impl Slot {
         ensures object { object_seen result ≡ object_at (object_of self.now.region self.now.state) }
     {
         version_and_object(row_over(self.base.object.as_ref(), &self.accepted[..self.committed]))
+    }
+
+    /// The object after all committed updates as a row: its key, the last of their versions that
+    /// changed it, and its values.
+    pub fn row(&self) -> Option<Found<'_>>
+        ensures { row_seen result ≡ object_of self.now.region self.now.state }
+    {
+        row_over(self.base.object.as_ref(), &self.accepted[..self.committed])
     }
 
     /// The committed state, or `None` where nothing is committed. It goes through all committed

@@ -1,9 +1,8 @@
 -- What a key finds among ascending entries, and what setting an entry changes of the slots.
 use Rattle.std.proofs.Common.{◌≡◌, ℕ, Bool, true, false, cond, List, [], ◌∷◌, map, Option, None, Some, refl, ap, sym, ◌∙◌, subst}
-use Rattle.std.specs.BTreeMap.{is_at, insert_entry}
+use Rattle.std.specs.BTreeMap.{insert_entry}
 use Rattle.std.specs.List.{AllByRecursion}
 use Rattle.std.specs.List.Sorted.{IsStrictlySortedBy}
-use Rattle.std.specs.Map.{lookup, set_value}
 use Rattle.std.specs.Borrow.{Bor}
 use Rattle.std.specs.Option.{option_copied, option_map, is_some, IsSome}
 use Rattle.std.specs.declared.cmp.Ordering.TheVariants.{Less, Equal, Greater}
@@ -18,10 +17,10 @@ use Rattle.hx_types.specs.declared.snapshots.Kept.{Kept}
 use Rattle.hx_types.specs.Words.{same_text, text_below, when_some}
 use Rattle.hx_model.specs.Slots.{KeyState, Move, moved_all, new_state, state_among, with_state}
 use Rattle.hx_store.specs.declared.slots.Held.{Held}
-use Rattle.hx_store.specs.Held.{AreHeld, Entry, HasMoved, IsHeldAs, held_at, rooms_of, set_at, states_of, to_key}
-use Rattle.hx_store.specs.Stores.{Room, room_in}
+use Rattle.hx_store.specs.Held.{AreHeld, Entry, HasMoved, IsHeldAs, held_at, rooms_of, set_at, states_of}
+use Rattle.hx_store.specs.Stores.{room_in}
 use Rattle.hx_store.proofs.Moves.{moved_all_parts}
-use Rattle.hx_store.proofs.Texts.{equal_from, equal_is, higher_differs, higher_not_below, lower_below, lower_differs, order, same_self, same_turned, turned}
+use Rattle.hx_store.proofs.Texts.{equal_from, equal_is, higher_differs, higher_not_below, lower_below, lower_differs, order, same_self, same_turned}
 
 abbrev pub key_of : Entry → List ℕ
 key_of e = string_bytes e.0

@@ -3,3 +3,4 @@ pub mod Acknowledging
 pub mod Texts
 pub mod Finding
 pub mod Stepping
+pub mod Reading

@@ -9,6 +9,7 @@ use Rattle.std.specs.Ordering.{nat_cmp}
 use Rattle.std.specs.declared.cmp.Ordering.{Ordering}
 use Rattle.std.specs.declared.alloc.Global.{Global}
 use Rattle.hx_types.specs.declared.names.RegionId.{RegionId}
+use Rattle.hx_slot.specs.States.{SlotState}
 use Rattle.hx_model.specs.Slots.{KeyState, Move, moved_all, new_state}
 use Rattle.hx_store.specs.declared.slots.Held.{Held}
 use Rattle.hx_store.specs.Stores.{Room}
@@ -32,6 +33,10 @@ set_at key es w = set_value (is_at (to_key key)) es w
 abbrev pub states_of : List Entry → List KeyState
 states_of [] = []
 states_of (e ∷ es) = if e.1.opened then e.1.slot.state ∷ states_of es else states_of es
+
+abbrev pub slots_of : List Entry → List SlotState
+slots_of [] = []
+slots_of (e ∷ es) = if e.1.opened then e.1.slot ∷ slots_of es else slots_of es
 
 abbrev pub rooms_of : List Entry → List Room
 rooms_of es = map (λ (e : Entry). record { key = string_bytes e.0; spare = e.1.slot.spare }) es

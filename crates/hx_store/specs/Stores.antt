@@ -1,5 +1,6 @@
 -- A store as contracts see it: the slots of a region, in byte order of keys.
 use Rattle.std.specs.Prelude.{◌≡◌, ℕ, ◌<◌, ◌≤◌, Bool, true, List, [], ◌∷◌, ◌++◌, map, length, if◌then◌else◌, IsSomeAnd, Option, None, Some}
+use Rattle.std.specs.Borrow.{Bor}
 use Rattle.std.specs.List.{All}
 use Rattle.hx_types.specs.declared.names.RegionId.{RegionId}
 use Rattle.hx_types.specs.declared.names.Version.{Version}
@@ -7,6 +8,7 @@ use Rattle.hx_types.specs.declared.updates.Place.{Place}
 use Rattle.hx_types.specs.declared.updates.Update.{Update}
 use Rattle.hx_types.specs.Words.{same_text}
 use Rattle.hx_model.specs.Neighbours.{place_number}
+use Rattle.hx_slot.specs.States.{SlotState}
 use Rattle.hx_model.specs.Slots.{Acknowledge, KeyState, acknowledged, Move, is_pending, moved_all, offered, settled, state_among, with_state}
 
 -- for how many more updates there is room at a key
@@ -36,6 +38,16 @@ state_at s key = state_among s.marks key s.states
 -- the slots after moves of a key's
 abbrev pub after_moves : StoreState → List ℕ → List Move → List KeyState
 after_moves s key moves = with_state (moved_all moves (state_at s key)) s.states
+
+-- the slots that are lent
+abbrev pub lent : List (Bor SlotState) → List SlotState
+lent [] = []
+lent (b ∷ rest) = b.now ∷ lent rest
+
+-- their states
+abbrev pub lent_states : List (Bor SlotState) → List KeyState
+lent_states [] = []
+lent_states (b ∷ rest) = b.now.state ∷ lent_states rest
 
 -- an update that the slot of a region can be offered
 pub record CanBeOffered (g : RegionId) (u : Update) (place : ℕ) : Type 0 where

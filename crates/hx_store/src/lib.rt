@@ -7,7 +7,9 @@
 //! That memory suffices no contract says: a test shows it.
 #![tactic(auto)]
 
+mod copying;
 mod maps;
+mod searching;
 mod slots;
 mod stores;
 

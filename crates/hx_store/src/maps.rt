@@ -1,7 +1,8 @@
-ghost use Rattle.std.specs.Prelude.{◌≡◌, ◌<◌, ◌≤◌, IsSome, IsSomeAnd, OnOk, false};
+ghost use Rattle.std.specs.Prelude.{◌≡◌, ◌<◌, ◌≤◌, IfOk, IsSome, IsSomeAnd, OnOk, false};
 ghost use Rattle.std.specs.Option.{option_copied, is_some};
 ghost use Rattle.hx_model.specs.Slots.{acknowledged, moved_all, offered};
-ghost use Rattle.hx_store.specs.Held.{AreHeld, HasMoved, held_at, states_of};
+ghost use Rattle.hx_store.specs.Held.{AreHeld, HasMoved, held_at, slots_of, states_of};
+ghost use Rattle.hx_store.specs.Stores.{lent};
 ghost use Rattle.hx_store.specs.Stores.{ArePending, CanBeOffered, accepted, acknowledged_at, accepted_at, no_moves};
 ghost use Rattle.hx_store.specs.declared.slots.Held.{Held as HeldSlot};
 
@@ -25,6 +26,19 @@ pub fn slot_of(held: &Held) -> &Slot
     ensures { result.now ≡ held.now.slot }
 {
     &held.slot
+}
+
+/// The slots that are part of the store, in byte order of their keys.
+pub fn opened(alloc: Global, slots: &Slots) -> Result<Vec<&Slot>, Memory>
+    ensures { IfOk result (λ list. lent list.items ≡ slots_of slots.now.entries) }
+{
+    let mut list = Vec::new(alloc);
+    for (_key, held) in slots.iter() {
+        if held.opened {
+            list.push(slot_of(held))?;
+        }
+    }
+    Ok(list)
 }
 
 /// Makes an empty slot of a key that isn't part of the store yet, where nothing is held of it.

@@ -1,10 +1,15 @@
-ghost use Rattle.std.specs.Prelude.{◌≡◌, ◌<◌, ◌≤◌, true, [], OnOk, IfNone, IfSome, IsSome};
-ghost use Rattle.hx_model.specs.Slots.{acknowledged, moved_all, new_state, offered, state_among};
-ghost use Rattle.hx_store.specs.Stores.{ArePending, CanBeOffered, HasRoom, accepted, after_moves, state_at};
+ghost use Rattle.std.specs.Prelude.{◌≡◌, ◌<◌, ◌≤◌, true, [], OnOk, IfNone, IfOk, IfSome, IsSome};
+ghost use Rattle.std.specs.Borrow.{Bor};
+ghost use Rattle.std.specs.List.{All};
+ghost use Rattle.hx_model.specs.Slots.{acknowledged, found_in, moved_all, new_state, offered, pending_of_all, snapshot_of, state_among};
+ghost use Rattle.hx_slot.specs.States.{SlotState};
+ghost use Rattle.hx_store.specs.Stores.{ArePending, CanBeOffered, HasRoom, accepted, after_moves, lent_states, state_at};
 
-use crate::maps::{Slots, accept_at, acknowledge_at, held, make, open_at, slot_of, widen};
+use crate::copying::{kept_of, pending_of};
+use crate::maps::{Slots, accept_at, acknowledge_at, held, make, open_at, opened, slot_of, widen};
+use crate::searching::matching;
 use hx_slot::Slot;
-use hx_types::{Memory, RegionId, Text, Update, Version};
+use hx_types::{Memory, RegionId, Rows, Snapshot, Terms, Text, Update, Updates, Version};
 use std::alloc::Global;
 use std::collections::BTreeMap;
 use std::marker::Model;
@@ -53,6 +58,40 @@ impl Store {
             Some(held) => Some(slot_of(held)),
             None => None,
         }
+    }
+
+    /// The slots in byte order of their keys.
+    pub fn slots(&self, alloc: Global) -> Result<Vec<&Slot>, Memory>
+        ensures states { IfOk result (λ slots. lent_states slots.items ≡ self.now.states) }
+        ensures regions { IfOk result (λ slots. All (λ (b : Bor SlotState). b.now.region ≡ self.now.region) slots.items) }
+    {
+        opened(alloc, &self.slots)
+    }
+
+    /// The committed objects of which every term holds, in byte order of keys: what a search finds
+    /// in the region, as in HyperDex.
+    pub fn find(&self, alloc: Global, terms: &Terms) -> Result<Rows, Memory>
+        ensures { IfOk result (λ rows. rows ≡ found_in self.now.region terms.now self.now.states) }
+    {
+        let slots = self.slots(alloc)?;
+        matching(alloc, slots.as_slice(), terms)
+    }
+
+    /// The committed state of each key of which something is committed, in byte order of keys. With
+    /// the pending updates it is all that a joiner needs; that is this project's choice.
+    pub fn snapshot(&self, alloc: Global) -> Result<Snapshot, Memory>
+        ensures { IfOk result (λ snapshot. snapshot ≡ snapshot_of self.now.region self.now.states) }
+    {
+        let slots = self.slots(alloc)?;
+        kept_of(alloc, slots.as_slice())
+    }
+
+    /// The pending updates: those of each key in byte order of keys, the lowest version first.
+    pub fn pending(&self, alloc: Global) -> Result<Updates, Memory>
+        ensures { IfOk result (λ updates. updates ≡ pending_of_all self.now.states) }
+    {
+        let slots = self.slots(alloc)?;
+        pending_of(alloc, slots.as_slice())
     }
 
     /// Makes room for n more updates of a key. The slots stay, whatever comes.

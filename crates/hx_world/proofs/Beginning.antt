@@ -1,21 +1,41 @@
 -- The world before the first entry.
-use Rattle.std.proofs.Common.{◌≡◌, ℕ, [], length, refl, sym, subst, arith}
+use Rattle.std.proofs.Common.{◌≡◌, ℕ, zero, suc, ◌+◌, ◌<◌, ◌≤◌, inl, inr, List, [], ◌∷◌, length, Option, Some, refl, sym, ap, ◌∙◌, subst, arith, add-one}
+use Rattle.std.specs.Prelude.{slice_get, sum_by}
+use Rattle.std.specs.List.{All}
+use Rattle.std.proofs.lemmas.List.Sums.{sum_by-cons}
+use Rattle.hx_types.specs.declared.calls.Op.{Op}
 use Rattle.hx_types.specs.declared.traces.Script.{Script}
-use Rattle.hx_types.specs.Fitting.{IsScript}
+use Rattle.hx_types.specs.Fitting.{IsScript, calls_of, numbered}
+use Rattle.hx_types.specs.Spaces.{Fits}
+use Rattle.hx_types.specs.Words.{IsIn, when_some}
 use Rattle.hx_model.specs.Steady.{IsFixed}
 use Rattle.hx_sound.specs.Sound.{PostsAreSound, ServersRun, VersionsAreSmall}
+use Rattle.hx_steady.proofs.Lists.{all-in, in-slice_get}
+use Rattle.hx_world.specs.declared.actors.Actors.{Actors}
 use Rattle.hx_world.specs.declared.logs.Log.{Log}
-use Rattle.hx_world.specs.declared.schedule.Actors.{Actors}
-use Rattle.hx_world.specs.declared.sessions.Session.{Session as SessionNow}
-use Rattle.hx_world.specs.Invariant.{IsHost, IsSession, IsWorld, IsWorldOf}
+use Rattle.hx_world.specs.Invariant.{IsHost, IsSeat, IsWorld, IsWorldOf, session_at}
 use Rattle.hx_world.specs.Runnable.{IsRunnable}
-use Rattle.hx_world.specs.Starting.{HaveStarted, IsNewHost, IsNewSession, new_session}
-use Rattle.hx_world.proofs.Calling.{is_fixed}
+use Rattle.hx_world.specs.Starting.{HaveStarted, IsNewHost, IsNewSeat}
 use Rattle.hx_world.proofs.Seating.{at_each}
 
-session_starts : (script : Script) (place : ℕ) (s : SessionNow) → s ≡ new_session → IsSession script [] place s
-session_starts script place s e =
-    rw e (record { sent = _; state = refl; within = omega arith; begun = λ h. cc; entries = refl })
+-- the calls of a place are those of its session
+pub calls_at : (script : Script) (place : ℕ) (calls : List Op) → slice_get script.sessions place ≡ Some calls → calls_of script (session_at place) ≡ calls
+calls_at script place calls e =
+    let here : numbered script.sessions (place + 1) ≡ Some calls = rw add-one e in
+    ap (λ (o : Option (List Op)). when_some o [] (λ (own : List Op). own)) here
+
+pub calls_fit : (script : Script) → IsScript script → (place : ℕ) (calls : List Op) → slice_get script.sessions place ≡ Some calls → All (Fits script.space) calls
+calls_fit script valid place calls e = all-in (λ (cs : List Op). All (Fits script.space) cs) script.sessions calls valid.calls (in-slice_get script.sessions place calls e)
+
+part_of_sum : (f : List Op → ℕ) (xs : List (List Op)) (x : List Op) → IsIn x xs → f x ≤ sum_by f xs
+part_of_sum f [] x i = absurd i
+part_of_sum f (y ∷ rest) x (inl e) = let all = sum_by-cons f y rest in let same : f x ≡ f y = ap f e in omega (arith, all, same)
+part_of_sum f (y ∷ rest) x (inr i) = let all = sum_by-cons f y rest in let part = part_of_sum f rest x i in omega (arith, all, part)
+
+-- no session has more calls than a script may have
+pub calls_few : (script : Script) → IsScript script → (place : ℕ) (calls : List Op) → slice_get script.sessions place ≡ Some calls → length calls ≤ 16384
+calls_few script valid place calls e =
+    let part = part_of_sum (λ (cs : List Op). length cs) script.sessions calls (in-slice_get script.sessions place calls e) in omega (arith, part, valid.few_calls)
 
 -- where the actors have started
 pub world_starts : (script copy : Script) (actors : Actors) (log : Log) → IsRunnable script
@@ -23,21 +43,25 @@ pub world_starts : (script copy : Script) (actors : Actors) (log : Log) → IsRu
     → HaveStarted script actors → copy ≡ script → log.trace ≡ [] → log.waiting.items ≡ []
     → IsWorld copy actors log
 world_starts script copy actors log runnable posts versions running started same no_entry no_post =
-    let fixed = is_fixed script runnable in
+    let fixed = runnable.fixed in
     let valid = runnable.valid in
-    let at : IsWorldOf script [] actors.hosts.items actors.sessions.items [] =
+    let at : IsWorldOf script [] actors.hosts.items actors.seats.items actors.coordinator.entries [] =
     record {
-      runnable = runnable;
-      sound = record { posts = posts script valid fixed; versions = versions script valid fixed; running = running script valid fixed };
-      run = tt;
-      still = tt;
-      few = λ a. omega arith;
+      calm =
+          record {
+            runnable = runnable;
+            sound = record { posts = posts script valid fixed; versions = versions script valid fixed; running = running script valid fixed };
+            run = tt;
+            still = tt;
+            few = λ a. omega arith;
+          };
       hosts_are =
           at_each script.space.servers (IsNewHost script.space) (IsHost script []) actors.hosts.items started.hosts
           (λ place h within new. record { space = new.space_is; state = new.state; entries = new.entries });
-      sessions_are = at_each (length script.sessions) IsNewSession (IsSession script []) actors.sessions.items started.sessions (λ place s within new. session_starts script place s new);
+      seats_are =
+          at_each (length script.sessions) (IsNewSeat script) (IsSeat script []) actors.seats.items started.seats
+          (λ place s within new. record { space = new.space_is; state = new.state; entries = new.entries });
+      coordinated_is = started.coordinator;
       waiting_is = refl;
-      plain = λ p i. absurd i;
     } in
-    subst (λ (x : Script). IsWorld x actors log) (sym same)
-    (record { leaders = started.leaders; world = rw (no_entry, no_post) at })
+    subst (λ (x : Script). IsWorld x actors log) (sym same) (rw (no_entry, no_post) at)

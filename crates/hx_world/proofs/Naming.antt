@@ -1,12 +1,10 @@
--- The posts that wait: each is named in the trace, and no name stands twice.
-use Rattle.std.proofs.Common.{◌≡◌, ℕ, suc, ◌+◌, ◌-◌, ◌≤◌, inl, inr, Bool, true, false, not, ◌&&◌, List, [], ◌∷◌, ◌++◌, length, drop, Option, Some, None, refl, sym, ap, ◌∙◌, subst, arith, eqb}
-use Rattle.std.specs.Prelude.{⊤, slice_get}
+-- The posts that wait: each is named in the trace, and their names ascend.
+use Rattle.std.proofs.Common.{◌≡◌, ℕ, suc, ◌+◌, ◌-◌, ◌<◌, ◌≤◌, inl, inr, ◌⊎◌, Bool, true, false, not, ◌&&◌, List, [], ◌∷◌, ◌++◌, length, Option, Some, None, refl, ap, ◌∙◌, subst, sym, arith, eqb, ltb}
+use Rattle.std.specs.Prelude.{slice_get}
 use Rattle.std.specs.List.{filter}
-use Rattle.std.proofs.lemmas.Bool.{cond_both, cond-true, cond-false, eqb-true, eq-eqb, ne_eqb}
-use Rattle.hx_types.specs.declared.messages.Message.{Message}
+use Rattle.std.proofs.lemmas.Bool.{cond_both, cond-true, cond-false, eqb-true, eq-eqb, ne_eqb, lt-ltb, ltb-true, or_cases, or_left, or_right, and_from, and_parts}
 use Rattle.hx_types.specs.declared.messages.Post.{Post}
 use Rattle.hx_types.specs.declared.messages.PostId.{PostId}
-use Rattle.hx_types.specs.declared.names.Actor.{Actor}
 use Rattle.hx_types.specs.declared.traces.Entry.{Entry}
 use Rattle.hx_types.specs.declared.traces.Input.{Input}
 use Rattle.hx_types.specs.declared.traces.Input.TheVariants.{Tick, Halt, Deliver}
@@ -14,7 +12,7 @@ use Rattle.hx_types.specs.Words.{IsIn, when_some}
 use Rattle.hx_model.specs.Runs.{entry_at, post_named}
 use Rattle.hx_model.specs.Schedule.{names_from, same_name, undelivered, without_delivered}
 use Rattle.hx_steady.proofs.Lists.{in-append, in-filter}
-use Rattle.hx_world.specs.Filing.{names_after}
+use Rattle.hx_world.specs.Names.{AreAscending, is_before}
 
 -- no entry has a number past the end
 number_within : (n : ℕ) (t : List Entry) (x : Entry) → entry_at n t ≡ Some x → n ≤ length t
@@ -89,86 +87,69 @@ waiting_named (x ∷ older) id i =
           (r.sent, subst (λ n. post_named (record { entry = n; place = id.place }) (x ∷ older) ≡ Some r.sent) (sym e) (named_new older x id.place r.sent (rw place at r.is))))
     ]
 
--- no name stands twice
-abbrev pub AreApart : List PostId → Type 0
-AreApart [] = ⊤
-AreApart (x ∷ rest) = ((y : PostId) → IsIn y rest → same_name y x ≡ false) × AreApart rest
+-- one name is lower than another
+pub before_entry : (a b : PostId) → a.entry < b.entry → is_before a b ≡ true
+before_entry a b l = or_left (ltb a.entry b.entry) (eqb a.entry b.entry && ltb a.place b.place) (lt-ltb a.entry b.entry l)
 
-apart-filter : (test : PostId → Bool) (names : List PostId) → AreApart names → AreApart (filter test names)
-apart-filter test [] h = tt
-apart-filter test (x ∷ rest) h =
-    cond_both (test x) (x ∷ filter test rest) (filter test rest) AreApart
-    (λ e. ((λ y i. h.0 y (in-filter test rest y i).0), apart-filter test rest h.1))
-    (λ e. apart-filter test rest h.1)
+pub before_place : (a b : PostId) → a.entry ≡ b.entry → a.place < b.place → is_before a b ≡ true
+before_place a b e l =
+    or_right (ltb a.entry b.entry) (eqb a.entry b.entry && ltb a.place b.place) (and_from (eqb a.entry b.entry) (ltb a.place b.place) (eq-eqb a.entry b.entry e) (lt-ltb a.place b.place l))
 
-apart-append : (xs ys : List PostId) → AreApart xs → AreApart ys → ((x y : PostId) → IsIn x xs → IsIn y ys → same_name y x ≡ false) → AreApart (xs ++ ys)
-apart-append [] ys h k f = k
-apart-append (x ∷ xs) ys h k f = (
+pub before_cases : (a b : PostId) → is_before a b ≡ true → (a.entry < b.entry) ⊎ ((a.entry ≡ b.entry) × (a.place < b.place))
+before_cases a b h =
+    elim (or_cases (ltb a.entry b.entry) (eqb a.entry b.entry && ltb a.place b.place) h) [
+      | inl e ↦ inl (ltb-true a.entry b.entry e)
+      | inr e ↦ (let p = and_parts (eqb a.entry b.entry) (ltb a.place b.place) e in inr (eqb-true a.entry b.entry p.0, ltb-true a.place b.place p.1))
+    ]
+
+pub before_all : (a b c : PostId) → is_before a b ≡ true → is_before b c ≡ true → is_before a c ≡ true
+before_all a b c h k =
+    elim (before_cases a b h) [
+      | inl l ↦ elim (before_cases b c k) [
+        | inl m ↦ before_entry a c (omega (arith, l, m))
+        | inr m ↦ (let same = m.0 in before_entry a c (omega (arith, l, same)))
+      ]
+      | inr l ↦ elim (before_cases b c k) [
+        | inl m ↦ (let same = l.0 in before_entry a c (omega (arith, m, same)))
+        | inr m ↦ (let one = l.1 in let two = m.1 in before_place a c (l.0 ∙ m.0) (omega (arith, one, two)))
+      ]
+    ]
+
+names-ascend : (entry place : ℕ) (posts : List Post) → AreAscending (names_from entry place posts)
+names-ascend entry place [] = tt
+names-ascend entry place (p ∷ rest) = (
+  λ y i. (let n = name_in entry (place + 1) rest y i in let after = n.after in before_place (record { entry = entry; place = place }) y (sym n.entry_is) (omega (arith, after))),
+  names-ascend entry (place + 1) rest,
+)
+
+filter-ascends : (test : PostId → Bool) (names : List PostId) → AreAscending names → AreAscending (filter test names)
+filter-ascends test [] h = tt
+filter-ascends test (x ∷ rest) h =
+    cond_both (test x) (x ∷ filter test rest) (filter test rest) AreAscending
+    (λ e. ((λ y i. h.0 y (in-filter test rest y i).0), filter-ascends test rest h.1))
+    (λ e. filter-ascends test rest h.1)
+
+append-ascends : (xs ys : List PostId) → AreAscending xs → AreAscending ys → ((x y : PostId) → IsIn x xs → IsIn y ys → is_before x y ≡ true) → AreAscending (xs ++ ys)
+append-ascends [] ys h k f = k
+append-ascends (x ∷ xs) ys h k f = (
   λ y i. elim (in-append xs ys y i) [ inl j ↦ h.0 y j | inr j ↦ f x y (inl refl) j ],
-  apart-append xs ys h.1 k (λ z y i j. f z y (inr i) j),
+  append-ascends xs ys h.1 k (λ z y i j. f z y (inr i) j),
 )
 
-other_entry : (x y : PostId) → (y.entry ≡ x.entry → ⊥) → same_name y x ≡ false
-other_entry x y differ = rw (ne_eqb y.entry x.entry differ) refl
+delivery-ascends : (input : Input) (names : List PostId) → AreAscending names → AreAscending (without_delivered input names)
+delivery-ascends Tick names h = h
+delivery-ascends Halt names h = h
+delivery-ascends (Deliver d from message) names h = filter-ascends (λ (y : PostId). not (same_name y d)) names h
 
-other_place : (x y : PostId) → (y.place ≡ x.place → ⊥) → same_name y x ≡ false
-other_place x y differ = rw (ne_eqb y.place x.place differ) (by (eqb y.entry x.entry))
-  where
-    by : (b : Bool) → (b && false) ≡ false
-    by true = refl
-    by false = refl
-
-apart-names : (entry place : ℕ) (posts : List Post) → AreApart (names_from entry place posts)
-apart-names entry place [] = tt
-apart-names entry place (p ∷ rest) = (
-  λ y i. (let after = (name_in entry (place + 1) rest y i).after in other_place (record { entry = entry; place = place }) y (λ e. omega (arith, after, e))),
-  apart-names entry (place + 1) rest,
-)
-
-apart-delivered : (input : Input) (names : List PostId) → AreApart names → AreApart (without_delivered input names)
-apart-delivered Tick names h = h
-apart-delivered Halt names h = h
-apart-delivered (Deliver d from message) names h = apart-filter (λ (y : PostId). not (same_name y d)) names h
-
--- no post waits twice
-pub waiting_apart : (t : List Entry) → AreApart (undelivered t)
-waiting_apart [] = tt
-waiting_apart (x ∷ older) =
-    apart-append (without_delivered x.input (undelivered older)) (names_from (length older + 1) 0 x.outputs)
-    (apart-delivered x.input (undelivered older) (waiting_apart older)) (apart-names (length older + 1) 0 x.outputs)
+-- the names of the posts that wait ascend
+pub waiting_ascends : (t : List Entry) → AreAscending (undelivered t)
+waiting_ascends [] = tt
+waiting_ascends (x ∷ older) =
+    append-ascends (without_delivered x.input (undelivered older)) (names_from (length older + 1) 0 x.outputs)
+    (delivery-ascends x.input (undelivered older) (waiting_ascends older)) (names-ascend (length older + 1) 0 x.outputs)
     (
     λ a b i j. let named = waiting_named older a (still_named x.input (undelivered older) a i) in
     let within = named_within a older named.0 named.1 in
     let new = (name_in (length older + 1) 0 x.outputs b j).entry_is in
-    other_entry a b (λ e. omega (arith, within, new, e))
+    before_entry a b (omega (arith, within, new))
     )
-
-same_name_self : (id : PostId) → same_name id id ≡ true
-same_name_self id = rw (eq-eqb id.entry id.entry refl, eq-eqb id.place id.place refl) refl
-
-others_wait : (id : PostId) (names : List PostId) → ((y : PostId) → IsIn y names → same_name y id ≡ false) → filter (λ (y : PostId). not (same_name y id)) names ≡ names
-others_wait id [] f = refl
-others_wait id (x ∷ rest) f =
-    cond-true (not (same_name x id)) (x ∷ filter (λ (y : PostId). not (same_name y id)) rest) (filter (λ (y : PostId). not (same_name y id)) rest) (ap not (f x (inl refl)))
-    ∙ ap (λ (l : List PostId). x ∷ l) (others_wait id rest (λ y i. f y (inr i)))
-
--- the first name is taken out alone
-first_delivered : (names : List PostId) (id : PostId) → AreApart names → slice_get names 0 ≡ Some id → filter (λ (y : PostId). not (same_name y id)) names ≡ drop 1 names
-first_delivered [] id h e = cc
-first_delivered (x ∷ rest) id h e =
-    let first : x ≡ id = cc in
-    let self : not (same_name x id) ≡ false = ap (λ (y : PostId). not (same_name y id)) first ∙ ap not (same_name_self id) in
-    cond-false (not (same_name x id)) (x ∷ filter (λ (y : PostId). not (same_name y id)) rest) (filter (λ (y : PostId). not (same_name y id)) rest) self
-    ∙ others_wait id rest (λ y i. subst (λ (z : PostId). same_name y z ≡ false) first (h.0 y i))
-
--- a delivery of the first post that waits
-pub delivery_files : (t : List Entry) (e : Entry) (id : PostId) (from : Actor) (message : Message) (waiting : List PostId)
-    → waiting ≡ undelivered t → slice_get waiting 0 ≡ Some id → e.input ≡ Deliver id from message → names_after (length t) e waiting ≡ undelivered (e ∷ t)
-delivery_files t e id from message waiting is first input =
-    let waits : slice_get (undelivered t) 0 ≡ Some id = ap (λ (l : List PostId). slice_get l 0) (sym is) ∙ first in
-    let taken = first_delivered (undelivered t) id (waiting_apart t) waits in
-    rw (is, input) (ap (λ (l : List PostId). l ++ names_from (length t + 1) 0 e.outputs) (sym taken))
-
--- an actor's own turn takes no post
-pub tick_files : (t : List Entry) (e : Entry) (waiting : List PostId) → waiting ≡ undelivered t → e.input ≡ Tick → names_after (length t) e waiting ≡ undelivered (e ∷ t)
-tick_files t e waiting is input = rw (is, input) refl

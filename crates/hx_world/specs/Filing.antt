@@ -1,13 +1,8 @@
 -- How entries and the names of the posts that wait are kept.
-use Rattle.std.specs.Prelude.{◌≡◌, ℕ, zero, suc, ◌+◌, List, [], ◌∷◌, ◌++◌, drop, length, Option}
-use Rattle.std.specs.Option.{option_map}
-use Rattle.hx_types.specs.declared.messages.Post.{Post}
+use Rattle.std.specs.Prelude.{◌≡◌, ℕ, zero, suc, ◌+◌, List, [], ◌∷◌, ◌++◌, length}
 use Rattle.hx_types.specs.declared.messages.PostId.{PostId}
-use Rattle.hx_types.specs.declared.names.Actor.{Actor}
 use Rattle.hx_types.specs.declared.traces.Entry.{Entry}
-use Rattle.hx_types.specs.declared.traces.Input.{Input}
-use Rattle.hx_types.specs.declared.traces.Input.TheVariants.{Tick, Halt, Deliver}
-use Rattle.hx_model.specs.Schedule.{names_from}
+use Rattle.hx_model.specs.Schedule.{names_from, without_delivered}
 use Rattle.hx_world.specs.declared.logs.Log.{Log}
 
 -- the names of so many posts of an entry, from this place on
@@ -15,15 +10,9 @@ abbrev pub names_counted : ℕ → ℕ → ℕ → List PostId
 names_counted entry place zero = []
 names_counted entry place (suc count) = record { entry = entry; place = place } ∷ names_counted entry (place + 1) count
 
--- a delivery takes the first of the names
-abbrev pub still_waiting : Input → List PostId → List PostId
-still_waiting Tick names = names
-still_waiting Halt names = names
-still_waiting (Deliver id from message) names = drop 1 names
-
 -- the names that wait after one more entry, with so many entries before it
 abbrev pub names_after : ℕ → Entry → List PostId → List PostId
-names_after entries e names = still_waiting e.input names ++ names_from (entries + 1) 0 e.outputs
+names_after entries e names = without_delivered e.input names ++ names_from (entries + 1) 0 e.outputs
 
 -- the entry stands last, and its posts wait
 pub record Files (old new : Log) (e : Entry) : Type 0 where
@@ -34,7 +23,3 @@ pub record Files (old new : Log) (e : Entry) : Type 0 where
 pub record IsSameLog (old new : Log) : Type 0 where
   pub trace : new.trace ≡ old.trace
   pub waiting : new.waiting.items ≡ old.waiting.items
-
--- to whom a post goes
-abbrev pub receiver_of : Option Post → Option Actor
-receiver_of p = option_map (λ (x : Post). x.to) p

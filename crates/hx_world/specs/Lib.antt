@@ -7,7 +7,9 @@ pub mod Filing
 pub mod Hosts
 pub mod Idle
 pub mod Invariant
+pub mod Names
 pub mod Runnable
-pub mod Sessions
+pub mod Seats
 pub mod Starting
+pub mod Turns
 pub mod Worlds

@@ -1,10 +1,9 @@
 -- The scripts that a world runs today.
-use Rattle.std.specs.List.{All}
 use Rattle.hx_types.specs.declared.traces.Script.{Script}
 use Rattle.hx_types.specs.Fitting.{IsScript}
-use Rattle.hx_model.specs.Built.{AreKeyCalls}
+use Rattle.hx_model.specs.Steady.{IsFixed}
 
--- any space and any sessions whose calls are on keys
+-- a valid script in which no call asks for another configuration
 pub record IsRunnable (script : Script) : Type 0 where
   pub valid : IsScript script
-  pub calls : All AreKeyCalls script.sessions
+  pub fixed : IsFixed script

@@ -1,20 +1,20 @@
 -- A world, as contracts see it, and what a drain does to its trace; traces stand here newest first.
-use Rattle.std.specs.Prelude.{◌≡◌, ℕ, ◌+◌, ◌<◌, ◌≤◌, Bool, true, List, length, is_some, IsSome, IsSomeAnd, ⊤, None, Some}
+use Rattle.std.specs.Prelude.{◌≡◌, ℕ, ◌+◌, ◌<◌, ◌≤◌, Bool, true, List, length, is_some, IsSome, IsSomeAnd, None, Some, ⊤}
 use Rattle.std.specs.Option.{option_map}
 use Rattle.hx_types.specs.declared.names.Actor.{Actor}
 use Rattle.hx_types.specs.declared.traces.Entry.{Entry}
 use Rattle.hx_types.specs.declared.traces.Script.{Script}
+use Rattle.hx_types.specs.declared.traces.Step.{Step}
+use Rattle.hx_types.specs.declared.traces.Step.TheVariants as a_step
 use Rattle.hx_world.specs.declared.ends.DrainError.{DrainError}
 use Rattle.hx_world.specs.declared.ends.Drained.{Drained}
 use Rattle.hx_world.specs.declared.ends.Drained.TheVariants.{Quiet, Spent}
 use Rattle.hx_world.specs.declared.ends.DrainError.TheVariants.{Memory, Worn}
 use Rattle.hx_world.specs.declared.ends.StepError.{StepError}
-use Rattle.hx_world.specs.declared.ends.StepError.TheVariants as a_step_error
-use Rattle.hx_types.specs.declared.traces.Step.{Step}
-use Rattle.hx_types.specs.declared.traces.Step.TheVariants as a_step
+use Rattle.hx_world.specs.declared.ends.StepError.TheVariants as an_error
 use Rattle.hx_model.specs.Runs.{is_actor}
-use Rattle.hx_model.specs.Schedule.{Unsent, Halted, NotServer, Idle, Worn as WornFault}
 use Rattle.hx_model.specs.Schedule.{entries_of, entry_by, fault_of, is_worn, next_entry, scheduled, step_input, with_entry, IsQuiet}
+use Rattle.hx_model.specs.Schedule as a_fault
 
 -- the script, and the trace with the oldest entry first
 pub record WorldState : Type 0 where
@@ -44,26 +44,6 @@ abbrev pub Fails : Script → List Entry → DrainError → Type 0
 Fails script trace Memory = ⊤
 Fails script trace (Worn a) = IsWornOut script trace a
 
--- what a step of the script leaves: it could be taken, and made its entry
-pub record Steps (script : Script) (old new : List Entry) (step : Step) : Type 0 where
-  pub possible : fault_of script old step ≡ None
-  pub trace : new ≡ with_entry old (option_map (entry_by script old) (step_input old step))
-
--- why a step was refused
-abbrev pub Refuses : Script → List Entry → Step → StepError → Type 0
-Refuses script old step a_step_error.Memory = ⊤
-Refuses script old step a_step_error.Unsent = fault_of script old step ≡ Some Unsent
-Refuses script old step a_step_error.Halted = fault_of script old step ≡ Some Halted
-Refuses script old step a_step_error.NotServer = fault_of script old step ≡ Some NotServer
-Refuses script old step a_step_error.Idle = fault_of script old step ≡ Some Idle
-Refuses script old step (a_step_error.Worn a) = fault_of script old step ≡ Some (WornFault a)
-
--- a step that a world takes: a delivery, or a tick of one of the script's actors
-abbrev pub IsTaken : Script → Step → Type 0
-IsTaken script (a_step.Deliver id) = ⊤
-IsTaken script (a_step.Tick a) = is_actor script a ≡ true
-IsTaken script (a_step.Halt a) = ⊥
-
 -- all n entries were made, and there is a next
 pub record IsSpent (script : Script) (n : ℕ) (old new : List Entry) : Type 0 where
   pub made : length new ≡ length old + n
@@ -87,3 +67,23 @@ pub record DrainFails (script : Script) (n : ℕ) (old new : List Entry) (e : Dr
 -- what was made, also where a drain failed before the end
 abbrev pub IsPartOf : Script → ℕ → List Entry → List Entry → Type 0
 IsPartOf script n old new = (k : ℕ) × (k ≤ n) × (new ≡ scheduled script old k)
+
+-- what a world can be asked for: a delivery, or a tick of one of the script's actors
+abbrev pub IsStepOf : Script → Step → Type 0
+IsStepOf script (a_step.Deliver id) = ⊤
+IsStepOf script (a_step.Tick a) = is_actor script a ≡ true
+IsStepOf script (a_step.Halt a) = ⊥
+
+-- what a step leaves
+pub record Steps (script : Script) (old new : List Entry) (step : Step) : Type 0 where
+  pub possible : fault_of script old step ≡ None
+  pub trace : new ≡ with_entry old (option_map (entry_by script old) (step_input old step))
+
+-- why a step was refused
+abbrev pub Refuses : Script → List Entry → Step → StepError → Type 0
+Refuses script old step an_error.Memory = ⊤
+Refuses script old step an_error.Unsent = fault_of script old step ≡ Some a_fault.Unsent
+Refuses script old step an_error.Halted = fault_of script old step ≡ Some a_fault.Halted
+Refuses script old step an_error.NotServer = fault_of script old step ≡ Some a_fault.NotServer
+Refuses script old step an_error.Idle = fault_of script old step ≡ Some a_fault.Idle
+Refuses script old step (an_error.Worn a) = fault_of script old step ≡ Some (a_fault.Worn a)

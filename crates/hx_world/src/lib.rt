@@ -2,18 +2,19 @@
 //! and the whole trace is a run of the script.
 #![tactic(auto)]
 
+mod actors;
+mod coordinator;
 mod ends;
 mod hosts;
-mod leaders;
 mod logs;
-mod made;
 mod schedule;
-mod sessions;
+mod seats;
 mod starting;
+mod steps;
+mod turns;
+mod waiting;
 mod worlds;
 
 pub use ends::{DrainError, Drained, StepError};
 pub use worlds::World;
 
-#[cfg(test)]
-mod tests;

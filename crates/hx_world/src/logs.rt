@@ -1,11 +1,14 @@
-ghost use Rattle.std.specs.Prelude.{◌≡◌, [], ◌++◌, ◌∷◌, ◌<◌, ◌≤◌, ◌+◌, ◌^◌, Some, IfOk, OnOk, OnErr, IsSome, is_some, length, reverse, slice_get, vec_len};
+ghost use Rattle.std.specs.Prelude.{◌≡◌, [], ◌++◌, ◌∷◌, ◌<◌, ◌≤◌, ◌+◌, ◌^◌, IfOk, OnOk, OnErr, length, reverse, slice_get, vec_len};
 ghost use Rattle.std.specs.Option.{option_copied};
 ghost use Rattle.std.specs.Vec.{vec_capacity};
 ghost use Rattle.std.specs.VecDeque.{deque_len, deque_capacity};
 ghost use Rattle.hx_model.specs.Runs.{entry_at, post_named};
-ghost use Rattle.hx_world.specs.Filing.{Files, IsSameLog, names_after, names_counted, receiver_of, still_waiting};
+ghost use Rattle.hx_model.specs.Schedule.{without_delivered};
+ghost use Rattle.hx_world.specs.Filing.{names_after};
+ghost use Rattle.hx_world.specs.Names.{AreAscending};
 
-use hx_types::{Actor, Entry, Exact, Input, Memory, Post, PostId, Trace};
+use crate::waiting::{push_names, take_out};
+use hx_types::{Entry, Input, Memory, Post, PostId, Trace};
 use std::alloc::Global;
 use std::collections::VecDeque;
 use std::mem;
@@ -35,13 +38,6 @@ pub fn first_waiting(log: &Log) -> Option<PostId>
     log.waiting.front().copied()
 }
 
-/// Whether a post waits.
-pub fn is_any_waiting(log: &Log) -> bool
-    ensures { result ≡ is_some (slice_get log.now.waiting.items 0) }
-{
-    first_waiting(log).is_some()
-}
-
 /// The entry of a number, from 1.
 #[tactic(auto, using(crate::proofs::Numbering::no_entry))]
 fn entry_of(trace: &Trace, number: u64) -> Option<&Entry>
@@ -61,42 +57,8 @@ pub fn sent_post(log: &Log, id: PostId) -> Option<&Post>
     entry.outputs.get(id.place as usize)
 }
 
-/// To whom the post of a name goes.
-pub fn receiver(log: &Log, id: PostId) -> Option<Actor>
-    ensures { result ≡ receiver_of (post_named id (reverse log.now.trace)) }
-{
-    match sent_post(log, id) {
-        Some(post) => Some(post.to),
-        None => None,
-    }
-}
-
-/// A copy of the post of a name.
-pub fn copy_of(alloc: Global, log: &Log, id: PostId) -> Result<Post, Memory>
-    requires { IsSome (post_named id (reverse log.now.trace)) }
-    ensures { IfOk result (λ post. post_named id (reverse log.now.trace) ≡ Some post) }
-{
-    match sent_post(log, id) {
-        Some(post) => Ok(post.copy(alloc)?),
-        None => unreachable!(),
-    }
-}
-
-/// An entry that was made is filed: it stands last, and its posts wait. Where there is no memory
-/// nothing changes.
-pub fn push(alloc: Global, log: &mut Log, entry: Entry) -> Result<(), Memory>
-    requires { length log.old.trace < 2 ^ 32 }
-    ensures ok { OnOk result (Files log.old log.new entry) }
-    ensures err { OnErr result (IsSameLog log.old log.new) }
-{
-    let posts = posts_of(&entry)?;
-    let entries = open(alloc, log, posts)?;
-    file(log, entries, entry);
-    Ok(())
-}
-
 /// How many posts the entry has. More than can be numbered don't fit any memory.
-pub fn posts_of(entry: &Entry) -> Result<u32, Memory>
+fn posts_of(entry: &Entry) -> Result<u32, Memory>
     ensures { IfOk result (λ posts. posts ≡ length entry.now.outputs) }
 {
     match u32::try_from(entry.outputs.len()) {
@@ -105,15 +67,17 @@ pub fn posts_of(entry: &Entry) -> Result<u32, Memory>
     }
 }
 
-/// Takes all memory for an entry of so many posts. Where it is there, the entries are handed out
-/// and the log is without them until [`file`] hands them back.
-pub fn open(alloc: Global, log: &mut Log, posts: u32) -> Result<Vec<Entry>, Memory>
+/// Takes all memory for an entry. Where it is there, the entries are handed out and the log is
+/// without them until [`file`] hands them back.
+pub fn open(alloc: Global, log: &mut Log, entry: &Entry) -> Result<Vec<Entry>, Memory>
     ensures entries { IfOk result (λ entries. entries.items ≡ log.old.trace) }
     ensures room { IfOk result (λ entries. vec_len entries < vec_capacity entries) }
     ensures waiting { log.new.waiting.items ≡ log.old.waiting.items }
-    ensures names { OnOk result (deque_len log.new.waiting + posts ≤ deque_capacity log.new.waiting) }
+    ensures names { OnOk result (deque_len log.new.waiting + length entry.now.outputs ≤ deque_capacity log.new.waiting) }
+    ensures few { OnOk result (length entry.now.outputs < 2 ^ 32) }
     ensures err { OnErr result (log.new.trace ≡ log.old.trace) }
 {
+    let posts = posts_of(entry)?;
     log.waiting.reserve(posts as usize)?;
     take_with_room(alloc, &mut log.trace)
 }
@@ -133,14 +97,15 @@ fn take_with_room(alloc: Global, trace: &mut Trace) -> Result<Vec<Entry>, Memory
     }
 }
 
-/// Puts an entry at the end of the entries and these into the log; the names of its posts wait
-/// after the others, of which a delivery takes the first.
+/// Puts an entry at the end of the entries and these into the log. A delivery takes the name of its
+/// post out, and the names of the entry's own posts wait after the others.
 #[tactic(auto, using(crate::proofs::Numbering::names_of_entry))]
 pub fn file(log: &mut Log, entries: Vec<Entry>, entry: Entry)
     requires entry_room { vec_len entries < vec_capacity entries }
     requires name_room { deque_len log.old.waiting + length entry.outputs ≤ deque_capacity log.old.waiting }
     requires few_posts { length entry.outputs < 2 ^ 32 }
     requires few_entries { vec_len entries < 2 ^ 32 }
+    requires ascending { AreAscending log.old.waiting.items }
     ensures trace { log.new.trace ≡ entries.items ++ entry ∷ [] }
     ensures waiting { log.new.waiting.items ≡ names_after (length entries.items) entry log.old.waiting.items }
 {
@@ -155,22 +120,14 @@ pub fn file(log: &mut Log, entries: Vec<Entry>, entry: Entry)
     log.trace = Trace::from_vec(entries);
 }
 
-/// A delivery takes the first of the names.
+/// The post of a delivery waits no longer.
 fn drop_delivered(waiting: &mut VecDeque<PostId>, input: &Input)
-    ensures items { waiting.new.items ≡ still_waiting input.now waiting.old.items }
+    requires { AreAscending waiting.old.items }
+    ensures items { waiting.new.items ≡ without_delivered input.now waiting.old.items }
     ensures len { deque_len waiting.new ≤ deque_len waiting.old }
     ensures capacity { deque_capacity waiting.new ≡ deque_capacity waiting.old }
 {
-    if let Input::Deliver { .. } = input {
-        let _ = waiting.pop_front();
-    }
-}
-
-fn push_names(waiting: &mut VecDeque<PostId>, entry: u64, count: u32)
-    requires { deque_len waiting.old + count ≤ deque_capacity waiting.old }
-    ensures { waiting.new.items ≡ waiting.old.items ++ names_counted entry 0 count }
-{
-    for place in 0..count {
-        waiting.push_back_reserved(PostId { entry, place });
+    if let Input::Deliver { id, .. } = input {
+        take_out(waiting, *id);
     }
 }

@@ -1,29 +1,29 @@
-ghost use Rattle.std.specs.Prelude.{◌≡◌, ◌<◌, ◌^◌, IfOk, length};
+ghost use Rattle.std.specs.Prelude.{◌≡◌, IfOk, length};
+ghost use Rattle.hx_types.specs.Fitting.{IsScript};
 ghost use Rattle.hx_types.specs.Spaces.{IsSpace};
 ghost use Rattle.hx_world.specs.Invariant.{AreAt};
-ghost use Rattle.hx_world.specs.Runnable.{IsRunnable};
-ghost use Rattle.hx_world.specs.Starting.{HaveStarted, IsNewHost, IsNewSession};
+ghost use Rattle.hx_world.specs.Starting.{HaveStarted, IsNewHost, IsNewSeat};
 
+use crate::actors::Actors;
+use crate::coordinator::Coordinator;
 use crate::hosts::Host;
-use crate::leaders::Leaders;
-use crate::schedule::Actors;
-use crate::sessions::Session;
+use crate::seats::Seat;
 use hx_replica::Server;
-use hx_types::{Memory, Script, ServerId, Space};
+use hx_session::Session;
+use hx_types::{Exact, Memory, Script, ServerId, SessionId, Space};
 use std::alloc::Global;
 
-/// The servers and sessions of a script at their start.
+/// The actors of a script at their start.
 pub fn start_actors(alloc: Global, script: &Script) -> Result<Actors, Memory>
-    requires { IsSpace script.now.space }
+    requires { IsScript script.now }
     ensures { IfOk result (HaveStarted script.now) }
 {
-    let leaders = Leaders::new(alloc, &script.space)?;
     let hosts = start_hosts(alloc, &script.space)?;
-    let sessions = start_sessions(alloc, script.sessions.len())?;
+    let seats = start_seats(alloc, script)?;
     Ok(Actors {
-        leaders,
+        coordinator: Coordinator { entries: 0 },
         hosts,
-        sessions,
+        seats,
     })
 }
 
@@ -39,16 +39,18 @@ fn start_hosts(alloc: Global, space: &Space) -> Result<Vec<Host>, Memory>
     Ok(hosts)
 }
 
-fn start_sessions(alloc: Global, count: usize) -> Result<Vec<Session>, Memory>
-    ensures { IfOk result (λ sessions. AreAt count IsNewSession sessions.items) }
+fn start_seats(alloc: Global, script: &Script) -> Result<Vec<Seat>, Memory>
+    requires { IsScript script.now }
+    ensures { IfOk result (λ seats. AreAt (length script.now.sessions) (IsNewSeat script.now) seats.items) }
 {
-    let mut sessions = Vec::new(alloc);
-    for _place in 0..count {
-        sessions.push(Session {
-            begun: 0,
-            under_way: false,
+    let mut seats = Vec::new(alloc);
+    for (place, calls) in script.sessions.as_slice().iter().enumerate() {
+        let id = SessionId(place as u32 + 1);
+        let session = Session::start(alloc, &script.space, id, calls.copy(alloc)?)?;
+        seats.push(Seat {
+            session,
             entries: 0,
         })?;
     }
-    Ok(sessions)
+    Ok(seats)
 }

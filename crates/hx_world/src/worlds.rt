@@ -3,12 +3,14 @@ ghost use Rattle.hx_model.specs.Runs.{IsRun};
 ghost use Rattle.hx_model.specs.Schedule.{next_entry};
 ghost use Rattle.hx_model.specs.Steady.{HasNoHalts};
 ghost use Rattle.hx_world.specs.Runnable.{IsRunnable};
-ghost use Rattle.hx_world.specs.Worlds.{Advances, DrainFails, Drains, Fails, HasFewEntries, IsPartOf, IsTaken, Refuses, Steps, most_entries};
+ghost use Rattle.hx_world.specs.Worlds.{Advances, DrainFails, Drains, Fails, HasFewEntries, IsPartOf, IsStepOf, Refuses, Steps, most_entries};
 
+use crate::actors::Actors;
 use crate::ends::{DrainError, Drained, StepError};
 use crate::logs::{Log, empty};
-use crate::schedule::{Actors, advance, has_next};
+use crate::schedule::{advance, has_next};
 use crate::starting::start_actors;
+use crate::steps::take_step;
 use hx_types::{Exact, Memory, Script, Step, Trace};
 use std::alloc::Global;
 use std::marker::Model;
@@ -73,6 +75,25 @@ impl World {
         log.trace
     }
 
+    /// Makes the one entry of a step. The step is a delivery, or a tick of one of the script's
+    /// actors; nobody halts in these worlds. A post may be delivered any number of times, and one
+    /// that was delivered is delivered by no schedule again.
+    ///
+    /// Where the step can't be taken nothing changes, and the error is that of the first reason
+    /// that holds: [`StepError::Unsent`] for a post that wasn't sent, [`StepError::Idle`] for a tick
+    /// that would make no post and no note, [`StepError::Worn`] for an actor that has made
+    /// 1,048,576 entries. [`StepError::Memory`] may come before any of them.
+    pub fn step(&mut self, alloc: Global, step: &Step) -> Result<(), StepError>
+        requires actor { IsStepOf self.old.script step.now }
+        ensures script { self.new.script ≡ self.old.script }
+        ensures ok { OnOk result (Steps self.old.script (reverse self.old.trace) (reverse self.new.trace) step.now) }
+        ensures refused { IfErr result (Refuses self.old.script (reverse self.old.trace) step.now) }
+        ensures err { OnErr result (self.new.trace ≡ self.old.trace) }
+        ensures few { HasFewEntries (reverse self.new.trace) }
+    {
+        take_step(alloc, &self.script, &mut self.actors, &mut self.log, step)
+    }
+
     /// Makes up to n entries by the schedule: always the delivery of the lowest post that wasn't
     /// delivered, else the begin of the next call of the lowest idle session.
     ///
@@ -99,19 +120,6 @@ impl World {
         } else {
             Ok(Drained::Quiet)
         }
-    }
-
-    /// Makes one entry by a step.
-    pub fn step(&mut self, alloc: Global, step: &Step) -> Result<(), StepError>
-        requires actor { IsTaken self.old.script step.now }
-        ensures script { self.new.script ≡ self.old.script }
-        ensures ok { OnOk result (Steps self.old.script (reverse self.old.trace) (reverse self.new.trace) step.now) }
-        ensures refused { IfErr result (Refuses self.old.script (reverse self.old.trace) step.now) }
-        ensures err { OnErr result (self.new.trace ≡ self.old.trace) }
-        ensures few { HasFewEntries (reverse self.new.trace) }
-    {
-        let _ = self.has_next();
-        Err(StepError::Memory)
     }
 
     fn advance(&mut self, alloc: Global) -> Result<bool, DrainError>

@@ -1,6 +1,6 @@
-use Rattle.std.proofs.Common.{◌==◌, ap, sym, ◌∙◌}
+use Rattle.std.proofs.Common.{◌==◌, ap, ◌∙◌}
 use Rattle.std.specs.Prelude.{slice_get}
-use Rattle.hx_model.specs.Slots.{follows, top_of}
+use Rattle.hx_model.specs.Slots.{top_of}
 use Rattle.hx_replica.proofs.Offers.{follows_there, place_there}
 use Rattle.hx_replica.proofs.accepting.is_in_turn.Goals as goal
 

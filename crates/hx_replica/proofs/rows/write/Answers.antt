@@ -1,10 +1,10 @@
-use Rattle.std.proofs.Common.{◌≡◌, ◌≤◌, List, ap, sym, ◌∙◌, subst, ℕ}
+use Rattle.std.proofs.Common.{◌≡◌, ◌≤◌, List, sym, ◌∙◌, subst, ℕ}
 use Rattle.hx_types.specs.declared.results.Decision.{Decision}
 use Rattle.hx_types.specs.declared.results.Decision.TheVariants as a_decision
 use Rattle.hx_model.specs.Leading.{decide}
-use Rattle.hx_model.specs.ServerSteps.{SlotStep, decided}
+use Rattle.hx_model.specs.ServerSteps.{decided}
 use Rattle.hx_replica.specs.Made.{IsMade, spot_seen}
-use Rattle.hx_replica.proofs.Granted.{IsGranted, assigned_is, at_region, up_to}
+use Rattle.hx_replica.proofs.Granted.{assigned_is, at_region, up_to}
 use Rattle.hx_replica.proofs.rows.write.Goals as goal
 
 pub assign-requires-clause-coming : goal.assign-requires-clause-coming

@@ -1,6 +1,6 @@
 use Rattle.std.proofs.Common.{◌≡◌, ℕ, ◌<◌, false}
-use Rattle.hx_world.specs.Idle.{can_begin_at}
+use Rattle.hx_world.specs.Idle.{is_idle_at}
 use Rattle.hx_world.proofs.schedule.first_idle.Given as goal
 
 abbrev pub invariant-loop-place : goal.invariant-loop-place
-invariant-loop-place l = (place : ℕ) → place < l.place → can_begin_at l.script.sessions l.sessions place ≡ false
+invariant-loop-place l = (place : ℕ) → place < l.place → is_idle_at l.seats place ≡ false

@@ -5,8 +5,8 @@ use Rattle.hx_replica.specs.Plans.{IsChangeOn}
 use Rattle.hx_store.specs.Stores.{state_at}
 use Rattle.hx_replica.proofs.servers.Server.apply.Goals as goal
 
-pub invariant_of-self : goal.invariant_of-self
-invariant_of-self c =
+pub invariant_of-self-in-Slot : goal.invariant_of-self-in-Slot
+invariant_of-self-in-Slot c =
     let h : IsChangeOn c.args.self.now c.args.plan.entry.input c.in-Slot.replica c.in-Slot.key c.in-Slot.change =
     planned c.args.self.now c.args.plan.entry.input c.args.plan.change c.in-Slot.replica c.in-Slot.key c.in-Slot.change c.in-Slot.is c.requires.change in
     record {

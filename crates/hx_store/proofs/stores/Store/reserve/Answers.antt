@@ -1,4 +1,3 @@
-use Rattle.std.proofs.Common.{OnOk}
 use Rattle.hx_store.proofs.Stepping.{on_ok, room_is}
 use Rattle.hx_store.proofs.stores.Store.reserve.Goals as goal
 

@@ -1,4 +1,4 @@
-use Rattle.hx_world.proofs.Draining.{most_of}
+use Rattle.hx_world.proofs.Turning.{most_of}
 use Rattle.hx_world.proofs.worlds.World.advance.Goals as goal
 
 pub returns-clause-most : goal.returns-clause-most

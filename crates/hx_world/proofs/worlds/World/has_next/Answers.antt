@@ -1,6 +1,6 @@
 use Rattle.std.proofs.Common.{◌≤◌, length, subst}
 use Rattle.hx_world.specs.Worlds.{WorldState, most_entries}
-use Rattle.hx_world.proofs.Draining.{most_of}
+use Rattle.hx_world.proofs.Turning.{most_of}
 use Rattle.hx_world.proofs.worlds.World.has_next.Goals as goal
 
 pub returns-clause-most : goal.returns-clause-most

@@ -1,0 +1,24 @@
+use Rattle.std.proofs.Common.{◌≡◌, List, ap, refl, subst, ◌∙◌}
+use Rattle.std.specs.List.{flat_map}
+use Rattle.std.proofs.lemmas.Result.{IfOk-weaker}
+use Rattle.hx_model.specs.ServerSteps.{replica_tick, tick_step}
+use Rattle.hx_replica.specs.declared.replicas.Replica.{Replica}
+use Rattle.hx_replica.specs.Inside.{value_of}
+use Rattle.hx_replica.specs.Replicas.{view_of}
+use Rattle.hx_replica.specs.Servers.{ServerValue}
+use Rattle.hx_replica.specs.Ticking.{standing}
+use Rattle.hx_replica.proofs.Sending.{unsealed}
+use Rattle.hx_replica.proofs.servers.Server.sent_again.Goals as goal
+
+pub returns : goal.returns
+returns c =
+    let i = c.self.inside in
+    IfOk-weaker c.tick_all.result _ _
+    (
+    λ posts e. subst (λ (v : ServerValue). posts ≡ (tick_step v.space v.state).posts) c.self.view_is
+    (
+    e ∙ ap (λ (rs : List Replica). flat_map (λ (r : Replica). replica_tick i.space (standing i.config i.id) (view_of r)) rs) c.as_slice.ensures.value
+    ∙ unsealed i.space (value_of i).state i.replicas.items c.if-self.false refl
+    )
+    )
+    c.tick_all.ensures

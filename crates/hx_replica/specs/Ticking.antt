@@ -1,0 +1,14 @@
+-- A server of which nothing but its number and configuration matters, and a replica of it.
+use Rattle.std.specs.Prelude.{true, false, List, []}
+use Rattle.hx_types.specs.declared.configs.Config.{Config}
+use Rattle.hx_types.specs.declared.names.RegionId.{RegionId}
+use Rattle.hx_types.specs.declared.names.ServerId.{ServerId}
+use Rattle.hx_model.specs.ServerSteps.{Replica as ReplicaState, ServerState}
+use Rattle.hx_model.specs.Slots.{KeyState}
+
+abbrev pub standing : Config → ServerId → ServerState
+standing config s = record { id = s; config = config; sealed = false; halted = false; replicas = [] }
+
+-- an installed replica of these slots
+abbrev pub kept_here : RegionId → List KeyState → ReplicaState
+kept_here g states = record { region = g; installed = true; states = states }

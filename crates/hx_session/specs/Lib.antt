@@ -1,0 +1,5 @@
+pub mod Kinds
+pub mod Sessions
+pub mod Changes
+pub mod Joined
+pub mod Inside

@@ -1,0 +1,41 @@
+-- A session as contracts see it, and which inputs it can take.
+use Rattle.std.specs.Prelude.{ℕ, ◌<◌, ◌^◌, Bool, not, ◌&&◌, nat_lt, length, ⊤}
+use Rattle.hx_types.specs.declared.messages.Message.{Message}
+use Rattle.hx_types.specs.declared.names.Actor.{Actor}
+use Rattle.hx_types.specs.declared.names.SessionId.{SessionId}
+use Rattle.hx_types.specs.declared.spaces.Space.{Space}
+use Rattle.hx_types.specs.declared.traces.Entry.{Entry}
+use Rattle.hx_types.specs.declared.traces.Input.{Input}
+use Rattle.hx_types.specs.declared.names.Actor.TheVariants.{Session}
+use Rattle.hx_types.specs.declared.traces.Input.TheVariants.{Tick, Halt, Deliver}
+use Rattle.hx_types.specs.Posts.{IsSoundPost}
+use Rattle.hx_types.specs.Words.{post}
+use Rattle.hx_model.specs.Runs.{entry_of}
+use Rattle.hx_model.specs.SessionSteps.{SessionState, session_step}
+
+-- a session of a space, and its state as the definitions fold it
+pub record SessionValue : Type 0 where
+  pub space : Space
+  pub state : SessionState
+
+-- the session's entry for an input
+abbrev pub session_entry : Space → SessionState → Input → Entry
+session_entry space s input =
+    let step = session_step space s input in entry_of (Session s.id) input (record { posts = step.posts; notes = step.notes })
+
+-- the post is sound for some number of sessions, as one of an entry of a number below 2^62
+pub record IsSoundDelivery (space : Space) (u : SessionId) (from : Actor) (m : Message) : Type 0 where
+  pub sessions : ℕ
+  pub entry : ℕ
+  pub few : entry < 2 ^ 62
+  pub sound : IsSoundPost space sessions entry (post from (Session u) m)
+
+-- the session can take the input: its turn, or a sound post; a halt goes to a server
+abbrev pub CanTake : Space → SessionState → Input → Type 0
+CanTake space s Tick = ⊤
+CanTake space s Halt = ⊥
+CanTake space s (Deliver id from m) = IsSoundDelivery space s.id from m
+
+-- no call is left and none is under way
+abbrev pub is_ended : SessionState → Bool
+is_ended s = not s.under_way && not (nat_lt s.begun (length s.calls))

@@ -1,0 +1,79 @@
+ghost use Rattle.std.specs.Prelude.{◌≡◌, map, slice_get, slice_set, true, false, IfNone, IfSome, IsSomeAnd};
+ghost use Rattle.std.specs.List.{list_all, list_any};
+ghost use Rattle.hx_session.specs.declared.parts.Part.{Part as PartOf};
+ghost use Rattle.hx_session.specs.Changes.{afresh, is_found, lacks_rows, part_seen, parts_after};
+
+use hx_types::{RegionId, Rows, Sequence};
+use std::alloc::Global;
+
+/// The rows of a region that a search asked: none until it has answered.
+#[derive(Drop)]
+pub struct Part {
+    pub region: RegionId,
+    pub rows: Option<Rows>,
+}
+
+/// The parts of a search, in ascending order of regions.
+pub type Parts = Sequence<Part>;
+
+/// How a step changes the parts of a search.
+#[derive(Drop)]
+pub enum PartsChange {
+    Stay,
+    /// There are these parts instead.
+    Replace(Parts),
+    /// There is another part at a place.
+    Put { place: usize, part: Part },
+}
+
+/// The same change where there were no parts before. It takes no memory.
+pub fn afresh(alloc: Global, change: PartsChange) -> PartsChange
+    ensures { result ≡ afresh change }
+{
+    match change {
+        PartsChange::Replace(parts) => PartsChange::Replace(parts),
+        PartsChange::Stay | PartsChange::Put { .. } => PartsChange::Replace(Parts::new(alloc)),
+    }
+}
+
+/// Makes a change of the parts. It takes no memory.
+pub fn put_parts(parts: &mut Parts, change: PartsChange)
+    ensures { map part_seen parts.new ≡ parts_after (map part_seen parts.old) change }
+{
+    match change {
+        PartsChange::Stay => {}
+        PartsChange::Replace(others) => *parts = others,
+        PartsChange::Put { place, part } => put_part(parts, place, part),
+    }
+}
+
+fn put_part(parts: &mut Parts, place: usize, part: Part)
+    ensures { map part_seen parts.new ≡ slice_set (map part_seen parts.old) place (part_seen part) }
+{
+    if place < parts.len() {
+        parts.set(place, part);
+    }
+}
+
+/// The place of the region's part, where it has no rows yet.
+pub fn lacking(parts: &[Part], region: RegionId) -> Option<usize>
+    ensures none { IfNone result (list_any (lacks_rows region) parts.now ≡ false) }
+    ensures some { IfSome result (λ place. list_any (lacks_rows region) parts.now ≡ true) }
+    ensures region { IfSome result (λ place. IsSomeAnd (slice_get parts.now place) (λ (p : PartOf). p.region ≡ region)) }
+{
+    for (place, part) in parts.iter().enumerate() {
+        if part.region == region && part.rows.is_none() {
+            return Some(place);
+        }
+    }
+    None
+}
+
+/// Whether every part has rows once the region's has.
+pub fn all_found(parts: &[Part], region: RegionId) -> bool
+    ensures { result ≡ list_all (is_found region) parts.now }
+{
+    parts
+        .iter()
+        .all(|part| part.region == region || part.rows.is_some())
+}

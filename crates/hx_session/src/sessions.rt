@@ -1,0 +1,365 @@
+ghost use Rattle.std.specs.Prelude.{◌≡◌, ◌≤◌, ◌+◌, true, false, length, slice_get, IfOk, IsSomeAnd, None, if◌then◌else◌};
+ghost use Rattle.std.specs.List.{All};
+ghost use Rattle.std.specs.Option.{option_copied};
+ghost use Rattle.hx_types.specs.Fitting.{numbered};
+ghost use Rattle.hx_types.specs.Spaces.{Fits, IsSpace};
+ghost use Rattle.hx_model.specs.Schedule.{is_idle};
+ghost use Rattle.hx_model.specs.SessionSteps.{Part as PartSeen, awaits, begin, call_under_way, end_with_parts, ending, found_step, session_at_start, session_install, session_message, session_step, session_tick, staying};
+ghost use Rattle.hx_session.specs.Changes.{IsMade, IsPlanOn, in_config, sent_anew, with_parts};
+ghost use Rattle.hx_session.specs.Sessions.{CanTake, is_ended};
+ghost use Rattle.hx_session.specs.Kinds.{kind_test};
+
+use crate::kinds::{CallKind, is_of};
+use crate::parts::{Part, Parts, all_found, lacking, put_parts};
+use crate::plans::{
+    Change, Made, Plan, Progress, adopt, adopting, begun, ended, kept, polled, unmoved,
+};
+use crate::rows::merged;
+use crate::sending::{Sender, send};
+use hx_region::RegionMap;
+use hx_types::{
+    Actor, Answer, Calls, Config, Entry, Epoch, Exact, Input, Memory, Message, Op, RegionId, Rows,
+    SessionId, Space, Version, first_config,
+};
+use std::alloc::Global;
+use std::marker::Model;
+
+/// A session: a client that makes its calls one after the other. It finds the servers that it
+/// calls by itself, as HyperDex's clients do. Contracts see its space, and its state as the
+/// definitions fold it.
+#[derive(Drop)]
+pub struct Session {
+    id: SessionId,
+    space: Space,
+    map: RegionMap,
+    calls: Calls,
+    config: Config,
+    progress: Progress,
+    parts: Parts,
+}
+
+impl Model for Session {
+    ghost use Rattle.hx_session.specs.Sessions.{SessionValue};
+
+    ghost Value = { SessionValue };
+
+    ghost use Rattle.hx_session.specs.Inside.{IsSession, value_of};
+
+    ghost view = { value_of };
+
+    ghost invariant = { IsSession };
+}
+
+impl Session {
+    /// The session of a number at the start: in the configuration of epoch 1, with no call begun.
+    pub fn start(
+        alloc: Global,
+        space: &Space,
+        id: SessionId,
+        calls: Calls,
+    ) -> Result<Session, Memory>
+        requires space { IsSpace space.now }
+        requires calls { All (Fits space.now) calls }
+        requires few_calls { length calls ≤ 16384 }
+        ensures space { IfOk result (λ session. session.space ≡ space.now) }
+        ensures state { IfOk result (λ session. session.state ≡ session_at_start space.now id calls) }
+    {
+        let map = RegionMap::new(alloc, space)?;
+        let config = first_config(alloc, space)?;
+        let space = space.copy(alloc)?;
+        Ok(Session {
+            id,
+            space,
+            map,
+            calls,
+            config,
+            progress: Progress {
+                begun: 0,
+                under_way: false,
+                sent: false,
+            },
+            parts: Parts::new(alloc),
+        })
+    }
+
+    /// Computes the step that this input makes, and takes all memory that it needs. Nothing
+    /// changes.
+    pub fn prepare(&mut self, alloc: Global, input: &Input) -> Result<Plan, Memory>
+        requires { CanTake self.old.space self.old.state input.now }
+        ensures plan { IfOk result (IsPlanOn self.new) }
+        ensures input { IfOk result (λ plan. plan.entry.input ≡ input.now) }
+        ensures space { self.new.space ≡ self.old.space }
+        ensures state { self.new.state ≡ self.old.state }
+    {
+        let made = self.made(alloc, input)?;
+        let input = input.copy(alloc)?;
+        let entry = Entry {
+            actor: Actor::Session(self.id),
+            input,
+            outputs: made.posts,
+            notes: made.notes,
+        };
+        Ok(Plan {
+            entry,
+            change: made.change,
+        })
+    }
+
+    /// Makes a prepared step, and gives its entry. It takes no memory.
+    pub fn apply(&mut self, plan: Plan) -> Entry
+        requires { IsPlanOn self.old plan }
+        ensures entry { result ≡ plan.entry }
+        ensures space { self.new.space ≡ self.old.space }
+        ensures state { self.new.state ≡ (session_step self.old.space self.old.state plan.entry.input).state }
+    {
+        let Plan { entry, change } = plan;
+        let Change {
+            config,
+            progress,
+            parts,
+        } = change;
+        adopt(&mut self.config, config);
+        self.progress = progress;
+        put_parts(&mut self.parts, parts);
+        entry
+    }
+
+    /// Whether a call is left and none is under way.
+    pub fn idle(&self) -> bool
+        ensures { result ≡ is_idle self.now.state }
+    {
+        !self.progress.under_way && (self.progress.begun as usize) < self.calls.len()
+    }
+
+    /// Whether no call is left and none is under way.
+    pub fn ended(&self) -> bool
+        ensures { result ≡ is_ended self.now.state }
+    {
+        !self.progress.under_way && (self.progress.begun as usize) >= self.calls.len()
+    }
+
+    /// What the step of an input makes.
+    fn made(&self, alloc: Global, input: &Input) -> Result<Made, Memory>
+        requires { CanTake self.now.space self.now.state input.now }
+        ensures { IfOk result (IsMade self.now.state (session_step self.now.space self.now.state input.now)) }
+    {
+        match input {
+            Input::Tick => Ok(self.tick(alloc)?),
+            Input::Deliver { message, .. } => Ok(self.hear(alloc, message)?),
+            Input::Halt => unreachable!(),
+        }
+    }
+
+    /// Its turn: the call under way is sent again, or the next one begins.
+    fn tick(&self, alloc: Global) -> Result<Made, Memory>
+        ensures { IfOk result (IsMade self.now.state (session_tick self.now.space self.now.state)) }
+    {
+        if self.progress.under_way {
+            Ok(self.send_again(alloc)?)
+        } else {
+            Ok(self.begin_next(alloc)?)
+        }
+    }
+
+    /// The call under way is sent again, and the newest configuration is asked for.
+    fn send_again(&self, alloc: Global) -> Result<Made, Memory>
+        requires { self.now.state.under_way ≡ true }
+        ensures { IfOk result (IsMade self.now.state (session_tick self.now.space self.now.state)) }
+    {
+        match self.call(self.progress.begun) {
+            Some(op) => {
+                let sender = self.sender(&self.config, self.progress);
+                let made = send(alloc, &sender, op)?;
+                Ok(polled(self.id, self.config.epoch, made)?)
+            }
+            None => Ok(unmoved(alloc, self.progress)),
+        }
+    }
+
+    /// The next call begins, where one is left.
+    fn begin_next(&self, alloc: Global) -> Result<Made, Memory>
+        requires { self.now.state.under_way ≡ false }
+        ensures { IfOk result (IsMade self.now.state (session_tick self.now.space self.now.state)) }
+    {
+        let number = self.progress.begun + 1;
+        match self.call(number) {
+            Some(op) => Ok(self.begin(alloc, number, op)?),
+            None => Ok(unmoved(alloc, self.progress)),
+        }
+    }
+
+    /// A call begins.
+    fn begin(&self, alloc: Global, number: u32, op: &Op) -> Result<Made, Memory>
+        requires { number ≡ self.now.state.begun + 1 }
+        ensures { IfOk result (IsMade self.now.state (begin self.now.space self.now.state op.now)) }
+    {
+        let progress = Progress {
+            begun: number,
+            under_way: true,
+            sent: false,
+        };
+        let sender = self.sender(&self.config, progress);
+        let made = send(alloc, &sender, op)?;
+        Ok(begun(alloc, number, made)?)
+    }
+
+    /// What a message makes.
+    fn hear(&self, alloc: Global, message: &Message) -> Result<Made, Memory>
+        ensures { IfOk result (IsMade self.now.state (session_message self.now.space self.now.state message.now)) }
+    {
+        match message {
+            Message::Reply {
+                number,
+                version,
+                answer,
+            } => Ok(self.answered(alloc, *number, CallKind::OnKey, *version, answer)?),
+            Message::Outcome { number, answer } => {
+                Ok(self.answered(alloc, *number, CallKind::Administrative, Version(0), answer)?)
+            }
+            Message::Found {
+                epoch,
+                number,
+                region,
+                rows,
+            } => Ok(self.found(alloc, *epoch, *number, *region, rows)?),
+            Message::Install { config } => Ok(self.install(alloc, config)?),
+            _ => Ok(unmoved(alloc, self.progress)),
+        }
+    }
+
+    /// A part of the search under way is kept, where it is the first of its region.
+    fn found(
+        &self,
+        alloc: Global,
+        epoch: Epoch,
+        number: u32,
+        region: RegionId,
+        rows: &Rows,
+    ) -> Result<Made, Memory>
+        ensures { IfOk result (IsMade self.now.state (found_step self.now.state epoch number region rows.now)) }
+    {
+        if !self.awaits(number, CallKind::Search) || epoch.0 != self.config.epoch.0 {
+            return Ok(unmoved(alloc, self.progress));
+        }
+        match lacking(self.parts.as_slice(), region) {
+            Some(place) => Ok(self.keep(alloc, place, region, rows)?),
+            None => Ok(unmoved(alloc, self.progress)),
+        }
+    }
+
+    /// A part is kept; where it is the last, the search ends.
+    fn keep(
+        &self,
+        alloc: Global,
+        place: usize,
+        region: RegionId,
+        rows: &Rows,
+    ) -> Result<Made, Memory>
+        requires { IsSomeAnd (slice_get self.now.state.parts place) (λ (p : PartSeen). p.region ≡ region) }
+        ensures { IfOk result (IsMade self.now.state (end_with_parts (with_parts self.now.state region rows.now))) }
+    {
+        let parts = self.parts.as_slice();
+        if all_found(parts, region) {
+            let rows = merged(alloc, parts, region, rows)?;
+            return ended(alloc, self.progress, Version(0), Answer::Rows(rows));
+        }
+        let rows = rows.copy(alloc)?;
+        let part = Part {
+            region,
+            rows: Some(rows),
+        };
+        Ok(kept(alloc, self.progress, place, part))
+    }
+
+    /// A configuration of a higher epoch is adopted, and a call on a key or a search sent anew.
+    fn install(&self, alloc: Global, config: &Config) -> Result<Made, Memory>
+        ensures { IfOk result (IsMade self.now.state (session_install self.now.space self.now.state config.now)) }
+    {
+        if config.epoch.0 <= self.config.epoch.0 {
+            return Ok(unmoved(alloc, self.progress));
+        }
+        let made = self.send_anew(alloc, config)?;
+        Ok(adopting(alloc, config, made)?)
+    }
+
+    /// A call on a key or a search is sent in another configuration.
+    fn send_anew(&self, alloc: Global, config: &Config) -> Result<Made, Memory>
+        ensures made { IfOk result (IsMade (in_config self.now.state config.now) (sent_anew self.now.space self.now.state config.now)) }
+        ensures config { IfOk result (λ made. made.change.config ≡ None) }
+    {
+        match self.call_under_way() {
+            Some(op) if !is_of(CallKind::Administrative, op) => {
+                let sender = self.sender(config, self.progress);
+                Ok(send(alloc, &sender, op)?)
+            }
+            _ => Ok(unmoved(alloc, self.progress)),
+        }
+    }
+
+    /// The call under way ends with an answer, where it has this number and is of this kind.
+    fn answered(
+        &self,
+        alloc: Global,
+        number: u32,
+        kind: CallKind,
+        version: Version,
+        answer: &Answer,
+    ) -> Result<Made, Memory>
+        ensures { IfOk result (IsMade self.now.state (if awaits self.now.state number (kind_test kind) then ending self.now.state version answer.now else staying self.now.state)) }
+    {
+        if !self.awaits(number, kind) {
+            return Ok(unmoved(alloc, self.progress));
+        }
+        let answer = answer.copy(alloc)?;
+        Ok(ended(alloc, self.progress, version, answer)?)
+    }
+
+    /// Whether the call under way has this number and is of this kind.
+    fn awaits(&self, number: u32, kind: CallKind) -> bool
+        ensures { result ≡ awaits self.now.state number (kind_test kind) }
+    {
+        if number != self.progress.begun {
+            return false;
+        }
+        match self.call_under_way() {
+            Some(op) => is_of(kind, op),
+            None => false,
+        }
+    }
+
+    /// The call under way.
+    fn call_under_way(&self) -> Option<&Op>
+        ensures { option_copied result ≡ call_under_way self.now.state }
+    {
+        if self.progress.under_way {
+            self.call(self.progress.begun)
+        } else {
+            None
+        }
+    }
+
+    /// The call of a number, from 1.
+    fn call(&self, number: u32) -> Option<&Op>
+        ensures { option_copied result ≡ numbered self.now.state.calls number }
+    {
+        let place = number.checked_sub(1)?;
+        self.calls.get(place as usize)
+    }
+
+    /// The session as it sends a call, in a configuration and so far.
+    fn sender<'a>(&'a self, config: &'a Config, progress: Progress) -> Sender<'a>
+        ensures space { result.space.now ≡ self.now.space }
+        ensures map { result.map.now ≡ self.now.space }
+        ensures config { result.config.now ≡ config.now }
+        ensures id { result.id ≡ self.now.state.id }
+        ensures progress { result.progress ≡ progress }
+    {
+        Sender {
+            space: &self.space,
+            map: &self.map,
+            config,
+            id: self.id,
+            progress,
+        }
+    }
+}

@@ -1,0 +1,16 @@
+use Rattle.std.proofs.Common.{◌≡◌, ap, subst, sym, ◌∙◌}
+use Rattle.std.specs.Borrow.{Bor}
+use Rattle.std.specs.List.{All}
+use Rattle.std.proofs.lemmas.Result.{IfOk-weaker}
+use Rattle.hx_slot.specs.States.{SlotState}
+use Rattle.hx_store.specs.Stores.{lent_states}
+use Rattle.hx_store.proofs.Reading.{kept_lent}
+use Rattle.hx_store.proofs.stores.Store.snapshot.Goals as goal
+
+pub returns : goal.returns
+returns c =
+    let is = kept_lent c.args.self.now.region c.as_slice.result.now c.args.self.now.states
+    (subst (All (λ (b : Bor SlotState). b.now.region ≡ c.args.self.now.region)) (sym c.as_slice.ensures.value) c.in_ok-slots.ensures.regions)
+    (ap lent_states c.as_slice.ensures.value ∙ c.in_ok-slots.ensures.states)
+    in
+    IfOk-weaker c.kept_of.result _ _ (λ made e. e ∙ is) c.kept_of.ensures

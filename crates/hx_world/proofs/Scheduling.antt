@@ -1,0 +1,205 @@
+-- Which step the schedule takes next.
+use Rattle.std.proofs.Common.{◌≡◌, ℕ, zero, suc, ◌+◌, ◌<◌, ◌≤◌, inl, inr, Bool, true, false, not, ◌&&◌, List, [], ◌∷◌, ◌++◌, length, Option, Some, None, refl, sym, ap, ◌∙◌, subst, arith, cond, ltb, leb, add-one}
+use Rattle.std.specs.Prelude.{⊤, slice_get, is_some, IsSomeAnd, MatchOption}
+use Rattle.std.specs.Option.{option_map}
+use Rattle.std.proofs.lemmas.Bool.{cond-true, cond-false, cases_eq, and_from, and_parts, and_right, false≢true, le-leb, lt-ltb, ltb-true, not-true}
+use Rattle.hx_types.specs.declared.calls.Op.{Op}
+use Rattle.hx_types.specs.declared.messages.Post.{Post}
+use Rattle.hx_types.specs.declared.messages.PostId.{PostId}
+use Rattle.hx_types.specs.declared.names.Actor.{Actor}
+use Rattle.hx_types.specs.declared.spaces.Space.{Space}
+use Rattle.hx_types.specs.declared.traces.Entry.{Entry}
+use Rattle.hx_types.specs.declared.traces.Script.{Script}
+use Rattle.hx_types.specs.declared.traces.Step.{Step}
+use Rattle.hx_types.specs.declared.traces.Step.TheVariants as a_step
+use Rattle.hx_types.specs.declared.names.Actor.TheVariants.{Session}
+use Rattle.hx_types.specs.declared.traces.Input.TheVariants.{Tick}
+use Rattle.hx_types.specs.Fitting.{numbered}
+use Rattle.hx_types.specs.Words.{below, first_some, when_some}
+use Rattle.hx_model.specs.Runs.{Made, has_halted, is_actor, is_empty, made_of, makes_enough, post_named, session_of}
+use Rattle.hx_model.specs.Schedule as model
+use Rattle.hx_model.specs.Schedule.{Next, StepFault, delivery_of, entry_by, fault_of, first_delivery, idle_among, is_idle, is_worn, next_entry, next_input, step_input, undelivered, with_entry, worn_fault}
+use Rattle.hx_model.specs.SessionSteps.{SessionState, SessionStep, begin, session_step, session_tick, staying}
+use Rattle.hx_steady.proofs.Lists.{in-slice_get}
+use Rattle.hx_world.specs.declared.ends.StepError.{StepError}
+use Rattle.hx_world.specs.declared.ends.StepError.TheVariants as an_error
+use Rattle.hx_world.specs.declared.hosts.Host.{Host}
+use Rattle.hx_world.specs.declared.seats.Seat.{Seat}
+use Rattle.hx_world.specs.Idle.{IsFirstIdle, IsNextStep, IsNoneIdle, is_idle_at}
+use Rattle.hx_world.specs.Invariant.{IsWorldOf, session_at}
+use Rattle.hx_world.specs.Worlds.{Advances, IsWornOut, Refuses, Steps}
+use Rattle.hx_world.proofs.Naming.{waiting_named}
+use Rattle.hx_world.proofs.Seating.{item_at}
+use Rattle.hx_world.proofs.Stepping.{delivery_fault, not_idle, tick_fault}
+use Rattle.hx_world.proofs.Taking.{running_here}
+
+-- the turn of the session of a place
+abbrev tick_of : ℕ → Next
+tick_of place = record { actor = Session (session_at place); input = Tick }
+
+module _ (script : Script) (t : List Entry) where
+  abbrev idle_at : ℕ → Bool
+  idle_at place = is_idle (session_of script (session_at place) t)
+
+  idle-append : (xs ys : List ℕ) → idle_among script t (xs ++ ys) ≡ first_some (idle_among script t xs) (idle_among script t ys)
+  idle-append [] ys = refl
+  idle-append (n ∷ xs) ys = by (idle_at n) refl (idle-append xs ys)
+    where
+      by : (b : Bool) → idle_at n ≡ b → idle_among script t (xs ++ ys) ≡ first_some (idle_among script t xs) (idle_among script t ys)
+          → idle_among script t ((n ∷ xs) ++ ys) ≡ first_some (idle_among script t (n ∷ xs)) (idle_among script t ys)
+      by true e rest = rw e refl
+      by false e rest = rw e rest
+
+  none_below : (n : ℕ) → ((j : ℕ) → j < n → idle_at j ≡ false) → idle_among script t (below n) ≡ None
+  none_below zero f = refl
+  none_below (suc n) f =
+      let before = none_below n (λ j l. f j (omega (arith, l))) in
+      idle-append (below n) (n ∷ [])
+      ∙ ap (λ (o : Option Next). first_some o (idle_among script t (n ∷ []))) before
+      ∙ cond-false (idle_at n) (Some (tick_of n)) None (f n (omega arith))
+
+  first_below : (n place : ℕ) → place < n → idle_at place ≡ true → ((j : ℕ) → j < place → idle_at j ≡ false) → idle_among script t (below n) ≡ Some (tick_of place)
+  first_below zero place within here f = absurd (omega arith)
+  first_below (suc n) place within here f =
+      elim (cases_eq place n) [
+        | inl e ↦
+            (
+            idle-append (below n) (n ∷ [])
+            ∙ ap (λ (o : Option Next). first_some o (idle_among script t (n ∷ []))) (none_below n (λ j l. f j (omega (arith, l, e))))
+            ∙ cond-true (idle_at n) (Some (tick_of n)) None (ap idle_at (sym e) ∙ here)
+            ∙ ap (λ k. Some (tick_of k)) (sym e)
+            )
+        | inr e ↦
+            (
+            idle-append (below n) (n ∷ [])
+            ∙ ap (λ (o : Option Next). first_some o (idle_among script t (n ∷ []))) (first_below n place (let l : place < n = omega (arith, within, e) in l) here f)
+            )
+      ]
+
+-- an idle session's tick makes something
+idle_makes : (space : Space) (s : SessionState) → is_idle s ≡ true → let step = session_step space s Tick in makes_enough Tick (record { posts = step.posts; notes = step.notes }) ≡ true
+idle_makes space s e =
+    let parts = and_parts (not s.under_way) (ltb s.begun (length s.calls)) e in
+    let off = not-true s.under_way parts.0 in
+    let op = item_at s.calls s.begun (ltb-true s.begun (length s.calls) parts.1) in
+    let found : numbered s.calls (s.begun + 1) ≡ Some op.0 = rw add-one op.1 in
+    let ticks : session_tick space s ≡ begin space s op.0 =
+    cond-false s.under_way _ (when_some (numbered s.calls (s.begun + 1)) (staying s) (begin space s)) off
+    ∙ ap (λ (o : Option Op). when_some o (staying s) (begin space s)) found in
+    ap (λ (x : SessionStep). not (is_empty x.posts && is_empty x.notes)) ticks
+    ∙ ap not (and_right (is_empty (begin space s op.0).posts) false refl)
+
+first_of : (names : List PostId) (id : PostId) → slice_get names 0 ≡ Some id → (rest : List PostId) × (names ≡ id ∷ rest)
+first_of [] id e = cc
+first_of (x ∷ rest) id e = (rest, (let same : x ≡ id = cc in ap (λ (y : PostId). y ∷ rest) same))
+
+nothing_first : (names : List PostId) → slice_get names 0 ≡ None → names ≡ []
+nothing_first [] e = refl
+nothing_first (x ∷ rest) e = cc
+
+module _ (script : Script) (t : List Entry) (hosts : List Host) (seats : List Seat) (coordinated : ℕ) (waiting : List PostId) (w : IsWorldOf script t hosts seats coordinated waiting) where
+  -- the first post that waits is delivered next
+  pub delivery_next : (id : PostId) → slice_get waiting 0 ≡ Some id → IsNextStep script t (a_step.Deliver id)
+  delivery_next id first =
+      let waits : slice_get (undelivered t) 0 ≡ Some id = ap (λ (l : List PostId). slice_get l 0) (sym w.waiting_is) ∙ first in
+      let named = waiting_named t id (in-slice_get (undelivered t) 0 id waits) in
+      let p = named.0 in
+      let names = first_of (undelivered t) id waits in
+      let next = delivery_of id p in
+      let delivery : first_delivery script t (undelivered t) ≡ Some next =
+      ap (λ (l : List PostId). first_delivery script t l) names.1
+      ∙ ap (λ (o : Option Post). when_some o (first_delivery script t names.0) (λ (x : Post). cond (has_halted script t x.to) (first_delivery script t names.0) (Some (delivery_of id x)))) named.1
+      ∙ cond-false (has_halted script t p.to) (first_delivery script t names.0) (Some next) (running_here script t w.calm p.to) in
+      record {
+        next = next;
+        is_next = ap (λ (o : Option Next). first_some o (idle_among script t (below (length script.sessions)))) delivery;
+        input = ap (λ (o : Option Post). option_map (delivery_of id) o) named.1;
+        taken = tt;
+        fault = delivery_fault script t w.calm id p named.1;
+      }
+
+  -- whether the session of a place is idle
+  idle_is : (place : ℕ) → place < length seats → is_idle (session_of script (session_at place) t) ≡ is_idle_at seats place
+  idle_is place within =
+      let here = item_at seats place within in
+      let at = w.seats_are.each place here.0 here.1 in
+      ap is_idle (sym at.state) ∙ sym (ap (λ (o : Option Seat). when_some o false (λ (s : Seat). is_idle s.session.state)) here.1)
+
+  idles_next : slice_get waiting 0 ≡ None → next_input script t ≡ idle_among script t (below (length seats))
+  idles_next none =
+      ap (λ (names : List PostId). first_some (first_delivery script t names) (idle_among script t (below (length script.sessions)))) (sym w.waiting_is ∙ nothing_first waiting none)
+      ∙ ap (λ n. idle_among script t (below n)) (sym w.seats_are.count)
+
+  -- else the lowest idle session begins its next call
+  pub tick_next : slice_get waiting 0 ≡ None → (place : ℕ) → IsFirstIdle seats place → IsNextStep script t (a_step.Tick (Session (session_at place)))
+  tick_next none place first =
+      let within = first.within in
+      let count = w.seats_are.count in
+      let is_idle_here : is_idle (session_of script (session_at place) t) ≡ true = idle_is place first.within ∙ first.idle in
+      let enough = idle_makes script.space (session_of script (session_at place) t) is_idle_here in
+      record {
+        next = tick_of place;
+        is_next = idles_next none ∙ first_below script t (length seats) place first.within is_idle_here (λ j l. idle_is j (omega (arith, l, within)) ∙ first.lowest j l);
+        input = refl;
+        taken = and_from (ltb 0 (place + 1)) (leb (place + 1) (length script.sessions)) (lt-ltb 0 (place + 1) (omega arith)) (le-leb (place + 1) (length script.sessions) (omega (arith, within, count)));
+        fault =
+            tick_fault script t w.calm (Session (session_at place))
+            ∙ ap (λ (o : Option StepFault). first_some o (worn_fault t (Session (session_at place)))) (not_idle script t w.calm (Session (session_at place)) enough);
+      }
+
+  -- else there is no next step
+  pub none_next : slice_get waiting 0 ≡ None → IsNoneIdle seats → next_input script t ≡ None
+  none_next none idle = idles_next none ∙ none_below script t (length seats) (λ j l. idle_is j l ∙ idle j l)
+
+-- the next step was made
+pub advanced : (script : Script) (old new : List Entry) (step : Step) → IsNextStep script old step → Steps script old new step → Advances script old new true
+advanced script old new step n s = record {
+  trace = s.trace ∙ ap (λ (o : Option Next). with_entry old (option_map (entry_by script old) o)) (n.input ∙ sym n.is_next);
+  told = sym (ap (λ (o : Option Next). is_some (option_map (entry_by script old) o)) n.is_next);
+}
+
+-- there was none
+pub rested : (script : Script) (t : List Entry) → next_input script t ≡ None → Advances script t t false
+rested script t none = record {
+  trace = sym (ap (λ (o : Option Next). with_entry t (option_map (entry_by script t) o)) none);
+  told = sym (ap (λ (o : Option Next). is_some (option_map (entry_by script t) o)) none);
+}
+
+worn_by : (b : Bool) (a x : Actor) → cond b (Some (model.Worn a)) None ≡ Some (model.Worn x) → (b ≡ true) × (a ≡ x)
+worn_by true a x e = (refl, cc)
+worn_by false a x e = cc
+
+-- only a worn actor stands in its way
+pub worn_out : (script : Script) (t : List Entry) (step : Step) (a : Actor) → IsNextStep script t step → Refuses script t step (an_error.Worn a) → IsWornOut script t a
+worn_out script t step a n r =
+    let h = worn_by (is_worn n.next.actor t) n.next.actor a (sym n.fault ∙ r) in
+    record {
+      next = subst (λ (o : Option Next). IsSomeAnd (option_map (entry_by script t) o) (λ (x : Entry). x.actor ≡ a)) (sym n.is_next) h.1;
+      worn = subst (λ (x : Actor). is_worn x t ≡ true) h.1 h.0;
+    }
+
+-- no other error comes
+abbrev pub IsOther : StepError → Type 0
+IsOther an_error.Memory = ⊥
+IsOther an_error.Unsent = ⊤
+IsOther an_error.Halted = ⊤
+IsOther an_error.NotServer = ⊤
+IsOther an_error.Idle = ⊤
+IsOther (an_error.Worn a) = ⊥
+
+no_fault : (b : Bool) (a : Actor) (f : StepFault) → ((x : Actor) → f ≡ model.Worn x → ⊥) → cond b (Some (model.Worn a)) None ≡ Some f → ⊥
+no_fault true a f other e = other a (let same : f ≡ model.Worn a = cc in same)
+no_fault false a f other e = cc
+
+pub no_other : (script : Script) (t : List Entry) (step : Step) (e : StepError) → IsNextStep script t step → Refuses script t step e → IsOther e → ⊥
+no_other script t step an_error.Memory n r o = o
+no_other script t step an_error.Unsent n r o = no_fault (is_worn n.next.actor t) n.next.actor model.Unsent (λ x e. cc) (sym n.fault ∙ r)
+no_other script t step an_error.Halted n r o = no_fault (is_worn n.next.actor t) n.next.actor model.Halted (λ x e. cc) (sym n.fault ∙ r)
+no_other script t step an_error.NotServer n r o = no_fault (is_worn n.next.actor t) n.next.actor model.NotServer (λ x e. cc) (sym n.fault ∙ r)
+no_other script t step an_error.Idle n r o = no_fault (is_worn n.next.actor t) n.next.actor model.Idle (λ x e. cc) (sym n.fault ∙ r)
+no_other script t step (an_error.Worn a) n r o = o
+
+-- whether there is a next entry
+pub next_told : (script : Script) (t : List Entry) (step : Option Step) → MatchOption step (next_input script t ≡ None) (IsNextStep script t) → is_some step ≡ is_some (next_entry script t)
+next_told script t None none = sym (ap (λ (o : Option Next). is_some (option_map (entry_by script t) o)) none)
+next_told script t (Some step) n = sym (ap (λ (o : Option Next). is_some (option_map (entry_by script t) o)) n.is_next)

@@ -1,0 +1,39 @@
+use Rattle.std.proofs.Common.{◌≡◌, Some, rules, sym, ap, ◌∙◌, subst}
+use Rattle.std.specs.Option.{option_copied}
+use Rattle.std.specs.Prelude.{reverse}
+use Rattle.hx_types.specs.declared.traces.Input.{Input}
+use Rattle.hx_model.specs.Runs.{post_named}
+use Rattle.hx_world.specs.Turns.{HasNoTurn, HasTurn}
+use Rattle.hx_world.proofs.Stepping.{delivered, may_take, not_delivered, unsent}
+use Rattle.hx_world.proofs.Taking.{actor_here}
+use Rattle.hx_world.proofs.steps.deliver.Goals as goal
+
+pub returns-in_default-clause-refused : goal.returns-in_default-clause-refused
+returns-in_default-clause-refused c =
+    unsent c.args.script.now (reverse c.args.log.now.trace) c.requires.world.calm c.args.id (sym c.sent_post.ensures ∙ ap option_copied c.in_default.is)
+
+pub give-requires-clause-actor : goal.give-requires-clause-actor
+give-requires-clause-actor c =
+    actor_here c.args.script.now (reverse c.args.log.now.trace) c.requires.world.calm c.args.id c.in-Some.post.now (sym c.sent_post.ensures ∙ ap option_copied c.in-Some.is)
+
+pub give-requires-clause-may : goal.give-requires-clause-may
+give-requires-clause-may c =
+    (may_take (reverse c.args.log.now.trace) c.args.id c.in-Some.post.now c.in_ok-input.input (sym c.sent_post.ensures ∙ ap option_copied c.in-Some.is) c.in_ok-input.ensures).0
+
+pub give-requires-clause-still : goal.give-requires-clause-still
+give-requires-clause-still c =
+    (may_take (reverse c.args.log.now.trace) c.args.id c.in-Some.post.now c.in_ok-input.input (sym c.sent_post.ensures ∙ ap option_copied c.in-Some.is) c.in_ok-input.ensures).1
+
+pub returns-in_err-give-clause-refused : goal.returns-in_err-give-clause-refused
+returns-in_err-give-clause-refused c =
+    let named : post_named c.args.id (reverse c.args.log.now.trace) ≡ Some c.in-Some.post.now = sym c.sent_post.ensures ∙ ap option_copied c.in-Some.is in
+    let why =
+    not_delivered c.args.script.now (reverse c.args.log.now.trace) c.requires.world.calm c.args.id c.in-Some.post.now named c.in_err-give.field-0.0
+    (subst (λ (x : Input). HasNoTurn c.args.script.now (reverse c.args.log.now.trace) c.in-Some.post.now.to x c.in_err-give.field-0.0) c.in_ok-input.ensures c.in_err-give.ensures.err) in
+    search (rules, why)
+
+pub returns-clause-ok : goal.returns-clause-ok
+returns-clause-ok c =
+    let named : post_named c.args.id (reverse c.args.log.now.trace) ≡ Some c.in-Some.post.now = sym c.sent_post.ensures ∙ ap option_copied c.in-Some.is in
+    delivered c.args.script.now (reverse c.args.log.now.trace) c.requires.world.calm (reverse c.give.new.log.trace) c.args.id c.in-Some.post.now named
+    (subst (λ (x : Input). HasTurn c.args.script.now (reverse c.args.log.now.trace) (reverse c.give.new.log.trace) c.in-Some.post.now.to x) c.in_ok-input.ensures c.in_ok-give.ensures.ok)

@@ -1,0 +1,33 @@
+ghost use Rattle.std.specs.Prelude.{◌≡◌, IfErr, OnOk, not};
+ghost use Rattle.hx_world.specs.Turns.{IsAdmitted, IsBarred, is_enough};
+
+use crate::ends::StepError;
+use hx_types::{Entry, Input};
+
+/// How many entries an actor may make.
+const MOST_ENTRIES: u32 = 1_048_576;
+
+/// Whether an actor that has made so many entries may make this one: a tick has to make something,
+/// and no actor makes more than 1,048,576 entries.
+pub fn admit(entry: &Entry, entries: u32) -> Result<(), StepError>
+    ensures ok { OnOk result (IsAdmitted entry.now entries) }
+    ensures err { IfErr result (IsBarred entry.now entries) }
+{
+    if is_idle(entry) {
+        return Err(StepError::Idle);
+    }
+    if entries >= MOST_ENTRIES {
+        return Err(StepError::Worn(entry.actor));
+    }
+    Ok(())
+}
+
+/// Whether the entry is a tick that makes nothing.
+fn is_idle(entry: &Entry) -> bool
+    ensures { result ≡ not (is_enough entry.now) }
+{
+    match entry.input {
+        Input::Tick => entry.outputs.is_empty() && entry.notes.is_empty(),
+        _ => false,
+    }
+}
