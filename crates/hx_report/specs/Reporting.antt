@@ -1,5 +1,5 @@
--- The text of a report: the space, the begun calls, the histories of keys and the epochs; traces stand newest first.
-use Rattle.std.specs.Prelude.{◌≡◌, ℕ, List, [], ◌∷◌, ◌++◌, map, reverse, length, codes, Option, None, Some}
+-- The text of a report: the space, the begun calls, the histories of keys, the epochs and the lines of the trace; traces stand newest first.
+use Rattle.std.specs.Prelude.{◌≡◌, ℕ, Bool, List, [], ◌∷◌, ◌++◌, map, reverse, length, codes, Option, None, Some}
 use Rattle.std.specs.List.{flat_map}
 use Rattle.std.specs.Fmt.{decimal}
 use Rattle.hx_types.specs.declared.calls.Answer.{Answer}
@@ -27,6 +27,7 @@ use Rattle.hx_model.specs.Histories.{records_of}
 use Rattle.hx_print.specs.Printing.{named_text, op_text, quoted, space_text}
 use Rattle.hx_history.specs.declared.key_histories.KeyHistory.{KeyHistory}
 use Rattle.hx_history.specs.Listed.{AreHistories}
+use Rattle.hx_report.specs.Tracing.{trace_text}
 
 -- ` N=V` for each attribute
 unfoldable pub object_text : List Attribute → List Value → List ℕ
@@ -164,18 +165,22 @@ entry_lines x = flat_map note_lines x.notes
 unfoldable pub epochs_text : Script → List Entry → List ℕ
 epochs_text script trace = epoch_line (first_config script.space) ++ flat_map entry_lines (reverse trace)
 
--- the report of a trace, with the histories that it has
-unfoldable pub report_text : Script → List Entry → List KeyHistory → List ℕ
-report_text script trace listed =
-    codes "report 1\n"
-    ++ space_text script.space
+-- the first line, and those of the space
+unfoldable pub head_text : Space → List ℕ
+head_text space = codes "report 1\n" ++ space_text space
+
+-- the report of a trace, with the histories that it has, and with the lines of the trace where they are wanted
+unfoldable pub report_text : Script → List Entry → List KeyHistory → Bool → List ℕ
+report_text script trace listed with_trace =
+    head_text script.space
     ++ flat_map (record_lines script) (records_of script trace)
     ++ flat_map (history_lines script.space) listed
     ++ epochs_text script trace
+    ++ trace_text with_trace trace
     ++ codes "end\n"
 
 -- the bytes are the report of the trace with all its histories
-pub record IsReport (script : Script) (trace : List Entry) (bytes : List ℕ) : Type 0 where
+pub record IsReport (script : Script) (trace : List Entry) (bytes : List ℕ) (with_trace : Bool) : Type 0 where
   pub listed : List KeyHistory
   pub histories : AreHistories script trace listed
-  pub text : bytes ≡ report_text script trace listed
+  pub text : bytes ≡ report_text script trace listed with_trace
