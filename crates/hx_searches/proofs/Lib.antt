@@ -2,3 +2,4 @@ pub mod Lines
 pub mod Placed
 pub mod Passing
 pub mod Moves
+pub mod Chains

@@ -7,7 +7,7 @@ use Rattle.hx_types.specs.declared.spaces.Space.{Space}
 use Rattle.hx_types.specs.declared.updates.Place.{Place}
 use Rattle.hx_types.specs.declared.updates.Update.{Update}
 use Rattle.hx_types.specs.declared.values.Value.{Value}
-use Rattle.hx_types.specs.Words.{IsIn, same_region, when_some}
+use Rattle.hx_types.specs.Words.{IsIn, below, same_region, when_some}
 use Rattle.hx_types.specs.Spaces.{IsSpace}
 use Rattle.hx_model.specs.Regions.{key_region, place_of}
 use Rattle.hx_model.specs.Places.{declared_subspaces, key_place, lies_in, place_after, places_of}
@@ -99,7 +99,7 @@ follows-line space key (x ∷ us) all g u v (inr i) a =
 -- a declared subspace is one of the space
 pub declared-count : (space : Space) (s : ℕ) → IsIn s (declared_subspaces space) → s < subspace_count space
 declared-count space s i =
-    let d = in-map (λ n. n + 1) (Rattle.hx_types.specs.Words.below (length space.subspaces)) s i in
+    let d = in-map (λ n. n + 1) (below (length space.subspaces)) s i in
     let l = in-below (length space.subspaces) d.0 d.1 in
     let e : s ≡ d.0 + 1 = d.2 in omega (arith, l, e)
 
