@@ -3,3 +3,5 @@ pub mod Placed
 pub mod Passing
 pub mod Moves
 pub mod Chains
+pub mod Slots
+pub mod Assigned
