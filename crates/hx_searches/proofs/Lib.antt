@@ -5,3 +5,5 @@ pub mod Moves
 pub mod Chains
 pub mod Slots
 pub mod Assigned
+pub mod Turns
+pub mod ServerTurns

@@ -57,12 +57,12 @@ pub record Later (key : List ℕ) (line : List Update) (g : RegionId) (A : Updat
   pub floor_up : t.floor ≤ later.floor
 
 -- what a move promises once it is made
-abbrev pub Promise : List Update → KeyState → Move → Type 0
-Promise line t (Take u) = IsIn u line
-Promise line t (Commit u) = IsIn u line × (u.version.0 ≤ t.floor)
-Promise line t (Hold u) = ⊤
-Promise line t (Acknowledge v) = ⊤
-Promise line t Forget = ⊤
+abbrev pub Promise : List Update → RegionId → KeyState → Move → Type 0
+Promise line g t (Take u) = IsIn u line
+Promise line g t (Commit u) = IsIn u line × (has_place g u ≡ true) × (u.version.0 ≤ t.floor)
+Promise line g t (Hold u) = ⊤
+Promise line g t (Acknowledge v) = ⊤
+Promise line g t Forget = ⊤
 
 -- an update that follows has that version before it
 follows-after : (g : RegionId) (v : ℕ) (u : Update) → follows g v u ≡ true → after_at g u ≡ Some v
@@ -191,19 +191,19 @@ module _ (key : List ℕ) (line : List Update) (g : RegionId) (A : Update → Ty
       record { own = r.own; keeps = λ w i. r.keeps w (l.keeps w i); floor_up = omega (arith, l.floor_up, r.floor_up) }
 
   -- a move that was made holds its promise after all of them
-  pub promised : (ms : List Move) (t : KeyState) → Own key line g A t → AllAllowed line g A t ms → (m : Move) → IsIn m ms → Promise line (moved_all ms t) m
+  pub promised : (ms : List Move) (t : KeyState) → Own key line g A t → AllAllowed line g A t ms → (m : Move) → IsIn m ms → Promise line g (moved_all ms t) m
   promised [] t own a m i = absurd i
   promised (x ∷ ms) t own a m (inr i) = promised ms (moved x t) (later-one t x own a.0).own a.1 m i
   promised (x ∷ ms) t own a m (inl e) =
       let l = later-one t x own a.0 in
       let r = later-all ms (moved x t) l.own a.1 in
-      subst (Promise line (moved_all ms (moved x t))) (sym e) (kept x a.0 r.floor_up)
+      subst (Promise line g (moved_all ms (moved x t))) (sym e) (kept x a.0 r.floor_up)
     where
-      kept : (x : Move) → Allowed line g A t x → (moved x t).floor ≤ (moved_all ms (moved x t)).floor → Promise line (moved_all ms (moved x t)) x
+      kept : (x : Move) → Allowed line g A t x → (moved x t).floor ≤ (moved_all ms (moved x t)).floor → Promise line g (moved_all ms (moved x t)) x
       kept (Take u) a l = a.0
       kept (Hold u) a l = tt
       kept (Acknowledge v) a l = tt
-      kept (Commit u) a l = ((accepted-in t u own a.0).0, l)
+      kept (Commit u) a l = (let b = accepted-in t u own a.0 in (b.0, b.1, l))
       kept Forget a l = tt
 
   -- allowed moves one list after another
