@@ -7,3 +7,4 @@ pub mod Slots
 pub mod Assigned
 pub mod Turns
 pub mod ServerTurns
+pub mod Asking
