@@ -262,10 +262,6 @@ module _ (space : Space) (Known : ℕ → RegionId → List Row → Type 0) wher
   finds : (s : SessionState) → HasParts s → (epoch : Epoch) (number : ℕ) (g : RegionId) (rows : List Row) → Known number g rows → SearchTurn s (found_step s epoch number g rows)
   finds s h epoch number g rows known = by (awaits s number is_search && eqb epoch.0 s.config.epoch.0 && list_any (lacks_part g) s.parts) refl
     where
-      -- the session with the rows
-      with-rows : SessionState
-      with-rows = record s { parts = map (with_part g rows) s.parts }
-
       taken : (number ≡ s.begun) → HasParts (record s { parts = map (with_part g rows) s.parts })
       taken e terms w c =
           let old = h terms w c in

@@ -5,6 +5,7 @@ pub mod Moves
 pub mod Chains
 pub mod Slots
 pub mod Assigned
+pub mod Texts
 pub mod Turns
 pub mod ServerTurns
 pub mod Asking

@@ -46,6 +46,7 @@ use Rattle.hx_steady.proofs.Turns.{Stands, noted, spot_in, standing}
 use Rattle.hx_searches.proofs.Lines.{more_push, more_same}
 use Rattle.hx_searches.proofs.Placed.{AllMade, Made}
 use Rattle.hx_searches.proofs.Moves.{AllAllowed, Own, accepting-allowed, acknowledged-allowed, offered-allowed, own_rely}
+use Rattle.hx_searches.proofs.Texts.{Ascend, state_key}
 use Rattle.hx_searches.proofs.Slots.{Freed, KeyOk, following, sorted, version-low}
 use Rattle.hx_searches.proofs.Assigned.{assigned-made, noted-assigned}
 use Rattle.hx_searches.proofs.Turns.{Grown, Says, Turn, acking, moves-say, passed-placed, saying-turn, slot-is, slot-turn, slot-was}
@@ -73,14 +74,14 @@ Heard space L F to (a_message.Poll epoch) = ⊤
 module _ (space : Space) (valid : IsSpace space) (s : ServerId) (rs : List Replica) (L : List ℕ → List Update) (F : List ℕ → RegionId → ServerId → KeyState)
     (Asked : Actor → ℕ → List Term → Type 0)
     (ok : (key : List ℕ) → KeyOk space key (L key) (F key)) (same : (key : List ℕ) (g : RegionId) → F key g s ≡ slot_in space g key (standing space s rs))
-    (stands : Stands space s rs L) where
+    (stands : Stands space s rs L) (ordered : (r : Replica) → IsIn r rs → Ascend state_key r.states) where
   -- each replica is listed
   pub listed : (g : RegionId) (r : Replica) → replica_of g rs ≡ Some r → lists (first_config space) g s ≡ true
   listed g r found = let f = replica-found g rs r found in subst (λ (h : RegionId). lists (first_config space) h s ≡ true) f.1 (stands.still r f.0).listed
 
   -- a step of the server that is a turn
   abbrev pub IsTurn : ServerStep → Type 0
-  IsTurn step = Turn space valid s rs L F Asked ok same listed step
+  IsTurn step = Turn space valid s rs L F Asked ok same listed ordered step
 
   -- the server's state before
   abbrev pub state : ServerState
@@ -88,7 +89,7 @@ module _ (space : Space) (valid : IsSpace space) (s : ServerId) (rs : List Repli
 
   -- nothing happens
   unmoved-turn : IsTurn (unmoved state)
-  unmoved-turn = saying-turn space valid s rs L F Asked ok same listed [] (λ p i. absurd i)
+  unmoved-turn = saying-turn space valid s rs L F Asked ok same listed ordered [] (λ p i. absurd i)
 
   -- what holds at the region asked for holds at the replica's own
   at-own-region : (g : RegionId) (r : Replica) → replica_of g rs ≡ Some r → (P : RegionId → Type 0) → P g → P r.region
@@ -107,9 +108,9 @@ module _ (space : Space) (valid : IsSpace space) (s : ServerId) (rs : List Repli
   quiet-turn : (g : RegionId) (r : Replica) → replica_of g rs ≡ Some r → (key : List ℕ) (ms : List Move) → AllAllowed (L key) g (Freed space (F key) g s) (state_in space r key) ms
       → IsTurn (at_slot state r (state_in space r key) (by_moves (spot_in space s g) ms))
   quiet-turn g r found key ms allowed =
-      let a = subst (λ (t : KeyState). AllAllowed (L key) g (Freed space (F key) g s) t ms) (sym (slot-was space valid s rs L F Asked ok same listed g r found key ms [] (inl refl) (λ j n. refl) (allowed-at g r found key ms allowed))) allowed in
-      slot-turn space valid s rs L F Asked ok same listed g r found key ms [] (inl refl) (λ j n. refl) a (flat_map (move_posts (spot_in space s g)) ms)
-      (moves-say space valid s rs L F Asked ok same listed g r found key ms [] (inl refl) (λ j n. refl) a (flat_map (move_posts (spot_in space s g)) ms))
+      let a = subst (λ (t : KeyState). AllAllowed (L key) g (Freed space (F key) g s) t ms) (sym (slot-was space valid s rs L F Asked ok same listed ordered g r found key ms [] (inl refl) (λ j n. refl) (allowed-at g r found key ms allowed))) allowed in
+      slot-turn space valid s rs L F Asked ok same listed ordered g r found key ms [] (inl refl) (λ j n. refl) a (flat_map (move_posts (spot_in space s g)) ms)
+      (moves-say space valid s rs L F Asked ok same listed ordered g r found key ms [] (inl refl) (λ j n. refl) a (flat_map (move_posts (spot_in space s g)) ms))
     where
       allowed-at : (g : RegionId) (r : Replica) → replica_of g rs ≡ Some r → (key : List ℕ) (ms : List Move) → AllAllowed (L key) g (Freed space (F key) g s) (state_in space r key) ms → AllAllowed (L key) g (Freed space (F key) g s) (F key g s) ms
       allowed-at g r found key ms h = subst (λ (t : KeyState). AllAllowed (L key) g (Freed space (F key) g s) t ms) (sym (same key g ∙ slot-found space g key state r found)) h
@@ -119,8 +120,8 @@ module _ (space : Space) (valid : IsSpace space) (s : ServerId) (rs : List Repli
       → ((st : ServerState) → slot_in space g key st ≡ F key g s → (p : Post) → IsIn p posts → Says space s rs Asked L st p.to p.message)
       → IsTurn (at_slot state r (state_in space r key) (by_posts posts))
   posts-turn g r found key posts f =
-      slot-turn space valid s rs L F Asked ok same listed g r found key [] [] (inl refl) (λ j n. refl) tt posts
-      (f (at_slot state r (state_in space r key) (by_posts posts)).state (slot-is space valid s rs L F Asked ok same listed g r found key [] [] (inl refl) (λ j n. refl) tt posts))
+      slot-turn space valid s rs L F Asked ok same listed ordered g r found key [] [] (inl refl) (λ j n. refl) tt posts
+      (f (at_slot state r (state_in space r key) (by_posts posts)).state (slot-is space valid s rs L F Asked ok same listed ordered g r found key [] [] (inl refl) (λ j n. refl) tt posts))
 
   -- what the slot of a replica that is found relies on
   own-at : (g : RegionId) (r : Replica) → replica_of g rs ≡ Some r → (key : List ℕ) → Own key (L key) g (Freed space (F key) g s) (state_in space r key)
@@ -136,7 +137,7 @@ module _ (space : Space) (valid : IsSpace space) (s : ServerId) (rs : List Repli
       (λ (step : SlotStep). IsTurn (at_slot state r t step))
       (λ b. posts-turn g r found u.key (known_to (spot_in space s g) t u)
       (λ st e p j. let k = in-provided (leb u.version.0 t.floor) _ p j in
-      acking space valid s rs L F Asked ok same listed L st (λ key. (ok key).made) (λ key. (ok key).present) g (listed g r found) u i placed
+      acking space valid s rs L F Asked ok same listed ordered L st (λ key. (ok key).made) (λ key. (ok key).present) g (listed g r found) u i placed
       (subst (λ (y : KeyState). u.version.0 ≤ y.floor) (sym (e ∙ same u.key g ∙ slot-found space g u.key state r found)) (leb-true u.version.0 t.floor k.0)) p k.1))
       (
       λ b. quiet-turn g r found u.key (accepting (spot_in space s g) t (offered g t u))
@@ -195,8 +196,8 @@ module _ (space : Space) (valid : IsSpace space) (s : ServerId) (rs : List Repli
       let a : AllAllowed (noted L (a_note.Assigned u ∷ []) key) g (Freed space (F key) g s) (F key g s) ms =
       subst (λ (x : List Update). AllAllowed x g (Freed space (F key) g s) (F key g s) ms) (sym line)
       (subst (λ (y : KeyState). AllAllowed (u ∷ L key) g (Freed space (F key) g s) y ms) (sym (same key g ∙ slot-found space g key state r found)) allowed) in
-      slot-turn space valid s rs L F Asked ok same listed g r found key ms (a_note.Assigned u ∷ []) grown others a (flat_map (move_posts (spot_in space s g)) ms)
-      (moves-say space valid s rs L F Asked ok same listed g r found key ms (a_note.Assigned u ∷ []) grown others a (flat_map (move_posts (spot_in space s g)) ms))
+      slot-turn space valid s rs L F Asked ok same listed ordered g r found key ms (a_note.Assigned u ∷ []) grown others a (flat_map (move_posts (spot_in space s g)) ms)
+      (moves-say space valid s rs L F Asked ok same listed ordered g r found key ms (a_note.Assigned u ∷ []) grown others a (flat_map (move_posts (spot_in space s g)) ms))
 
   -- a reply says nothing of slots
   reply-turn : (g : RegionId) (r : Replica) → replica_of g rs ≡ Some r → (key : List ℕ) (caller : Caller) (version answer : _)
@@ -275,7 +276,7 @@ module _ (space : Space) (valid : IsSpace space) (s : ServerId) (rs : List Repli
       → IsTurn (asked state from epoch number terms o)
   asked-turn from epoch number terms was g None f = unmoved-turn
   asked-turn from epoch number terms was g (Some r) f =
-      saying-turn space valid s rs L F Asked ok same listed _
+      saying-turn space valid s rs L F Asked ok same listed ordered _
       (λ p i. elim (in-provided (lists_ready (first_config space) r.region s) (post (Server s) from (a_message.Found epoch number r.region (found_in r.region terms r.states)) ∷ []) p i).1 [
         | inl e ↦ subst (λ (q : Post). Says space s rs Asked L state q.to q.message) (sym e)
             (record { terms = terms; asked = was; replica = r; found = at-own-region g r (f r refl) (λ (h : RegionId). replica_of h rs ≡ Some r) (f r refl); rows_are = refl })
@@ -318,7 +319,7 @@ module _ (space : Space) (valid : IsSpace space) (s : ServerId) (rs : List Repli
       from-pending k =
           let a = in-flat_map (λ (t : KeyState). flat_map (passed_on (spot_in space s r.region)) (pending_of t)) r.states p k in
           let b = in-flat_map (passed_on (spot_in space s r.region)) (pending_of a.0) p a.2 in
-          passed-placed space valid s rs L F Asked ok same listed (spot_in space s r.region) refl b.0 p b.2 L state
+          passed-placed space valid s rs L F Asked ok same listed ordered (spot_in space s r.region) refl b.0 p b.2 L state
 
       by : IsIn p (snap_posts state r ++ pending_posts (spot_in space s r.region) r.states ++ ready_post state r.region) → Says space s rs Asked L state p.to p.message
       by k = elim (in-append (snap_posts state r ++ pending_posts (spot_in space s r.region) r.states) (ready_post state r.region) p k) [
@@ -328,4 +329,4 @@ module _ (space : Space) (valid : IsSpace space) (s : ServerId) (rs : List Repli
 
   -- a tick
   pub tick-turn : IsTurn (tick_step space state)
-  tick-turn = saying-turn space valid s rs L F Asked ok same listed (flat_map (replica_tick space state) rs) (λ p i. let f = in-flat_map (replica_tick space state) rs p i in tick-says f.0 p f.2)
+  tick-turn = saying-turn space valid s rs L F Asked ok same listed ordered (flat_map (replica_tick space state) rs) (λ p i. let f = in-flat_map (replica_tick space state) rs p i in tick-says f.0 p f.2)

@@ -33,13 +33,14 @@ use Rattle.hx_model.proofs.Laws.{base-moved_all}
 use Rattle.hx_model.proofs.States.{eq_of_same_text}
 use Rattle.hx_steady.specs.Served.{slot_in}
 use Rattle.hx_steady.proofs.Lists.{in-flat_map, in-slice_get}
-use Rattle.hx_steady.proofs.Replicas.{replica-found, slot-found, slot-here, slot-other_key, slot-other_region, state-key, with_slot_at}
+use Rattle.hx_steady.proofs.Replicas.{in-with_replica, replica-found, slot-found, slot-here, slot-other_key, slot-other_region, state-key, with_slot_at}
 use Rattle.hx_steady.proofs.Turns.{Stands, noted, spot_in, standing}
 use Rattle.hx_sound.proofs.Hops.{next-reaches}
 use Rattle.hx_searches.proofs.Lines.{More, more_push, more_same}
 use Rattle.hx_searches.proofs.Placed.{AllMade, Made, made-key}
 use Rattle.hx_searches.proofs.Moves.{AllAllowed, Own, Promise, own_rely, promised}
 use Rattle.hx_searches.proofs.Chains.{at-number, before-next, place-in, region-is}
+use Rattle.hx_searches.proofs.Texts.{Ascend, state_key, with_state-ascends}
 use Rattle.hx_searches.proofs.Slots.{Freed, KeyOk, following, places-apart, sorted, version-low}
 
 -- what a post of a server's step says, for the lines and the server's state after it
@@ -108,7 +109,8 @@ grown-more space key line longer (inr g) = subst (More line) (sym g.3) (more_pus
 module _ (space : Space) (valid : IsSpace space) (s : ServerId) (rs : List Replica) (L : List ℕ → List Update) (F : List ℕ → RegionId → ServerId → KeyState)
     (Asked : Actor → ℕ → List Term → Type 0)
     (ok : (key : List ℕ) → KeyOk space key (L key) (F key)) (same : (key : List ℕ) (g : RegionId) → F key g s ≡ slot_in space g key (standing space s rs))
-    (listed : (g : RegionId) (r : Replica) → replica_of g rs ≡ Some r → lists (first_config space) g s ≡ true) where
+    (listed : (g : RegionId) (r : Replica) → replica_of g rs ≡ Some r → lists (first_config space) g s ≡ true)
+    (ordered : (r : Replica) → IsIn r rs → Ascend state_key r.states) where
   -- the server's state before
   abbrev pub state : ServerState
   state = standing space s rs
@@ -119,6 +121,7 @@ module _ (space : Space) (valid : IsSpace space) (s : ServerId) (rs : List Repli
     pub slots : (key : List ℕ) (g : RegionId)
         → (ms : List Move) × AllAllowed (noted L step.notes key) g (Freed space (F key) g s) (F key g s) ms × (slot_in space g key step.state ≡ moved_all ms (F key g s))
     pub posts : (p : Post) → IsIn p step.posts → Says space s rs Asked (noted L step.notes) step.state p.to p.message
+    pub ascends : (r : Replica) → IsIn r step.state.replicas → Ascend state_key r.states
 
   -- posts alone
   pub saying-turn : (posts : List Post) → ((p : Post) → IsIn p posts → Says space s rs Asked L state p.to p.message) → Turn (saying state posts)
@@ -126,6 +129,7 @@ module _ (space : Space) (valid : IsSpace space) (s : ServerId) (rs : List Repli
     lines = λ key. inl refl;
     slots = λ key g. ([], tt, sym (same key g));
     posts = f;
+    ascends = ordered;
   }
 
   -- an update's next place is one of its places
@@ -254,4 +258,12 @@ module _ (space : Space) (valid : IsSpace space) (s : ServerId) (rs : List Repli
 
     -- the step is a turn
     pub slot-turn : (posts : List Post) → ((p : Post) → IsIn p posts → Says space s rs Asked after (step_of posts).state p.to p.message) → Turn (step_of posts)
-    slot-turn posts f = record { lines = each-line; slots = each-slot posts; posts = f }
+    slot-turn posts f = record {
+      lines = each-line;
+      slots = each-slot posts;
+      posts = f;
+      ascends = λ x i. elim (in-with_replica (with_slot_at r (moved_all ms (state_in space r key))) rs x i) [
+        | inl e ↦ subst (λ (y : Replica). Ascend state_key y.states) (sym e) (with_state-ascends (moved_all ms (state_in space r key)) r.states (ordered r (replica-found g rs r found).0))
+        | inr j ↦ ordered x j
+      ];
+    }
