@@ -9,3 +9,4 @@ pub mod Texts
 pub mod Turns
 pub mod ServerTurns
 pub mod Asking
+pub mod Founds
