@@ -10,3 +10,4 @@ pub mod Turns
 pub mod ServerTurns
 pub mod Asking
 pub mod Founds
+pub mod Searched
