@@ -11,3 +11,4 @@ pub mod ServerTurns
 pub mod Asking
 pub mod Founds
 pub mod Searched
+pub mod Entries
