@@ -12,3 +12,5 @@ pub mod Asking
 pub mod Founds
 pub mod Searched
 pub mod Entries
+pub mod Rows
+pub mod Joins
