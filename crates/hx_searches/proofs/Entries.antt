@@ -285,7 +285,7 @@ module _ (script : Script) (valid : IsSpace script.space) (older : List Entry) (
 -- ---- an entry of a session
 
 -- a call that has begun doesn't begin again
-not-again : (script : Script) (older : List Entry) (x : Entry) → SteadyRun script (x ∷ older) → (c : Caller) (n : ℕ) → BeganAt older c n → x.actor ≡ Session c.session → IsIn (a_note.Began c.number) x.notes → ⊥
+pub not-again : (script : Script) (older : List Entry) (x : Entry) → SteadyRun script (x ∷ older) → (c : Caller) (n : ℕ) → BeganAt older c n → x.actor ≡ Session c.session → IsIn (a_note.Began c.number) x.notes → ⊥
 not-again script older x given c n b acts i =
     let now = begins_now _ _ _ (turn_is script older x c.session given acts) c.number i in
     let low = (calls_kept script older (earlier given)).began_low c n b in

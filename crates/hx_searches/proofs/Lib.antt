@@ -14,3 +14,4 @@ pub mod Searched
 pub mod Entries
 pub mod Rows
 pub mod Joins
+pub mod Histories
