@@ -58,7 +58,7 @@ pub record IsFound (script : Script) (t : List Entry) (c : Caller) (g : RegionId
   pub late : (key : List ℕ) (v : ℕ) → BeganOver script t c key v → (u : Update) → IsIn u (line_of key t) → has_place g u ≡ true → u.version.0 ≤ v → u.version.0 ≤ floor key
 
 -- it stays so when lines grow, and the call doesn't begin again
-pub found-up : (script : Script) (older : List Entry) (x : Entry) → ((key : List ℕ) → More (line_of key older) (line_of key (x ∷ older)))
+abbrev pub found-up : (script : Script) (older : List Entry) (x : Entry) → ((key : List ℕ) → More (line_of key older) (line_of key (x ∷ older)))
     → ((c : Caller) (key : List ℕ) (v : ℕ) → BeganOver script older c key v → v ≤ length (line_of key older))
     → ((c : Caller) (n : ℕ) → BeganAt older c n → x.actor ≡ Session c.session → IsIn (a_note.Began c.number) x.notes → ⊥)
     → (c : Caller) (g : RegionId) (rows : List Row) → IsFound script older c g rows → IsFound script (x ∷ older) c g rows

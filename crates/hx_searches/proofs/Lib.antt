@@ -15,3 +15,5 @@ pub mod Entries
 pub mod Rows
 pub mod Joins
 pub mod Histories
+pub mod Gathering
+pub mod Trueness
