@@ -17,3 +17,4 @@ pub mod Joins
 pub mod Histories
 pub mod Gathering
 pub mod Trueness
+pub mod Wholeness
