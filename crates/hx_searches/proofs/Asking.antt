@@ -1,7 +1,7 @@
 -- A step of a session in one configuration: whom it asks for a search, what parts it has, and what a search ends with.
-use Rattle.std.proofs.Common.{◌≡◌, ℕ, ◌+◌, inl, inr, Bool, true, false, ◌&&◌, List, [], ◌∷◌, ◌++◌, map, Option, Some, None, refl, sym, ap, ◌∙◌, subst, cond, eqb}
+use Rattle.std.proofs.Common.{◌≡◌, ℕ, ◌+◌, inl, inr, Bool, true, false, ◌&&◌, List, [], ◌∷◌, map, Option, Some, None, refl, sym, ap, ◌∙◌, subst, cond, eqb}
 use Rattle.std.specs.Prelude.{⊤}
-use Rattle.std.specs.List.{list_any, flat_map}
+use Rattle.std.specs.List.{list_any}
 use Rattle.std.proofs.lemmas.Bool.{cond_both, eqb-true, and_parts, false≢true}
 use Rattle.hx_types.specs.declared.calls.Answer.{Answer}
 use Rattle.hx_types.specs.declared.calls.Op.{Op}
@@ -17,23 +17,22 @@ use Rattle.hx_types.specs.declared.names.Version.{Version}
 use Rattle.hx_types.specs.declared.results.Planned.{Planned}
 use Rattle.hx_types.specs.declared.spaces.Space.{Space}
 use Rattle.hx_types.specs.declared.traces.Input.{Input}
-use Rattle.hx_types.specs.declared.traces.Note.{Note}
 use Rattle.hx_types.specs.declared.updates.Update.{Update}
 use Rattle.hx_types.specs.declared.values.Term.{Term}
 use Rattle.hx_types.specs.declared.calls.Answer.TheVariants as an_answer
 use Rattle.hx_types.specs.declared.calls.Op.TheVariants.{Put, Get, Del, Cput, Search, Stop, Add}
 use Rattle.hx_types.specs.declared.messages.Message.TheVariants as a_message
-use Rattle.hx_types.specs.declared.names.Actor.TheVariants.{Coordinator, Server, Session}
+use Rattle.hx_types.specs.declared.names.Actor.TheVariants.{Coordinator, Session}
 use Rattle.hx_types.specs.declared.results.Planned.TheVariants as a_plan
 use Rattle.hx_types.specs.declared.traces.Input.TheVariants.{Tick, Halt, Deliver}
 use Rattle.hx_types.specs.declared.traces.Note.TheVariants as a_note
 use Rattle.hx_types.specs.Words.{IsIn, post, provided, same_region, when_some}
-use Rattle.hx_types.specs.Effects.{is_write, key_of}
+use Rattle.hx_types.specs.Effects.{is_write}
 use Rattle.hx_types.specs.Configs.{first_config, head_of, is_lost}
 use Rattle.hx_types.specs.Fitting.{numbered}
 use Rattle.hx_model.specs.Regions.{key_region}
 use Rattle.hx_model.specs.Planning.{plan_of}
-use Rattle.hx_model.specs.SessionSteps.{Part, SessionState, SessionStep, all_parts, ask_regions, ask_to, awaits, begin, call_to, end_with_parts, ending, found_step, is_key_call, is_search, lacks_part, lost_answer, merged_parts, no_version, send, send_to, session_message, session_step, session_tick, staying, to_coordinator, with_note, with_part, with_poll}
+use Rattle.hx_model.specs.SessionSteps.{Part, SessionState, SessionStep, all_parts, ask_regions, ask_to, awaits, begin, call_to, end_with_parts, ending, found_step, is_key_call, is_search, lacks_part, lost_answer, merged_parts, no_version, send, send_to, session_message, session_step, session_tick, staying, to_coordinator, with_part, with_poll}
 use Rattle.hx_steady.proofs.Lists.{in-append, in-flat_map, in-map, in-provided, when_some_both}
 use Rattle.hx_steady.proofs.Posts.{Sent}
 use Rattle.hx_linear.proofs.SessionTurns.{awaited}

@@ -1,32 +1,27 @@
 -- The update that a leader assigns is made after the older ones of its line.
-use Rattle.std.proofs.Common.{◌≡◌, ℕ, ◌+◌, inl, inr, Bool, true, false, List, [], ◌∷◌, length, Option, Some, None, refl, sym, ap, ◌∙◌, subst, cond, leb, ltb, eqb}
+use Rattle.std.proofs.Common.{◌≡◌, ℕ, ◌+◌, Bool, true, false, List, [], ◌∷◌, Option, Some, None, refl, sym, ap, ◌∙◌, subst, cond, leb, ltb, eqb}
 use Rattle.std.proofs.lemmas.Bool.{cond_both}
-use Rattle.hx_types.specs.declared.calls.Answer.{Answer}
 use Rattle.hx_types.specs.declared.calls.Caller.{Caller}
 use Rattle.hx_types.specs.declared.calls.Op.{Op}
 use Rattle.hx_types.specs.declared.names.RegionId.{RegionId}
-use Rattle.hx_types.specs.declared.names.ServerId.{ServerId}
 use Rattle.hx_types.specs.declared.results.Decision.{Decision}
-use Rattle.hx_types.specs.declared.results.Effect.{Effect}
 use Rattle.hx_types.specs.declared.snapshots.Mark.{Mark}
 use Rattle.hx_types.specs.declared.spaces.Space.{Space}
-use Rattle.hx_types.specs.declared.traces.Note.{Note}
-use Rattle.hx_types.specs.declared.updates.Place.{Place}
 use Rattle.hx_types.specs.declared.updates.Update.{Update}
 use Rattle.hx_types.specs.declared.values.Value.{Value}
 use Rattle.hx_types.specs.declared.calls.Answer.TheVariants as an_answer
 use Rattle.hx_types.specs.declared.calls.Op.TheVariants.{Put, Get, Del, Cput, Search, Stop, Add}
 use Rattle.hx_types.specs.declared.results.Decision.TheVariants as a_decision
 use Rattle.hx_types.specs.declared.traces.Note.TheVariants as a_note
-use Rattle.hx_types.specs.Words.{IsIn, when_some}
+use Rattle.hx_types.specs.Words.{when_some}
 use Rattle.hx_types.specs.Effects.{changed_to, effect_of, left_as, tests_hold, written}
 use Rattle.hx_types.specs.Configs.{first_config}
 use Rattle.hx_types.specs.Fitting.{is_done}
 use Rattle.hx_types.specs.Spaces.{IsSpace}
 use Rattle.hx_model.specs.Regions.{key_region}
 use Rattle.hx_model.specs.Places.{places_of}
-use Rattle.hx_model.specs.Leading.{StuckAt, assigned, by_mark, decide, first_lost, fresh, granted, refusal, stuck_of, with_places}
-use Rattle.hx_model.specs.Slots.{KeyState, latest_of, mark_of, top_of, touches_after, touches_of}
+use Rattle.hx_model.specs.Leading.{StuckAt, assigned, by_mark, decide, fresh, granted, refusal, stuck_of, with_places}
+use Rattle.hx_model.specs.Slots.{KeyState, latest_of, mark_of, top_of, touches_of}
 use Rattle.hx_model.specs.ServerSteps.{Spot, decided, write_step}
 use Rattle.hx_steady.specs.Served.{line_object}
 use Rattle.hx_steady.proofs.Regions.{places-not-lost}

@@ -1,6 +1,6 @@
 -- Neighbours in a chain: the next position of the one before is this one, and a chain is walked from its first position to every member.
-use Rattle.std.proofs.Common.{◌≡◌, ℕ, zero, suc, ◌+◌, ◌-◌, ◌*◌, ◌/◌, ◌%◌, ◌<◌, ◌≤◌, ◌≢◌, ◌⊎◌, inl, inr, Bool, true, false, List, [], ◌∷◌, ◌++◌, map, length, Option, Some, None, refl, sym, ap, ◌∙◌, subst, arith, add-one, cond, is_some}
-use Rattle.std.specs.List.{list_any, slice_get}
+use Rattle.std.proofs.Common.{◌≡◌, ℕ, zero, suc, ◌+◌, ◌-◌, ◌*◌, ◌/◌, ◌%◌, ◌<◌, ◌≤◌, ◌≢◌, inl, inr, Bool, true, false, List, [], ◌∷◌, ◌++◌, map, Option, Some, None, refl, sym, ap, ◌∙◌, subst, arith, add-one, cond, is_some}
+use Rattle.std.specs.List.{slice_get}
 use Rattle.std.specs.Option.{option_map}
 use Rattle.std.proofs.Math.Nat.{div-add-mod, mul-le-mul_left, mul-suc}
 use Rattle.std.proofs.lemmas.Bool.{cond_both, cond-true, cond-false, eqb-true, eq-eqb, ne_eqb, false≢true, cases_order}
@@ -8,8 +8,7 @@ use Rattle.hx_types.specs.declared.configs.Config.{Config}
 use Rattle.hx_types.specs.declared.configs.Member.{Member}
 use Rattle.hx_types.specs.declared.names.RegionId.{RegionId}
 use Rattle.hx_types.specs.declared.names.ServerId.{ServerId}
-use Rattle.hx_types.specs.declared.results.Hop.{Hop}
-use Rattle.hx_types.specs.declared.results.Hop.TheVariants.{At, End, Blocked}
+use Rattle.hx_types.specs.declared.results.Hop.TheVariants.{At, Blocked}
 use Rattle.hx_types.specs.declared.spaces.Space.{Space}
 use Rattle.hx_types.specs.declared.updates.Place.{Place}
 use Rattle.hx_types.specs.Words.{IsIn, below, first_of_list, same_region, same_server, when_some}
@@ -19,7 +18,7 @@ use Rattle.hx_types.specs.Spaces.{AllDiffer, IsSpace}
 use Rattle.hx_model.specs.Neighbours.{enters, enters_last, hop_at, last_member, member_after, member_before, members_at, next_of, place_before, place_number, prev_of, region_at}
 use Rattle.hx_model.specs.Leading.{first_lost}
 use Rattle.hx_model.specs.Slots.{place_in}
-use Rattle.hx_steady.proofs.Lists.{all-in, any-in, in-append, in-below, in-map, in-slice_get, when_some_both}
+use Rattle.hx_steady.proofs.Lists.{all-in, in-append, in-below, in-map, in-slice_get, when_some_both}
 use Rattle.hx_steady.proofs.Chains.{each-present, first-listed, last-some}
 
 -- no server stands twice among members

@@ -1,23 +1,19 @@
 -- Every run in one configuration keeps what is said of searches, and each finished search was gathered from what was found.
-use Rattle.std.proofs.Common.{◌≡◌, ℕ, ◌+◌, ◌<◌, ◌≤◌, ◌⊎◌, inl, inr, Bool, true, false, List, [], ◌∷◌, ◌++◌, length, Option, Some, None, refl, sym, ap, ◌∙◌, subst, arith, eqb}
-use Rattle.std.specs.Prelude.{⊤}
+use Rattle.std.proofs.Common.{◌≡◌, ℕ, ◌+◌, ◌≤◌, ◌⊎◌, inl, inr, Bool, true, false, List, [], ◌∷◌, length, Some, refl, sym, ap, ◌∙◌, subst, arith}
 use Rattle.std.proofs.lemmas.Bool.{cond_both, cond-true, cond-false, cases_Bool, cases_eq, eqb-true, eq-eqb, false≢true}
 use Rattle.hx_types.specs.declared.calls.Caller.{Caller}
 use Rattle.hx_types.specs.declared.calls.Op.{Op}
 use Rattle.hx_types.specs.declared.calls.Row.{Row}
 use Rattle.hx_types.specs.declared.messages.Message.{Message}
-use Rattle.hx_types.specs.declared.messages.Post.{Post}
 use Rattle.hx_types.specs.declared.messages.PostId.{PostId}
 use Rattle.hx_types.specs.declared.names.Actor.{Actor}
 use Rattle.hx_types.specs.declared.names.RegionId.{RegionId}
 use Rattle.hx_types.specs.declared.names.ServerId.{ServerId}
 use Rattle.hx_types.specs.declared.names.SessionId.{SessionId}
 use Rattle.hx_types.specs.declared.names.Version.{Version}
-use Rattle.hx_types.specs.declared.results.Hop.{Hop}
 use Rattle.hx_types.specs.declared.results.Hop.TheVariants.{At}
 use Rattle.hx_types.specs.declared.traces.Entry.{Entry}
 use Rattle.hx_types.specs.declared.traces.Input.{Input}
-use Rattle.hx_types.specs.declared.traces.Note.{Note}
 use Rattle.hx_types.specs.declared.traces.Script.{Script}
 use Rattle.hx_types.specs.declared.updates.Update.{Update}
 use Rattle.hx_types.specs.declared.values.Term.{Term}
@@ -29,25 +25,23 @@ use Rattle.hx_types.specs.declared.traces.Input.TheVariants.{Tick, Halt, Deliver
 use Rattle.hx_types.specs.declared.traces.Note.TheVariants as a_note
 use Rattle.hx_types.specs.Words.{IsIn, post, same_server, same_session}
 use Rattle.hx_types.specs.Subspaces.{is_key_region}
-use Rattle.hx_types.specs.Configs.{first_config, lists}
+use Rattle.hx_types.specs.Configs.{first_config}
 use Rattle.hx_types.specs.Spaces.{IsSpace}
 use Rattle.hx_types.specs.Fitting.{IsScript, call_of, calls_of, numbered}
-use Rattle.hx_model.specs.Regions.{key_region}
 use Rattle.hx_model.specs.Neighbours.{next_of, place_number, region_at}
 use Rattle.hx_model.specs.Slots.{KeyState, Move, moved_all, new_state}
 use Rattle.hx_model.specs.ServerSteps.{Replica, ServerState, ServerStep, listed_regions, replica_of, server_at_start, server_step, state_in}
 use Rattle.hx_model.specs.CoordinatorSteps.{CoordinatorState, CoordinatorStep, coordinator_at_start, coordinator_step, resting}
 use Rattle.hx_model.specs.SessionSteps.{SessionState, SessionStep, session_step}
-use Rattle.hx_model.specs.Runs.{IsRun, IsStep, Made, MayTake, coordinator_of, entry_of, made_of, server_of, session_of}
+use Rattle.hx_model.specs.Runs.{IsRun, IsStep, MayTake, coordinator_of, entry_of, made_of, server_of, session_of}
 use Rattle.hx_model.specs.Histories.{line_notes, line_of}
 use Rattle.hx_model.specs.Steady.{HasNoHalts, IsFixed, is_halt}
-use Rattle.hx_steady.specs.Served.{leader_of, leader_slot, posts_of, slot_in}
+use Rattle.hx_steady.specs.Served.{leader_of, leader_slot, slot_in}
 use Rattle.hx_steady.proofs.Lists.{in-map, when_some_both}
 use Rattle.hx_steady.proofs.Moves.{Leads}
-use Rattle.hx_steady.proofs.Posts.{Sent}
 use Rattle.hx_steady.proofs.Replicas.{replica-found}
-use Rattle.hx_steady.proofs.Turns.{IsStill, Stands, lead_slot, standing}
-use Rattle.hx_steady.proofs.Sessions.{Keeps, coordinator-rests}
+use Rattle.hx_steady.proofs.Turns.{Stands, lead_slot, standing}
+use Rattle.hx_steady.proofs.Sessions.{coordinator-rests}
 use Rattle.hx_steady.proofs.Kept.{ServerStill, Still, delivered-sent, named-in}
 use Rattle.hx_steady.proofs.Kept as steady
 use Rattle.hx_steady.proofs.Entries.{served_lemma, still-run}
@@ -61,10 +55,10 @@ use Rattle.hx_searches.proofs.Texts.{Ascend, state_key}
 use Rattle.hx_searches.proofs.Moves.{AllAllowed, Own}
 use Rattle.hx_searches.proofs.Slots.{FloorsRise, Freed, KeyOk, KeyTurn, key-after}
 use Rattle.hx_searches.proofs.Slots as slots_of_key
-use Rattle.hx_searches.proofs.Turns.{Acking, Finding, Says, Turn, grown-made, grown-more, grown-present}
+use Rattle.hx_searches.proofs.Turns.{Finding, Says, Turn, grown-made, grown-more, grown-present}
 use Rattle.hx_searches.proofs.ServerTurns.{Heard, listed, message-turn, tick-turn}
 use Rattle.hx_searches.proofs.Asking.{Asks, Gathered, HasParts, SearchTurn, search-turn}
-use Rattle.hx_searches.proofs.Founds.{BeganOver, IsFound, found-here}
+use Rattle.hx_searches.proofs.Founds.{IsFound, found-here}
 use Rattle.hx_searches.proofs.Searched.{AskedBy, FoundFor, Grows, KnownFor, Searched, Tells, entry-kept, lines, parts-up, rows-up, slots}
 
 -- ---- before the first entry
@@ -339,8 +333,7 @@ module _ (script : Script) (fixed : IsFixed script) (older : List Entry) (still 
   asked-now number terms e w q =
       let a = ap (λ (st : SessionState). st.calls) (sym session-after) ∙ calls.calls v in
       let b = calls.running v (ap (λ (st : SessionState). st.under_way) session-after ∙ w) in
-      let n : (session_of script v (entry ∷ older)).begun ≡ number = ap (λ (st : SessionState). st.begun) session-after ∙ sym e in
-      (
+      let n : (session_of script v (entry ∷ older)).begun ≡ number = ap (λ (st : SessionState). st.begun) session-after ∙ sym e in (
         ap (λ (l : List Op). numbered l number) (sym a) ∙ ap (numbered made.state.calls) e ∙ q,
         (b.0, subst (λ k. BeganAt (entry ∷ older) (record { session = v; number = k }) b.0) n b.1),
       )

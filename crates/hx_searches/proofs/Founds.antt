@@ -1,6 +1,6 @@
 -- What the rows say that a replica finds for a search: of each key the newest committed object there, and nothing committed before the search began is missing.
-use Rattle.std.proofs.Common.{◌≡◌, ℕ, ◌+◌, ◌<◌, ◌≤◌, ◌⊎◌, inl, inr, Bool, true, false, List, [], ◌∷◌, length, Option, Some, None, refl, sym, ap, ◌∙◌, subst, arith}
-use Rattle.std.specs.List.{filter, flat_map, slice_get}
+use Rattle.std.proofs.Common.{◌≡◌, ℕ, ◌≤◌, ◌⊎◌, inl, inr, Bool, true, List, [], ◌∷◌, length, Option, Some, None, refl, sym, ap, ◌∙◌, subst, arith}
+use Rattle.std.specs.List.{filter, slice_get}
 use Rattle.std.proofs.lemmas.Bool.{cond_both, false≢true}
 use Rattle.hx_types.specs.declared.calls.Caller.{Caller}
 use Rattle.hx_types.specs.declared.calls.Row.{Row}
@@ -22,13 +22,13 @@ use Rattle.hx_types.specs.Fitting.{call_of}
 use Rattle.hx_types.specs.Spaces.{IsSpace}
 use Rattle.hx_model.specs.Matching.{matches}
 use Rattle.hx_model.specs.Regions.{key_region}
-use Rattle.hx_model.specs.Places.{key_place, places_of}
-use Rattle.hx_model.specs.Slots.{KeyState, found_in, has_place, kept_row, new_state, object_of, rows_of, state_among, top_above, touches_after, upto}
+use Rattle.hx_model.specs.Places.{key_place}
+use Rattle.hx_model.specs.Slots.{KeyState, found_in, has_place, kept_row, object_of, rows_of, top_above, upto}
 use Rattle.hx_model.specs.ServerSteps.{Replica, replica_of, state_in}
 use Rattle.hx_model.specs.Histories.{line_of}
-use Rattle.hx_steady.specs.Served.{floor_of, leader_of, line_object, slot_in}
-use Rattle.hx_steady.proofs.Lists.{in-filter, in-flat_map}
-use Rattle.hx_steady.proofs.Replicas.{replica-found, slot-found, state-from, state-key}
+use Rattle.hx_steady.specs.Served.{floor_of, leader_of, slot_in}
+use Rattle.hx_steady.proofs.Lists.{in-filter}
+use Rattle.hx_steady.proofs.Replicas.{slot-found, state-from}
 use Rattle.hx_steady.proofs.Turns.{standing}
 use Rattle.hx_sound.proofs.Slots.{found-row, kept-update}
 use Rattle.hx_linear.proofs.Lists.{in-flat}

@@ -1,5 +1,5 @@
 -- Where the items of a history stand: the last change before an entry, the order of versions, and what ended before a call began.
-use Rattle.std.proofs.Common.{◌≡◌, ℕ, suc, ◌+◌, ◌<◌, ◌≤◌, ◌⊎◌, inl, inr, Bool, true, false, not, ◌&&◌, List, [], ◌∷◌, ◌++◌, length, Option, Some, None, refl, sym, ap, ◌∙◌, subst, arith, cond, add-one, append-nil, IsSome, ltb}
+use Rattle.std.proofs.Common.{◌≡◌, ℕ, ◌<◌, ◌≤◌, ◌⊎◌, inl, inr, Bool, true, false, ◌&&◌, List, [], ◌∷◌, ◌++◌, length, Option, Some, None, refl, sym, ap, ◌∙◌, subst, arith, cond, add-one, append-nil, IsSome, ltb}
 use Rattle.std.proofs.lemmas.Bool.{cond_both, ltb-true, lt-ltb, false≢true, true≢false}
 use Rattle.hx_types.specs.declared.calls.Answer.{Answer}
 use Rattle.hx_types.specs.declared.calls.Caller.{Caller}
@@ -9,14 +9,13 @@ use Rattle.hx_types.specs.declared.names.Version.{Version}
 use Rattle.hx_types.specs.declared.traces.Entry.{Entry}
 use Rattle.hx_types.specs.declared.traces.Script.{Script}
 use Rattle.hx_types.specs.declared.updates.Update.{Update}
-use Rattle.hx_types.specs.declared.calls.Op.TheVariants.{Get}
 use Rattle.hx_types.specs.Words.{IsBefore, IsIn, when_some}
 use Rattle.hx_types.specs.Effects.{is_write, key_of}
 use Rattle.hx_types.specs.Fitting.{call_of, is_doubt}
 use Rattle.hx_model.specs.Histories.{CallEnd, begin_of, end_of, gets_of, history_of, history_on, line_of, note_of_end}
 use Rattle.hx_model.specs.Linear.{began_before, ended_before}
 use Rattle.hx_model.specs.Searching.{Cut, changes_object, cuts_of, last_change}
-use Rattle.hx_steady.proofs.Lists.{in-append, in_right}
+use Rattle.hx_steady.proofs.Lists.{in_right}
 use Rattle.hx_linear.proofs.Lines.{Lawful, lawful-numbered}
 use Rattle.hx_linear.proofs.Lines as linear_lines
 use Rattle.hx_linear.proofs.Traces.{BeganAt, EndedAt, EndedFirst, began_at, begin_is, ended_at}
@@ -25,7 +24,7 @@ use Rattle.hx_linear.proofs.Kept.{SteadyRun, calls_kept, earlier}
 use Rattle.hx_linear.proofs.Times.{first_of}
 use Rattle.hx_linear.proofs.Gets.{gets-in}
 use Rattle.hx_linear.proofs.EffectLaws.{all_not_refused}
-use Rattle.hx_linear.proofs.Items.{Got, High, Next, calls, get_high, got_at, lawful, update_high, write_of}
+use Rattle.hx_linear.proofs.Items.{High, Next, get_high, got_at, lawful, update_high, write_of}
 use Rattle.hx_linear.proofs.Stories.{Kind, Wrote, kind, story, story_is}
 use Rattle.hx_searches.proofs.Founds.{BeganOver}
 use Rattle.hx_searches.proofs.Entries.{not-again}
@@ -233,8 +232,7 @@ module _ (script : Script) (whole : List Entry) (given : SteadyRun script whole)
   pub ended-over : (x : Item) → IsIn x items → (c : Caller) (n : ℕ) → BeganAt whole c n → ended_before whole x.caller n ≡ true → (v : ℕ) × (x.version.0 ≤ v) × BeganOver script whole c key v
   ended-over x i c n b e =
       let h = item-high x (item-kind x i) in
-      let r = ended-early x.caller whole n e in
-      (
+      let r = ended-early x.caller whole n e in (
         r.0.0,
         h.high r.0 r.1 r.2 r.3,
         began-over script whole given x.caller r.0 c h.op key h.called h.on_key (first_of script whole given x.caller c r.0 r.1 r.2 n r.3 b r.4),

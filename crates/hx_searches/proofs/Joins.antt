@@ -1,6 +1,6 @@
 -- The join of the parts of a search: its rows come from the parts, ascend by keys, and are the newest of their keys.
-use Rattle.std.proofs.Common.{◌≡◌, ℕ, ◌≤◌, ◌⊎◌, inl, inr, Bool, true, false, List, [], ◌∷◌, Option, Some, None, refl, sym, ap, ◌∙◌, subst, arith, cond, ltb}
-use Rattle.std.proofs.lemmas.Bool.{cond_both, cases_Bool, false≢true, ltb-true, ltb-false}
+use Rattle.std.proofs.Common.{◌≡◌, ℕ, ◌≤◌, inl, inr, true, false, List, [], ◌∷◌, refl, sym, ap, ◌∙◌, subst, arith, cond, ltb}
+use Rattle.std.proofs.lemmas.Bool.{cond_both, false≢true, ltb-true, ltb-false}
 use Rattle.hx_types.specs.declared.calls.Row.{Row}
 use Rattle.hx_types.specs.Words.{IsIn, same_text, text_below, when_some}
 use Rattle.hx_model.specs.SessionSteps.{Part, merged_parts, rows_joined, with_row}

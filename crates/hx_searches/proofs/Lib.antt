@@ -18,3 +18,4 @@ pub mod Histories
 pub mod Gathering
 pub mod Trueness
 pub mod Wholeness
+pub mod Headline

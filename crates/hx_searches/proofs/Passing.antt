@@ -1,23 +1,23 @@
 -- What an update of a line does at a region: on which version it follows there, and where its object is kept.
-use Rattle.std.proofs.Common.{◌≡◌, ℕ, ◌+◌, ◌<◌, ◌≤◌, ◌⊎◌, inl, inr, Bool, true, false, List, [], ◌∷◌, length, Option, Some, None, refl, sym, ap, ◌∙◌, subst, arith, is_some}
+use Rattle.std.proofs.Common.{◌≡◌, ℕ, ◌+◌, ◌<◌, ◌≤◌, ◌⊎◌, inl, inr, true, false, List, [], ◌∷◌, length, Option, Some, None, refl, sym, ap, ◌∙◌, subst, arith, is_some}
 use Rattle.std.specs.Option.{option_map}
-use Rattle.std.proofs.lemmas.Bool.{cond-true, eq-eqb, eqb-true, false≢true, cases_eq}
+use Rattle.std.proofs.lemmas.Bool.{cond-true, eq-eqb, eqb-true, false≢true}
 use Rattle.hx_types.specs.declared.names.RegionId.{RegionId}
 use Rattle.hx_types.specs.declared.spaces.Space.{Space}
 use Rattle.hx_types.specs.declared.updates.Place.{Place}
 use Rattle.hx_types.specs.declared.updates.Update.{Update}
 use Rattle.hx_types.specs.declared.values.Value.{Value}
-use Rattle.hx_types.specs.Words.{IsIn, below, same_region, when_some}
+use Rattle.hx_types.specs.Words.{IsIn, below, when_some}
 use Rattle.hx_types.specs.Spaces.{IsSpace}
 use Rattle.hx_model.specs.Regions.{key_region, place_of}
-use Rattle.hx_model.specs.Places.{declared_subspaces, key_place, lies_in, place_after, places_of}
+use Rattle.hx_model.specs.Places.{declared_subspaces, key_place, lies_in, places_of}
 use Rattle.hx_model.specs.Slots.{after_at, has_place, keeps_at, place_in, top_above, touches_after}
 use Rattle.hx_region.specs.Spans.{IsRegionIn, subspace_count}
 use Rattle.hx_region.proofs.Subspaces.{disjoint, places_belong}
 use Rattle.hx_steady.specs.Served.{line_object}
 use Rattle.hx_steady.proofs.Lists.{in-below, in-map}
 use Rattle.hx_steady.proofs.Regions.{between-places}
-use Rattle.hx_searches.proofs.Lines.{in-top, only, only-in, in-only, only-sorted, top-least, top-numbered} 
+use Rattle.hx_searches.proofs.Lines.{in-top, only, only-in, in-only, only-sorted, top-least, top-numbered}
 use Rattle.hx_searches.proofs.Lines as lines
 use Rattle.hx_searches.proofs.Placed.{AllMade, Declared, Made, between-new, between-old, changes-there, found-place, key-first, made-numbered, made-sorted, touched}
 

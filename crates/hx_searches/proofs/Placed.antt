@@ -1,9 +1,7 @@
 -- Where an update of a line has its places: in the key's region, and where it changes in those of the old and new object in each declared subspace.
-use Rattle.std.proofs.Common.{◌≡◌, ℕ, zero, suc, ◌+◌, ◌<◌, ◌≤◌, ◌⊎◌, inl, inr, Bool, true, false, not, ◌&&◌, List, [], ◌∷◌, ◌++◌, map, length, Option, Some, None, refl, sym, ap, ◌∙◌, subst, arith, cond, eqb, is_some, ltb}
+use Rattle.std.proofs.Common.{◌≡◌, ℕ, ◌+◌, ◌⊎◌, inl, inr, Bool, true, false, not, List, [], ◌∷◌, map, length, Option, Some, None, refl, sym, ap, ◌∙◌, subst, cond, eqb, is_some, ltb}
 use Rattle.std.specs.List.{flat_map}
-use Rattle.std.specs.Option.{option_map}
-use Rattle.std.proofs.lemmas.Bool.{cond_both, cond-true, cond-false, eq-eqb, eqb-true, false≢true, cases_Bool}
-use Rattle.hx_types.specs.declared.calls.Answer.{Answer}
+use Rattle.std.proofs.lemmas.Bool.{cond_both, cond-true, eq-eqb, eqb-true, false≢true}
 use Rattle.hx_types.specs.declared.names.RegionId.{RegionId}
 use Rattle.hx_types.specs.declared.names.Version.{Version}
 use Rattle.hx_types.specs.declared.snapshots.Touch.{Touch}
@@ -11,15 +9,15 @@ use Rattle.hx_types.specs.declared.spaces.Space.{Space}
 use Rattle.hx_types.specs.declared.updates.Place.{Place}
 use Rattle.hx_types.specs.declared.updates.Update.{Update}
 use Rattle.hx_types.specs.declared.values.Value.{Value}
-use Rattle.hx_types.specs.Words.{IsIn, below, provided, same_region, when_some}
+use Rattle.hx_types.specs.Words.{IsIn, provided, same_region}
 use Rattle.hx_types.specs.Fitting.{is_done}
 use Rattle.hx_model.specs.Regions.{key_region, place_of}
-use Rattle.hx_model.specs.Places.{declared_subspaces, key_place, lies_in, place_after, places_of, regions_between, touched_in}
-use Rattle.hx_model.specs.Slots.{after_at, has_place, keeps_at, place_in, top_above, touches_after, with_touch, with_touches}
+use Rattle.hx_model.specs.Places.{declared_subspaces, key_place, place_after, places_of, regions_between, touched_in}
+use Rattle.hx_model.specs.Slots.{has_place, place_in, top_above, touches_after, with_touch, with_touches}
 use Rattle.hx_steady.specs.Served.{line_object}
 use Rattle.hx_steady.proofs.Lists.{in-flat_map, in-map, in-provided}
 use Rattle.hx_linear.proofs.Lists.{in-flat}
-use Rattle.hx_searches.proofs.Lines.{Numbered, Sorted, in-below, in-only, in-top, numbered-sorted, only, only-in, only-sorted, top-least, top-numbered}
+use Rattle.hx_searches.proofs.Lines.{Numbered, Sorted, numbered-sorted, only}
 
 -- what an update of a line is, after the older ones
 pub record Made (space : Space) (key : List ℕ) (older : List Update) (u : Update) : Type 0 where

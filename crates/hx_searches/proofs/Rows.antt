@@ -1,10 +1,9 @@
 -- What a region keeps of a line up to a version: the newest change there, as long as the object isn't changed again.
-use Rattle.std.proofs.Common.{◌≡◌, ℕ, ◌+◌, ◌<◌, ◌≤◌, ◌⊎◌, inl, inr, Bool, true, false, List, [], ◌∷◌, length, Option, Some, None, refl, sym, ap, ◌∙◌, subst, arith, cond, leb, is_some}
+use Rattle.std.proofs.Common.{◌≡◌, ℕ, ◌<◌, ◌≤◌, ◌⊎◌, inl, inr, Bool, true, false, List, [], ◌∷◌, Option, Some, None, refl, sym, ap, ◌∙◌, subst, arith, cond, leb, is_some}
 use Rattle.std.specs.Option.{option_map}
-use Rattle.std.proofs.lemmas.Bool.{cond_both, cond-true, cond-false, cases_Bool, cases_eq, leb-true, leb-false, true≢false, false≢true}
+use Rattle.std.proofs.lemmas.Bool.{cond_both, cond-true, cond-false, cases_Bool, cases_eq, leb-true, false≢true}
 use Rattle.hx_types.specs.declared.calls.Row.{Row}
 use Rattle.hx_types.specs.declared.names.RegionId.{RegionId}
-use Rattle.hx_types.specs.declared.names.Version.{Version}
 use Rattle.hx_types.specs.declared.spaces.Space.{Space}
 use Rattle.hx_types.specs.declared.updates.Update.{Update}
 use Rattle.hx_types.specs.declared.values.Value.{Value}
@@ -13,8 +12,8 @@ use Rattle.hx_types.specs.Spaces.{IsSpace}
 use Rattle.hx_model.specs.Regions.{key_region}
 use Rattle.hx_model.specs.Slots.{has_place, keeps_at, kept_after, kept_row, row_of, upto}
 use Rattle.hx_steady.specs.Served.{line_object}
-use Rattle.hx_searches.proofs.Lines.{Sorted, in-below, in-upto, only, only-in, only-sorted, upto-low, upto-sorted, upto_all, upto_here, top-least}
-use Rattle.hx_searches.proofs.Placed.{AllMade, Made, made-numbered, made-sorted}
+use Rattle.hx_searches.proofs.Lines.{Sorted, in-below, only, only-in, upto_all, upto_here, top-least}
+use Rattle.hx_searches.proofs.Placed.{AllMade, Made, made-numbered}
 use Rattle.hx_searches.proofs.Passing.{keeps-key, passes-changes}
 
 -- the row of an update with an object

@@ -1,5 +1,5 @@
 -- Each input of a server in one configuration is a turn.
-use Rattle.std.proofs.Common.{◌≡◌, ℕ, ◌+◌, ◌-◌, ◌<◌, ◌≤◌, ◌⊎◌, inl, inr, Bool, true, false, not, ◌&&◌, List, [], ◌∷◌, ◌++◌, length, Option, Some, None, refl, sym, ap, ◌∙◌, subst, arith, leb}
+use Rattle.std.proofs.Common.{◌≡◌, ℕ, ◌-◌, ◌≤◌, inl, inr, true, false, not, ◌&&◌, List, [], ◌∷◌, ◌++◌, length, Option, Some, None, refl, sym, ap, ◌∙◌, subst, arith, leb}
 use Rattle.std.specs.Prelude.{⊤}
 use Rattle.std.specs.List.{flat_map}
 use Rattle.std.specs.Option.{option_map}
@@ -14,7 +14,6 @@ use Rattle.hx_types.specs.declared.names.RegionId.{RegionId}
 use Rattle.hx_types.specs.declared.names.ServerId.{ServerId}
 use Rattle.hx_types.specs.declared.results.Hop.{Hop}
 use Rattle.hx_types.specs.declared.spaces.Space.{Space}
-use Rattle.hx_types.specs.declared.traces.Note.{Note}
 use Rattle.hx_types.specs.declared.updates.Place.{Place}
 use Rattle.hx_types.specs.declared.updates.Update.{Update}
 use Rattle.hx_types.specs.declared.values.Term.{Term}
@@ -28,14 +27,14 @@ use Rattle.hx_types.specs.Subspaces.{is_key_region}
 use Rattle.hx_types.specs.Configs.{first_config, head_of, is_lost, is_server, leads, lists, lists_joining, lists_ready, members_of}
 use Rattle.hx_types.specs.Spaces.{IsSpace}
 use Rattle.hx_model.specs.Regions.{key_region}
-use Rattle.hx_model.specs.Neighbours.{is_end, next_of, place_number}
+use Rattle.hx_model.specs.Neighbours.{is_end}
 use Rattle.hx_model.specs.Leading.{assigned}
-use Rattle.hx_model.specs.Slots.{KeyState, Move, Take, acknowledged, after_at, found_in, has_place, offered, pending_of, place_in, top_above, top_of, upto}
-use Rattle.hx_model.specs.ServerSteps.{Replica, ServerState, ServerStep, SlotStep, Spot, accepting, ack_step, acked, asked, at_slot, by_moves, by_posts, call_at, call_step, called, called_by, get_answer, get_step, hearing, if_installed, known_to, message_step, move_posts, next_at, passed_on, pending_posts, prev_at, ready_post, replica_of, replica_tick, reply, snap_posts, snap_to, state_in, tick_step, unmoved, update_step, updated, write_step}
-use Rattle.hx_model.proofs.States.{eq_of_same_text, same_text_self}
+use Rattle.hx_model.specs.Slots.{KeyState, Move, Take, acknowledged, after_at, found_in, has_place, offered, pending_of, top_above, top_of, upto}
+use Rattle.hx_model.specs.ServerSteps.{Replica, ServerState, ServerStep, SlotStep, accepting, ack_step, acked, asked, at_slot, by_moves, by_posts, call_at, call_step, called, called_by, get_step, hearing, if_installed, known_to, message_step, move_posts, next_at, passed_on, pending_posts, ready_post, replica_of, replica_tick, reply, snap_posts, snap_to, state_in, tick_step, unmoved, update_step, updated, write_step}
+use Rattle.hx_model.proofs.States.{same_text_self}
 use Rattle.hx_steady.specs.Served.{leader_of, slot_in}
 use Rattle.hx_steady.proofs.Lists.{in-append, in-flat_map, in-provided, when_some_both}
-use Rattle.hx_steady.proofs.Lines.{Law, Lawful, place-first, top-line, upto_all}
+use Rattle.hx_steady.proofs.Lines.{Law, place-first, top-line, upto_all}
 use Rattle.hx_steady.proofs.Chains.{leads-head}
 use Rattle.hx_steady.proofs.Replicas.{replica-found, slot-found}
 use Rattle.hx_steady.proofs.Moves.{Leads}
@@ -43,7 +42,7 @@ use Rattle.hx_steady.proofs.Leader.{Next, Written, write-written}
 use Rattle.hx_steady.proofs.Members.{all-ready, hearing-found, installed-found, no_joiner, none-joining}
 use Rattle.hx_steady.proofs.Posts.{Sent}
 use Rattle.hx_steady.proofs.Turns.{Stands, noted, spot_in, standing}
-use Rattle.hx_searches.proofs.Lines.{more_push, more_same}
+use Rattle.hx_searches.proofs.Lines.{more_push}
 use Rattle.hx_searches.proofs.Placed.{AllMade, Made}
 use Rattle.hx_searches.proofs.Moves.{AllAllowed, Own, accepting-allowed, acknowledged-allowed, offered-allowed, own_rely}
 use Rattle.hx_searches.proofs.Texts.{Ascend, state_key}

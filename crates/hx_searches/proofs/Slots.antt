@@ -1,30 +1,28 @@
 -- All slots of a key: what they hold of its line, what each knows of the one after it, and that allowed moves keep it.
-use Rattle.std.proofs.Common.{◌≡◌, ℕ, ◌+◌, ◌<◌, ◌≤◌, inl, inr, Bool, true, false, List, [], ◌∷◌, length, Option, Some, None, refl, sym, ap, ◌∙◌, subst, arith, is_some}
+use Rattle.std.proofs.Common.{◌≡◌, ℕ, ◌≤◌, inl, inr, true, List, [], ◌∷◌, length, Option, Some, None, refl, sym, ap, ◌∙◌, subst, arith}
 use Rattle.std.specs.List.{slice_get}
-use Rattle.std.proofs.lemmas.Bool.{false≢true}
 use Rattle.hx_types.specs.declared.configs.Member.{Member}
 use Rattle.hx_types.specs.declared.names.RegionId.{RegionId}
 use Rattle.hx_types.specs.declared.names.ServerId.{ServerId}
-use Rattle.hx_types.specs.declared.results.Hop.{Hop}
-use Rattle.hx_types.specs.declared.results.Hop.TheVariants.{At, End, Blocked}
+use Rattle.hx_types.specs.declared.results.Hop.TheVariants.{At}
 use Rattle.hx_types.specs.declared.spaces.Space.{Space}
 use Rattle.hx_types.specs.declared.updates.Place.{Place}
 use Rattle.hx_types.specs.declared.updates.Update.{Update}
-use Rattle.hx_types.specs.Words.{IsIn, same_server, when_some}
+use Rattle.hx_types.specs.Words.{IsIn, same_server}
 use Rattle.hx_types.specs.Configs.{first_config, head_of, lists, members_of}
 use Rattle.hx_types.specs.Spaces.{IsSpace}
 use Rattle.hx_model.specs.Regions.{key_region}
 use Rattle.hx_model.specs.Neighbours.{enters, hop_at, next_of, place_number, region_at}
 use Rattle.hx_model.specs.Leading.{first_lost}
-use Rattle.hx_model.specs.Slots.{KeyState, Move, after_at, has_place, moved_all, place_in, top_above, touches_after}
+use Rattle.hx_model.specs.Slots.{KeyState, Move, after_at, has_place, moved_all, touches_after}
 use Rattle.hx_steady.specs.Served.{leader_of, line_object}
 use Rattle.hx_steady.proofs.Lists.{any-in, in-slice_get}
 use Rattle.hx_steady.proofs.Chains.{leads-head}
 use Rattle.hx_sound.proofs.Hops.{next-reaches}
 use Rattle.hx_sound.proofs.Placed.{placed}
 use Rattle.hx_sound.proofs.Slots.{touches-by}
-use Rattle.hx_searches.proofs.Lines.{More, in-below, more_same, only, Sorted}
-use Rattle.hx_searches.proofs.Placed.{AllMade, Made, made-numbered, made-sorted}
+use Rattle.hx_searches.proofs.Lines.{More, in-below, more_same, Sorted}
+use Rattle.hx_searches.proofs.Placed.{AllMade, made-numbered, made-sorted}
 use Rattle.hx_searches.proofs.Passing.{Following, follows-line}
 use Rattle.hx_searches.proofs.Moves.{AllAllowed, Own, Later, in-accepted, later-all, own_rely}
 use Rattle.hx_searches.proofs.Chains.{Apart, along, at-number, enters-at, number-is, place-in, region-is, server-same}

@@ -1,32 +1,28 @@
 -- Each row of a finished search is a change that matches, was under way or committed during it, and wasn't followed by a change that ended before it.
-use Rattle.std.proofs.Common.{◌≡◌, ℕ, ◌+◌, ◌<◌, ◌≤◌, ◌⊎◌, inl, inr, Bool, true, false, not, ◌&&◌, List, [], ◌∷◌, map, Option, Some, None, refl, sym, ap, ◌∙◌, subst, arith}
+use Rattle.std.proofs.Common.{◌≡◌, ℕ, ◌<◌, ◌≤◌, inl, inr, Bool, true, false, not, ◌&&◌, List, [], ◌∷◌, map, Option, Some, None, refl, sym, ap, ◌∙◌, subst, arith}
 use Rattle.std.specs.List.{list_any}
-use Rattle.std.proofs.lemmas.Bool.{and_from, and_parts, cases_order, false≢true, true≢false}
+use Rattle.std.proofs.lemmas.Bool.{and_from, and_parts, cases_order, true≢false}
 use Rattle.hx_types.specs.declared.calls.Caller.{Caller}
 use Rattle.hx_types.specs.declared.calls.Op.{Op}
 use Rattle.hx_types.specs.declared.calls.Row.{Row}
 use Rattle.hx_types.specs.declared.histories.Item.{Item}
 use Rattle.hx_types.specs.declared.names.RegionId.{RegionId}
-use Rattle.hx_types.specs.declared.names.Version.{Version}
-use Rattle.hx_types.specs.declared.spaces.Space.{Space}
 use Rattle.hx_types.specs.declared.traces.Entry.{Entry}
 use Rattle.hx_types.specs.declared.traces.Script.{Script}
 use Rattle.hx_types.specs.declared.updates.Update.{Update}
 use Rattle.hx_types.specs.declared.values.Term.{Term}
-use Rattle.hx_types.specs.declared.values.Value.{Value}
 use Rattle.hx_types.specs.declared.calls.Op.TheVariants.{Search}
 use Rattle.hx_types.specs.Words.{IsBefore, IsIn, when_some}
 use Rattle.hx_types.specs.Effects.{is_write}
-use Rattle.hx_types.specs.Fitting.{IsScript, call_of, is_done}
+use Rattle.hx_types.specs.Fitting.{IsScript, is_done}
 use Rattle.hx_types.specs.Posts.{keys_ascend}
 use Rattle.hx_model.specs.Matching.{matches}
-use Rattle.hx_model.specs.Regions.{key_region}
-use Rattle.hx_model.specs.Slots.{has_place, kept_row, upto}
+use Rattle.hx_model.specs.Slots.{has_place, upto}
 use Rattle.hx_model.specs.SessionSteps.{Part, merged_parts}
 use Rattle.hx_model.specs.Runs.{IsRun}
-use Rattle.hx_model.specs.Histories.{history_of, line_of}
+use Rattle.hx_model.specs.Histories.{line_of}
 use Rattle.hx_model.specs.Linear.{began_before, ended_before}
-use Rattle.hx_model.specs.Searching.{Cut, FinishedSearch, IsSearchTrue, IsTrueRow, changes_object, cuts_of, no_change_before}
+use Rattle.hx_model.specs.Searching.{FinishedSearch, IsSearchTrue, IsTrueRow, changes_object, cuts_of, no_change_before}
 use Rattle.hx_model.specs.Steady.{HasNoHalts, IsFixed}
 use Rattle.hx_steady.proofs.Lists.{any-in}
 use Rattle.hx_linear.proofs.Lists.{Pairwise}
@@ -34,7 +30,7 @@ use Rattle.hx_linear.proofs.Kept.{SteadyRun}
 use Rattle.hx_linear.proofs.Items.{Apart, write_of}
 use Rattle.hx_linear.proofs.Stories.{Wrote, story_apart}
 use Rattle.hx_searches.proofs.Lines.{Sorted, in-only, in-upto, in-upto_from, only, only-in, only-sorted, same_version, upto-low, upto-sorted}
-use Rattle.hx_searches.proofs.Placed.{AllMade, Made, made-sorted}
+use Rattle.hx_searches.proofs.Placed.{AllMade, made-sorted}
 use Rattle.hx_searches.proofs.Passing.{Lies, keeps-where, passes-key, passes-old}
 use Rattle.hx_searches.proofs.Texts.{ascend-test}
 use Rattle.hx_searches.proofs.Founds.{BeganOver, IsFound}

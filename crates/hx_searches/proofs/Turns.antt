@@ -1,15 +1,12 @@
 -- A step of a server in one configuration: the moves of its slots are allowed, and what it posts is true of them.
-use Rattle.std.proofs.Common.{◌≡◌, ℕ, ◌+◌, ◌-◌, ◌<◌, ◌≤◌, ◌⊎◌, inl, inr, Bool, true, false, not, ◌&&◌, List, [], ◌∷◌, ◌++◌, length, Option, Some, None, refl, sym, ap, ◌∙◌, subst, arith, leb, is_some}
+use Rattle.std.proofs.Common.{◌≡◌, ℕ, ◌≤◌, ◌⊎◌, inl, inr, true, false, List, [], ◌∷◌, Some, None, refl, sym, ap, ◌∙◌, subst}
 use Rattle.std.specs.Prelude.{⊤}
-use Rattle.std.specs.List.{flat_map, slice_get}
-use Rattle.std.proofs.lemmas.Bool.{cond_both, cond-true, cond-false, cases_Bool, cases_eq, and_parts, leb-true, eqb-true, false≢true}
-use Rattle.hx_types.specs.declared.calls.Caller.{Caller}
-use Rattle.hx_types.specs.declared.calls.Op.{Op}
+use Rattle.std.specs.List.{flat_map}
+use Rattle.std.proofs.lemmas.Bool.{cases_Bool, cases_eq}
 use Rattle.hx_types.specs.declared.calls.Row.{Row}
 use Rattle.hx_types.specs.declared.messages.Message.{Message}
 use Rattle.hx_types.specs.declared.messages.Post.{Post}
 use Rattle.hx_types.specs.declared.names.Actor.{Actor}
-use Rattle.hx_types.specs.declared.names.Epoch.{Epoch}
 use Rattle.hx_types.specs.declared.names.RegionId.{RegionId}
 use Rattle.hx_types.specs.declared.names.ServerId.{ServerId}
 use Rattle.hx_types.specs.declared.results.Hop.{Hop}
@@ -18,27 +15,26 @@ use Rattle.hx_types.specs.declared.traces.Note.{Note}
 use Rattle.hx_types.specs.declared.updates.Update.{Update}
 use Rattle.hx_types.specs.declared.values.Term.{Term}
 use Rattle.hx_types.specs.declared.messages.Message.TheVariants as a_message
-use Rattle.hx_types.specs.declared.traces.Note.TheVariants as a_note
-use Rattle.hx_types.specs.declared.names.Actor.TheVariants.{Coordinator, Server, Session}
+use Rattle.hx_types.specs.declared.names.Actor.TheVariants.{Server}
 use Rattle.hx_types.specs.declared.results.Hop.TheVariants.{At, End, Blocked}
-use Rattle.hx_types.specs.Words.{IsIn, post, same_text}
+use Rattle.hx_types.specs.Words.{IsIn, same_text}
 use Rattle.hx_types.specs.Subspaces.{is_key_region}
 use Rattle.hx_types.specs.Configs.{first_config, lists}
 use Rattle.hx_types.specs.Spaces.{IsSpace}
-use Rattle.hx_model.specs.Neighbours.{is_end, next_of, place_number, region_at}
+use Rattle.hx_model.specs.Neighbours.{next_of, place_number, region_at}
 use Rattle.hx_model.specs.Leading.{first_lost}
 use Rattle.hx_model.specs.Slots.{Acknowledge, Commit, Forget, Hold, KeyState, Move, Take, found_in, has_place, moved_all}
-use Rattle.hx_model.specs.ServerSteps.{Replica, ServerState, ServerStep, SlotStep, Spot, ack_to, at_slot, move_posts, next_at, passed_on, prev_at, replica_of, saying, state_in, told_to, update_to, with_replica}
+use Rattle.hx_model.specs.ServerSteps.{Replica, ServerState, ServerStep, Spot, ack_to, at_slot, move_posts, next_at, passed_on, prev_at, replica_of, saying, state_in, told_to, update_to}
 use Rattle.hx_model.proofs.Laws.{base-moved_all}
 use Rattle.hx_model.proofs.States.{eq_of_same_text}
 use Rattle.hx_steady.specs.Served.{slot_in}
 use Rattle.hx_steady.proofs.Lists.{in-flat_map, in-slice_get}
 use Rattle.hx_steady.proofs.Replicas.{in-with_replica, replica-found, slot-found, slot-here, slot-other_key, slot-other_region, state-key, with_slot_at}
-use Rattle.hx_steady.proofs.Turns.{Stands, noted, spot_in, standing}
+use Rattle.hx_steady.proofs.Turns.{noted, spot_in, standing}
 use Rattle.hx_sound.proofs.Hops.{next-reaches}
 use Rattle.hx_searches.proofs.Lines.{More, more_push, more_same}
 use Rattle.hx_searches.proofs.Placed.{AllMade, Made, made-key}
-use Rattle.hx_searches.proofs.Moves.{AllAllowed, Own, Promise, own_rely, promised}
+use Rattle.hx_searches.proofs.Moves.{AllAllowed, Promise, own_rely, promised}
 use Rattle.hx_searches.proofs.Chains.{at-number, before-next, place-in, region-is}
 use Rattle.hx_searches.proofs.Texts.{Ascend, state_key, with_state-ascends}
 use Rattle.hx_searches.proofs.Slots.{Freed, KeyOk, following, places-apart, sorted, version-low}

@@ -1,9 +1,8 @@
 -- A finished search shows the last change of each key that began before it ended, where it or a later item ended before the search began.
-use Rattle.std.proofs.Common.{◌≡◌, ℕ, zero, suc, ◌+◌, ◌<◌, ◌≤◌, ◌⊎◌, inl, inr, Bool, true, false, ◌&&◌, List, [], ◌∷◌, map, length, get_or, Option, Some, None, refl, sym, ap, ◌∙◌, subst, arith, add-one, is_some}
+use Rattle.std.proofs.Common.{◌≡◌, ℕ, zero, suc, ◌+◌, ◌<◌, ◌≤◌, ◌⊎◌, inl, inr, Bool, true, false, List, [], ◌∷◌, map, length, get_or, Option, Some, None, refl, sym, ap, ◌∙◌, subst, arith, add-one, is_some}
 use Rattle.std.specs.List.{Contains, list_all, list_any}
-use Rattle.std.proofs.lemmas.Bool.{and_from, and_parts, cases_Bool, false≢true, true≢false}
+use Rattle.std.proofs.lemmas.Bool.{and_from, and_parts, cases_Bool, false≢true}
 use Rattle.hx_types.specs.declared.calls.Caller.{Caller}
-use Rattle.hx_types.specs.declared.calls.Op.{Op}
 use Rattle.hx_types.specs.declared.calls.Row.{Row}
 use Rattle.hx_types.specs.declared.histories.Item.{Item}
 use Rattle.hx_types.specs.declared.names.RegionId.{RegionId}
@@ -14,20 +13,17 @@ use Rattle.hx_types.specs.declared.traces.Script.{Script}
 use Rattle.hx_types.specs.declared.updates.Update.{Update}
 use Rattle.hx_types.specs.declared.values.Term.{Term}
 use Rattle.hx_types.specs.declared.values.Value.{Value}
-use Rattle.hx_types.specs.declared.results.Planned.TheVariants as a_plan
-use Rattle.hx_types.specs.Words.{IsBefore, IsIn, below, when_some}
+use Rattle.hx_types.specs.Words.{IsIn, below, when_some}
 use Rattle.hx_types.specs.Configs.{first_config}
-use Rattle.hx_types.specs.Effects.{is_write}
-use Rattle.hx_types.specs.Fitting.{IsScript, call_of, is_done}
+use Rattle.hx_types.specs.Fitting.{IsScript}
 use Rattle.hx_types.specs.Spaces.{IsSpace}
 use Rattle.hx_model.specs.Matching.{matches}
 use Rattle.hx_model.specs.Regions.{key_region, place_of}
 use Rattle.hx_model.specs.Places.{declared_subspaces}
-use Rattle.hx_model.specs.Planning.{plan_of}
 use Rattle.hx_model.specs.Slots.{has_place, keeps_at, kept_row, upto}
-use Rattle.hx_model.specs.SessionSteps.{Part, all_parts, merged_parts}
+use Rattle.hx_model.specs.SessionSteps.{Part, merged_parts}
 use Rattle.hx_model.specs.Runs.{IsRun}
-use Rattle.hx_model.specs.Histories.{history_of, line_of}
+use Rattle.hx_model.specs.Histories.{line_of}
 use Rattle.hx_model.specs.Linear.{began_before, ended_before}
 use Rattle.hx_model.specs.Searching.{Cut, FinishedSearch, IsCutShown, IsSearchWhole, IsShown, changes_object, last_change}
 use Rattle.hx_model.specs.Steady.{HasNoHalts, IsFixed}
@@ -41,10 +37,10 @@ use Rattle.hx_linear.proofs.Stories.{Wrote}
 use Rattle.hx_searches.proofs.Lines.{in-upto, only, only-in, only-sorted, same_version, upto-low}
 use Rattle.hx_searches.proofs.Placed.{Made, made-sorted}
 use Rattle.hx_searches.proofs.Passing.{keeps-key, keeps-new, passes-key}
-use Rattle.hx_searches.proofs.Founds.{BeganOver, IsFound}
-use Rattle.hx_searches.proofs.Rows.{Kept, kept-is, kept-newest, row_with, stands}
+use Rattle.hx_searches.proofs.Founds.{BeganOver}
+use Rattle.hx_searches.proofs.Rows.{kept-is, kept-newest, row_with, stands}
 use Rattle.hx_searches.proofs.Joins.{IsCovered, merged-covers, merged-in, part_rows}
-use Rattle.hx_searches.proofs.Histories.{LastChange, began-before, ended-over, history-is, in-order, items, last-is, passes, update-item}
+use Rattle.hx_searches.proofs.Histories.{LastChange, began-before, ended-over, history-is, in-order, items, last-is, update-item}
 use Rattle.hx_searches.proofs.Gathering.{Finished, FoundBy}
 use Rattle.hx_searches.proofs.Trueness.{before-first, changed-by, changing, given, made, part-sorted, terms-same}
 
