@@ -1,5 +1,5 @@
 # A library: a book is kept by its title, and found by its author, or by its shelf and year.
-# `hx plan` tells which regions each search asks; `hx replay` can't run it yet.
+# `hx plan` tells which regions each search asks, `hx replay` what it finds.
 hx 1
 space library
 key title 4                     # regions 0 to 3

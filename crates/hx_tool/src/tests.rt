@@ -53,6 +53,24 @@ const CALLED_TWICE: &str =
 const CALLED_TWICE_REPORT: &str =
     "call u1.1 begin 1 end 14 put \"a\" genre=\"b\" year=1999 -> done version 1\nhistory \"a\"\nitem 1 u1.1 done present genre=\"b\" year=1999\n";
 
+const TRACED_REPORT: &str =
+    "report 1\nspace one\nkey k 1\nstring v\nservers 1\ntolerate 0\ncall u1.1 begin 1 end 3 put \"a\" v=\"x\" -> done version 1\nhistory \"a\"\nitem 1 u1.1 done present v=\"x\"\nepoch 1 servers 1 lost -\nentry 1 u1 tick\npost 1.0 s1 call epoch 1 number 1\nentry 2 s1 deliver 1.0\npost 2.0 u1 reply number 1 version 1\nentry 3 u1 deliver 2.0\nend\n";
+
+/// The first put of these goes all the way; of the second some replicas have committed, and its
+/// leader hasn't, when a get and a search begin.
+const OVERTAKEN: &str =
+    "put \"a\" genre=\"b\" year=1999\nput \"a\" genre=\"d\"\nsession 2\nget \"a\"\nsession 3\nsearch genre=\"d\"\nsteps\ntick u1\n";
+
+const OVERTAKEN_REPORT: &str =
+    "call u1.1 begin 1 end 13 put \"a\" genre=\"b\" year=1999 -> done version 1\ncall u1.2 begin 14 end 36 put \"a\" genre=\"d\" -> done version 2\ncall u2.1 begin 26 end 31 get \"a\" -> found version 1 genre=\"b\" year=1999\ncall u3.1 begin 28 end 32 search genre=\"d\" -> rows 1\nrow \"a\" version 2 genre=\"d\" year=1999\nhistory \"a\"\nitem 1 u1.1 done present genre=\"b\" year=1999\nitem 1 u2.1 found present genre=\"b\" year=1999\nitem 2 u1.2 done present genre=\"d\" year=1999\n";
+
+/// The object moves from one region of the search to the other while both are asked.
+const MOVED: &str =
+    "put \"a\" genre=\"b\" year=1999\nput \"a\" year=2000\nsession 2\nsearch year=1990..2010\nsteps\ntick u1\n";
+
+const MOVED_LINES: &str =
+    "call u2.1 begin 24 end 29 search year=1990..2010 -> rows 1\nrow \"a\" version 2 genre=\"b\" year=2000\nhistory";
+
 const SEARCHES: &str =
     "session 1\nsearch year=1990..2010\nsearch year=2099\nsearch genre=\"b\"\nsearch name=\"b\"\nsearch\n";
 
@@ -172,7 +190,7 @@ fn calls_on_absent_objects_are_reported(rt: HostRuntime) -> Result<(), Fail> {
 fn larger_scripts_are_unbuilt(rt: HostRuntime) -> Result<(), Fail> {
     let alloc = rt.alloc();
     for lines in [
-        "session 1\nget \"a\"\nsearch\n",
+        "session 1\nget \"a\"\nstop 2\n",
         "session 1\nsession 2\nstop 1\n",
         "session 1\nadd 1 0\n",
         "steps\nhalt s1\n",
@@ -188,6 +206,53 @@ fn a_post_may_be_delivered_twice(rt: HostRuntime) -> Result<(), Fail> {
     let alloc = rt.alloc();
     assert!(rt; writes(alloc, "replay", STEPPED, 5, STEPPED_REPORT)?);
     assert!(rt; replays_books(alloc, CALLED_TWICE, 14, CALLED_TWICE_REPORT)?);
+    Ok(())
+}
+
+/// The steps that deliver the only post of each of these entries.
+fn deliveries(alloc: Global, first: u64, last: u64) -> Result<String, Fail> {
+    let mut steps = String::new(alloc);
+    for entry in first..=last {
+        let step = format!(in alloc; "deliver {entry}.0\n")?;
+        steps.push_str(step.as_str())?;
+    }
+    Ok(steps)
+}
+
+#[test]
+fn the_trace_is_printed(rt: HostRuntime) -> Result<(), Fail> {
+    let alloc = rt.alloc();
+    let text = "hx 1\nspace one\nkey k 1\nstring v\nservers 1\ntolerate 0\nsession 1\nput \"a\" v=\"x\"\n";
+    assert!(rt; writes(alloc, "replay --trace", text, 3, TRACED_REPORT)?);
+    Ok(())
+}
+
+#[test]
+fn a_search_sees_what_its_replicas_committed(rt: HostRuntime) -> Result<(), Fail> {
+    let alloc = rt.alloc();
+    let put = deliveries(alloc, 1, 12)?;
+    let again = deliveries(alloc, 14, 24)?;
+    let steps = format!(in alloc; "{put}tick u1\n{again}tick u2\ndeliver 26.0\ntick u3\ndeliver 28.0\n")?;
+    let calls = format!(in alloc; "{OVERTAKEN}{steps}")?;
+    assert!(rt; replays_books(alloc, calls.as_str(), 36, OVERTAKEN_REPORT)?);
+    Ok(())
+}
+
+/// Whether the bytes stand somewhere in the text.
+fn holds(text: &[u8], bytes: &[u8]) -> bool {
+    text.windows(bytes.len().max(1)).any(|part| part == bytes)
+}
+
+#[test]
+fn a_search_takes_the_newest_of_two_regions(rt: HostRuntime) -> Result<(), Fail> {
+    let alloc = rt.alloc();
+    let put = deliveries(alloc, 1, 12)?;
+    let again = deliveries(alloc, 14, 22)?;
+    let text = format!(in alloc; "{BOOKS}tolerate 1\nsession 1\n{MOVED}{put}tick u1\n{again}tick u2\ndeliver 24.0\ndeliver 24.1\n")?;
+    let mut sink = MemorySink::new(alloc, 4096, 64, Vec::new(alloc))?;
+    let done = run(alloc, "replay", text.as_bytes(), &mut sink)?;
+    assert!(rt; done.outcome == Outcome::Fine);
+    assert!(rt; holds(sink.bytes(), MOVED_LINES.as_bytes()));
     Ok(())
 }
 
