@@ -84,6 +84,7 @@ module _ (space : Space) (g : RegionId) (t : KeyState) (caller : Caller) (op : O
       by None e = cc
       by (Some x) e = absurd (cc)
 
+  -- so is one by the session's mark
   mark-assigns : (o : Option Mark) (u : Update) → by_mark space (first_config space) g t caller op o ≡ a_decision.Assign u → u ≡ assigned space (first_config space) g t caller op
   mark-assigns None u = fresh-assigns u
   mark-assigns (Some m) u =

@@ -116,6 +116,7 @@ module _ (script : Script) (valid : IsScript script) (fixed : IsFixed script) wh
   terms-are (Stop server) terms e = absurd (cc)
   terms-are (Add server region) terms e = absurd (cc)
 
+  -- rows that an answer has are its own
   rows-are : (a : Answer) (rows : List Row) → rows_in a ≡ Some rows → a ≡ an_answer.Rows rows
   rows-are an_answer.Done rows e = absurd (cc)
   rows-are an_answer.NotFound rows e = absurd (cc)

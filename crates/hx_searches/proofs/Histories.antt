@@ -42,6 +42,7 @@ pub record LastChange (t : List Entry) (n : ℕ) (newer l : List Item) (c : Cut)
   pub before : (y : Item) → IsIn y c.newer → IsIn y newer ⊎ IsBefore y c.item l
   pub others : (y : Item) → IsIn y l → passes t n y ≡ true → (y ≡ c.item) ⊎ IsBefore c.item y l
 
+-- the last change that is found stands so
 pub last-is : (t : List Entry) (n : ℕ) (newer l : List Item) (c : Cut) → last_change t n newer l ≡ Some c → LastChange t n newer l c
 last-is t n newer [] c = λ e. absurd (cc)
 last-is t n newer (x ∷ older) c =
@@ -79,6 +80,7 @@ pub record CutAt (newer l : List Item) (x : Item) : Type 0 where
   pub item : cut.item ≡ x
   pub before : (y : Item) → IsIn y cut.newer → IsIn y newer ⊎ IsBefore y x l
 
+-- so it is cut
 pub cut-at : (newer l : List Item) (x : Item) → IsIn x l → CutAt newer l x
 cut-at newer [] x i = absurd i
 cut-at newer (z ∷ older) x (inl e) = record { cut = record { item = z; newer = newer }; stands = inl refl; item = sym e; before = λ y i. inl i }
@@ -215,6 +217,7 @@ module _ (script : Script) (whole : List Entry) (given : SteadyRun script whole)
       let r = write-in (Some x.version.0) us l.1 u i in
       (r.0, r.1, in_right (gets_of script key x.version.0 high x.object whole) _ (write_of u r.0) (inr r.2))
 
+  -- so each update of the line is an item of the history
   pub update-item : (u : Update) → IsIn u line → (op : Op) × (is_write op ≡ true) × IsIn (write_of u op) items
   update-item u i = write-in None line law u i
 

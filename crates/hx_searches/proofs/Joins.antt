@@ -102,15 +102,18 @@ joined-in : (rs rows : List Row) (P : Row → Type 0) → ((y : Row) → IsIn y 
 joined-in [] rows P f h = h
 joined-in (r ∷ rest) rows P f h = in-with r (rows_joined rest rows) P (f r (inl refl)) (joined-in rest rows P (λ y i. f y (inr i)) h)
 
+-- they stay in order
 joined-ascends : (rs rows : List Row) → Ascend row_key rows → Ascend row_key (rows_joined rs rows)
 joined-ascends [] rows h = h
 joined-ascends (r ∷ rest) rows h = with-ascends r (rows_joined rest rows) (joined-ascends rest rows h)
 
+-- each of them is covered
 joined-covers : (rs rows : List Row) (y : Row) → IsIn y rs → IsCovered (rows_joined rs rows) y
 joined-covers [] rows y i = absurd i
 joined-covers (r ∷ rest) rows y (inl e) = subst (IsCovered (with_row r (rows_joined rest rows))) (sym e) (with-covers r (rows_joined rest rows))
 joined-covers (r ∷ rest) rows y (inr i) = covered-up r (rows_joined rest rows) y (joined-covers rest rows y i)
 
+-- and so is what was covered before
 joined-keeps : (rs rows : List Row) (y : Row) → IsCovered rows y → IsCovered (rows_joined rs rows) y
 joined-keeps [] rows y c = c
 joined-keeps (r ∷ rest) rows y c = covered-up r (rows_joined rest rows) y (joined-keeps rest rows y c)

@@ -1,12 +1,13 @@
 -- Laws of lines of updates, newest first, and of the part of a line that has a place in a region.
 use Rattle.std.proofs.Common.{◌≡◌, ℕ, ◌+◌, ◌<◌, ◌≤◌, inl, inr, true, List, [], ◌∷◌, length, refl, sym, ap, ◌∙◌, subst, arith, leb}
-use Rattle.std.proofs.lemmas.Bool.{leb-false, leb-true, le-leb, lt-leb, cond_both, cond-true, cond-false}
+use Rattle.std.proofs.lemmas.Bool.{leb-false, leb-true, cond_both, cond-true}
 use Rattle.std.specs.List.{filter}
 use Rattle.hx_types.specs.declared.names.RegionId.{RegionId}
 use Rattle.hx_types.specs.declared.updates.Update.{Update}
 use Rattle.hx_types.specs.Words.{IsIn}
 use Rattle.hx_model.specs.Slots.{has_place, top_above, upto}
 use Rattle.hx_steady.proofs.Lists.{in-filter}
+pub use Rattle.hx_linear.proofs.Lines.{Numbered, in-below, upto_here, upto_past}
 
 -- the updates of a line with a place in a region
 abbrev pub only : RegionId → List Update → List Update
@@ -16,17 +17,6 @@ only g us = filter (has_place g) us
 abbrev pub Sorted : List Update → Type 0
 Sorted [] = Unit {0}
 Sorted (u ∷ us) = ((w : Update) → IsIn w us → w.version.0 < u.version.0) × (1 ≤ u.version.0) × Sorted us
-
--- the versions are 1, 2, 3 and so on
-abbrev pub Numbered : List Update → Type 0
-Numbered [] = Unit {0}
-Numbered (u ∷ us) = (u.version.0 ≡ length us + 1) × Numbered us
-
--- a version of a numbered line
-pub in-below : (us : List Update) (w : Update) → Numbered us → IsIn w us → (1 ≤ w.version.0) × (w.version.0 ≤ length us)
-in-below [] w h i = absurd i
-in-below (u ∷ us) w h (inl e) = let s : w.version.0 ≡ u.version.0 = ap (λ (x : Update). x.version.0) e in omega arith
-in-below (u ∷ us) w h (inr i) = let r : (1 ≤ w.version.0) × (w.version.0 ≤ length us) = in-below us w h.1 i in omega arith
 
 -- a numbered line is sorted
 pub numbered-sorted : (us : List Update) → Numbered us → Sorted us
@@ -53,14 +43,6 @@ pub in-top : (us : List Update) (w : Update) → Sorted us → IsIn w us → (1 
 in-top [] w h i = absurd i
 in-top (u ∷ us) w h (inl e) = let s : w.version.0 ≡ u.version.0 = ap (λ (x : Update). x.version.0) e in omega arith
 in-top (u ∷ us) w h (inr i) = let r = in-top us w h.2 i in let l = h.0 w i in omega (arith, r.0, l)
-
--- a list up to a version that it reaches is whole
-pub upto_here : (v : ℕ) (u : Update) (us : List Update) → u.version.0 ≤ v → upto v (u ∷ us) ≡ u ∷ us
-upto_here v u us h = cond-true (leb u.version.0 v) _ _ (le-leb u.version.0 v h)
-
--- a higher version is left out
-pub upto_past : (v : ℕ) (u : Update) (us : List Update) → v < u.version.0 → upto v (u ∷ us) ≡ upto v us
-upto_past v u us h = cond-false (leb u.version.0 v) _ _ (lt-leb u.version.0 v h)
 
 -- up to its top a list is whole
 pub upto_all : (us : List Update) (v : ℕ) → top_above 0 us ≤ v → upto v us ≡ us

@@ -160,6 +160,7 @@ module _ (space : Space) (valid : IsSpace space) (key : List ℕ) (older : List 
     pub is : u.object ≡ Some object
     pub place : place_of space subspace key object ≡ g
 
+  -- where an update keeps is such a region
   pub keeps-where : (g : RegionId) → keeps_at g u ≡ true → (g ≡ key_region space key) ⊎ Lies g
   keeps-where g = by (place_in g u.places) refl
     where

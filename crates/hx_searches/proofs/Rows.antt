@@ -125,6 +125,7 @@ pub record Kept (g : RegionId) (us : List Update) (r : Row) : Type 0 where
   pub object : update.object ≡ Some r.object
   pub newest : (w : Update) → IsIn w us → update.version.0 < w.version.0 → w.changes ≡ false
 
+-- a row that is kept is of such a change
 pub kept-is : (g : RegionId) (us : List Update) → Sorted us → (r : Row) → kept_row g None us ≡ Some r → Kept g us r
 kept-is g [] h r = λ e. absurd (cc)
 kept-is g (x ∷ us) h r =

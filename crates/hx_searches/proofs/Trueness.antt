@@ -94,10 +94,11 @@ module _ (script : Script) (valid : IsScript script) (fixed : IsFixed script) (t
       abbrev u : Update
       u = kept.update
 
-      -- it stands in the line with a place there, no higher than the floor
+      -- it stands in the line with a place in the region
       u-in : IsIn u here × (has_place g u ≡ true)
       u-in = only-in g here u (in-upto (by.found.floor r.key) (only g here) u kept.stands)
 
+      -- its version is no higher than the floor there
       u-low : u.version.0 ≤ by.found.floor r.key
       u-low = upto-low (by.found.floor r.key) (only g here) u (only-sorted g here (made-sorted script.space r.key here (made r.key))) kept.stands
 

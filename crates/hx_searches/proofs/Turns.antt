@@ -39,8 +39,7 @@ use Rattle.hx_searches.proofs.Chains.{at-number, before-next, place-in, region-i
 use Rattle.hx_searches.proofs.Texts.{Ascend, state_key, with_state-ascends}
 use Rattle.hx_searches.proofs.Slots.{Freed, KeyOk, following, places-apart, sorted, version-low}
 
--- what a post of a server's step says, for the lines and the server's state after it
--- an acknowledgement: the sender is the next replica of the receiver in the update's chain, and has committed the update
+-- an acknowledgement, for the lines and the server's state after the step: the sender is the next replica of the receiver in the update's chain, and has committed the update
 pub record Acking (space : Space) (s : ServerId) (M : List ℕ → List Update) (st : ServerState) (to : Actor) (g : RegionId) (key : List ℕ) (v : ℕ) : Type 0 where
   pub update : Update
   pub stands : IsIn update (M key)
@@ -60,6 +59,7 @@ pub record Finding (rs : List Replica) (Asked : Actor → ℕ → List Term → 
   pub found : replica_of g rs ≡ Some replica
   pub rows_are : rows ≡ found_in g terms replica.states
 
+-- what a post of a server says, by its message
 abbrev pub Says : (space : Space) (s : ServerId) (rs : List Replica) (Asked : Actor → ℕ → List Term → Type 0) (M : List ℕ → List Update) (st : ServerState) → Actor → Message → Type 0
 Says space s rs Asked M st to (a_message.Call epoch number op) = ⊤
 Says space s rs Asked M st to (a_message.Reply number version answer) = ⊤
