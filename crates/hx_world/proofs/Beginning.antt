@@ -1,5 +1,5 @@
 -- The world before the first entry.
-use Rattle.std.proofs.Common.{◌≡◌, ℕ, zero, suc, ◌+◌, ◌<◌, ◌≤◌, inl, inr, List, [], ◌∷◌, length, Option, Some, refl, sym, ap, ◌∙◌, subst, arith, add-one}
+use Rattle.std.proofs.Common.{◌≡◌, ℕ, zero, suc, ◌+◌, ◌<◌, ◌≤◌, inl, inr, List, [], ◌∷◌, length, Option, Some, refl, sym, ap, ◌∙◌, subst, arith, add-one, get_or}
 use Rattle.std.specs.Prelude.{slice_get, sum_by}
 use Rattle.std.specs.List.{All}
 use Rattle.std.proofs.lemmas.List.Sums.{sum_by-cons}
@@ -16,7 +16,9 @@ use Rattle.hx_world.specs.declared.logs.Log.{Log}
 use Rattle.hx_world.specs.Invariant.{IsHost, IsSeat, IsWorld, IsWorldOf, session_at}
 use Rattle.hx_world.specs.Runnable.{IsRunnable}
 use Rattle.hx_world.specs.Starting.{HaveStarted, IsNewHost, IsNewSeat}
-use Rattle.hx_world.proofs.Seating.{at_each}
+use Rattle.hx_world.specs.declared.seats.Seat.{Seat}
+use Rattle.hx_model.specs.SessionSteps.{session_at_start}
+use Rattle.hx_world.proofs.Seating.{at_each, item_read}
 
 -- the calls of a place are those of its session
 pub calls_at : (script : Script) (place : ℕ) (calls : List Op) → slice_get script.sessions place ≡ Some calls → calls_of script (session_at place) ≡ calls
@@ -36,6 +38,17 @@ part_of_sum f (y ∷ rest) x (inr i) = let all = sum_by-cons f y rest in let par
 pub calls_few : (script : Script) → IsScript script → (place : ℕ) (calls : List Op) → slice_get script.sessions place ≡ Some calls → length calls ≤ 16384
 calls_few script valid place calls e =
     let part = part_of_sum (λ (cs : List Op). length cs) script.sessions calls (in-slice_get script.sessions place calls e) in omega (arith, part, valid.few_calls)
+
+-- the next session has started
+pub seat_starts : (script : Script) (all : List (List Op)) (place : ℕ) (calls own : List Op) (s : Seat) → all ≡ script.sessions → place < length all → calls ≡ get_or all place calls → own ≡ calls
+    → s.session.space ≡ script.space → s.session.state ≡ session_at_start script.space (session_at place) own → s.entries ≡ 0 → IsNewSeat script place s
+seat_starts script all place calls own s same within read copied space state entries =
+    let here : slice_get script.sessions place ≡ Some calls = subst (λ (l : List (List Op)). slice_get l place ≡ Some calls) same (item_read all place calls within read) in
+    record {
+      space_is = space;
+      state = state ∙ ap (session_at_start script.space (session_at place)) (copied ∙ sym (calls_at script place calls here));
+      entries = entries;
+    }
 
 -- where the actors have started
 pub world_starts : (script copy : Script) (actors : Actors) (log : Log) → IsRunnable script

@@ -3,6 +3,7 @@ pub mod Seating
 pub mod Naming
 pub mod Removing
 pub mod Owning
+pub mod Keyed
 pub mod Tallies
 pub mod Taking
 pub mod Advancing
@@ -11,4 +12,3 @@ pub mod Stepping
 pub mod Scheduling
 pub mod Beginning
 pub mod Spending
-pub mod Books

@@ -1,7 +1,7 @@
 -- Lists that have at each place what belongs there.
-use Rattle.std.proofs.Common.{◌≡◌, ◌≢◌, ℕ, zero, suc, ◌+◌, ◌<◌, ◌⊎◌, inl, inr, List, [], ◌∷◌, ◌++◌, length, set, Some, refl, sym, ap, ◌∙◌, subst, arith}
+use Rattle.std.proofs.Common.{◌≡◌, ◌≢◌, ℕ, zero, suc, ◌+◌, ◌<◌, ◌⊎◌, inl, inr, List, [], ◌∷◌, ◌++◌, length, set, Some, refl, sym, ap, ◌∙◌, subst, arith, get_or}
 use Rattle.std.specs.Prelude.{slice_get}
-use Rattle.std.proofs.lemmas.Option.{slice_get_within}
+use Rattle.std.proofs.lemmas.Option.{slice_get_within, slice_get-get_or}
 use Rattle.hx_world.specs.Invariant.{AreAt}
 
 -- the item at a place of the list
@@ -9,6 +9,10 @@ pub item_at : {A : Type 0} (xs : List A) (i : ℕ) → i < length xs → (x : A)
 item_at [] i within = absurd (omega arith)
 item_at (x ∷ rest) zero within = (x, refl)
 item_at (x ∷ rest) (suc i) within = item_at rest i (omega arith)
+
+-- the item at a place that was read there
+pub item_read : {A : Type 0} (xs : List A) (i : ℕ) (x : A) → i < length xs → x ≡ get_or xs i x → slice_get xs i ≡ Some x
+item_read xs i x within e = slice_get-get_or xs i x within ∙ ap Some (sym e)
 
 length-push : {A : Type 0} (xs : List A) (x : A) → length (xs ++ x ∷ []) ≡ length xs + 1
 length-push [] x = omega arith

@@ -25,34 +25,35 @@ use Rattle.hx_model.specs.SessionSteps.{SessionState}
 use Rattle.hx_model.specs.Steady.{is_halt}
 use Rattle.hx_replica.specs.Servers as server
 use Rattle.hx_session.specs.Sessions as session
-use Rattle.hx_steady.proofs.Entries.{still-run}
-use Rattle.hx_steady.proofs.Kept.{Still, delivered-sent, lines}
+use Rattle.hx_steady.proofs.Entries.{served_lemma, still-run}
+use Rattle.hx_steady.proofs.Kept.{Still, delivered-sent, lines, named-in}
 use Rattle.hx_steady.proofs.Posts.{Sent}
 use Rattle.hx_steady.proofs.Sessions.{coordinator-rests}
 use Rattle.hx_world.specs.Invariant.{IsCalm}
+use Rattle.hx_world.proofs.Keyed.{IsOnKey, keyed_run}
 use Rattle.hx_world.proofs.Naming.{named_within}
 use Rattle.hx_world.proofs.Owning.{own_run}
 use Rattle.hx_world.proofs.Tallies.{few_in_all}
 
 -- what is sent in one configuration brings no replica to another
-handled : (L : List ℕ → List Update) (m : Message) → Sent L m → server.IsHandled m
-handled L (a_message.Call epoch number op) h = tt
-handled L (a_message.Reply number version answer) h = tt
-handled L (a_message.Update epoch g u) h = tt
-handled L (a_message.Ack epoch g key version) h = tt
-handled L (a_message.Ask epoch number g terms) h = tt
-handled L (a_message.Found epoch number g rows) h = tt
-handled L (a_message.Seal epoch) h = tt
-handled L (a_message.Sealed epoch) h = tt
-handled L (a_message.Install config) h = absurd h
-handled L a_message.Die h = tt
-handled L a_message.Gone h = tt
-handled L (a_message.StopServer number s) h = tt
-handled L (a_message.AddReplica number s g) h = tt
-handled L (a_message.Outcome number answer) h = tt
-handled L (a_message.Snap epoch g snapshot pending) h = absurd h
-handled L (a_message.Ready epoch g) h = tt
-handled L (a_message.Poll epoch) h = tt
+handled : (L : List ℕ → List Update) (m : Message) → Sent L m → IsOnKey m → server.IsHandled m
+handled L (a_message.Call epoch number op) h k = k
+handled L (a_message.Reply number version answer) h k = tt
+handled L (a_message.Update epoch g u) h k = tt
+handled L (a_message.Ack epoch g key version) h k = tt
+handled L (a_message.Ask epoch number g terms) h k = tt
+handled L (a_message.Found epoch number g rows) h k = tt
+handled L (a_message.Seal epoch) h k = tt
+handled L (a_message.Sealed epoch) h k = tt
+handled L (a_message.Install config) h k = absurd h
+handled L a_message.Die h k = tt
+handled L a_message.Gone h k = tt
+handled L (a_message.StopServer number s) h k = tt
+handled L (a_message.AddReplica number s g) h k = tt
+handled L (a_message.Outcome number answer) h k = tt
+handled L (a_message.Snap epoch g snapshot pending) h k = absurd h
+handled L (a_message.Ready epoch g) h k = tt
+handled L (a_message.Poll epoch) h k = tt
 
 module _ (script : Script) (t : List Entry) (w : IsCalm script t) where
   -- what every run in one configuration keeps
@@ -67,6 +68,9 @@ module _ (script : Script) (t : List Entry) (w : IsCalm script t) where
 
   pub sound_here : (id : PostId) (p : Post) → post_named id t ≡ Some p → IsSoundPost script.space (length script.sessions) id.entry p
   sound_here id p named = w.sound.posts t w.run w.still id p named
+
+  keyed_here : (id : PostId) (p : Post) → post_named id t ≡ Some p → IsOnKey p.message
+  keyed_here id p named = keyed_run script (served_lemma script w.runnable.valid w.runnable.fixed) t w.run w.still p (named-in id t p named)
 
   -- who gets a post is one of the script's actors
   pub actor_here : (id : PostId) (p : Post) → post_named id t ≡ Some p → is_actor script p.to ≡ true
@@ -106,7 +110,7 @@ module _ (script : Script) (t : List Entry) (w : IsCalm script t) where
   input_to_server s Tick may calm = tt
   input_to_server s Halt may calm = absurd (false≢true (sym calm))
   input_to_server s (Deliver id from m) may calm = (
-    handled (lines t) m (delivered-sent script t still_here (Server s) (Deliver id from m) may id from m refl),
+    handled (lines t) m (delivered-sent script t still_here (Server s) (Deliver id from m) may id from m refl) (keyed_here id (post from (Server s) m) may),
     record { sessions = length script.sessions; entry = id.entry; few = few_named id (post from (Server s) m) may; sound = sound_here id (post from (Server s) m) may },
   )
 

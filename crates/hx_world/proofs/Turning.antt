@@ -3,7 +3,6 @@ use Rattle.std.proofs.Common.{◌≡◌, ℕ, ◌+◌, ◌-◌, ◌<◌, ◌≤�
 use Rattle.std.specs.Prelude.{slice_get, reverse}
 use Rattle.std.proofs.lemmas.Bool.{le-leb, lt-leb}
 use Rattle.std.proofs.lemmas.List.{reverse-append, length-reverse}
-use Rattle.std.proofs.lemmas.Option.{slice_get-get_or}
 use Rattle.hx_types.specs.declared.messages.PostId.{PostId}
 use Rattle.hx_types.specs.declared.names.Actor.{Actor}
 use Rattle.hx_types.specs.declared.names.ServerId.{ServerId}
@@ -37,13 +36,9 @@ use Rattle.hx_world.specs.Turns.{HasNoTurn, HasTurn, IsAdmitted, IsBarred, IsSpe
 use Rattle.hx_world.specs.Worlds.{most_entries}
 use Rattle.hx_world.proofs.Advancing.{IsGiven, attended_entry, attended_world, coordinated_entry, coordinated_world, given, served_entry, served_world}
 use Rattle.hx_world.proofs.Naming.{waiting_ascends}
-use Rattle.hx_world.proofs.Seating.{at_set}
+use Rattle.hx_world.proofs.Seating.{at_set, item_read}
 use Rattle.hx_world.proofs.Taking.{attends, server_exists, serves, session_exists}
 use Rattle.hx_world.proofs.Tallies.{few_entries}
-
--- the item at a place that was read there
-item_read : {A : Type 0} (xs : List A) (i : ℕ) (x : A) → i < length xs → x ≡ get_or xs i x → slice_get xs i ≡ Some x
-item_read xs i x within e = slice_get-get_or xs i x within ∙ ap Some (sym e)
 
 -- no world makes more entries
 pub most_of : (script : Script) (actors : Actors) (log : Log) → IsWorld script actors log → length log.trace ≤ most_entries

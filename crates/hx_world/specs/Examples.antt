@@ -1,11 +1,12 @@
--- The scripts that the tests run, in a space of books with two declared subspaces.
+-- The scripts that the tests run, in a space of books with two declared subspaces and in one of a single region.
 use Rattle.std.specs.Prelude.{ℕ, ℤ, pos, List, [], ◌∷◌}
 use Rattle.hx_types.specs.declared.calls.Op.{Op}
 use Rattle.hx_types.specs.declared.spaces.Axis.{Axis}
 use Rattle.hx_types.specs.declared.spaces.Space.{Space}
 use Rattle.hx_types.specs.declared.traces.Script.{Script}
 use Rattle.hx_types.specs.declared.values.Assign.{Assign}
-use Rattle.hx_types.specs.declared.calls.Op.TheVariants.{Put, Get}
+use Rattle.hx_types.specs.declared.calls.Op.TheVariants.{Put, Get, Search}
+use Rattle.hx_types.specs.declared.values.Term.TheVariants as a_term
 use Rattle.hx_types.specs.declared.spaces.Kind.TheVariants as a_kind
 use Rattle.hx_types.specs.declared.values.Value.TheVariants as a_value
 
@@ -45,6 +46,23 @@ three_calls = put_a (genre_is (98 ∷ []) ∷ year_is (pos 1999) ∷ []) ∷ Get
 abbrev pub one_call : List Op
 one_call = put_a [] ∷ []
 
+-- `put "a" genre="b"`, `search genre="b"`
+abbrev pub search_calls : List Op
+search_calls = put_a (genre_is (98 ∷ []) ∷ []) ∷ Search (a_term.Equal 1 (a_value.Text (98 ∷ [])) ∷ []) ∷ []
+
+-- `space one`, `key k 1`, `string v`, `servers 1`, `tolerate 0`
+abbrev pub one : Space
+one =
+    record {
+      name = 111 ∷ 110 ∷ 101 ∷ [];
+      key_name = 107 ∷ [];
+      key_parts = 1;
+      attributes = record { name = 118 ∷ []; kind = a_kind.Text } ∷ [];
+      subspaces = [];
+      servers = 1;
+      tolerate = 0;
+    }
+
 -- one session with these calls
-abbrev pub script_of : List Op → Script
-script_of calls = record { space = books; sessions = calls ∷ []; steps = [] }
+abbrev pub script_in : Space → List Op → Script
+script_in space calls = record { space = space; sessions = calls ∷ []; steps = [] }
