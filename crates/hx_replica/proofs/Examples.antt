@@ -7,13 +7,18 @@ use Rattle.hx_types.specs.declared.names.RegionId.{RegionId}
 use Rattle.hx_types.specs.declared.names.ServerId.{ServerId}
 use Rattle.hx_types.specs.declared.spaces.Space.{Space}
 use Rattle.hx_types.specs.declared.traces.Input.{Input}
+use Rattle.hx_types.specs.declared.messages.Message.{Message}
+use Rattle.hx_types.specs.declared.messages.Message.TheVariants as a_message
+use Rattle.hx_types.specs.declared.names.Actor.TheVariants.{Coordinator, Server}
+use Rattle.hx_types.specs.declared.traces.Input.TheVariants.{Tick, Halt}
+use Rattle.hx_types.specs.Posts.{IsSoundMessage, goes_between}
 use Rattle.hx_types.specs.Configs.{first_config}
-use Rattle.hx_types.specs.Spaces.{AssignFits, IsKind, IsName, IsSpace, IsSubspaceOf, is_letter}
+use Rattle.hx_types.specs.Spaces.{AssignFits, TermFits, IsKind, IsName, IsSpace, IsSubspaceOf, is_letter}
 use Rattle.hx_types.specs.Words.{IsIn}
 use Rattle.hx_model.specs.ServerSteps.{Replica, ServerState, listed_regions, server_at_start}
 use Rattle.hx_model.specs.Slots.{KeyState}
-use Rattle.hx_replica.specs.Examples.{put_of, small}
-use Rattle.hx_replica.specs.Servers.{CanTake, HasSmallVersions}
+use Rattle.hx_replica.specs.Examples.{ask_of, first, from_coordinator, put_of, small}
+use Rattle.hx_replica.specs.Servers.{CanTake, HasSmallVersions, IsHandled}
 
 letter : (b : ℕ) → is_letter b ≡ true → IsName (b ∷ [])
 letter b e = record {
@@ -50,7 +55,7 @@ no_state (g ∷ gs) r i t j = ⊎_elim (λ e. subst (λ (x : Replica). IsIn t x.
 pub small_at_start : (space : Space) (s : ServerId) → HasSmallVersions (server_at_start space s)
 small_at_start space s = λ r i t j. absurd (no_state (listed_regions (first_config space) s) r i t j)
 
-put_fits : (epoch : ℕ) → epoch ≤ 2 → CanTake small (server_at_start small (record { 0 = 1 })) (put_of epoch)
+put_fits : (epoch : ℕ) → epoch ≤ 2 → CanTake small (server_at_start small first) (put_of epoch)
 put_fits epoch l = record {
   running = refl;
   input_to = (
@@ -67,10 +72,54 @@ put_fits epoch l = record {
       };
     },
   );
-  small = small_at_start small (record { 0 = 1 });
+  small = small_at_start small first;
 }
 
-pub can_put : (space : Space) (s : ServerState) (input : Input) (epoch : ℕ) → space ≡ small → s ≡ server_at_start small (record { 0 = 1 }) → input ≡ put_of epoch → epoch ≤ 2 → CanTake space s input
-can_put space s input epoch e f g l =
+-- a server that started so can take what one at the start can
+at_start : (space : Space) (s : ServerState) (input to : Input) → space ≡ small → s ≡ server_at_start small first → input ≡ to → CanTake small (server_at_start small first) to → CanTake space s input
+at_start space s input to e f g can =
     subst (λ (x : Space). CanTake x s input) (sym e)
-    (subst (λ (x : ServerState). CanTake small x input) (sym f) (subst (CanTake small (server_at_start small (record { 0 = 1 }))) (sym g) (put_fits epoch l)))
+    (subst (λ (x : ServerState). CanTake small x input) (sym f) (subst (CanTake small (server_at_start small first)) (sym g) can))
+
+pub can_put : (space : Space) (s : ServerState) (input : Input) (epoch : ℕ) → space ≡ small → s ≡ server_at_start small first → input ≡ put_of epoch → epoch ≤ 2 → CanTake space s input
+can_put space s input epoch e f g l = at_start space s input (put_of epoch) e f g (put_fits epoch l)
+
+ask_fits : CanTake small (server_at_start small first) ask_of
+ask_fits = record {
+  running = refl;
+  input_to = (
+    tt,
+    record {
+      sessions = 1;
+      entry = 1;
+      few = omega arith;
+      sound = record {
+        from = (omega arith, omega arith);
+        to = (omega arith, omega arith);
+        between = refl;
+        message = (omega arith, omega arith, record { each = All-from_recursion (TermFits small) [] tt; once = tt });
+      };
+    },
+  );
+  small = small_at_start small first;
+}
+
+pub can_ask : (space : Space) (s : ServerState) (input : Input) → space ≡ small → s ≡ server_at_start small first → input ≡ ask_of → CanTake space s input
+can_ask space s input e f g = at_start space s input ask_of e f g ask_fits
+
+pub can_tick : (space : Space) (s : ServerState) → space ≡ small → s ≡ server_at_start small first → CanTake space s Tick
+can_tick space s e f = at_start space s Tick Tick e f refl (record { running = refl; input_to = tt; small = small_at_start small first })
+
+pub can_halt : (space : Space) (s : ServerState) → space ≡ small → s ≡ server_at_start small first → CanTake space s Halt
+can_halt space s e f = at_start space s Halt Halt e f refl (record { running = refl; input_to = tt; small = small_at_start small first })
+
+-- what the coordinator sends
+sent : (m : Message) → IsHandled m → goes_between Coordinator (Server first) m ≡ true → IsSoundMessage (record { space = small; sessions = 1; most = 2 }) m → CanTake small (server_at_start small first) (from_coordinator m)
+sent m h b message = record {
+  running = refl;
+  input_to = (h, record { sessions = 1; entry = 1; few = omega arith; sound = record { from = tt; to = (omega arith, omega arith); between = b; message = message } });
+  small = small_at_start small first;
+}
+
+pub can_seal : (space : Space) (s : ServerState) (input : Input) → space ≡ small → s ≡ server_at_start small first → input ≡ from_coordinator (a_message.Seal (record { 0 = 1 })) → CanTake space s input
+can_seal space s input e f g = at_start space s input (from_coordinator (a_message.Seal (record { 0 = 1 }))) e f g (sent (a_message.Seal (record { 0 = 1 })) tt refl (omega arith))

@@ -1,10 +1,12 @@
--- What the test is of: a space of one region on one server, and a put there.
+-- What the tests are of: a space of one region on one server, and inputs there.
 use Rattle.std.specs.Prelude.{ℕ, [], ◌∷◌}
+use Rattle.hx_types.specs.declared.messages.Message.{Message}
+use Rattle.hx_types.specs.declared.names.ServerId.{ServerId}
 use Rattle.hx_types.specs.declared.spaces.Space.{Space}
 use Rattle.hx_types.specs.declared.traces.Input.{Input}
 use Rattle.hx_types.specs.declared.calls.Op.TheVariants.{Put}
-use Rattle.hx_types.specs.declared.messages.Message.TheVariants.{Call}
-use Rattle.hx_types.specs.declared.names.Actor.TheVariants.{Session}
+use Rattle.hx_types.specs.declared.messages.Message.TheVariants.{Ask, Call}
+use Rattle.hx_types.specs.declared.names.Actor.TheVariants.{Coordinator, Session}
 use Rattle.hx_types.specs.declared.traces.Input.TheVariants.{Deliver}
 
 abbrev pub small : Space
@@ -18,6 +20,16 @@ small =
       servers = 1;
       tolerate = 0;
     }
+
+abbrev pub first : ServerId
+first = record { 0 = 1 }
+
+abbrev pub from_coordinator : Message → Input
+from_coordinator m = Deliver (record { entry = 1; place = 0 }) Coordinator m
+
+-- session 1 searches for every object
+abbrev pub ask_of : Input
+ask_of = Deliver (record { entry = 1; place = 0 }) (Session (record { 0 = 1 })) (Ask (record { 0 = 1 }) 1 (record { 0 = 0 }) [])
 
 -- session 1 puts an object of defaults for a key
 abbrev pub put_of : ℕ → Input
