@@ -12,3 +12,4 @@ pub mod Stepping
 pub mod Scheduling
 pub mod Beginning
 pub mod Spending
+pub mod Books

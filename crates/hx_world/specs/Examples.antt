@@ -46,9 +46,13 @@ three_calls = put_a (genre_is (98 ∷ []) ∷ year_is (pos 1999) ∷ []) ∷ Get
 abbrev pub one_call : List Op
 one_call = put_a [] ∷ []
 
+-- `search genre="b"`
+abbrev pub search_b : Op
+search_b = Search (a_term.Equal 1 (a_value.Text (98 ∷ [])) ∷ [])
+
 -- `put "a" genre="b"`, `search genre="b"`
 abbrev pub search_calls : List Op
-search_calls = put_a (genre_is (98 ∷ []) ∷ []) ∷ Search (a_term.Equal 1 (a_value.Text (98 ∷ [])) ∷ []) ∷ []
+search_calls = put_a (genre_is (98 ∷ []) ∷ []) ∷ search_b ∷ []
 
 -- `space one`, `key k 1`, `string v`, `servers 1`, `tolerate 0`
 abbrev pub one : Space

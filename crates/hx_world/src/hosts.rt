@@ -21,12 +21,7 @@ pub struct Host {
 
 /// The server takes an input, if the entry that it makes of it may be made. All memory is taken
 /// before anything changes.
-pub fn serve(
-    alloc: Global,
-    host: &mut Host,
-    log: &mut Log,
-    input: &Input,
-) -> Result<(), StepError>
+pub fn serve(alloc: Global, host: &mut Host, log: &mut Log, input: &Input) -> Result<(), StepError>
     requires can { CanTake host.old.server.space host.old.server.state input.now }
     requires few_entries { length log.old.trace < 2 ^ 32 }
     requires ascending { AreAscending log.old.waiting.items }

@@ -18,3 +18,5 @@ mod worlds;
 pub use ends::{DrainError, Drained, StepError};
 pub use worlds::World;
 
+#[cfg(test)]
+mod tests;

@@ -21,12 +21,7 @@ pub struct Seat {
 
 /// The session takes an input, if the entry that it makes of it may be made. All memory is taken
 /// before anything changes.
-pub fn attend(
-    alloc: Global,
-    seat: &mut Seat,
-    log: &mut Log,
-    input: &Input,
-) -> Result<(), StepError>
+pub fn attend(alloc: Global, seat: &mut Seat, log: &mut Log, input: &Input) -> Result<(), StepError>
     requires can { CanTake seat.old.session.space seat.old.session.state input.now }
     requires few_entries { length log.old.trace < 2 ^ 32 }
     requires ascending { AreAscending log.old.waiting.items }
