@@ -4,3 +4,4 @@ pub mod Joining
 pub mod Kept
 pub mod Finding
 pub mod Order
+pub mod Examples

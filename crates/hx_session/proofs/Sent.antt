@@ -79,16 +79,12 @@ pub begun_made : (v : SessionValue) (number : ℕ) (sender : Sender) (op : Op) (
     → IsSenderOf v v.state.config (record { begun = number; under_way = true; sent = false }) sender → number ≡ v.state.begun + 1 → IsSentBy sender op made → after ≡ begun_as number made
     → IsMade v.state (begin v.space v.state op) after
 begun_made v number sender op made after h n sent e =
-    subst (λ (m : Made). IsMade v.state (begin v.space v.state op) m) (sym e)
-    (subst (λ k. IsMade v.state (begin v.space v.state op) (begun_as k made)) (sym n) (by (v.state.begun + 1) n))
-  where
-    by : (k : ℕ) → number ≡ k → IsMade v.state (begin v.space v.state op) (begun_as (v.state.begun + 1) made)
-    by k is =
-        let progress : Progress = record { begun = v.state.begun + 1; under_way = true; sent = false } in
-        let at : IsSenderOf v v.state.config progress sender = subst (λ m. IsSenderOf v v.state.config (record { begun = m; under_way = true; sent = false }) sender) n h in
-        let so = sent_by v v.state.config progress sender op made at sent [] in
-        record {
-          posts = so.posts;
-          notes = ap (λ (notes : List Note). a_note.Began (v.state.begun + 1) ∷ notes) so.notes;
-          state = ap (λ (ps : List PartSeen). record (changed v.state made.change) { parts = ps }) (afresh_after made.change.parts v.state.parts) ∙ so.state;
-        }
+    let progress : Progress = record { begun = v.state.begun + 1; under_way = true; sent = false } in
+    let at : IsSenderOf v v.state.config progress sender = subst (λ m. IsSenderOf v v.state.config (record { begun = m; under_way = true; sent = false }) sender) n h in
+    let so = sent_by v v.state.config progress sender op made at sent [] in
+    subst (λ (m : Made). IsMade v.state (begin v.space v.state op) m) (sym (e ∙ ap (λ k. begun_as k made) n))
+    (record {
+      posts = so.posts;
+      notes = ap (λ (notes : List Note). a_note.Began (v.state.begun + 1) ∷ notes) so.notes;
+      state = ap (λ (ps : List PartSeen). record (changed v.state made.change) { parts = ps }) (afresh_after made.change.parts v.state.parts) ∙ so.state;
+    })

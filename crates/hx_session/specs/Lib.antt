@@ -3,3 +3,4 @@ pub mod Sessions
 pub mod Changes
 pub mod Joined
 pub mod Inside
+pub mod Examples

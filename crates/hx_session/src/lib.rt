@@ -13,3 +13,6 @@ mod sessions;
 
 pub use plans::Plan;
 pub use sessions::Session;
+
+#[cfg(test)]
+mod tests;
