@@ -47,11 +47,10 @@ worn-taken Plan text script replays is built steppable = absurd replays
 pub made_is_judged : (command : Command) (text : List ℕ) (made : Made) → length text ≤ limit → IsMadeOf command text made → IsJudged command text (outcome_of made)
 made_is_judged command text (Whole answered) short made =
     (short, record { script = made.script; text_is = made.text_is; taken = made.taken; steppable = answered-steppable command made.script answered.trace answered.bytes.items made.made })
-made_is_judged command text (Refused line trace) short made =
-    (
-      short,
-      inr (record { replays = made.0; by_step = refl; script = made.1.script; text_is = made.1.text_is; taken = made.1.taken; trace = trace; refused = made.1.stopped.refused }),
-    )
+made_is_judged command text (Refused line trace) short made = (
+  short,
+  inr (record { replays = made.0; by_step = refl; script = made.1.script; text_is = made.1.text_is; taken = made.1.taken; trace = trace; refused = made.1.stopped.refused }),
+)
 made_is_judged command text (Worn a trace) short made =
     (short, worn-taken command text made.1.script made.0 made.1.text_is made.1.taken (worn-steppable made.1.script trace a made.1.worn))
 

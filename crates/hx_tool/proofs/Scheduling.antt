@@ -41,9 +41,9 @@ pub whole_run :
 whole_run script before after trace n taken script_is from drains is same run still few =
     let here : reverse trace ≡ reverse after.trace = ap (λ (t : List Entry). reverse t) is in
     let made : reverse trace ≡ scheduled script (after_steps script) n =
-        here ∙ drains.trace ∙ ap (λ (s : Script). scheduled s (reverse before.trace) n) script_is ∙ ap (λ (t : List Entry). scheduled script t n) from in
+    here ∙ drains.trace ∙ ap (λ (s : Script). scheduled s (reverse before.trace) n) script_is ∙ ap (λ (t : List Entry). scheduled script t n) from in
     let quiet : next_entry script (reverse trace) ≡ None =
-        subst (λ (t : List Entry). next_entry script t ≡ None) (sym here) (subst (λ (s : Script). next_entry s (reverse after.trace) ≡ None) script_is drains.ends) in
+    subst (λ (t : List Entry). next_entry script t ≡ None) (sym here) (subst (λ (s : Script). next_entry s (reverse after.trace) ≡ None) script_is drains.ends) in
     record {
       run = subst (λ (s : Script). IsRun s (reverse trace)) (same ∙ script_is) run;
       still = still;
@@ -68,9 +68,9 @@ pub worn_run :
 worn_run script before after trace n a taken script_is from fails part is same run few =
     let here : reverse trace ≡ reverse after.trace = ap (λ (t : List Entry). reverse t) is in
     let made : reverse trace ≡ scheduled script (after_steps script) part.0 =
-        here ∙ part.2 ∙ ap (λ (s : Script). scheduled s (reverse before.trace) part.0) script_is ∙ ap (λ (t : List Entry). scheduled script t part.0) from in
+    here ∙ part.2 ∙ ap (λ (s : Script). scheduled s (reverse before.trace) part.0) script_is ∙ ap (λ (t : List Entry). scheduled script t part.0) from in
     let out : IsWornOut script (reverse trace) a =
-        subst (λ (t : List Entry). IsWornOut script t a) (sym here) (subst (λ (s : Script). IsWornOut s (reverse after.trace) a) script_is fails.cause) in
+    subst (λ (t : List Entry). IsWornOut script t a) (sym here) (subst (λ (s : Script). IsWornOut s (reverse after.trace) a) script_is fails.cause) in
     record {
       run = subst (λ (s : Script). IsRun s (reverse trace)) (same ∙ script_is) run;
       few = few;

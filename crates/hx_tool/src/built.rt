@@ -41,7 +41,11 @@ fn reconfigures(op: &Op) -> bool
 fn have_built_steps(script: &Script) -> bool
     ensures { IsTrue result ↔ All (λ (s : ℕ × Step). IsBuiltStep script.now s.1) script.now.steps }
 {
-    script.steps.as_slice().iter().all(|step| is_built_step(script, &step.1))
+    script
+        .steps
+        .as_slice()
+        .iter()
+        .all(|step| is_built_step(script, &step.1))
 }
 
 fn is_built_step(script: &Script, step: &Step) -> bool

@@ -49,12 +49,7 @@ fn replay_built(alloc: Global, script: &Script, with_trace: bool) -> Result<Made
 
 /// Runs a world whose script's steps were taken by the schedule, until there is nothing left to do
 /// or an actor is worn.
-fn finish(
-    alloc: Global,
-    script: &Script,
-    with_trace: bool,
-    world: World,
-) -> Result<Made, Memory>
+fn finish(alloc: Global, script: &Script, with_trace: bool, world: World) -> Result<Made, Memory>
     requires built { IsBuilt script.now }
     requires script { world.script ≡ script.now }
     requires taken { AreTaken script.now }
@@ -63,7 +58,12 @@ fn finish(
 {
     let mut world = world;
     match world.drain(alloc, u64::MAX) {
-        Ok(Drained::Quiet) => Ok(Made::Whole(answered(alloc, script, with_trace, world.into_trace())?)),
+        Ok(Drained::Quiet) => Ok(Made::Whole(answered(
+            alloc,
+            script,
+            with_trace,
+            world.into_trace(),
+        )?)),
         Ok(Drained::Spent) => unreachable!(),
         Err(DrainError::Memory) => Err(Memory),
         Err(DrainError::Worn(actor)) => Ok(Made::Worn {
@@ -91,12 +91,7 @@ fn answered(
 }
 
 /// The report of a trace.
-fn tell(
-    alloc: Global,
-    script: &Script,
-    with_trace: bool,
-    trace: &Trace,
-) -> Result<Vec<u8>, Memory>
+fn tell(alloc: Global, script: &Script, with_trace: bool, trace: &Trace) -> Result<Vec<u8>, Memory>
     requires { IsBuilt script.now }
     ensures { IfOk result (λ report. IsReport script.now (reverse trace.now) report.items with_trace) }
 {

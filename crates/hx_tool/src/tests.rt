@@ -222,7 +222,8 @@ fn deliveries(alloc: Global, first: u64, last: u64) -> Result<String, Fail> {
 #[test]
 fn the_trace_is_printed(rt: HostRuntime) -> Result<(), Fail> {
     let alloc = rt.alloc();
-    let text = "hx 1\nspace one\nkey k 1\nstring v\nservers 1\ntolerate 0\nsession 1\nput \"a\" v=\"x\"\n";
+    let text =
+        "hx 1\nspace one\nkey k 1\nstring v\nservers 1\ntolerate 0\nsession 1\nput \"a\" v=\"x\"\n";
     assert!(rt; writes(alloc, "replay --trace", text, 3, TRACED_REPORT)?);
     Ok(())
 }
@@ -232,7 +233,9 @@ fn a_search_sees_what_its_replicas_committed(rt: HostRuntime) -> Result<(), Fail
     let alloc = rt.alloc();
     let put = deliveries(alloc, 1, 12)?;
     let again = deliveries(alloc, 14, 24)?;
-    let steps = format!(in alloc; "{put}tick u1\n{again}tick u2\ndeliver 26.0\ntick u3\ndeliver 28.0\n")?;
+    let steps = format!(in alloc;
+        "{put}tick u1\n{again}tick u2\ndeliver 26.0\ntick u3\ndeliver 28.0\n"
+    )?;
     let calls = format!(in alloc; "{OVERTAKEN}{steps}")?;
     assert!(rt; replays_books(alloc, calls.as_str(), 36, OVERTAKEN_REPORT)?);
     Ok(())
@@ -248,7 +251,9 @@ fn a_search_takes_the_newest_of_two_regions(rt: HostRuntime) -> Result<(), Fail>
     let alloc = rt.alloc();
     let put = deliveries(alloc, 1, 12)?;
     let again = deliveries(alloc, 14, 22)?;
-    let text = format!(in alloc; "{BOOKS}tolerate 1\nsession 1\n{MOVED}{put}tick u1\n{again}tick u2\ndeliver 24.0\ndeliver 24.1\n")?;
+    let text = format!(in alloc;
+        "{BOOKS}tolerate 1\nsession 1\n{MOVED}{put}tick u1\n{again}tick u2\ndeliver 24.0\ndeliver 24.1\n"
+    )?;
     let mut sink = MemorySink::new(alloc, 4096, 64, Vec::new(alloc))?;
     let done = run(alloc, "replay", text.as_bytes(), &mut sink)?;
     assert!(rt; done.outcome == Outcome::Fine);

@@ -15,8 +15,8 @@ returns c =
           (reverse c.args.trace) c.requires.whole.run c.requires.whole.still;
       searches = λ caller s found.
           let well =
-              c.searches_in_one_configuration.ensures c.args.script.now c.requires.built.valid (built_is_fixed c.args.script.now c.requires.built)
-              (reverse c.args.trace) c.requires.whole.run c.requires.whole.still caller s found in
+          c.searches_in_one_configuration.ensures c.args.script.now c.requires.built.valid (built_is_fixed c.args.script.now c.requires.built)
+          (reverse c.args.trace) c.requires.whole.run c.requires.whole.still caller s found in
           record { true_rows = well.0; whole = well.1 };
       report_is = c.in_ok-bytes.ensures;
     }
