@@ -1,5 +1,5 @@
 -- From a world to the one after an entry.
-use Rattle.std.proofs.Common.{◌≡◌, ℕ, ◌+◌, ◌<◌, ◌≤◌, ◌≢◌, Bool, true, false, List, [], ◌∷◌, length, set, refl, sym, ap, ◌∙◌, subst, arith}
+use Rattle.std.proofs.Common.{◌≡◌, ℕ, ◌+◌, ◌<◌, ◌≤◌, true, false, List, ◌∷◌, length, set, refl, sym, ap, ◌∙◌, subst, arith}
 use Rattle.std.proofs.lemmas.Bool.{cond_both, cond-true, cond-false, eqb-true, eq-eqb, ne_eqb}
 use Rattle.hx_types.specs.declared.messages.PostId.{PostId}
 use Rattle.hx_types.specs.declared.names.Actor.{Actor}
@@ -24,7 +24,7 @@ use Rattle.hx_world.specs.declared.hosts.Host.{Host}
 use Rattle.hx_world.specs.declared.seats.Seat.{Seat}
 use Rattle.hx_world.specs.Hosts as host
 use Rattle.hx_world.specs.Seats as seat
-use Rattle.hx_world.specs.Invariant.{AreAt, IsCalm, IsHost, IsSeat, IsWorldOf, server_at, session_at}
+use Rattle.hx_world.specs.Invariant.{IsCalm, IsHost, IsSeat, IsWorldOf, server_at, session_at}
 use Rattle.hx_world.specs.Turns.{resting_entry}
 use Rattle.hx_world.specs.Worlds.{HasFewEntries}
 use Rattle.hx_world.proofs.Seating.{at_set}

@@ -1,6 +1,6 @@
 -- In one configuration a session keeps its number, its calls and the configuration.
-use Rattle.std.proofs.Common.{◌≡◌, List, [], ◌∷◌, length, refl, subst}
-use Rattle.std.proofs.lemmas.Bool.{cond_both, eqb-true}
+use Rattle.std.proofs.Common.{List, [], ◌∷◌, length, refl}
+use Rattle.std.proofs.lemmas.Bool.{cond_both}
 use Rattle.hx_types.specs.declared.names.Actor.{Actor}
 use Rattle.hx_types.specs.declared.names.SessionId.{SessionId}
 use Rattle.hx_types.specs.declared.traces.Entry.{Entry}

@@ -1,8 +1,8 @@
 -- Which step the schedule takes next.
-use Rattle.std.proofs.Common.{◌≡◌, ℕ, zero, suc, ◌+◌, ◌<◌, ◌≤◌, inl, inr, Bool, true, false, not, ◌&&◌, List, [], ◌∷◌, ◌++◌, length, Option, Some, None, refl, sym, ap, ◌∙◌, subst, arith, cond, ltb, leb, add-one}
+use Rattle.std.proofs.Common.{◌≡◌, ℕ, zero, suc, ◌+◌, ◌<◌, inl, inr, Bool, true, false, not, ◌&&◌, List, [], ◌∷◌, ◌++◌, length, Option, Some, None, refl, sym, ap, ◌∙◌, subst, arith, cond, ltb, leb, add-one}
 use Rattle.std.specs.Prelude.{⊤, slice_get, is_some, IsSomeAnd, MatchOption}
 use Rattle.std.specs.Option.{option_map}
-use Rattle.std.proofs.lemmas.Bool.{cond-true, cond-false, cases_eq, and_from, and_parts, and_right, false≢true, le-leb, lt-ltb, ltb-true, not-true}
+use Rattle.std.proofs.lemmas.Bool.{cond-true, cond-false, cases_eq, and_from, and_parts, and_right, le-leb, lt-ltb, ltb-true, not-true}
 use Rattle.hx_types.specs.declared.calls.Op.{Op}
 use Rattle.hx_types.specs.declared.messages.Post.{Post}
 use Rattle.hx_types.specs.declared.messages.PostId.{PostId}
@@ -16,7 +16,7 @@ use Rattle.hx_types.specs.declared.names.Actor.TheVariants.{Session}
 use Rattle.hx_types.specs.declared.traces.Input.TheVariants.{Tick}
 use Rattle.hx_types.specs.Fitting.{numbered}
 use Rattle.hx_types.specs.Words.{below, first_some, when_some}
-use Rattle.hx_model.specs.Runs.{Made, has_halted, is_actor, is_empty, made_of, makes_enough, post_named, session_of}
+use Rattle.hx_model.specs.Runs.{has_halted, is_empty, makes_enough, session_of}
 use Rattle.hx_model.specs.Schedule as model
 use Rattle.hx_model.specs.Schedule.{Next, StepFault, delivery_of, entry_by, fault_of, first_delivery, idle_among, is_idle, is_worn, next_entry, next_input, step_input, undelivered, with_entry, worn_fault}
 use Rattle.hx_model.specs.SessionSteps.{SessionState, SessionStep, begin, session_step, session_tick, staying}

@@ -1,5 +1,5 @@
 -- A turn of an actor is the step that asked for it, and what bars it is the fault of the step.
-use Rattle.std.proofs.Common.{◌≡◌, true, false, Bool, List, Option, None, Some, cond, refl, sym, ap, ◌∙◌, subst}
+use Rattle.std.proofs.Common.{◌≡◌, true, false, Bool, List, Option, None, Some, cond, sym, ap, ◌∙◌, subst}
 use Rattle.std.specs.Option.{option_map}
 use Rattle.std.proofs.lemmas.Bool.{false≢true}
 use Rattle.hx_types.specs.declared.messages.Post.{Post}

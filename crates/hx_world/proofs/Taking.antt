@@ -1,6 +1,5 @@
 -- What an actor of a world is given it can take.
-use Rattle.std.proofs.Common.{◌≡◌, ℕ, ◌+◌, ◌<◌, ◌≤◌, ◌&&◌, Bool, true, false, List, length, Some, refl, sym, ap, ◌∙◌, subst, arith, ltb, leb}
-use Rattle.std.specs.Prelude.{⊤}
+use Rattle.std.proofs.Common.{◌≡◌, ℕ, ◌+◌, ◌<◌, true, false, List, length, Some, refl, sym, ap, ◌∙◌, subst, arith, ltb, leb}
 use Rattle.std.proofs.lemmas.Bool.{and_from, and_parts, false≢true, lt-ltb, le-leb, ltb-true, leb-true}
 use Rattle.hx_types.specs.declared.messages.Message.{Message}
 use Rattle.hx_types.specs.declared.messages.Post.{Post}

@@ -1,6 +1,6 @@
 -- An actor of a world is given an input, in terms of the world's fields; traces of worlds stand oldest first.
-use Rattle.std.proofs.Common.{◌≡◌, ℕ, ◌+◌, ◌-◌, ◌<◌, ◌≤◌, Bool, true, false, List, [], ◌∷◌, ◌++◌, length, set, Option, Some, refl, sym, ap, ◌∙◌, subst, arith, get_or, vec_len}
-use Rattle.std.specs.Prelude.{slice_get, reverse}
+use Rattle.std.proofs.Common.{◌≡◌, ℕ, ◌+◌, ◌-◌, ◌<◌, ◌≤◌, true, false, List, [], ◌∷◌, ◌++◌, length, set, refl, sym, ap, ◌∙◌, subst, arith, get_or, vec_len}
+use Rattle.std.specs.Prelude.{reverse}
 use Rattle.std.proofs.lemmas.Bool.{le-leb, lt-leb}
 use Rattle.std.proofs.lemmas.List.{reverse-append, length-reverse}
 use Rattle.hx_types.specs.declared.messages.PostId.{PostId}
@@ -15,7 +15,7 @@ use Rattle.hx_types.specs.declared.names.Actor.TheVariants.{Coordinator, Server,
 use Rattle.hx_types.specs.Posts.{IsSessionOf}
 use Rattle.hx_types.specs.Spaces.{IsServerOf}
 use Rattle.hx_model.specs.Runs.{MayTake, is_actor, made_of, makes_enough, server_of, session_of}
-use Rattle.hx_model.specs.Schedule.{entries_of, entry_by, is_worn, undelivered}
+use Rattle.hx_model.specs.Schedule.{entries_of, entry_by, undelivered}
 use Rattle.hx_model.specs.ServerSteps.{ServerState}
 use Rattle.hx_model.specs.SessionSteps.{SessionState}
 use Rattle.hx_model.specs.Steady.{is_halt}
@@ -32,7 +32,7 @@ use Rattle.hx_world.specs.Hosts as host
 use Rattle.hx_world.specs.Seats as seat
 use Rattle.hx_world.specs.Invariant.{AreAt, IsHost, IsSeat, IsWorld, IsWorldOf, server_at, session_at}
 use Rattle.hx_world.specs.Names.{AreAscending}
-use Rattle.hx_world.specs.Turns.{HasNoTurn, HasTurn, IsAdmitted, IsBarred, IsSpentActor, IsTooMany, is_enough, resting_entry}
+use Rattle.hx_world.specs.Turns.{HasNoTurn, HasTurn, IsAdmitted, IsBarred, is_enough, resting_entry}
 use Rattle.hx_world.specs.Worlds.{most_entries}
 use Rattle.hx_world.proofs.Advancing.{IsGiven, attended_entry, attended_world, coordinated_entry, coordinated_world, given, served_entry, served_world}
 use Rattle.hx_world.proofs.Naming.{waiting_ascends}

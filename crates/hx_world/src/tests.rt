@@ -347,7 +347,7 @@ fn a_search_finds_its_row(rt: HostRuntime) -> Result<(), Fail> {
     Ok(())
 }
 
-/// Whether the step could be taken.
+/// Delivers the first post of an entry, and tells whether that could be done.
 fn takes(alloc: Global, world: &mut World, entry: u64) -> bool
     ensures { world.new.script ≡ world.old.script }
 {

@@ -76,8 +76,9 @@ impl World {
     }
 
     /// Makes the one entry of a step. The step is a delivery, or a tick of one of the script's
-    /// actors; nobody halts in these worlds. A post may be delivered any number of times, and one
-    /// that was delivered is delivered by no schedule again.
+    /// actors; nobody halts in these worlds. A post may be delivered any number of times; a drain
+    /// delivers those that were never delivered. That steps may come before the schedule, so that a
+    /// script can reorder and repeat posts, is this project's choice.
     ///
     /// Where the step can't be taken nothing changes, and the error is that of the first reason
     /// that holds: [`StepError::Unsent`] for a post that wasn't sent, [`StepError::Idle`] for a tick
