@@ -1,5 +1,5 @@
 -- Where the newest number of a session stands, and how a call stands to it.
-use Rattle.std.specs.Prelude.{◌≡◌, ℕ, ◌<◌, Bool, false, List, length, take, IsSomeAnd, slice_get, Option, None, Some}
+use Rattle.std.specs.Prelude.{◌≡◌, ℕ, ◌<◌, Bool, false, List, length, take, IsSomeAnd, slice_get}
 use Rattle.std.specs.List.{list_any}
 use Rattle.hx_types.specs.declared.calls.Caller.{Caller}
 use Rattle.hx_types.specs.declared.names.SessionId.{SessionId}

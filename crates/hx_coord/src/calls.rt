@@ -16,7 +16,8 @@ use crate::tasks::NewestList;
 use hx_types::{Answer, Caller, Config, Exact, Memory, Message, Op, Posts, RegionId, ServerId};
 use std::alloc::Global;
 
-/// How a call stands to the newest number of its session.
+/// How a call stands to the newest number of its session. That a call is known by its number, so
+/// that a repeated one is done once, is this project's choice.
 #[derive(Drop)]
 enum Coming {
     /// A newer call was heard.
@@ -26,7 +27,8 @@ enum Coming {
     New,
 }
 
-/// A session asks for a server to be taken out.
+/// A session asks for a server to be taken out. The server is asked to halt, and leaves with the
+/// next configuration once it has; this is the project's choice.
 pub fn stop_server(
     alloc: Global,
     config: &Config,
@@ -43,7 +45,7 @@ pub fn stop_server(
     }
 }
 
-/// A session asks for a replica to be added.
+/// A session asks for a replica to be added, at the end of a region's list.
 pub fn add_replica(
     alloc: Global,
     config: &Config,
@@ -94,8 +96,8 @@ fn answer_again(
     }
 }
 
-#[tactic(auto, using(crate::proofs::Steps::stops_out, crate::proofs::Steps::stops_in))]
 /// A new stop: the server is asked to halt, unless it has halted or left already.
+#[tactic(auto, using(crate::proofs::Steps::stops_out, crate::proofs::Steps::stops_in))]
 fn stop(
     alloc: Global,
     config: &Config,
@@ -126,8 +128,8 @@ fn ask_to_halt(alloc: Global, gone: &[ServerId], server: ServerId) -> Result<Pos
     Ok(posts)
 }
 
-#[tactic(auto, using(crate::proofs::Steps::adds_later))]
 /// A new add: where nothing is against it the epoch is sealed, unless it is being sealed.
+#[tactic(auto, using(crate::proofs::Steps::adds_later))]
 fn add(
     alloc: Global,
     config: &Config,

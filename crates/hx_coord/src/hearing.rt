@@ -36,7 +36,7 @@ pub fn hear(
     }
 }
 
-/// What a message of the coordinator itself would make.
+/// What a message of the coordinator itself makes: it can only ask for the configuration.
 fn hear_itself(
     alloc: Global,
     config: &Config,

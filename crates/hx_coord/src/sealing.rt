@@ -27,8 +27,8 @@ pub fn seal(alloc: Global, config: &Config, agenda: Agenda) -> Result<Made, Memo
     Ok(tell(alloc, agenda, posts))
 }
 
-#[tactic(auto, using(crate::proofs::Steps::wait_some, crate::proofs::Steps::wait_none))]
 /// A server is waited for no longer. Where it was the last the next configuration is issued.
+#[tactic(auto, using(crate::proofs::Steps::wait_some, crate::proofs::Steps::wait_none))]
 pub fn wait_less(
     alloc: Global,
     config: &Config,
@@ -61,8 +61,8 @@ fn waited_without(
     }
 }
 
-#[tactic(auto, using(crate::proofs::Steps::wait_over, crate::proofs::Steps::wait_on))]
 /// These servers are still waited for. Where there is none the next configuration is issued.
+#[tactic(auto, using(crate::proofs::Steps::wait_over, crate::proofs::Steps::wait_on))]
 fn wait_for(
     alloc: Global,
     config: &Config,

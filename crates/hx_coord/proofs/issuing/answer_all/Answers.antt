@@ -1,6 +1,6 @@
 use Rattle.std.proofs.Common.{Some, ◌∙◌, ap, sym}
 use Rattle.hx_types.specs.declared.calls.Answer.{Answer}
-use Rattle.hx_model.specs.CoordinatorSteps.{Answered, Newest, with_newest}
+use Rattle.hx_model.specs.CoordinatorSteps.{Answered, with_newest}
 use Rattle.hx_coord.specs.Changes.{newest_as}
 use Rattle.hx_coord.proofs.Lists.{answered_more}
 use Rattle.hx_coord.proofs.issuing.answer_all.Goals as goal
