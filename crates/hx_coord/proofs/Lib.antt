@@ -1,0 +1,4 @@
+pub mod Lists
+pub mod Steps
+pub mod Heard
+pub mod Examples

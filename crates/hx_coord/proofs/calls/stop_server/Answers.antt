@@ -1,0 +1,34 @@
+use Rattle.std.proofs.Common.{subst}
+use Rattle.std.proofs.lemmas.Result.{IfOk-weaker}
+use Rattle.hx_model.specs.CoordinatorSteps.{stops}
+use Rattle.hx_coord.specs.declared.calls.Coming.TheVariants.{Old, Again, New}
+use Rattle.hx_coord.specs.Changes.{standing}
+use Rattle.hx_coord.specs.Numbers.{Comes}
+use Rattle.hx_coord.proofs.Steps.{again_made, called, rested_made}
+use Rattle.hx_coord.proofs.calls.stop_server.Goals as goal
+
+pub returns-in-Old : goal.returns-in-Old
+returns-in-Old c =
+    called c.args.config.now c.args.agenda c.args.caller (stops (standing c.args.config.now c.args.agenda) c.args.caller c.args.server) Old c.rest.result
+    (subst (Comes c.args.agenda.newest c.args.caller) c.in-Old.is c.in_ok-compare_number.ensures)
+    (rested_made c.args.config.now c.args.agenda c.rest.result c.rest.ensures)
+
+pub returns-in-Again : goal.returns-in-Again
+returns-in-Again c =
+    IfOk-weaker c.answer_again.result _ _
+    (
+    λ made e. called c.args.config.now c.args.agenda c.args.caller (stops (standing c.args.config.now c.args.agenda) c.args.caller c.args.server) (Again c.in-Again.known) made
+    (subst (Comes c.args.agenda.newest c.args.caller) c.in-Again.is c.in_ok-compare_number.ensures)
+    (again_made c.args.config.now c.args.agenda c.args.caller c.in-Again.known made e)
+    )
+    c.answer_again.ensures
+
+pub returns-in-New : goal.returns-in-New
+returns-in-New c =
+    IfOk-weaker c.stop.result _ _
+    (
+    λ made h. called c.args.config.now c.args.agenda c.args.caller (stops (standing c.args.config.now c.args.agenda) c.args.caller c.args.server) New made
+    (subst (Comes c.args.agenda.newest c.args.caller) c.in-New.is c.in_ok-compare_number.ensures)
+    h
+    )
+    c.stop.ensures

@@ -1,0 +1,6 @@
+use Rattle.std.proofs.Common.{◌≡◌, ◌++◌, take}
+use Rattle.hx_coord.specs.Tasks.{outcomes}
+use Rattle.hx_coord.proofs.posting.tell_outcomes.Given as goal
+
+abbrev pub invariant-loop-each : goal.invariant-loop-each
+invariant-loop-each l = l.posts ≡ l.initial.posts ++ outcomes (take l.each-index l.answered)

@@ -1,0 +1,7 @@
+pub mod Coordinators
+pub mod Changes
+pub mod Leaving
+pub mod Numbers
+pub mod Tasks
+pub mod Inside
+pub mod Examples

@@ -1,0 +1,174 @@
+ghost use Rattle.std.specs.Prelude.{◌≡◌, ◌≤◌, ◌^◌, ◌∷◌, [], not, IfOk};
+ghost use Rattle.hx_types.specs.declared.messages.Message.TheVariants as a_message;
+ghost use Rattle.hx_types.specs.Words.{provided, server_in};
+ghost use Rattle.hx_model.specs.CoordinatorSteps.{Steady, add_step, adds, stop_step, stops, to_server};
+ghost use Rattle.hx_coord.specs.Changes.{IsMade, known_posts, phase_seen, standing, told};
+ghost use Rattle.hx_coord.specs.Numbers.{Comes};
+
+use crate::agendas::{Agenda, Phase, put_task};
+use crate::judging::judge;
+use crate::made::{Made, answer, outcome, rest, tell};
+use crate::numbers::newest_of;
+use crate::posting::tell_server;
+use crate::sealing::seal;
+use crate::servers::is_in;
+use crate::tasks::NewestList;
+use hx_types::{Answer, Caller, Config, Exact, Memory, Message, Op, Posts, RegionId, ServerId};
+use std::alloc::Global;
+
+/// How a call stands to the newest number of its session. That a call is known by its number, so
+/// that a repeated one is done once, is this project's choice.
+#[derive(Drop)]
+enum Coming {
+    /// A newer call was heard.
+    Old,
+    /// It is the newest, with its answer if it has one.
+    Again(Option<Answer>),
+    New,
+}
+
+/// A session asks for a server to be taken out. The server is asked to halt, and leaves with the
+/// next configuration once it has; this is the project's choice.
+pub fn stop_server(
+    alloc: Global,
+    config: &Config,
+    agenda: Agenda,
+    caller: Caller,
+    server: ServerId,
+) -> Result<Made, Memory>
+    ensures { IfOk result (IsMade config.now (stop_step (standing config.now agenda) caller.number server caller.session)) }
+{
+    match compare_number(alloc, &agenda.newest, caller)? {
+        Coming::Old => Ok(rest(alloc, agenda)),
+        Coming::Again(known) => answer_again(alloc, agenda, caller, known),
+        Coming::New => stop(alloc, config, agenda, caller, server),
+    }
+}
+
+/// A session asks for a replica to be added, at the end of a region's list.
+pub fn add_replica(
+    alloc: Global,
+    config: &Config,
+    agenda: Agenda,
+    caller: Caller,
+    server: ServerId,
+    region: RegionId,
+) -> Result<Made, Memory>
+    requires { config.now.epoch.0 ≤ 2 ^ 62 }
+    ensures { IfOk result (IsMade config.now (add_step (standing config.now agenda) caller.number server region caller.session)) }
+{
+    match compare_number(alloc, &agenda.newest, caller)? {
+        Coming::Old => Ok(rest(alloc, agenda)),
+        Coming::Again(known) => answer_again(alloc, agenda, caller, known),
+        Coming::New => add(alloc, config, agenda, caller, server, region),
+    }
+}
+
+/// How a call stands to the newest number of its session.
+fn compare_number(alloc: Global, newest: &NewestList, caller: Caller) -> Result<Coming, Memory>
+    ensures { IfOk result (Comes newest.now caller) }
+{
+    match newest_of(newest, caller.session) {
+        Some(known) if caller.number < known.number => Ok(Coming::Old),
+        Some(known) if caller.number == known.number => {
+            let answer = known.answer.copy(alloc)?;
+            Ok(Coming::Again(answer))
+        }
+        _ => Ok(Coming::New),
+    }
+}
+
+/// An answered call is answered again.
+fn answer_again(
+    alloc: Global,
+    agenda: Agenda,
+    caller: Caller,
+    known: Option<Answer>,
+) -> Result<Made, Memory>
+    ensures { IfOk result (λ made. made ≡ told agenda (known_posts caller known)) }
+{
+    match known {
+        None => Ok(rest(alloc, agenda)),
+        Some(answer) => {
+            let posts = outcome(alloc, caller, &answer)?;
+            Ok(tell(alloc, agenda, posts))
+        }
+    }
+}
+
+/// A new stop: the server is asked to halt, unless it has halted or left already.
+#[tactic(auto, using(crate::proofs::Steps::stops_out, crate::proofs::Steps::stops_in))]
+fn stop(
+    alloc: Global,
+    config: &Config,
+    agenda: Agenda,
+    caller: Caller,
+    server: ServerId,
+) -> Result<Made, Memory>
+    ensures { IfOk result (IsMade config.now (stops (standing config.now agenda) caller server)) }
+{
+    if !is_in(config.servers.as_slice(), server) {
+        let epoch = config.epoch;
+        return answer(alloc, agenda, caller, Answer::Stopped { epoch });
+    }
+    let mut agenda = agenda;
+    let posts = ask_to_halt(alloc, agenda.gone.as_slice(), server)?;
+    put_task(&mut agenda, caller, Op::Stop { server })?;
+    Ok(tell(alloc, agenda, posts))
+}
+
+/// A server is asked to halt, unless it is known to be gone.
+fn ask_to_halt(alloc: Global, gone: &[ServerId], server: ServerId) -> Result<Posts, Memory>
+    ensures { IfOk result (λ posts. posts ≡ provided (not (server_in server gone.now)) (to_server a_message.Die server ∷ [])) }
+{
+    let mut posts = Posts::new(alloc);
+    if !is_in(gone, server) {
+        tell_server(&mut posts, server, Message::Die)?;
+    }
+    Ok(posts)
+}
+
+/// A new add: where nothing is against it the epoch is sealed, unless it is being sealed.
+#[tactic(auto, using(crate::proofs::Steps::adds_later))]
+fn add(
+    alloc: Global,
+    config: &Config,
+    agenda: Agenda,
+    caller: Caller,
+    server: ServerId,
+    region: RegionId,
+) -> Result<Made, Memory>
+    requires { config.now.epoch.0 ≤ 2 ^ 62 }
+    ensures { IfOk result (IsMade config.now (adds (standing config.now agenda) caller server region (phase_seen agenda.phase))) }
+{
+    match agenda.phase {
+        Phase::Steady => add_steady(alloc, config, agenda, caller, server, region),
+        Phase::Sealing(_) => {
+            let mut agenda = agenda;
+            put_task(&mut agenda, caller, Op::Add { server, region })?;
+            Ok(rest(alloc, agenda))
+        }
+    }
+}
+
+#[tactic(auto, using(crate::proofs::Steps::adds_not, crate::proofs::Steps::adds_now))]
+fn add_steady(
+    alloc: Global,
+    config: &Config,
+    agenda: Agenda,
+    caller: Caller,
+    server: ServerId,
+    region: RegionId,
+) -> Result<Made, Memory>
+    requires { config.now.epoch.0 ≤ 2 ^ 62 }
+    ensures { IfOk result (IsMade config.now (adds (standing config.now agenda) caller server region Steady)) }
+{
+    match judge(config, server, region) {
+        Some(against) => answer(alloc, agenda, caller, against),
+        None => {
+            let mut agenda = agenda;
+            put_task(&mut agenda, caller, Op::Add { server, region })?;
+            seal(alloc, config, agenda)
+        }
+    }
+}

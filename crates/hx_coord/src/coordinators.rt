@@ -1,0 +1,109 @@
+ghost use Rattle.std.specs.Prelude.{◌≡◌, ◌≤◌, IfOk};
+ghost use Rattle.hx_types.specs.Spaces.{IsSpace};
+ghost use Rattle.hx_model.specs.CoordinatorSteps.{coordinator_at_start, coordinator_step};
+ghost use Rattle.hx_coord.specs.Changes.{IsMade, IsPlanOn};
+ghost use Rattle.hx_coord.specs.Coordinators.{CanTake};
+
+use crate::agendas::Agenda;
+use crate::hearing::hear;
+use crate::made::Made;
+use crate::plans::{Plan, put_config};
+use crate::turns::tick;
+use hx_types::{Actor, Config, Entry, Exact, Input, Memory, Space, first_config};
+use std::alloc::Global;
+use std::marker::Model;
+
+/// The coordinator, which issues the numbered configurations of a space, as HyperDex's does.
+/// Contracts see it as its state in the definitions.
+#[derive(Drop)]
+pub struct Coordinator {
+    config: Config,
+    agenda: Agenda,
+}
+
+impl Model for Coordinator {
+    ghost use Rattle.hx_model.specs.CoordinatorSteps.{CoordinatorState};
+
+    ghost Value = { CoordinatorState };
+
+    ghost use Rattle.hx_coord.specs.Inside.{value_of};
+
+    ghost view = { value_of };
+}
+
+impl Coordinator {
+    /// The coordinator of a space and a number of sessions at the start: in the configuration of
+    /// epoch 1, with nothing to be done.
+    pub fn start(alloc: Global, space: &Space, sessions: u32) -> Result<Coordinator, Memory>
+        requires space { IsSpace space.now }
+        requires sessions { sessions ≤ 16 }
+        ensures { IfOk result (λ coordinator. coordinator ≡ coordinator_at_start space.now sessions) }
+    {
+        let config = first_config(alloc, space)?;
+        Ok(Coordinator {
+            config,
+            agenda: Agenda::new(alloc, sessions),
+        })
+    }
+
+    /// Computes the step that this input makes, and takes all memory that it needs. Nothing
+    /// changes.
+    pub fn prepare(&mut self, alloc: Global, input: &Input) -> Result<Plan, Memory>
+        requires { CanTake self.old input.now }
+        ensures plan { IfOk result (IsPlanOn self.new) }
+        ensures input { IfOk result (λ plan. plan.entry.input ≡ input.now) }
+        ensures state { self.new ≡ self.old }
+    {
+        let made = self.made(alloc, input)?;
+        let input = input.copy(alloc)?;
+        let entry = Entry {
+            actor: Actor::Coordinator,
+            input,
+            outputs: made.posts,
+            notes: made.notes,
+        };
+        Ok(Plan {
+            entry,
+            config: made.config,
+            agenda: made.agenda,
+        })
+    }
+
+    /// Makes a prepared step, and gives its entry. It takes no memory.
+    pub fn apply(&mut self, plan: Plan) -> Entry
+        requires { IsPlanOn self.old plan }
+        ensures entry { result ≡ plan.entry }
+        ensures state { self.new ≡ (coordinator_step self.old plan.entry.input).state }
+    {
+        let Plan {
+            entry,
+            config,
+            agenda,
+        } = plan;
+        put_config(&mut self.config, config);
+        self.agenda = agenda;
+        entry
+    }
+
+    /// The newest configuration.
+    pub fn config(&self) -> &Config
+        ensures { result.now ≡ self.now.config }
+    {
+        &self.config
+    }
+
+    /// What the step of an input makes.
+    fn made(&self, alloc: Global, input: &Input) -> Result<Made, Memory>
+        requires { CanTake self.now input.now }
+        ensures { IfOk result (IsMade self.now.config (coordinator_step self.now input.now)) }
+    {
+        let agenda = self.agenda.copy(alloc)?;
+        match input {
+            Input::Tick => tick(alloc, &self.config, agenda),
+            Input::Deliver { from, message, .. } => {
+                hear(alloc, &self.config, agenda, *from, message)
+            }
+            Input::Halt => unreachable!(),
+        }
+    }
+}

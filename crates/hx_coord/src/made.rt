@@ -1,0 +1,55 @@
+ghost use Rattle.std.specs.Prelude.{◌≡◌, ◌∷◌, [], Some, IfOk};
+ghost use Rattle.hx_model.specs.CoordinatorSteps.{outcome};
+ghost use Rattle.hx_coord.specs.Changes.{numbered, told};
+
+use crate::agendas::{Agenda, number};
+use crate::posting::tell_outcome;
+use hx_types::{Answer, Caller, Config, Memory, Notes, Posts};
+use std::alloc::Global;
+
+/// What a step posts, notes and changes. There is a configuration where one is issued.
+#[derive(Drop)]
+pub struct Made {
+    pub posts: Posts,
+    pub notes: Notes,
+    pub config: Option<Config>,
+    pub agenda: Agenda,
+}
+
+/// Nothing is posted or noted. It takes no memory.
+pub fn rest(alloc: Global, agenda: Agenda) -> Made
+    ensures { result ≡ told agenda [] }
+{
+    tell(alloc, agenda, Posts::new(alloc))
+}
+
+/// These posts are made, and nothing is noted. It takes no memory.
+pub fn tell(alloc: Global, agenda: Agenda, posts: Posts) -> Made
+    ensures { result ≡ told agenda posts }
+{
+    Made {
+        posts,
+        notes: Notes::new(alloc),
+        config: None,
+        agenda,
+    }
+}
+
+/// A new call is answered at once.
+pub fn answer(alloc: Global, agenda: Agenda, caller: Caller, answer: Answer) -> Result<Made, Memory>
+    ensures { IfOk result (λ made. made ≡ told (numbered agenda caller (Some answer)) (outcome caller answer ∷ [])) }
+{
+    let mut agenda = agenda;
+    let posts = outcome(alloc, caller, &answer)?;
+    number(&mut agenda, caller, Some(answer))?;
+    Ok(tell(alloc, agenda, posts))
+}
+
+/// The post that tells a call's answer, alone.
+pub fn outcome(alloc: Global, caller: Caller, answer: &Answer) -> Result<Posts, Memory>
+    ensures { IfOk result (λ posts. posts ≡ outcome caller answer.now ∷ []) }
+{
+    let mut posts = Posts::new(alloc);
+    tell_outcome(alloc, &mut posts, caller, answer)?;
+    Ok(posts)
+}

@@ -1,0 +1,46 @@
+ghost use Rattle.std.specs.Prelude.{◌≡◌, false, IfNone, IfSome, OnOk};
+ghost use Rattle.std.specs.List.{list_any};
+ghost use Rattle.std.specs.Option.{option_copied};
+ghost use Rattle.hx_model.specs.CoordinatorSteps.{newest_of, with_newest};
+ghost use Rattle.hx_coord.specs.Numbers.{IsPlaceOf, is_of_session};
+
+use crate::tasks::{Newest, NewestList};
+use hx_types::{Memory, SessionId};
+
+/// The newest number of a session, if it has called.
+#[tactic(auto, using(crate::proofs::Lists::newest_at, crate::proofs::Lists::newest_nowhere))]
+pub fn newest_of(newest: &NewestList, session: SessionId) -> Option<&Newest>
+    ensures { option_copied result ≡ newest_of session newest.now }
+{
+    match place_of(newest.as_slice(), session) {
+        Some(place) => newest.get(place),
+        None => None,
+    }
+}
+
+/// A newer number takes the place of its session's, or is the last.
+#[tactic(auto, using(crate::proofs::Lists::newest_put, crate::proofs::Lists::newest_last))]
+pub fn put_newest(newest: &mut NewestList, newer: Newest) -> Result<(), Memory>
+    ensures { OnOk result (newest.new ≡ with_newest newer newest.old) }
+{
+    match place_of(newest.as_slice(), newer.session) {
+        Some(place) => {
+            newest.set(place, newer);
+            Ok(())
+        }
+        None => Ok(newest.push(newer)?),
+    }
+}
+
+/// Where the newest number of a session stands.
+fn place_of(newest: &[Newest], session: SessionId) -> Option<usize>
+    ensures none { IfNone result (list_any (is_of_session session) newest.now ≡ false) }
+    ensures some { IfSome result (IsPlaceOf session newest.now) }
+{
+    for (place, known) in newest.iter().enumerate() {
+        if known.session == session {
+            return Some(place);
+        }
+    }
+    None
+}
