@@ -1,3 +1,5 @@
 pub mod Order
 pub mod Lines
 pub mod Moves
+pub mod World
+pub mod Keys
