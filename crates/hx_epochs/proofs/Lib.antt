@@ -3,3 +3,5 @@ pub mod Lines
 pub mod Moves
 pub mod World
 pub mod Keys
+pub mod Hops
+pub mod Leader

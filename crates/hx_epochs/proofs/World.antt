@@ -22,7 +22,6 @@ use Rattle.hx_types.specs.declared.messages.Message.TheVariants as a_message
 use Rattle.hx_types.specs.declared.names.Actor.TheVariants.{Coordinator, Server, Session}
 use Rattle.hx_types.specs.Words.{IsBefore, IsIn}
 use Rattle.hx_types.specs.Effects.{effect_of, is_write, key_of}
-use Rattle.hx_types.specs.Subspaces.{is_key_region}
 use Rattle.hx_types.specs.Configs.{head_of, members_of}
 use Rattle.hx_types.specs.Fitting.{call_of, is_doubt, is_refused}
 use Rattle.hx_model.specs.Regions.{key_region}
@@ -42,7 +41,7 @@ pub record Law (script : Script) (key : List ℕ) (older : List Update) (u : Upd
   pub called : call_of script u.caller ≡ Some op
   pub writes : is_write op ≡ true
   pub on_key : key_of op ≡ Some key
-  pub elsewhere : (p : Place) → IsIn p lawful.rest → is_key_region script.space p.region ≡ false
+  pub elsewhere : (p : Place) → IsIn p lawful.rest → p.region ≡ key_region script.space key → ⊥
   pub effect : ((u.answer ≡ (effect_of script.space (line_object older) op).answer) × (u.object ≡ (effect_of script.space (line_object older) op).object))
       ⊎ ((is_refused u.answer ≡ true) × (u.object ≡ line_object older))
 
