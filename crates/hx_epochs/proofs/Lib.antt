@@ -5,3 +5,4 @@ pub mod World
 pub mod Keys
 pub mod Hops
 pub mod Leader
+pub mod Epochs
