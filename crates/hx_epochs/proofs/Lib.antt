@@ -1,8 +1,10 @@
 pub mod Order
 pub mod Lines
 pub mod Moves
+pub mod Holding
 pub mod World
 pub mod Keys
 pub mod Hops
 pub mod Leader
 pub mod Epochs
+pub mod Posts

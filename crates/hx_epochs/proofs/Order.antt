@@ -9,9 +9,9 @@ use Rattle.hx_types.specs.declared.names.RegionId.{RegionId}
 use Rattle.hx_types.specs.declared.names.ServerId.{ServerId}
 use Rattle.hx_types.specs.Words.{IsBefore, IsIn, first_of_list, same_server, when_some}
 use Rattle.hx_types.specs.Configs.{head_of, lists, members_of}
-use Rattle.hx_model.specs.Neighbours.{member_after}
+use Rattle.hx_model.specs.Neighbours.{last_member, member_after}
 use Rattle.hx_steady.proofs.Lists.{any-in, in-filter, in-map}
-use Rattle.hx_searches.proofs.Chains.{Differ, server-same}
+use Rattle.hx_searches.proofs.Chains.{Differ, last-in, server-same}
 
 -- the servers of members
 abbrev pub servers_of : List Member → List ServerId
@@ -178,3 +178,25 @@ module _ (test : Member → Bool) (after : Member → Member) (same : (m : Membe
         fewer-differ rest d.1,
       ))
       (λ t. fewer-differ rest d.1)
+
+-- who stands before one that stands before another stands before that
+pub before-trans : (a b c : ServerId) (ms : List Member) → Differ ms → IsBefore a b (servers_of ms) → IsBefore b c (servers_of ms) → IsBefore a c (servers_of ms)
+before-trans a b c [] d p q = p
+before-trans a b c (m ∷ rest) d (inl p) (inl q) = absurd (not-again m rest d b q.0 p.1)
+before-trans a b c (m ∷ rest) d (inl p) (inr q) = inl (p.0, (before-in b c (servers_of rest) q).1)
+before-trans a b c (m ∷ rest) d (inr p) (inl q) = absurd (not-again m rest d b q.0 (before-in a b (servers_of rest) p).1)
+before-trans a b c (m ∷ rest) d (inr p) (inr q) = inr (before-trans a b c rest d.1 p q)
+
+-- of two that stand in a list one stands before the other, or they are the same
+pub order-cases : (x y : ServerId) (l : List ServerId) → IsIn x l → IsIn y l → (x ≡ y) ⊎ (IsBefore x y l ⊎ IsBefore y x l)
+order-cases x y [] i j = absurd i
+order-cases x y (h ∷ rest) (inl p) (inl q) = inl (p ∙ sym q)
+order-cases x y (h ∷ rest) (inl p) (inr j) = inr (inl (inl (p, j)))
+order-cases x y (h ∷ rest) (inr i) (inl q) = inr (inr (inl (q, i)))
+order-cases x y (h ∷ rest) (inr i) (inr j) = elim (order-cases x y rest i j) [ inl e ↦ inl e | inr (inl a) ↦ inr (inl (inr a)) | inr (inr a) ↦ inr (inr (inr a)) ]
+
+-- the last member stands among the servers
+pub last-server : (ms : List Member) (x : ServerId) → last_member None ms ≡ Some x → IsIn x (servers_of ms)
+last-server [] x e = absurd (cc)
+last-server (m ∷ rest) x e =
+    let r = last-in m rest x e in subst (λ (y : ServerId). IsIn y (servers_of (m ∷ rest))) r.2 (member-server (m ∷ rest) r.0 r.1)

@@ -30,7 +30,7 @@ use Rattle.hx_model.specs.ServerSteps.{get_answer}
 use Rattle.hx_steady.specs.Served.{line_object}
 use Rattle.hx_steady.proofs.Lines as steady
 use Rattle.hx_linear.proofs.Lines.{Numbered}
-use Rattle.hx_epochs.proofs.Lines.{More}
+use Rattle.hx_epochs.proofs.Holding.{Held}
 use Rattle.hx_epochs.proofs.Moves.{Own}
 use Rattle.hx_epochs.proofs.Order.{servers_of}
 
@@ -96,9 +96,8 @@ abbrev pub Follows : Config → RegionId → ServerId → Type 0
 Follows c g s = head_of c g ≡ Some s → ⊥
 
 -- what a replica of another region holds was accepted by every member of the key's region that is up
-pub record Outer (line : List Update) (Safe : Update → Type 0) (t : KeyState) : Type 0 where
-  pub accepted : (u : Update) → IsIn u t.accepted → IsIn u line × Safe u
-  pub early : (u : Update) → IsIn u t.early → IsIn u line × Safe u
+abbrev pub Outer : List Update → (Update → Type 0) → KeyState → Type 0
+Outer line Safe t = Held (λ u. IsIn u line × Safe u) t
 
 -- what the replicas of a key hold
 pub record KeyOk (script : Script) (c : Config) (live : ServerId → Type 0) (key : List ℕ) (g : RegionId) (line : List Update) (f : RegionId → ServerId → KeyState) : Type 0 where
