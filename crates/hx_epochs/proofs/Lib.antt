@@ -8,3 +8,4 @@ pub mod Hops
 pub mod Leader
 pub mod Epochs
 pub mod Posts
+pub mod Moved
