@@ -9,3 +9,5 @@ pub mod Leader
 pub mod Epochs
 pub mod Posts
 pub mod Moved
+pub mod Shapes
+pub mod Serving

@@ -57,7 +57,7 @@ module _ (script : Script) (w : World) (ok : (key : List ℕ) → KeyIn script w
   Fine p = Valid script w p.from p.to p.message
 
   -- the law of an update of a line
-  abbrev law : (u : Update) → IsIn u (w.line u.key) → (older : List Update) × Law script u.key older u
+  abbrev pub law : (u : Update) → IsIn u (w.line u.key) → (older : List Update) × Law script u.key older u
   law u j = law-of script u.key (w.line u.key) u (ok u.key).lawful j
 
   module _ (h : RegionId) (u : Update) (k : Known script w i h u) where
