@@ -11,3 +11,4 @@ pub mod Posts
 pub mod Moved
 pub mod Shapes
 pub mod Serving
+pub mod Steps

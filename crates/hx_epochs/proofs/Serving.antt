@@ -47,9 +47,14 @@ use Rattle.hx_epochs.proofs.World.{After, Before, Everywhere, Follows, KeyIn, Ou
 abbrev pub standing : Config → ServerId → List Replica → ServerState
 standing c i rs = record { id = i; config = c; sealed = false; halted = false; replicas = rs }
 
--- a post is late: a get is answered with at least what was settled before
+-- a post of a server in its epoch: a get is answered with at least what was settled before, nobody is called, and nothing is said of epochs
 abbrev pub LateTo : Script → World → Actor → Message → Type 0
 LateTo script w to (a_message.Reply number version answer) = at_session to (λ u. (key : List ℕ) → call_of script (record { session = u; number = number }) ≡ Some (Get key) → (x : ℕ) → SettledIn script w key x → x ≤ version.0)
+LateTo script w to (a_message.Call epoch number op) = ⊥
+LateTo script w to (a_message.Sealed epoch) = ⊥
+LateTo script w to a_message.Gone = ⊥
+LateTo script w to (a_message.Install config) = ⊥
+LateTo script w to (a_message.AddReplica number server g) = ⊥
 LateTo script w to other = ⊤
 
 module _ (script : Script) (c : Config) (live : ServerId → Type 0) (L : List ℕ → List Update) (F : List ℕ → RegionId → ServerId → KeyState)
