@@ -12,3 +12,4 @@ pub mod Moved
 pub mod Shapes
 pub mod Serving
 pub mod Steps
+pub mod Adopting

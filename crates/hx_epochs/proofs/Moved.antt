@@ -166,9 +166,9 @@ module _ (script : Script) (c : Config) (live : ServerId → Type 0) (key : List
     | inr n ↦ subst (λ (y : List Move). AllAllowed line' (λ u. Follows c g s) (Before live (order c g) (f g) s) (After live (order c g) (f g) s) (f g s) y) (sym (only-off i ms s n)) tt
   ]
 
-  each-here : (ms : List Move) → f' g i ≡ moved_all ms (f g i) → (s : ServerId) → live s → IsIn s (order c g) → f' g s ≡ moved_all (only_at i ms s) (f g s)
+  each-here : (ms : List Move) → (live i → IsIn i (order c g) → f' g i ≡ moved_all ms (f g i)) → (s : ServerId) → live s → IsIn s (order c g) → f' g s ≡ moved_all (only_at i ms s) (f g s)
   each-here ms e s l m = elim (which-server s i) [
-    | inl q ↦ subst (λ (x : ServerId). f' g x ≡ moved_all (only_at i ms x) (f g x)) (sym q) (e ∙ ap (λ (y : List Move). moved_all y (f g i)) (sym (only-here i ms)))
+    | inl q ↦ subst (λ (x : ServerId). f' g x ≡ moved_all (only_at i ms x) (f g x)) (sym q) (e (subst live q l) (subst (λ (x : ServerId). IsIn x (order c g)) q m) ∙ ap (λ (y : List Move). moved_all y (f g i)) (sym (only-here i ms)))
     | inr n ↦ off s n g ∙ ap (λ (y : List Move). moved_all y (f g s)) (sym (only-off i ms s n))
   ]
 
@@ -179,7 +179,7 @@ module _ (script : Script) (c : Config) (live : ServerId → Type 0) (key : List
   ]
 
   -- a turn that leaves the line
-  pub stay_turn : (line' : List Update) → line' ≡ line → (ms : List Move) → (live i → IsIn i (order c g) → May line ms) → f' g i ≡ moved_all ms (f g i)
+  pub stay_turn : (line' : List Update) → line' ≡ line → (ms : List Move) → (live i → IsIn i (order c g) → May line ms) → (live i → IsIn i (order c g) → f' g i ≡ moved_all ms (f g i))
       → (live i → (h : RegionId) → (h ≡ g → ⊥) → Outer line (Everywhere live (order c g) (f g)) (f' h i)) → Turn script c live key g line line' f f' (length line) (only_at i ms)
   stay_turn line' e ms may at outer = subst (λ (l : List Update). Turn script c live key g line l f f' (length line) (only_at i ms)) (sym e) (record {
     more = more_same line;
@@ -195,7 +195,7 @@ module _ (script : Script) (c : Config) (live : ServerId → Type 0) (key : List
 
   -- a turn that leaves all
   pub same_turn : (line' : List Update) → line' ≡ line → ((h : RegionId) → f' h i ≡ f h i) → Turn script c live key g line line' f f' (length line) (only_at i [])
-  same_turn line' e same = stay_turn line' e [] (λ l m. tt) (same g) (λ l h d. subst (Outer line (Everywhere live (order c g) (f g))) (sym (same h)) (ok.outer h i l d))
+  same_turn line' e same = stay_turn line' e [] (λ l m. tt) (λ l m. same g) (λ l h d. subst (Outer line (Everywhere live (order c g) (f g))) (sym (same h)) (ok.outer h i l d))
 
   -- a turn of a leader that assigns the next update after those that it has accepted
   module _ (here : live i) (differ : Differ (members_of c g)) (lead : head_of c g ≡ Some i) where
@@ -274,6 +274,6 @@ module _ (script : Script) (c : Config) (live : ServerId → Type 0) (key : List
       spread = spread;
       shown = λ v s l. shown v s;
       allowed = each-may (longer u) ms (λ l m. may);
-      here = each-here ms at;
+      here = each-here ms (λ l m. at);
       outer = each-outer (λ l h d. subst (Outer line (Everywhere live (order c g) (f g))) (sym (same h d)) (ok.outer h i l d));
     })

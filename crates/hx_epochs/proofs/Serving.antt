@@ -174,13 +174,13 @@ module _ (script : Script) (c : Config) (live : ServerId → Type 0) (L : List �
         → Turn script c live key g (L key) (noted L notes key) (F key) (put moved-state key) (length (L key)) (only_at i ms)
     inside-turn e q may =
         stay_turn script c live key (L key) (F key) (put moved-state key) (ok key) i (put-off moved-state key) (noted L notes key) e ms may
-        (subst (λ (x : RegionId). put moved-state key x i ≡ moved_all ms (F key x i)) q slot-now)
+        (λ l m. subst (λ (x : RegionId). put moved-state key x i ≡ moved_all ms (F key x i)) q slot-now)
         (λ l h d. subst (Outer (L key) (Everywhere live (order c g) (F key g))) (sym (slot-elsewhere key h (λ z. d (sym z ∙ q)))) ((ok key).outer h i l d))
 
     -- moves elsewhere
     pub outside-turn : noted L notes key ≡ L key → (r.region ≡ g → ⊥) → AllKnown Safe ms → Turn script c live key g (L key) (noted L notes key) (F key) (put moved-state key) (length (L key)) (only_at i [])
     outside-turn e d known =
-        stay_turn script c live key (L key) (F key) (put moved-state key) (ok key) i (put-off moved-state key) (noted L notes key) e [] (λ l m. tt) (slot-elsewhere key g d)
+        stay_turn script c live key (L key) (F key) (put moved-state key) (ok key) i (put-off moved-state key) (noted L notes key) e [] (λ l m. tt) (λ l m. slot-elsewhere key g d)
         (λ l h n. elim (which-region r.region h) [
           | inl q ↦ subst (λ (x : RegionId). Held Safe (put moved-state key x i)) q (subst (Held Safe) (sym slot-now) (held-moved_all Safe ms (F key r.region i) ((ok key).outer r.region i l d) known))
           | inr z ↦ subst (Held Safe) (sym (slot-elsewhere key h z)) ((ok key).outer h i l n)

@@ -174,3 +174,26 @@ module _ (F : RegionId → Replica) (same : (g : RegionId) → (F g).region ≡ 
     λ x i e. (let m = in-map F gs x i in a.0 m.0 m.1 (sym (same m.0) ∙ ap (λ (y : Replica). y.region) (sym m.2) ∙ e ∙ same g)),
     made-once gs a.1,
   )
+
+-- replicas that keep their regions
+module _ (A : Replica → Replica) (same : (r : Replica) → (A r).region ≡ r.region) where
+  pub mapped-found : (g : RegionId) (rs : List Replica) (r : Replica) → replica_of g rs ≡ Some r → replica_of g (map A rs) ≡ Some (A r)
+  mapped-found g [] r = λ e. absurd (cc)
+  mapped-found g (x ∷ rs) r =
+      cond_both (same_region x.region g) (Some x) (replica_of g rs) (λ o. o ≡ Some r → replica_of g (map A (x ∷ rs)) ≡ Some (A r))
+      (λ t e. cond-true (same_region (A x).region g) (Some (A x)) (replica_of g (map A rs)) (ap (λ (h : RegionId). same_region h g) (same x) ∙ t) ∙ (let s : x ≡ r = cc in ap (λ (y : Replica). Some (A y)) s))
+      (λ t e. cond-false (same_region (A x).region g) (Some (A x)) (replica_of g (map A rs)) (ap (λ (h : RegionId). same_region h g) (same x) ∙ t) ∙ mapped-found g rs r e)
+
+  pub mapped-from : (g : RegionId) (rs : List Replica) (r : Replica) → replica_of g (map A rs) ≡ Some r → (x : Replica) × (replica_of g rs ≡ Some x) × (A x ≡ r)
+  mapped-from g [] r = λ e. absurd (cc)
+  mapped-from g (x ∷ rs) r =
+      cond_both (same_region (A x).region g) (Some (A x)) (replica_of g (map A rs)) (λ o. o ≡ Some r → (y : Replica) × (replica_of g (x ∷ rs) ≡ Some y) × (A y ≡ r))
+      (λ t e. (x, cond-true (same_region x.region g) (Some x) (replica_of g rs) (ap (λ (h : RegionId). same_region h g) (sym (same x)) ∙ t), cc))
+      (λ t e. let f = mapped-from g rs r e in (f.0, cond-false (same_region x.region g) (Some x) (replica_of g rs) (ap (λ (h : RegionId). same_region h g) (sym (same x)) ∙ t) ∙ f.1, f.2))
+
+  pub mapped-once : (rs : List Replica) → Once rs → Once (map A rs)
+  mapped-once [] o = tt
+  mapped-once (x ∷ rs) o = (
+    λ y i e. (let m = in-map A rs y i in o.0 m.0 m.1 (sym (same m.0) ∙ ap (λ (z : Replica). z.region) (sym m.2) ∙ e ∙ same x)),
+    mapped-once rs o.1,
+  )
