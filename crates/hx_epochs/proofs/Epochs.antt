@@ -16,6 +16,7 @@ use Rattle.hx_types.specs.declared.names.RegionId.{RegionId}
 use Rattle.hx_types.specs.declared.names.ServerId.{ServerId}
 use Rattle.hx_types.specs.declared.names.SessionId.{SessionId}
 use Rattle.hx_types.specs.declared.traces.Input.{Input}
+use Rattle.hx_types.specs.declared.updates.Update.{Update}
 use Rattle.hx_types.specs.declared.calls.Answer.TheVariants as an_answer
 use Rattle.hx_types.specs.declared.calls.Op.TheVariants.{Put, Get, Del, Cput, Search, Stop, Add}
 use Rattle.hx_types.specs.declared.messages.Message.TheVariants as a_message
@@ -23,6 +24,7 @@ use Rattle.hx_types.specs.declared.names.Actor.TheVariants.{Coordinator, Server,
 use Rattle.hx_types.specs.declared.traces.Input.TheVariants.{Tick, Halt, Deliver}
 use Rattle.hx_types.specs.Words.{IsBefore, IsIn, below, post, provided, same_server, server_in, when_some, without_server}
 use Rattle.hx_types.specs.Configs.{is_lost, lists, lists_joining, members_of}
+use Rattle.hx_model.specs.Histories.{line_notes}
 use Rattle.hx_model.specs.ServerSteps.{ServerState}
 use Rattle.hx_model.specs.CoordinatorSteps.{Answered, CoordinatorState, CoordinatorStep, Issuing, Joined, Newest, Phase, Sealing, Steady, Task, again, answers_with, by_number, config_without, coordinator_message, coordinator_step, coordinator_tick, die_for, die_posts, does, does_all, gone_step, goes, is_joined, is_out, issue, issued, issuing, leaves, lists_without, made_ready, newest_of, outcome, poll_step, ready_now, ready_step, remaining, resting, seal, sealed_now, sealed_step, sealing_or_issue, session_posts, still_sealing, stop_step, stops, telling, to_server, waits_less, with_number, with_server, with_task}
 use Rattle.hx_steady.proofs.Lists.{any-in, in-append, in-filter, in-flat_map, in-map, in-provided}
@@ -170,6 +172,7 @@ module _ (Real : ServerId → Type 0) (S : ServerId → ServerState) (posts : Li
     pub good : Good Real S step.state (step.posts ++ posts)
     pub next : (step.state.config ≡ d.config) ⊎ Next d.config step.state.config
     pub ctl : (p : Post) → IsIn p step.posts → Ctl p.message
+    pub lines : (key : List ℕ) (line : List Update) → line_notes key line step.notes ≡ line
 
   -- with other parts of the state, the configuration stays
   with_posts : (d d' : CoordinatorState) (new : List Post) → Good Real S d' posts → d'.config ≡ d.config → ((p : Post) → IsIn p new → Ctl p.message × Epochal Real S d'.config p.from p.message) → Fine d (telling d' new)
@@ -186,6 +189,7 @@ module _ (Real : ServerId → Type 0) (S : ServerId → ServerState) (posts : Li
     };
     next = inl e;
     ctl = λ p i. (f p i).0;
+    lines = λ key line. refl;
   }
 
   rests : (d : CoordinatorState) → Good Real S d posts → Fine d (resting d)
@@ -272,6 +276,7 @@ module _ (Real : ServerId → Type 0) (S : ServerId → ServerState) (posts : Li
               fewer-before test (made_ready d.joined m.0) (same m.0) (members_of d.config h) x y (subst (λ (l : List Member). IsBefore x y (servers_of l)) m.1 a));
         }));
         ctl = λ p k. (new p k).0;
+        lines = λ key line. refl;
       }
         where
           epoch-is : i.config.epoch.0 ≡ d.config.epoch.0 + 1
@@ -330,7 +335,7 @@ module _ (Real : ServerId → Type 0) (S : ServerId → ServerState) (posts : Li
   seals_good d d' [] e g all = of-same d d' e (issue d') (issue_good d' g (λ s i. elim (all s i) [ inl j ↦ absurd j | inr j ↦ j ]))
     where
       of-same : (d d' : CoordinatorState) → d'.config ≡ d.config → (step : CoordinatorStep) → Fine d' step → Fine d step
-      of-same d d' e step f = record { good = f.good; next = subst (λ (c : Config). (step.state.config ≡ c) ⊎ Next c step.state.config) e f.next; ctl = f.ctl }
+      of-same d d' e step f = record { good = f.good; next = subst (λ (c : Config). (step.state.config ≡ c) ⊎ Next c step.state.config) e f.next; ctl = f.ctl; lines = f.lines }
   seals_good d d' (w ∷ ws) e g all =
       with_posts d (record d' { phase = Sealing (w ∷ ws) }) (map (to_server (a_message.Seal d'.config.epoch)) (w ∷ ws))
       (record { listed = g.listed; near = g.near; gone = g.gone; waits = all; valid = g.valid; ready = g.ready; differ = g.differ; todo = g.todo }) e

@@ -13,3 +13,4 @@ pub mod Shapes
 pub mod Serving
 pub mod Steps
 pub mod Adopting
+pub mod Entries
