@@ -58,14 +58,14 @@ none-joins c ready g s e =
     false≢true (sym (ap not (ready g a.0 a.1)) ∙ r)
 
 -- a doubt about an update of a line
-module _ (script : Script) (w w' : World) (ok : (key : List ℕ) → KeyIn script w' key) (differ : (g : RegionId) → Differ (members_of w'.config g)) (i : ServerId) (here : w'.live i) where
+module _ (script : Script) (Asks : Caller → Type 0) (w w' : World) (ok : (key : List ℕ) → KeyIn script w' key) (differ : (g : RegionId) → Differ (members_of w'.config g)) (i : ServerId) (here : w'.live i) where
   pub doubted-fine : (h : RegionId) (u : Update) → IsIn u (w'.line u.key) → (v : Version) (d : RegionId) (p : Post) → p ≡ doubt_in (spot script w' ok differ i here h) u.caller v d
-      → Valid script w' p.from p.to p.message × LateTo script w p.to p.message
+      → Valid script w' p.from p.to p.message × LateTo script Asks w p.to p.message
   doubted-fine h u j v d p e =
       let l = law script w' ok differ i here u j in
-      subst (λ (x : Post). Valid script w' x.from x.to x.message × LateTo script w x.to x.message) (sym e) (
+      subst (λ (x : Post). Valid script w' x.from x.to x.message × LateTo script Asks w x.to x.message) (sym e) (
         (λ op key called on_key. (let s : Some l.1.op ≡ Some op = sym l.1.called ∙ called in let o : l.1.op ≡ op = cc in inl (sym (ap is_write o) ∙ l.1.writes, refl))),
-        (λ key called x s. absurd (let q : Some l.1.op ≡ Some (Get key) = sym l.1.called ∙ called in let o : l.1.op ≡ Get key = cc in false≢true (sym (ap is_write o) ∙ l.1.writes))),
+        (λ key called. absurd (let q : Some l.1.op ≡ Some (Get key) = sym l.1.called ∙ called in let o : l.1.op ≡ Get key = cc in false≢true (sym (ap is_write o) ∙ l.1.writes))),
       )
 
 -- ---- a tick
@@ -85,21 +85,21 @@ module _ (script : Script) (valid : IsSpace script.space) (c : Config) (live : S
       same t.base.key r.region ∙ slot-found script.space r.region t.base.key st r (once-found rs shape.once r j)
       ∙ state-there (is_key_region script.space r.region) r.states t (shape.ascends r j) k
 
-  tick-fine : (p : Post) → IsIn p (flat_map (replica_tick script.space st) rs) → Valid script w p.from p.to p.message × LateTo script w p.to p.message
+  tick-fine : (p : Post) → IsIn p (flat_map (replica_tick script.space st) rs) → Valid script w p.from p.to p.message × LateTo script Asks w p.to p.message
   tick-fine p j =
       let a = in-flat_map (replica_tick script.space st) rs p j in
       by a.0 a.1 (in-provided (is_active c a.0) (snap_posts st a.0 ++ pending_posts (spot script w ok differ i here a.0.region) a.0.states ++ ready_post st a.0.region) p a.2).1
     where
-      pend : (r : Replica) → IsIn r rs → IsIn p (pending_posts (spot script w ok differ i here r.region) r.states) → Valid script w p.from p.to p.message × LateTo script w p.to p.message
+      pend : (r : Replica) → IsIn r rs → IsIn p (pending_posts (spot script w ok differ i here r.region) r.states) → Valid script w p.from p.to p.message × LateTo script Asks w p.to p.message
       pend r k m =
           let a = in-flat_map (λ (t : KeyState). flat_map (passed_on (spot script w ok differ i here r.region)) (pending_of t)) r.states p m in
           let b = in-flat_map (passed_on (spot script w ok differ i here r.region)) (pending_of a.0) p a.2 in
           let u = pending-in a.0.floor a.0.accepted b.0 b.1 in
           let n = known-held script w ok differ i here a.0.base.key r.region (λ z. listed-in c r.region i (shape.only r.region r (once-found rs shape.once r k))) b.0
           (subst (λ (y : KeyState). IsIn b.0 y.accepted) (sym (slot-there r k a.0 a.1)) u.0) in
-          (passed-fine script w ok differ i here r.region b.0 n p b.2, passed-late script w w ok differ i here r.region b.0 p b.2)
+          (passed-fine script w ok differ i here r.region b.0 n p b.2, passed-late script Asks w w ok differ i here r.region b.0 p b.2)
 
-      by : (r : Replica) → IsIn r rs → IsIn p (snap_posts st r ++ pending_posts (spot script w ok differ i here r.region) r.states ++ ready_post st r.region) → Valid script w p.from p.to p.message × LateTo script w p.to p.message
+      by : (r : Replica) → IsIn r rs → IsIn p (snap_posts st r ++ pending_posts (spot script w ok differ i here r.region) r.states ++ ready_post st r.region) → Valid script w p.from p.to p.message × LateTo script Asks w p.to p.message
       by r k m = elim (in-append (snap_posts st r ++ pending_posts (spot script w ok differ i here r.region) r.states) (ready_post st r.region) p m) [
         | inl n ↦ elim (in-append (snap_posts st r) (pending_posts (spot script w ok differ i here r.region) r.states) p n) [
           | inl o ↦ absurd (subst (λ (y : Option ServerId). IsIn p (snap_to st r y)) (no_joiner i (members_of c r.region) (ready r.region)) o)
@@ -342,7 +342,7 @@ module _ (script : Script) (c : Config) (live : ServerId → Type 0) (L : List �
           by Forget z = tt
 
   -- what is posted of a slot
-  slot-posts : (h : RegionId) (l : lists c h i ≡ true) → is_active c (r0 h l) ≡ true → (t : KeyState) → IsIn t (r0 h l).states → (p : Post) → IsIn p (resumed_posts (at h) t) → Valid script now1 p.from p.to p.message × LateTo script w1 p.to p.message
+  slot-posts : (h : RegionId) (l : lists c h i ≡ true) → is_active c (r0 h l) ≡ true → (t : KeyState) → IsIn t (r0 h l).states → (p : Post) → IsIn p (resumed_posts (at h) t) → Valid script now1 p.from p.to p.message × LateTo script Asks w1 p.to p.message
   slot-posts h l active t j p k = elim (in-append (flat_map (passed_on (at h)) (pending_of t) ++ flat_map (move_posts (at h)) (resumed (at h) t)) (leader_doubts (at h) (moved_all (resumed (at h) t) t)) p k) [
     | inl m ↦ elim (in-append (flat_map (passed_on (at h)) (pending_of t)) (flat_map (move_posts (at h)) (resumed (at h) t)) p m) [ inl n ↦ passed n | inr n ↦ moves n ]
     | inr m ↦ doubts (in-provided (leads script.space c i h) (doubts_from (at h) (moved_all (resumed (at h) t) t) (stuck_of c (moved_all (resumed (at h) t) t))) p m).1
@@ -357,20 +357,20 @@ module _ (script : Script) (c : Config) (live : ServerId → Type 0) (L : List �
       before : F t.base.key h i ≡ moved Forget t
       before = slot0 h l t.base.key ∙ ap (moved Forget) slot-is
 
-      passed : IsIn p (flat_map (passed_on (at h)) (pending_of t)) → Valid script now1 p.from p.to p.message × LateTo script w1 p.to p.message
+      passed : IsIn p (flat_map (passed_on (at h)) (pending_of t)) → Valid script now1 p.from p.to p.message × LateTo script Asks w1 p.to p.message
       passed n =
           let b = in-flat_map (passed_on (at h)) (pending_of t) p n in
           let u = pending-in t.floor t.accepted b.0 b.1 in
           let kn = known-held script w1 ok differ i here t.base.key h (λ z. listed-in c h i l) b.0 (subst (λ (y : KeyState). IsIn b.0 y.accepted) (sym before) u.0) in (
             still-after script c live L F Asks ok differ i here done [] turns p.from p.to p.message (passed-fine script w1 ok differ i here h b.0 kn p b.2),
-            passed-late script w1 w1 ok differ i here h b.0 p b.2,
+            passed-late script Asks w1 w1 ok differ i here h b.0 p b.2,
           )
 
-      moves : IsIn p (flat_map (move_posts (at h)) (resumed (at h) t)) → Valid script now1 p.from p.to p.message × LateTo script w1 p.to p.message
+      moves : IsIn p (flat_map (move_posts (at h)) (resumed (at h) t)) → Valid script now1 p.from p.to p.message × LateTo script Asks w1 p.to p.message
       moves n =
           let f : (m : Move) → IsIn m (resumed (at h) t) → MoveOk script now1 keys1 differ i here h m =
           λ m x. moves-known h l t.base.key active m (subst (λ (y : KeyState). IsIn m (resumed (at h) y)) (sym before) x) in
-          (moves-fine script now1 keys1 differ i here h (resumed (at h) t) f p n, moves-late script w1 now1 keys1 differ i here h (resumed (at h) t) f p n)
+          (moves-fine script now1 keys1 differ i here h (resumed (at h) t) f p n, moves-late script Asks w1 now1 keys1 differ i here h (resumed (at h) t) f p n)
 
       after-is : put script c live L F Asks ok differ i here done t.base.key h i ≡ moved_all (resumed (at h) t) t
       after-is =
@@ -378,19 +378,19 @@ module _ (script : Script) (c : Config) (live : ServerId → Type 0) (L : List �
           ∙ ap (λ (x : RegionId). adopted_state (at x) (is_active c (r0 h l)) t) (region0 h l)
           ∙ ap (λ b. adopted_state (at h) b t) active
 
-      doubts : IsIn p (doubts_from (at h) (moved_all (resumed (at h) t) t) (stuck_of c (moved_all (resumed (at h) t) t))) → Valid script now1 p.from p.to p.message × LateTo script w1 p.to p.message
+      doubts : IsIn p (doubts_from (at h) (moved_all (resumed (at h) t) t) (stuck_of c (moved_all (resumed (at h) t) t))) → Valid script now1 p.from p.to p.message × LateTo script Asks w1 p.to p.message
       doubts n = by (stuck_of c (moved_all (resumed (at h) t) t)) n
         where
-          by : (o : Option StuckAt) → IsIn p (doubts_from (at h) (moved_all (resumed (at h) t) t) o) → Valid script now1 p.from p.to p.message × LateTo script w1 p.to p.message
+          by : (o : Option StuckAt) → IsIn p (doubts_from (at h) (moved_all (resumed (at h) t) t) o) → Valid script now1 p.from p.to p.message × LateTo script Asks w1 p.to p.message
           by None n = absurd n
           by (Some x) n =
               let m = in-map (λ (u : Update). doubt_in (at h) u.caller u.version x.region) (filter (λ (u : Update). leb x.version.0 u.version.0) (pending_of (moved_all (resumed (at h) t) t))) p n in
               let f = in-filter (λ (u : Update). leb x.version.0 u.version.0) (pending_of (moved_all (resumed (at h) t) t)) m.0 m.1 in
               let u = pending-in (moved_all (resumed (at h) t) t).floor (moved_all (resumed (at h) t) t).accepted m.0 f.0 in
               let kn = known-held script now1 keys1 differ i here t.base.key h (λ z. listed-in c h i l) m.0 (subst (λ (y : KeyState). IsIn m.0 y.accepted) (sym after-is) u.0) in
-              doubted-fine script w1 now1 keys1 differ i here h m.0 kn.stands m.0.version x.region p m.2
+              doubted-fine script Asks w1 now1 keys1 differ i here h m.0 kn.stands m.0.version x.region p m.2
 
-  posts-fine : (p : Post) → IsIn p (flat_map (adopted_posts script.space now-at) kept) → Valid script now1 p.from p.to p.message × LateTo script w1 p.to p.message
+  posts-fine : (p : Post) → IsIn p (flat_map (adopted_posts script.space now-at) kept) → Valid script now1 p.from p.to p.message × LateTo script Asks w1 p.to p.message
   posts-fine p j =
       let a = in-flat_map (adopted_posts script.space now-at) kept p j in
       let n = in-map (replica_or_new rs) (listed_regions c i) a.0 a.1 in
@@ -398,7 +398,7 @@ module _ (script : Script) (c : Config) (live : ServerId → Type 0) (L : List �
       let e : a.0 ≡ r0 n.0 l = n.2 ∙ ap (λ (o : Option Replica). when_some o (record { region = n.0; installed = false; states = [] }) (λ (r : Replica). r)) (found0 n.0 l) in
       of n.0 l (subst (λ (r : Replica). IsIn p (adopted_posts script.space now-at r)) e a.2)
     where
-      of : (h : RegionId) (l : lists c h i ≡ true) → IsIn p (adopted_posts script.space now-at (r0 h l)) → Valid script now1 p.from p.to p.message × LateTo script w1 p.to p.message
+      of : (h : RegionId) (l : lists c h i ≡ true) → IsIn p (adopted_posts script.space now-at (r0 h l)) → Valid script now1 p.from p.to p.message × LateTo script Asks w1 p.to p.message
       of h l k =
           let b = in-provided (is_active c (r0 h l)) (snap_posts now-at (r0 h l) ++ flat_map (resumed_posts (at (r0 h l).region)) (r0 h l).states ++ ready_post now-at (r0 h l).region) p k in
           elim (in-append (snap_posts now-at (r0 h l) ++ flat_map (resumed_posts (at (r0 h l).region)) (r0 h l).states) (ready_post now-at (r0 h l).region) p b.1) [

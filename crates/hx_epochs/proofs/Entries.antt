@@ -74,24 +74,24 @@ ctl-valid script w from to (a_message.Ready epoch g) h = absurd h
 ctl-valid script w from to (a_message.Poll epoch) h = absurd h
 
 -- a post about keys says nothing of epochs
-pub late-epochal : (script : Script) (w : World) (Real : ServerId → Type 0) (S : ServerId → ServerState) (newest : Config) (from to : Actor) (m : Message) → LateTo script w to m → Epochal Real S newest from m
-late-epochal script w Real S newest from to (a_message.Seal epoch) h = tt
-late-epochal script w Real S newest from to (a_message.Sealed epoch) h = absurd h
-late-epochal script w Real S newest from to (a_message.Install config) h = absurd h
-late-epochal script w Real S newest from to a_message.Die h = tt
-late-epochal script w Real S newest from to a_message.Gone h = absurd h
-late-epochal script w Real S newest from to (a_message.Outcome number answer) h = tt
-late-epochal script w Real S newest from to (a_message.Call epoch number op) h = tt
-late-epochal script w Real S newest from to (a_message.Reply number version answer) h = tt
-late-epochal script w Real S newest from to (a_message.Update epoch g u) h = tt
-late-epochal script w Real S newest from to (a_message.Ack epoch g key version) h = tt
-late-epochal script w Real S newest from to (a_message.Ask epoch number g terms) h = tt
-late-epochal script w Real S newest from to (a_message.Found epoch number g rows) h = tt
-late-epochal script w Real S newest from to (a_message.StopServer number server) h = tt
-late-epochal script w Real S newest from to (a_message.AddReplica number server g) h = absurd h
-late-epochal script w Real S newest from to (a_message.Snap epoch g snapshot pending) h = tt
-late-epochal script w Real S newest from to (a_message.Ready epoch g) h = tt
-late-epochal script w Real S newest from to (a_message.Poll epoch) h = tt
+pub late-epochal : (script : Script) (Asks : Caller → Type 0) (w : World) (Real : ServerId → Type 0) (S : ServerId → ServerState) (newest : Config) (from to : Actor) (m : Message) → LateTo script Asks w to m → Epochal Real S newest from m
+late-epochal script Asks w Real S newest from to (a_message.Seal epoch) h = tt
+late-epochal script Asks w Real S newest from to (a_message.Sealed epoch) h = absurd h
+late-epochal script Asks w Real S newest from to (a_message.Install config) h = absurd h
+late-epochal script Asks w Real S newest from to a_message.Die h = tt
+late-epochal script Asks w Real S newest from to a_message.Gone h = absurd h
+late-epochal script Asks w Real S newest from to (a_message.Outcome number answer) h = tt
+late-epochal script Asks w Real S newest from to (a_message.Call epoch number op) h = tt
+late-epochal script Asks w Real S newest from to (a_message.Reply number version answer) h = tt
+late-epochal script Asks w Real S newest from to (a_message.Update epoch g u) h = tt
+late-epochal script Asks w Real S newest from to (a_message.Ack epoch g key version) h = tt
+late-epochal script Asks w Real S newest from to (a_message.Ask epoch number g terms) h = tt
+late-epochal script Asks w Real S newest from to (a_message.Found epoch number g rows) h = tt
+late-epochal script Asks w Real S newest from to (a_message.StopServer number server) h = tt
+late-epochal script Asks w Real S newest from to (a_message.AddReplica number server g) h = absurd h
+late-epochal script Asks w Real S newest from to (a_message.Snap epoch g snapshot pending) h = tt
+late-epochal script Asks w Real S newest from to (a_message.Ready epoch g) h = tt
+late-epochal script Asks w Real S newest from to (a_message.Poll epoch) h = tt
 
 -- a sealed server hears nothing
 sealed-deaf : (p : ServerState) → p.sealed ≡ true → (epoch : Epoch) (g : RegionId) → hearing p epoch g ≡ None
@@ -165,7 +165,7 @@ module _ (script : Script) (valid : IsSpace script.space) (Real : ServerId → T
       pub chained : Chained script (world_of script Real c (next step.state) (noted L step.notes)) (step.posts ++ posts)
       pub shaped : (s : ServerId) → Live Real (next step.state) s → ((next step.state s).id ≡ s) × Shape (next step.state s).config s (next step.state s).replicas
       pub lines : (key : List ℕ) → (noted L step.notes key ≡ L key) ⊎ Assigns script c (Live Real N) L (slots script.space c N) Asks all.keyed good.differ i here key (noted L step.notes key)
-      pub late : (p : Post) → IsIn p step.posts → LateTo script w0 p.to p.message ⊎ Ctl p.message
+      pub late : (p : Post) → IsIn p step.posts → LateTo script Asks w0 p.to p.message ⊎ Ctl p.message
 
     -- the seat of the server after a step
     record Seated (q : ServerState) : Type 0 where
@@ -305,7 +305,7 @@ module _ (script : Script) (valid : IsSpace script.space) (Real : ServerId → T
     served-kept : (step : ServerStep) (rs : List Replica) → step.state ≡ standing c i rs → Shape c i rs → Seated (standing c i rs)
         → Served script c (Live Real N) L (slots script.space c N) Asks all.keyed good.differ i here step.state step.notes step.posts → Kept step
     served-kept step rs e shape seat served = record {
-      good_after = seat-good step.state step.posts (subst Seated (sym e) seat) (λ p j. late-epochal script w0 Real (next step.state) c p.from p.to p.message (served.late p j));
+      good_after = seat-good step.state step.posts (subst Seated (sym e) seat) (λ p j. late-epochal script Asks w0 Real (next step.state) c p.from p.to p.message (served.late p j));
       chained = record {
         keyed = settled-keys step.state (noted L step.notes) (put script c (Live Real N) L (slots script.space c N) Asks all.keyed good.differ i here step.state) served.keys agree;
         valid = λ p j. elim (in-append step.posts posts p j) [

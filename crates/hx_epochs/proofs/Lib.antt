@@ -14,3 +14,6 @@ pub mod Serving
 pub mod Steps
 pub mod Adopting
 pub mod Entries
+pub mod SessionTurns
+pub mod SessionMessages
+pub mod SessionNotes

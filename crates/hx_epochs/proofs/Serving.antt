@@ -48,14 +48,14 @@ abbrev pub standing : Config → ServerId → List Replica → ServerState
 standing c i rs = record { id = i; config = c; sealed = false; halted = false; replicas = rs }
 
 -- a post of a server in its epoch: a get is answered with at least what was settled before, nobody is called, and nothing is said of epochs
-abbrev pub LateTo : Script → World → Actor → Message → Type 0
-LateTo script w to (a_message.Reply number version answer) = at_session to (λ u. (key : List ℕ) → call_of script (record { session = u; number = number }) ≡ Some (Get key) → (x : ℕ) → SettledIn script w key x → x ≤ version.0)
-LateTo script w to (a_message.Call epoch number op) = ⊥
-LateTo script w to (a_message.Sealed epoch) = ⊥
-LateTo script w to a_message.Gone = ⊥
-LateTo script w to (a_message.Install config) = ⊥
-LateTo script w to (a_message.AddReplica number server g) = ⊥
-LateTo script w to other = ⊤
+abbrev pub LateTo : Script → (Caller → Type 0) → World → Actor → Message → Type 0
+LateTo script Asks w to (a_message.Reply number version answer) = at_session to (λ u. (key : List ℕ) → call_of script (record { session = u; number = number }) ≡ Some (Get key) → Asks (record { session = u; number = number }) × ((x : ℕ) → SettledIn script w key x → x ≤ version.0))
+LateTo script Asks w to (a_message.Call epoch number op) = ⊥
+LateTo script Asks w to (a_message.Sealed epoch) = ⊥
+LateTo script Asks w to a_message.Gone = ⊥
+LateTo script Asks w to (a_message.Install config) = ⊥
+LateTo script Asks w to (a_message.AddReplica number server g) = ⊥
+LateTo script Asks w to other = ⊤
 
 module _ (script : Script) (c : Config) (live : ServerId → Type 0) (L : List ℕ → List Update) (F : List ℕ → RegionId → ServerId → KeyState)
     (Asks : Caller → Type 0)
@@ -92,7 +92,7 @@ module _ (script : Script) (c : Config) (live : ServerId → Type 0) (L : List �
     pub still : (from to : Actor) (m : Message) → Valid script world from to m → Valid script (after st notes) from to m
     pub posts : (p : Post) → IsIn p new → Valid script (after st notes) p.from p.to p.message
     pub lines : (key : List ℕ) → (noted L notes key ≡ L key) ⊎ Assigns key (noted L notes key)
-    pub late : (p : Post) → IsIn p new → LateTo script world p.to p.message
+    pub late : (p : Post) → IsIn p new → LateTo script Asks world p.to p.message
 
   -- the turn of a key
   abbrev pub Turned : ServerState → List Note → List ℕ → Type 0
@@ -115,7 +115,7 @@ module _ (script : Script) (c : Config) (live : ServerId → Type 0) (L : List �
 
   -- posts alone
   pub saying-served : (st : ServerState) → ((key : List ℕ) (h : RegionId) → slot_in script.space h key st ≡ F key h i) → (posts : List Post)
-      → ((p : Post) → IsIn p posts → Valid script world p.from p.to p.message × LateTo script world p.to p.message) → Served st [] posts
+      → ((p : Post) → IsIn p posts → Valid script world p.from p.to p.message × LateTo script Asks world p.to p.message) → Served st [] posts
   saying-served st same posts f = record {
     keys = keys-after st [] (unchanged st same);
     still = still-after st [] (unchanged st same);
@@ -239,7 +239,7 @@ module _ (script : Script) (c : Config) (live : ServerId → Type 0) (L : List �
 
       -- the step
       pub slot-served : ((j : List ℕ) → same_text key j ≡ true → (noted L notes j ≡ L j) ⊎ Assigns j (noted L notes j)) → (posts : List Post)
-          → ((p : Post) → IsIn p posts → Valid script now p.from p.to p.message × LateTo script world p.to p.message) → Served moved-state notes posts
+          → ((p : Post) → IsIn p posts → Valid script now p.from p.to p.message × LateTo script Asks world p.to p.message) → Served moved-state notes posts
       slot-served grown posts f = record {
         keys = keys-now;
         still = still-after moved-state notes all-turns;
@@ -249,43 +249,43 @@ module _ (script : Script) (c : Config) (live : ServerId → Type 0) (L : List �
       }
 
 -- what is posted of updates of lines is late
-module _ (script : Script) (w w' : World) (ok : (key : List ℕ) → KeyIn script w' key) (differ : (g : RegionId) → Differ (members_of w'.config g)) (i : ServerId) (here : w'.live i) where
+module _ (script : Script) (Asks : Caller → Type 0) (w w' : World) (ok : (key : List ℕ) → KeyIn script w' key) (differ : (g : RegionId) → Differ (members_of w'.config g)) (i : ServerId) (here : w'.live i) where
   -- an answer of a write
-  pub reply-late : (h : RegionId) (u : Update) → Committed script w' i h u → (p : Post) → p ≡ reply (spot script w' ok differ i here h) u.caller u.version u.answer → LateTo script w p.to p.message
-  reply-late h u k p e = subst (λ (q : Post). LateTo script w q.to q.message) (sym e)
+  pub reply-late : (h : RegionId) (u : Update) → Committed script w' i h u → (p : Post) → p ≡ reply (spot script w' ok differ i here h) u.caller u.version u.answer → LateTo script Asks w p.to p.message
+  reply-late h u k p e = subst (λ (q : Post). LateTo script Asks w q.to q.message) (sym e)
       (λ key called. absurd (let l = law script w' ok differ i here u k.known.stands in
       let s : Some l.1.op ≡ Some (Get key) = sym l.1.called ∙ called in
       let o : l.1.op ≡ Get key = cc in
       false≢true (sym (ap is_write o) ∙ l.1.writes)))
 
-  pub passed-late : (h : RegionId) (u : Update) (p : Post) → IsIn p (passed_on (spot script w' ok differ i here h) u) → LateTo script w p.to p.message
+  pub passed-late : (h : RegionId) (u : Update) (p : Post) → IsIn p (passed_on (spot script w' ok differ i here h) u) → LateTo script Asks w p.to p.message
   passed-late h u p = by (next_at (spot script w' ok differ i here h) u)
     where
-      by : (y : Hop) → IsIn p (update_to (spot script w' ok differ i here h) u y) → LateTo script w p.to p.message
+      by : (y : Hop) → IsIn p (update_to (spot script w' ok differ i here h) u y) → LateTo script Asks w p.to p.message
       by End j = absurd j
       by (Blocked r) j = absurd j
       by (At y n) (inr j) = absurd j
-      by (At y n) (inl q) = subst (λ (q : Post). LateTo script w q.to q.message) (sym q) tt
+      by (At y n) (inl q) = subst (λ (q : Post). LateTo script Asks w q.to q.message) (sym q) tt
 
-  pub ack-late : (h : RegionId) (u : Update) (y : Hop) (p : Post) → IsIn p (ack_to (spot script w' ok differ i here h) u y) → LateTo script w p.to p.message
+  pub ack-late : (h : RegionId) (u : Update) (y : Hop) (p : Post) → IsIn p (ack_to (spot script w' ok differ i here h) u y) → LateTo script Asks w p.to p.message
   ack-late h u End p j = absurd j
   ack-late h u (Blocked r) p j = absurd j
   ack-late h u (At y n) p (inr j) = absurd j
-  ack-late h u (At y n) p (inl q) = subst (λ (q : Post). LateTo script w q.to q.message) (sym q) tt
+  ack-late h u (At y n) p (inl q) = subst (λ (q : Post). LateTo script Asks w q.to q.message) (sym q) tt
 
-  pub moves-late : (h : RegionId) (ms : List Move) → ((m : Move) → IsIn m ms → MoveOk script w' ok differ i here h m) → (p : Post) → IsIn p (flat_map (move_posts (spot script w' ok differ i here h)) ms) → LateTo script w p.to p.message
+  pub moves-late : (h : RegionId) (ms : List Move) → ((m : Move) → IsIn m ms → MoveOk script w' ok differ i here h m) → (p : Post) → IsIn p (flat_map (move_posts (spot script w' ok differ i here h)) ms) → LateTo script Asks w p.to p.message
   moves-late h ms f p j =
       let r = in-flat_map (move_posts (spot script w' ok differ i here h)) ms p j in
       by r.0 (f r.0 r.1) r.2
     where
-      by : (m : Move) → MoveOk script w' ok differ i here h m → IsIn p (move_posts (spot script w' ok differ i here h) m) → LateTo script w p.to p.message
+      by : (m : Move) → MoveOk script w' ok differ i here h m → IsIn p (move_posts (spot script w' ok differ i here h) m) → LateTo script Asks w p.to p.message
       by (Take u) k x = passed-late h u p x
       by (Hold u) k x = absurd x
       by (Acknowledge v) k x = absurd x
       by Forget k x = absurd x
       by (Commit u) k x = told (prev_at (spot script w' ok differ i here h) u) x
         where
-          told : (y : Hop) → IsIn p (told_to (spot script w' ok differ i here h) u y) → LateTo script w p.to p.message
+          told : (y : Hop) → IsIn p (told_to (spot script w' ok differ i here h) u y) → LateTo script Asks w p.to p.message
           told (At y n) x = ack-late h u (At y n) p x
           told (Blocked r) x = absurd x
           told End (inl e) = reply-late h u k p e

@@ -97,7 +97,7 @@ module _ (script : Script) (valid : IsSpace script.space) (c : Config) (live : S
     pub served : Served script c live L F Asks ok differ i here step.state step.notes step.posts
 
   -- posts alone
-  says : (posts : List Post) → ((p : Post) → IsIn p posts → Valid script w p.from p.to p.message × LateTo script w p.to p.message) → Step (saying st posts)
+  says : (posts : List Post) → ((p : Post) → IsIn p posts → Valid script w p.from p.to p.message × LateTo script Asks w p.to p.message) → Step (saying st posts)
   says posts f = record {
     replicas = rs;
     state = refl;
@@ -165,11 +165,11 @@ module _ (script : Script) (valid : IsSpace script.space) (c : Config) (live : S
         made n ns T f = slot-served script c live L F Asks ok differ i here rs same r found listed key ms [] (λ j n. refl) n ns T (λ j q. inl refl) (flat_map (move_posts at) ms)
             (λ p k. (
               moves-fine script (now script c live L F Asks ok differ i here rs same r found listed key ms [] (λ j n. refl) n ns T) (keys-now script c live L F Asks ok differ i here rs same r found listed key ms [] (λ j n. refl) n ns T) differ i here r.region ms f p k,
-              moves-late script w (now script c live L F Asks ok differ i here rs same r found listed key ms [] (λ j n. refl) n ns T) (keys-now script c live L F Asks ok differ i here rs same r found listed key ms [] (λ j n. refl) n ns T) differ i here r.region ms f p k,
+              moves-late script Asks w (now script c live L F Asks ok differ i here rs same r found listed key ms [] (λ j n. refl) n ns T) (keys-now script c live L F Asks ok differ i here rs same r found listed key ms [] (λ j n. refl) n ns T) differ i here r.region ms f p k,
             ))
 
     -- posts of a slot that doesn't move
-    posts-only : (posts : List Post) → ((p : Post) → IsIn p posts → Valid script w p.from p.to p.message × LateTo script w p.to p.message) → Step (at_slot st r t (by_posts posts))
+    posts-only : (posts : List Post) → ((p : Post) → IsIn p posts → Valid script w p.from p.to p.message × LateTo script Asks w p.to p.message) → Step (at_slot st r t (by_posts posts))
     posts-only posts f = record {
       replicas = _;
       state = refl;
@@ -208,7 +208,7 @@ module _ (script : Script) (valid : IsSpace script.space) (c : Config) (live : S
       (λ b. posts-only r found u.key (known_to (at r found u.key) (t r found u.key) u) (λ p j.
       let k = in-provided (leb u.version.0 (t r found u.key).floor) (ack_to (at r found u.key) u (prev_at (at r found u.key) u)) p j in (
         ack-fine script w ok differ i here r.region u (committed (leb-true u.version.0 (t r found u.key).floor k.0)) p k.1,
-        ack-late script w w ok differ i here r.region u (prev_at (at r found u.key) u) p k.1,
+        ack-late script Asks w w ok differ i here r.region u (prev_at (at r found u.key) u) p k.1,
       )))
       (λ b. quiet r found u.key (accepting (at r found u.key) (t r found u.key) (offered r.region (t r found u.key) u)) inside outside)
     where
@@ -290,10 +290,10 @@ module _ (script : Script) (valid : IsSpace script.space) (c : Config) (live : S
     the-call op' e = let s : Some op ≡ Some op' = sym called ∙ e in cc
 
     -- a doubt about a write
-    doubt-fine : is_write op ≡ true → (v : Version) (d : RegionId) (p : Post) → p ≡ doubt_in (at r found key) caller v d → Valid script w p.from p.to p.message × LateTo script w p.to p.message
-    doubt-fine writes v d p e = subst (λ (x : Post). Valid script w x.from x.to x.message × LateTo script w x.to x.message) (sym e) (
+    doubt-fine : is_write op ≡ true → (v : Version) (d : RegionId) (p : Post) → p ≡ doubt_in (at r found key) caller v d → Valid script w p.from p.to p.message × LateTo script Asks w p.to p.message
+    doubt-fine writes v d p e = subst (λ (x : Post). Valid script w x.from x.to x.message × LateTo script Asks w x.to x.message) (sym e) (
       (λ op' key' called' on_key'. inl (sym (ap is_write (the-call op' called')) ∙ writes, refl)),
-      (λ key' called' x s. absurd (false≢true (ap is_write (sym (the-call (Get key') called')) ∙ writes))),
+      (λ key' called'. absurd (false≢true (ap is_write (sym (the-call (Get key') called')) ∙ writes))),
     )
 
     lawful : Lawful script key (F key h i).accepted
@@ -305,16 +305,19 @@ module _ (script : Script) (valid : IsSpace script.space) (c : Config) (live : S
     -- a get
     get-step : is_write op ≡ false → Step (at_slot st r (t r found key) (get_step (at r found key) (t r found key) caller))
     get-step reads = posts-only r found key _ (λ p j. elim j [
-      | inl e ↦ subst (λ (x : Post). Valid script w x.from x.to x.message × LateTo script w x.to x.message) (sym e) (
+      | inl e ↦ subst (λ (x : Post). Valid script w x.from x.to x.message × LateTo script Asks w x.to x.message) (sym e) (
         (λ op' key' called' on_key'.
             let s = same-key op op' key key' (sym called ∙ called') on_key on_key' in
             let x = the-call op' called' in
             subst (λ (k : List ℕ). Told (L k) (SettledIn script w k) caller (record { 0 = (t r found key).floor }) (get_answer (object_in (object_of r.region (t r found key)))) op') s
             (inr (inr (sym (ap is_write x) ∙ reads, low-floor, answer, settled)))),
-        (λ key' called' x s'.
-            let z = same-key op (Get key') key key' (sym called ∙ called') on_key refl in
-            let b = subst (λ (k : List ℕ). SettledIn script w k x) (sym z) s' i here (member r found key q) in
-            subst (λ (y : KeyState). x ≤ y.floor) (slot-at r found key q) b),
+        (λ key' called'. (
+          asks,
+          λ x s'.
+              let z = same-key op (Get key') key key' (sym called ∙ called') on_key refl in
+              let b = subst (λ (k : List ℕ). SettledIn script w k x) (sym z) s' i here (member r found key q) in
+              subst (λ (y : KeyState). x ≤ y.floor) (slot-at r found key q) b,
+        )),
       )
       | inr k ↦ absurd k
     ])
@@ -353,9 +356,9 @@ module _ (script : Script) (valid : IsSpace script.space) (c : Config) (live : S
       | inl z ↦ (let kn = committed-held script w ok differ i here key r.region (λ z. listed-in c r.region i (listed r found key)) u (subst (λ (x : RegionId). IsIn u (F key x i).accepted) (sym q) j) (λ z. subst (λ (x : RegionId). u.version.0 ≤ (F key x i).floor) (sym q) l) in
           let uk = line-key script w ok differ i here key u (held-line script w ok differ i here key r.region (λ z. listed-in c r.region i (listed r found key)) u (subst (λ (x : RegionId). IsIn u (F key x i).accepted) (sym q) j)) in
           let same-post : reply (at r found key) caller u.version u.answer ≡ reply (at r found key) u.caller u.version u.answer = ap (λ (y : Caller). reply (at r found key) y u.version u.answer) (sym e) in
-          subst (λ (x : Post). Valid script w x.from x.to x.message × LateTo script w x.to x.message) (sym (z ∙ same-post)) (
+          subst (λ (x : Post). Valid script w x.from x.to x.message × LateTo script Asks w x.to x.message) (sym (z ∙ same-post)) (
             reply-fine script w ok differ i here r.region u kn (q ∙ ap (key_region script.space) (sym uk)) (subst (λ (x : RegionId). head_of c x ≡ Some i) (sym q) lead),
-            reply-late script w w ok differ i here r.region u kn (reply (at r found key) u.caller u.version u.answer) refl,
+            reply-late script Asks w w ok differ i here r.region u kn (reply (at r found key) u.caller u.version u.answer) refl,
           ))
       | inr z ↦ absurd z
     ])
@@ -447,7 +450,7 @@ module _ (script : Script) (valid : IsSpace script.space) (c : Config) (live : S
             (flat_map (move_posts (at r found key)) ms)
             (λ p k. (
               moves-fine script (now script c live L F Asks ok differ i here rs same r found (listed r found key) key ms notes others nn ms T) (keys-now script c live L F Asks ok differ i here rs same r found (listed r found key) key ms notes others nn ms T) differ i here r.region ms moves-ok p k,
-              moves-late script w (now script c live L F Asks ok differ i here rs same r found (listed r found key) key ms notes others nn ms T) (keys-now script c live L F Asks ok differ i here rs same r found (listed r found key) key ms notes others nn ms T) differ i here r.region ms moves-ok p k,
+              moves-late script Asks w (now script c live L F Asks ok differ i here rs same r found (listed r found key) key ms notes others nn ms T) (keys-now script c live L F Asks ok differ i here rs same r found (listed r found key) key ms notes others nn ms T) differ i here r.region ms moves-ok p k,
             ));
       }
 
@@ -459,7 +462,7 @@ module _ (script : Script) (valid : IsSpace script.space) (c : Config) (live : S
         (subst (λ (y : KeyState). Decided script valid key (F key h i).accepted lawful (F key h i).marks (F key h i).floor (F key h i).acked (F key h i).early c caller op called writes on_key (decide script.space c h y caller op)) (sym (slot-parts key (F key h i) own-lead.base) ∙ slot-at r found key q)
         (decide-decided script valid key (F key h i).accepted lawful (F key h i).marks (F key h i).floor (F key h i).acked (F key h i).early c caller op called writes on_key)))
       where
-        waits : (v : Version) (o : Option StuckAt) (p : Post) → IsIn p (waiting_doubt (at r found key) caller v o) → Valid script w p.from p.to p.message × LateTo script w p.to p.message
+        waits : (v : Version) (o : Option StuckAt) (p : Post) → IsIn p (waiting_doubt (at r found key) caller v o) → Valid script w p.from p.to p.message × LateTo script Asks w p.to p.message
         waits v None p j = absurd j
         waits v (Some x) p j = elim (in-provided (leb x.version.0 v.0) (doubt_in (at r found key) caller v x.region ∷ []) p j).1 [ inl e ↦ doubt-fine writes v x.region p e | inr k ↦ absurd k ]
 
@@ -539,7 +542,7 @@ module _ (script : Script) (valid : IsSpace script.space) (c : Config) (live : S
   asked-at : (from : Actor) (epoch : Epoch) (number : ℕ) (terms : List Term) (o : Option Replica) → Step (asked st from epoch number terms o)
   asked-at from epoch number terms None = still-standing
   asked-at from epoch number terms (Some r) = says _ (λ p j. elim (in-provided (lists_ready c r.region i) (post (Server i) from (a_message.Found epoch number r.region (found_in r.region terms r.states)) ∷ []) p j).1 [
-    | inl e ↦ subst (λ (x : Post). Valid script w x.from x.to x.message × LateTo script w x.to x.message) (sym e) (tt, tt)
+    | inl e ↦ subst (λ (x : Post). Valid script w x.from x.to x.message × LateTo script Asks w x.to x.message) (sym e) (tt, tt)
     | inr k ↦ absurd k
   ])
 
