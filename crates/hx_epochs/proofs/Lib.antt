@@ -17,3 +17,4 @@ pub mod Entries
 pub mod SessionTurns
 pub mod SessionMessages
 pub mod SessionNotes
+pub mod Runs
