@@ -130,6 +130,10 @@ sealed-unmoved space p e from (a_message.Snap epoch g snapshot pending) h = ap (
 sealed-unmoved space p e from (a_message.Ready epoch g) h = refl
 sealed-unmoved space p e from (a_message.Poll epoch) h = refl
 
+-- whose call an input is
+abbrev pub CallsBy : Input → Caller → Type 0
+CallsBy input caller = (id : PostId) × (epoch : Epoch) × (op : Op) × (input ≡ Deliver id (Session caller.session) (a_message.Call epoch caller.number op))
+
 module _ (script : Script) (valid : IsSpace script.space) (Real : ServerId → Type 0) (N : ServerId → ServerState) (d : CoordinatorState) (L : List ℕ → List Update) (posts : List Post)
     (good : Good Real N d posts) (all : Chained script (world_of script Real d.config N L) posts)
     (shapes : (s : ServerId) → Live Real N s → ((N s).id ≡ s) × Shape (N s).config s (N s).replicas) where
@@ -458,10 +462,6 @@ module _ (script : Script) (valid : IsSpace script.space) (Real : ServerId → T
     message-kept from (a_message.Snap epoch g snapshot pending) v e asks = absurd v
     message-kept from (a_message.Ready epoch g) v e asks = heard from (a_message.Ready epoch g) tt (λ z. tt) v asks
     message-kept from (a_message.Poll epoch) v e asks = heard from (a_message.Poll epoch) tt (λ z. tt) v asks
-
-  -- who is called by an input
-  abbrev pub CallsBy : Input → Caller → Type 0
-  CallsBy input caller = (id : PostId) × (epoch : Epoch) × (op : Op) × (input ≡ Deliver id (Session caller.session) (a_message.Call epoch caller.number op))
 
   -- each input of a server
   pub server-kept : (i : ServerId) (here : Live Real N i) (input : Input)

@@ -18,3 +18,4 @@ pub mod SessionTurns
 pub mod SessionMessages
 pub mod SessionNotes
 pub mod Runs
+pub mod Calls

@@ -178,7 +178,7 @@ module _ (script : Script) (sound : IsScript script) (adds : AddsNothing script)
       let same : (key : List ℕ) → noted L step.notes key ≡ L key = λ key. keeps_lines input s step turn key (L key) in
       let new : (w : World) (p : Post) → IsIn p step.posts → Valid script w p.from p.to p.message × Epochal (Real script) N d.config p.from p.message =
       λ w p x. let r = turn.turn.says p x in
-      subst (λ (a : Actor). Valid script w a p.to p.message × Epochal (Real script) N d.config a p.message) (sym (r.0 ∙ ap Session id)) (posted u mid step.state.sent calls w p.to p.message r.1) in
+      subst (λ (a : Actor). Valid script w a p.to p.message × Epochal (Real script) N d.config a p.message) (sym (r.0 ∙ ap Session id)) (posted u mid step.state.sent step.state.under_way calls w p.to p.message r.1) in
       record {
         good_after = record {
           listed = kept.good.listed;
@@ -199,24 +199,24 @@ module _ (script : Script) (sound : IsScript script) (adds : AddsNothing script)
       called : (u : SessionId) (mid : SessionState) → mid.calls ≡ calls_of script u → (op : Op) → numbered mid.calls mid.begun ≡ Some op → call_of script (record { session = u; number = mid.begun }) ≡ Some op
       called u mid e op q = ap (λ (l : List Op). numbered l mid.begun) (sym e) ∙ q
 
-      posted : (u : SessionId) (mid : SessionState) (sent : Bool) → mid.calls ≡ calls_of script u → (w : World) (to : Actor) (m : Message) → SaysOf mid sent m → Valid script w (Session u) to m × Epochal (Real script) N d.config (Session u) m
-      posted u mid sent e w to (a_message.Call epoch number op) h = (subst (λ (k : ℕ). call_of script (record { session = u; number = k }) ≡ Some op) (sym h.0) (called u mid e op h.2), tt)
-      posted u mid sent e w to (a_message.Reply number version answer) h = absurd h
-      posted u mid sent e w to (a_message.Update epoch g x) h = absurd h
-      posted u mid sent e w to (a_message.Ack epoch g key version) h = absurd h
-      posted u mid sent e w to (a_message.Ask epoch number g terms) h = (tt, tt)
-      posted u mid sent e w to (a_message.Found epoch number g rows) h = absurd h
-      posted u mid sent e w to (a_message.Seal epoch) h = absurd h
-      posted u mid sent e w to (a_message.Sealed epoch) h = absurd h
-      posted u mid sent e w to (a_message.Install config) h = absurd h
-      posted u mid sent e w to a_message.Die h = absurd h
-      posted u mid sent e w to a_message.Gone h = absurd h
-      posted u mid sent e w to (a_message.StopServer number server) h = (tt, tt)
-      posted u mid sent e w to (a_message.AddReplica number server g) h = absurd (adds (record { session = u; number = mid.begun }) (Add server g) (called u mid e (Add server g) h))
-      posted u mid sent e w to (a_message.Outcome number answer) h = absurd h
-      posted u mid sent e w to (a_message.Snap epoch g snapshot pending) h = absurd h
-      posted u mid sent e w to (a_message.Ready epoch g) h = absurd h
-      posted u mid sent e w to (a_message.Poll epoch) h = (tt, tt)
+      posted : (u : SessionId) (mid : SessionState) (sent way : Bool) → mid.calls ≡ calls_of script u → (w : World) (to : Actor) (m : Message) → SaysOf mid sent way m → Valid script w (Session u) to m × Epochal (Real script) N d.config (Session u) m
+      posted u mid sent way e w to (a_message.Call epoch number op) h = (subst (λ (k : ℕ). call_of script (record { session = u; number = k }) ≡ Some op) (sym h.0) (called u mid e op h.2), tt)
+      posted u mid sent way e w to (a_message.Reply number version answer) h = absurd h
+      posted u mid sent way e w to (a_message.Update epoch g x) h = absurd h
+      posted u mid sent way e w to (a_message.Ack epoch g key version) h = absurd h
+      posted u mid sent way e w to (a_message.Ask epoch number g terms) h = (tt, tt)
+      posted u mid sent way e w to (a_message.Found epoch number g rows) h = absurd h
+      posted u mid sent way e w to (a_message.Seal epoch) h = absurd h
+      posted u mid sent way e w to (a_message.Sealed epoch) h = absurd h
+      posted u mid sent way e w to (a_message.Install config) h = absurd h
+      posted u mid sent way e w to a_message.Die h = absurd h
+      posted u mid sent way e w to a_message.Gone h = absurd h
+      posted u mid sent way e w to (a_message.StopServer number server) h = (tt, tt)
+      posted u mid sent way e w to (a_message.AddReplica number server g) h = absurd (adds (record { session = u; number = mid.begun }) (Add server g) (called u mid e (Add server g) h))
+      posted u mid sent way e w to (a_message.Outcome number answer) h = absurd h
+      posted u mid sent way e w to (a_message.Snap epoch g snapshot pending) h = absurd h
+      posted u mid sent way e w to (a_message.Ready epoch g) h = absurd h
+      posted u mid sent way e w to (a_message.Poll epoch) h = (tt, tt)
 
   -- each entry
   keeps : (a : Actor) (input : Input) (ps : List Post) (ns : List Note) → is_actor script a ≡ true → has_halted script older a ≡ false → MayTake older a input → made_of script older a input ≡ record { posts = ps; notes = ns } → Keeps a input ps ns

@@ -33,29 +33,29 @@ use Rattle.hx_model.specs.SessionSteps.{SessionState, SessionStep, ask_regions, 
 use Rattle.hx_steady.proofs.Lists.{in-append, in-flat_map}
 use Rattle.hx_linear.proofs.SessionTurns.{CallStop, administrative_no_key, awaited, end_notes, goes_on, search_no_key}
 
--- what a session says of its call under way, and whether that was sent: it replies to nobody, and says nothing of updates and epochs
-abbrev pub SaysOf : SessionState → Bool → Message → Type 0
-SaysOf s sent (a_message.Call epoch number op) = (number ≡ s.begun) × (s.under_way ≡ true) × (numbered s.calls s.begun ≡ Some op) × (sent ≡ true)
-SaysOf s sent (a_message.Reply number version answer) = ⊥
-SaysOf s sent (a_message.Update epoch g u) = ⊥
-SaysOf s sent (a_message.Ack epoch g key version) = ⊥
-SaysOf s sent (a_message.Ask epoch number g terms) = ⊤
-SaysOf s sent (a_message.Found epoch number g rows) = ⊥
-SaysOf s sent (a_message.Seal epoch) = ⊥
-SaysOf s sent (a_message.Sealed epoch) = ⊥
-SaysOf s sent (a_message.Install config) = ⊥
-SaysOf s sent a_message.Die = ⊥
-SaysOf s sent a_message.Gone = ⊥
-SaysOf s sent (a_message.StopServer number server) = ⊤
-SaysOf s sent (a_message.AddReplica number server g) = (numbered s.calls s.begun ≡ Some (Add server g))
-SaysOf s sent (a_message.Outcome number answer) = ⊥
-SaysOf s sent (a_message.Snap epoch g snapshot pending) = ⊥
-SaysOf s sent (a_message.Ready epoch g) = ⊥
-SaysOf s sent (a_message.Poll epoch) = ⊤
+-- what a session says of its call under way, and whether that is sent and goes on: it replies to nobody, and says nothing of updates and epochs
+abbrev pub SaysOf : SessionState → Bool → Bool → Message → Type 0
+SaysOf s sent way (a_message.Call epoch number op) = (number ≡ s.begun) × (s.under_way ≡ true) × (numbered s.calls s.begun ≡ Some op) × (sent ≡ true) × (way ≡ true)
+SaysOf s sent way (a_message.Reply number version answer) = ⊥
+SaysOf s sent way (a_message.Update epoch g u) = ⊥
+SaysOf s sent way (a_message.Ack epoch g key version) = ⊥
+SaysOf s sent way (a_message.Ask epoch number g terms) = ⊤
+SaysOf s sent way (a_message.Found epoch number g rows) = ⊥
+SaysOf s sent way (a_message.Seal epoch) = ⊥
+SaysOf s sent way (a_message.Sealed epoch) = ⊥
+SaysOf s sent way (a_message.Install config) = ⊥
+SaysOf s sent way a_message.Die = ⊥
+SaysOf s sent way a_message.Gone = ⊥
+SaysOf s sent way (a_message.StopServer number server) = ⊤
+SaysOf s sent way (a_message.AddReplica number server g) = (numbered s.calls s.begun ≡ Some (Add server g))
+SaysOf s sent way (a_message.Outcome number answer) = ⊥
+SaysOf s sent way (a_message.Snap epoch g snapshot pending) = ⊥
+SaysOf s sent way (a_message.Ready epoch g) = ⊥
+SaysOf s sent way (a_message.Poll epoch) = ⊤
 
 -- the session posts this
-abbrev pub Says : SessionState → Bool → Post → Type 0
-Says s sent p = (p.from ≡ Session s.id) × SaysOf s sent p.message
+abbrev pub Says : SessionState → Bool → Bool → Post → Type 0
+Says s sent way p = (p.from ≡ Session s.id) × SaysOf s sent way p.message
 
 -- how a call on a lost region ends: in doubt where it is a write that was sent, else refused
 abbrev pub Lost : Bool → Op → Answer → Type 0
@@ -79,7 +79,7 @@ pub record Turn (input : Input) (s : SessionState) (step : SessionStep) : Type 0
   pub under_way : step.state.under_way ≡ goes_on stop s.under_way
   pub running : (e : CallStop) → stop ≡ Some e → s.under_way ≡ true
   pub cause : (e : CallStop) → stop ≡ Some e → EndsBy input s e
-  pub says : (p : Post) → IsIn p step.posts → Says s step.state.sent p
+  pub says : (p : Post) → IsIn p step.posts → Says s step.state.sent step.state.under_way p
 
 -- nothing is posted and noted
 pub stays : (input : Input) (s : SessionState) → Turn input s (staying s)
@@ -141,9 +141,9 @@ sends_key input s op g running called =
       says = λ p i. by (head_of s.config g) p i;
     })
   where
-    by : (o : Option ServerId) (p : Post) → IsIn p (call_to s op o) → Says s true p
+    by : (o : Option ServerId) (p : Post) → IsIn p (call_to s op o) → Says s true s.under_way p
     by None p i = absurd i
-    by (Some server) p (inl e) = rw e (refl, (refl, running, called, refl))
+    by (Some server) p (inl e) = rw e (refl, (refl, running, called, refl, running))
     by (Some server) p (inr i) = absurd i
 
 -- a search asks regions, or ends since its plan is lost
@@ -163,7 +163,7 @@ asks input s op terms (a_plan.Regions subspace regions) running called no_key = 
   says = λ p i. (let r = in-flat_map (λ (g : RegionId). ask_to s terms g (head_of s.config g)) regions p i in by r.0 (head_of s.config r.0) p r.2);
 }
   where
-    by : (g : RegionId) (o : Option ServerId) (p : Post) → IsIn p (ask_to s terms g o) → Says s s.sent p
+    by : (g : RegionId) (o : Option ServerId) (p : Post) → IsIn p (ask_to s terms g o) → Says s s.sent s.under_way p
     by g None p i = absurd i
     by g (Some server) p (inl e) = rw e (refl, tt)
     by g (Some server) p (inr i) = absurd i
@@ -221,7 +221,7 @@ polls input s step turn = record {
 }
   where
     by : (b : Bool) (p : Post)
-        → IsIn p (provided b (post (Session step.state.id) Coordinator (a_message.Poll step.state.config.epoch) ∷ [])) → Says s step.state.sent p
+        → IsIn p (provided b (post (Session step.state.id) Coordinator (a_message.Poll step.state.config.epoch) ∷ [])) → Says s step.state.sent step.state.under_way p
     by true p (inl e) = rw e (ap Session turn.id, tt)
     by true p (inr i) = absurd i
     by false p i = absurd i
