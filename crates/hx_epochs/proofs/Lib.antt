@@ -19,3 +19,7 @@ pub mod SessionMessages
 pub mod SessionNotes
 pub mod Runs
 pub mod Calls
+pub mod Times
+pub mod Writes
+pub mod Histories
+pub mod Headline
