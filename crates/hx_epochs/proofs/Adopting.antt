@@ -59,6 +59,7 @@ none-joins c ready g s e =
 
 -- a doubt about an update of a line
 module _ (script : Script) (Asks : Caller → Type 0) (w w' : World) (ok : (key : List ℕ) → KeyIn script w' key) (differ : (g : RegionId) → Differ (members_of w'.config g)) (i : ServerId) (here : w'.live i) where
+  -- it may be told to the update's caller
   pub doubted-fine : (h : RegionId) (u : Update) → IsIn u (w'.line u.key) → (v : Version) (d : RegionId) (p : Post) → p ≡ doubt_in (spot script w' ok differ i here h) u.caller v d
       → Valid script w' p.from p.to p.message × LateTo script Asks w p.to p.message
   doubted-fine h u j v d p e =
@@ -76,6 +77,7 @@ module _ (script : Script) (valid : IsSpace script.space) (c : Config) (live : S
   abbrev w : World
   w = world script c live L F Asks ok differ i here
 
+  -- the server's state before
   abbrev st : ServerState
   st = standing c i rs
 
@@ -85,6 +87,7 @@ module _ (script : Script) (valid : IsSpace script.space) (c : Config) (live : S
       same t.base.key r.region ∙ slot-found script.space r.region t.base.key st r (once-found rs shape.once r j)
       ∙ state-there (is_key_region script.space r.region) r.states t (shape.ascends r j) k
 
+  -- what is posted on a tick is true
   tick-fine : (p : Post) → IsIn p (flat_map (replica_tick script.space st) rs) → Valid script w p.from p.to p.message × LateTo script Asks w p.to p.message
   tick-fine p j =
       let a = in-flat_map (replica_tick script.space st) rs p j in
@@ -143,6 +146,7 @@ adopted-base : (at : Spot) (active : Bool) (t : KeyState) → (adopted_state at 
 adopted-base at true t = base-moved_all (resumed at t) t
 adopted-base at false t = refl
 
+-- an empty slot stays empty
 adopted-new : (at : Spot) (active : Bool) (marks : Bool) (key : List ℕ) → adopted_state at active (new_state marks key) ≡ new_state marks key
 adopted-new at true marks key = refl
 adopted-new at false marks key = refl
@@ -151,6 +155,7 @@ adopted-new at false marks key = refl
 abbrev adopting : Spot → Bool → KeyState → List Move
 adopting at active t = cond active (resumed at t) (Forget ∷ [])
 
+-- what a slot is after it comes by these moves, from what the slot is worth in the new epoch
 adopted-moves : (at : Spot) (active : Bool) (t : KeyState) → adopted_state at active t ≡ moved_all (adopting at active (moved Forget t)) (moved Forget t)
 adopted-moves at true t = refl
 adopted-moves at false t = refl
@@ -172,6 +177,7 @@ module _ (script : Script) (c : Config) (live : ServerId → Type 0) (L : List �
   abbrev kept : List Replica
   kept = map (replica_or_new rs) (listed_regions c i)
 
+  -- the server in the new configuration, before it goes on
   abbrev now-at : ServerState
   now-at = standing c i kept
 
@@ -179,29 +185,37 @@ module _ (script : Script) (c : Config) (live : ServerId → Type 0) (L : List �
   abbrev resumed-all : List Replica
   resumed-all = map (adopted_replica script.space now-at) kept
 
+  -- and after the step
   abbrev done : ServerState
   done = standing c i resumed-all
 
+  -- where its slots stand
   abbrev at : RegionId → Spot
   at h = record { space = script.space; config = c; server = i; region = h }
 
+  -- a replica is of its region
   kept-region : (g : RegionId) → (replica_or_new rs g).region ≡ g
   kept-region g = when_some_both (replica_of g rs) (record { region = g; installed = false; states = [] }) (λ (r : Replica). r) (λ (r : Replica). r.region ≡ g) (λ e. refl) (λ r e. (replica-found g rs r e).1)
 
   -- the replica of a region in which the server is listed was there
   module _ (h : RegionId) (l : lists c h i ≡ true) where
+    -- the replica
     abbrev r0 : Replica
     r0 = (shape.there h (fewer h l)).0
 
+    -- it is found
     found0 : replica_of h rs ≡ Some r0
     found0 = (shape.there h (fewer h l)).1
 
+    -- it is of the region
     region0 : r0.region ≡ h
     region0 = (replica-found h rs r0 found0).1
 
+    -- it is found among those kept
     kept-found : replica_of h kept ≡ Some r0
     kept-found = made-found (replica_or_new rs) kept-region h (listed_regions c i) (listed-there c h i l) ∙ ap (λ (o : Option Replica). Some (when_some o (record { region = h; installed = false; states = [] }) (λ (r : Replica). r))) found0
 
+    -- and after the step
     done-found : replica_of h resumed-all ≡ Some (adopted_replica script.space now-at r0)
     done-found = mapped-found (adopted_replica script.space now-at) (λ r. refl) h kept r0 kept-found
 
@@ -239,9 +253,11 @@ module _ (script : Script) (c : Config) (live : ServerId → Type 0) (L : List �
       kept-ascends g = when_some_both (replica_of g rs) (record { region = g; installed = false; states = [] }) (λ (r : Replica). r) (λ (r : Replica). Ascend state_key r.states) (λ e. tt) (λ r e. shape.ascends r (replica-found g rs r e).0)
 
   module _ (key : List ℕ) where
+    -- the key's region
     abbrev g : RegionId
     g = key_region script.space key
 
+    -- what every member of the key's region that is up has accepted
     abbrev Safe : Update → Type 0
     Safe u = IsIn u (L key) × Everywhere live (order c g) (F key g) u
 
@@ -250,6 +266,7 @@ module _ (script : Script) (c : Config) (live : ServerId → Type 0) (L : List �
     adopting-known h true t k = resumed-known Safe (at h) t k
     adopting-known h false t k = λ m j. elim j [ inl e ↦ subst (Holding.Known Safe) (sym e) tt | inr n ↦ absurd n ]
 
+    -- what replicas of other regions hold is safe after the step
     outer-after : live i → (h : RegionId) → (h ≡ g → ⊥) → Outer (L key) (Everywhere live (order c g) (F key g)) (put script c live L F Asks ok differ i here done key h i)
     outer-after l h d = by (cases_Bool (lists c h i))
       where
@@ -292,6 +309,7 @@ module _ (script : Script) (c : Config) (live : ServerId → Type 0) (L : List �
   abbrev now1 : World
   now1 = after script c live L F Asks ok differ i here done []
 
+  -- what holds of each key in it
   abbrev keys1 : (key : List ℕ) → KeyIn script now1 key
   keys1 = keys-after script c live L F Asks ok differ i here done [] turns
 
@@ -390,6 +408,7 @@ module _ (script : Script) (c : Config) (live : ServerId → Type 0) (L : List �
               let kn = known-held script now1 keys1 differ i here t.base.key h (λ z. listed-in c h i l) m.0 (subst (λ (y : KeyState). IsIn m.0 y.accepted) (sym after-is) u.0) in
               doubted-fine script Asks w1 now1 keys1 differ i here h m.0 kn.stands m.0.version x.region p m.2
 
+  -- what is posted is true
   posts-fine : (p : Post) → IsIn p (flat_map (adopted_posts script.space now-at) kept) → Valid script now1 p.from p.to p.message × LateTo script Asks w1 p.to p.message
   posts-fine p j =
       let a = in-flat_map (adopted_posts script.space now-at) kept p j in

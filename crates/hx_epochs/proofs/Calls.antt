@@ -129,17 +129,21 @@ module _ (script : Script) (older : List Entry) (kept : RunKept script older) (c
   ended-before c v a n (inl h) = absurd (no_session c.session h.0)
   ended-before c v a n (inr h) = h
 
+  -- a begin is an earlier one
   began-before : (c : Caller) (n : ℕ) → BeganAt (x ∷ older) c n → BeganAt older c n
   began-before c n (inl h) = absurd (no_session c.session h.0)
   began-before c n (inr h) = h
 
+  -- calls that come in order did so before
   first-before : (a : Caller) (v : Version) (answer : Answer) (b : Caller) → EndedFirst (x ∷ older) a v answer b → EndedFirst older a v answer b
   first-before a v answer b (inl h) = absurd (no_session b.session h.0)
   first-before a v answer b (inr h) = h
 
+  -- a call was posted before
   call-before : (u : SessionId) (to : Actor) (epoch : Epoch) (number : ℕ) (op : Op) → IsIn (post (Session u) to (a_message.Call epoch number op)) (posts_of (x ∷ older)) → IsIn (post (Session u) to (a_message.Call epoch number op)) (posts_of older)
   call-before u to epoch number op i = elim (in-append x.outputs (posts_of older) (post (Session u) to (a_message.Call epoch number op)) i) [ inl j ↦ absurd (no_calls u to epoch number op j) | inr j ↦ j ]
 
+  -- what was posted stays so
   posted-still : (c : Caller) → WasPosted older c → WasPosted (x ∷ older) c
   posted-still c w = (w.0, w.1, w.2, in_right x.outputs (posts_of older) _ w.3)
 
@@ -147,6 +151,7 @@ module _ (script : Script) (older : List Entry) (kept : RunKept script older) (c
   posted-begun : (c : Caller) → WasPosted older c → (n : ℕ) × BeganAt older c n
   posted-begun c w = (calls.sent c.session w.0 w.1 c.number w.2 w.3).begun
 
+  -- who ended first was shown what is settled
   settled-end : (a : Caller) (v : Version) (answer : Answer) (b : Caller) → EndedFirst older a v answer b → (op : Op) (key : List ℕ) → call_of script a ≡ Some op → key_of op ≡ Some key → is_doubt answer ≡ false → SettledAt script older key v.0
   settled-end a v answer b f op key called on_key sure =
       let e = ended older f in ended-settled script older kept a v answer (calls.replied a v answer e.0 e.1) op key called on_key sure
@@ -156,6 +161,7 @@ module _ (script : Script) (older : List Entry) (kept : RunKept script older) (c
       ended (y ∷ ys) (inl h) = (h.2.0, inr h.2.1)
       ended (y ∷ ys) (inr h) = let r = ended ys h in (r.0, inr r.1)
 
+  -- all that a run says of calls
   pub other_calls : Calls script (x ∷ older)
   other_calls = record {
     began_low = λ c n h. (let r = calls.began_low c n (began-before c n h) in (subst (λ (s : SessionState). c.number ≤ s.begun) (sym (same_session c.session)) r.0, omega (arith, r.1)));
@@ -487,6 +493,7 @@ pub turn_is : (script : Script) (older : List Entry) (x : Entry) (u : SessionId)
     → SessionTurn x.input (session_of script u older) (record { state = session_of script u (x ∷ older); posts = x.outputs; notes = x.notes })
 turn_is script older x u step acts = subst (SessionTurn x.input (session_of script u older)) (step_is script older x u step acts) (session_turn script.space x.input (session_of script u older))
 
+-- nothing has begun at the start
 calls_start : (script : Script) → Calls script []
 calls_start script = record {
   began_low = λ c n h. absurd h;
@@ -544,6 +551,7 @@ module _ (script : Script) (sound : IsScript script) (adds : AddsNothing script)
       assigned key u w p f (inl e) = inr (subst (λ (y : Update). WasPosted older y.caller × ((n : ℕ) → SettledAt script older key n → n < y.version.0)) (sym e) (p, f))
       assigned key u w p f (inr j) = inl (in-upto (w.version.0 - 1) (line_of key older) u j)
 
+  -- an entry of whoever
   pub entry_calls : (x : Entry) → IsStep script older x → Calls script (x ∷ older)
   entry_calls x step = by x.actor refl
     where

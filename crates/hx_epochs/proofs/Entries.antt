@@ -47,9 +47,11 @@ use Rattle.hx_epochs.proofs.World.{Chained, KeyIn, Valid, World, at_server, at_s
 abbrev pub view : Config → ServerState → KeyState → KeyState
 view c p t = cond (eqb p.config.epoch.0 c.epoch.0) t (moved Forget t)
 
+-- the slots of a key at all servers, by what they are worth in the newest epoch
 abbrev pub slots : Space → Config → (ServerId → ServerState) → List ℕ → RegionId → ServerId → KeyState
 slots space c N key h s = view c (N s) (slot_in space h key (N s))
 
+-- where all stand
 abbrev pub world_of : Script → (ServerId → Type 0) → Config → (ServerId → ServerState) → (List ℕ → List Update) → World
 world_of script Real c N L = record { config = c; live = Live Real N; line = L; slot = slots script.space c N }
 
@@ -150,9 +152,11 @@ module _ (script : Script) (valid : IsSpace script.space) (Real : ServerId → T
     abbrev pub next : ServerState → ServerId → ServerState
     next q j = cond (same_server i j) q (N j)
 
+    -- this one is another
     next-here : (q : ServerState) → next q i ≡ q
     next-here q = cond-true (same_server i i) q (N i) (eq-eqb i.0 i.0 refl)
 
+    -- the others stay
     next-off : (q : ServerState) (j : ServerId) → (j ≡ i → ⊥) → next q j ≡ N j
     next-off q j n = cond-false (same_server i j) q (N j) (ne_eqb i.0 j.0 (λ e. n (λ k. record { 0 = sym e k })))
 
@@ -342,6 +346,7 @@ module _ (script : Script) (valid : IsSpace script.space) (Real : ServerId → T
     abbrev P : ServerState
     P = record { id = i; config = (N i).config; sealed = (N i).sealed; halted = false; replicas = (N i).replicas }
 
+    -- it is made of its parts
     parts : N i ≡ P
     parts = λ j. record { id = (shapes i here).0 j; config = (N i).config; sealed = (N i).sealed; halted = here.1 j; replicas = (N i).replicas }
 
@@ -349,9 +354,11 @@ module _ (script : Script) (valid : IsSpace script.space) (Real : ServerId → T
     newest : (N i).sealed ≡ false → (N i).config ≡ c
     newest e = elim (good.near i here) [ inl z ↦ z | inr z ↦ absurd (false≢true (sym e ∙ z.1)) ]
 
+    -- its seat stays where nothing happens
     seat-same : Seated (N i)
     seat-same = record { epoch_up = omega arith; sealed_up = λ h. inl h; near = λ h. good.near i here }
 
+    -- a step that does nothing
     stays-kept : Kept (unmoved (N i))
     stays-kept = quiet-kept (N i) [] refl refl refl seat-same (λ p j. absurd j)
 
@@ -382,9 +389,11 @@ module _ (script : Script) (valid : IsSpace script.space) (Real : ServerId → T
     said q m p a b (inl e) = subst (λ (x : Post). Ctl x.message × Epochal Real (next q) c x.from x.message) (sym e) (a, subst (λ (s : ServerId). Epochal Real (next q) c (Server s) m) (sym (shapes i here).0) b)
     said q m p a b (inr j) = absurd j
 
+    -- a sealed server may say so
     sealed-says : (q : ServerState) (epoch : Epoch) → epoch.0 ≡ q.config.epoch.0 → q.sealed ≡ true → Epochal Real (next q) c (Server i) (a_message.Sealed epoch)
     sealed-says q epoch e s = inr (here.0, inr (e ∙ sym (ap (λ (p : ServerState). p.config.epoch.0) (next-here q)), ap (λ (p : ServerState). p.sealed) (next-here q) ∙ s))
 
+    -- a seal
     seal-kept : (epoch : Epoch) → Kept (seal_at (N i) epoch)
     seal-kept epoch =
         cond_both (eqb epoch.0 (N i).config.epoch.0) _ (unmoved (N i)) Kept
@@ -397,11 +406,13 @@ module _ (script : Script) (valid : IsSpace script.space) (Real : ServerId → T
         (λ p j. said (record (N i) { sealed = true }) (a_message.Sealed epoch) p tt (sealed-says (record (N i) { sealed = true }) epoch (eqb-true epoch.0 (N i).config.epoch.0 t) refl) j))
         (λ t. stays-kept)
 
+    -- a halt
     halt-kept : Kept (halting (N i))
     halt-kept = quiet-kept (record (N i) { halted = true }) (post (Server (N i).id) Coordinator a_message.Gone ∷ []) refl refl refl
         (record { epoch_up = omega arith; sealed_up = λ h. inl h; near = λ h. absurd (false≢true (sym h)) })
         (λ p j. said (record (N i) { halted = true }) a_message.Gone p tt (ap (λ (p : ServerState). p.halted) (next-here (record (N i) { halted = true }))) j)
 
+    -- a tick
     tick-kept : Kept (tick_step script.space (N i))
     tick-kept = elim (cases_Bool (N i).sealed) [
       | inl e ↦ subst (λ (ps : List Post). Kept (saying (N i) ps)) (sym (cond-true (N i).sealed (post (Server (N i).id) Coordinator (a_message.Sealed (N i).config.epoch) ∷ []) (flat_map (replica_tick script.space (N i)) (N i).replicas) e))
@@ -410,6 +421,7 @@ module _ (script : Script) (valid : IsSpace script.space) (Real : ServerId → T
       | inr e ↦ step-kept e (tick_step script.space) (tick-served script valid c (Live Real N) L (slots script.space c N) Asks all.keyed good.differ i here rs0 (same-now e) (shape-now e) good.ready)
     ]
 
+    -- a configuration that arrives
     install-kept : (config : Config) → (config.epoch.0 ≤ c.epoch.0) × (config.epoch.0 ≡ c.epoch.0 → config ≡ c) → Kept (install_at script.space (N i) config)
     install-kept config v =
         cond_both (ltb (N i).config.epoch.0 config.epoch.0) (adopted script.space (with_config (N i) config)) (unmoved (N i)) Kept
@@ -442,6 +454,7 @@ module _ (script : Script) (valid : IsSpace script.space) (Real : ServerId → T
       | inr e ↦ step-kept e (λ p. message_step script.space p from m) (message-served script valid c (Live Real N) L (slots script.space c N) Asks all.keyed good.differ i here rs0 (same-now e) (shape-now e) from m (k e) v asks)
     ]
 
+    -- each message
     message-kept : (from : Actor) (m : Message) → Valid script w0 from (Server i) m → Epochal Real N c from m
         → ((u : SessionId) (epoch : Epoch) (number : ℕ) (op : Op) → from ≡ Session u → m ≡ a_message.Call epoch number op → Asks (record { session = u; number = number }))
         → Kept (message_step script.space (N i) from m)

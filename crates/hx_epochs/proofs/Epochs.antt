@@ -192,6 +192,7 @@ module _ (Real : ServerId → Type 0) (S : ServerId → ServerState) (posts : Li
     lines = λ key line. refl;
   }
 
+  -- nothing changes
   rests : (d : CoordinatorState) → Good Real S d posts → Fine d (resting d)
   rests d g = with_posts d d [] g refl (λ p i. absurd i)
 
@@ -199,6 +200,7 @@ module _ (Real : ServerId → Type 0) (S : ServerId → ServerState) (posts : Li
   to-each : (message : Message) (servers : List ServerId) (p : Post) → IsIn p (map (to_server message) servers) → (s : ServerId) × (p ≡ to_server message s)
   to-each message servers p i = let r = in-map (to_server message) servers p i in (r.0, r.2)
 
+  -- what is posted to each of them says the same
   to-each_says : (message : Message) (newest : Config) (servers : List ServerId) → Ctl message → Epochal Real S newest Coordinator message → (p : Post) → IsIn p (map (to_server message) servers) → Ctl p.message × Epochal Real S newest p.from p.message
   to-each_says message newest servers a b p i =
       let r = to-each message servers p i in subst (λ (q : Post). Ctl q.message × Epochal Real S newest q.from q.message) (sym r.1) (a, b)
@@ -341,6 +343,7 @@ module _ (Real : ServerId → Type 0) (S : ServerId → ServerState) (posts : Li
       (record { listed = g.listed; near = g.near; gone = g.gone; waits = all; valid = g.valid; ready = g.ready; differ = g.differ; todo = g.todo }) e
       (to-each_says (a_message.Seal d'.config.epoch) d'.config (w ∷ ws) tt tt)
 
+  -- goes on waiting for these, or issues
   still_good : (d d' : CoordinatorState) (ws : List ServerId) → d'.config ≡ d.config → Good Real S d' posts → ((s : ServerId) → IsIn s d'.config.servers → IsIn s ws ⊎ SealedIn Real S d'.config s) → Fine d (still_sealing d' ws)
   still_good d d' [] e g all = seals_good d d' [] e g all
   still_good d d' (w ∷ ws) e g all =
@@ -362,6 +365,7 @@ module _ (Real : ServerId → Type 0) (S : ServerId → ServerState) (posts : Li
       ]))
       (λ t. with_posts d d' [] g e (λ p i. absurd i))
 
+  -- a server is known to be gone
   goes_good : (d : CoordinatorState) (s : ServerId) → Good Real S d posts → (S s).halted ≡ true → Fine d (goes d s d.phase)
   goes_good d s g h = by d.phase refl
     where
@@ -381,11 +385,13 @@ module _ (Real : ServerId → Type 0) (S : ServerId → ServerState) (posts : Li
       by Steady e = seal_good d (record d { gone = with_server s d.gone }) refl gone
       by (Sealing waited) e = less_good d (record d { gone = with_server s d.gone }) waited s refl gone e (inl h)
 
+  -- a server says that it is gone
   gone_good : (d : CoordinatorState) (from : Actor) → Good Real S d posts → Epochal Real S d.config from a_message.Gone → Fine d (gone_step d from)
   gone_good d Coordinator g v = rests d g
   gone_good d (Session u) g v = rests d g
   gone_good d (Server s) g v = cond_both (server_in s d.config.servers && not (is_out d.gone s)) (goes d s d.phase) (resting d) (Fine d) (λ t. goes_good d s g v) (λ t. rests d g)
 
+  -- a server says that it is sealed
   sealed_good : (d : CoordinatorState) (epoch : Epoch) (from : Actor) → Good Real S d posts → Epochal Real S d.config from (a_message.Sealed epoch) → Fine d (sealed_step d epoch from)
   sealed_good d epoch Coordinator g v = rests d g
   sealed_good d epoch (Session u) g v = rests d g
@@ -410,6 +416,7 @@ module _ (Real : ServerId → Type 0) (S : ServerId → ServerState) (posts : Li
         | inr b ↦ (let z = b.0 in absurd (omega (arith, h, q, z)))
       ]
 
+  -- a server says that it is ready
   ready_good : (d : CoordinatorState) (epoch : Epoch) (r : RegionId) (from : Actor) → Good Real S d posts → Fine d (ready_step d epoch r from)
   ready_good d epoch r Coordinator g = rests d g
   ready_good d epoch r (Session u) g = rests d g
@@ -475,6 +482,7 @@ module _ (Real : ServerId → Type 0) (S : ServerId → ServerState) (posts : Li
       by (Stop s) j = to-each_says a_message.Die newest (s ∷ []) tt tt p (in-provided (test s) (to_server a_message.Die s ∷ []) p j).1
       by (Add s g) j = absurd j
 
+  -- a tick of the coordinator
   tick_good : (d : CoordinatorState) → Good Real S d posts → Fine d (coordinator_tick d d.phase)
   tick_good d g = by d.phase
     where
@@ -486,6 +494,7 @@ module _ (Real : ServerId → Type 0) (S : ServerId → ServerState) (posts : Li
             | inr j ↦ die-says (λ (s : ServerId). not (is_out d.gone s)) d.config d.todo p j
           ])
 
+  -- each message to the coordinator
   message_good : (d : CoordinatorState) (from : Actor) (m : Message) → Good Real S d posts → Epochal Real S d.config from m → Fine d (coordinator_message d from m)
   message_good d from (a_message.Call epoch number op) g v = rests d g
   message_good d from (a_message.Reply number version answer) g v = rests d g

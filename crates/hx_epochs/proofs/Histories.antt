@@ -73,6 +73,7 @@ ended_early c t n q = by (end_of c t) refl q
 
 -- no get's item was refused
 module _ (script : Script) (key : List ℕ) (low : ℕ) (high : Option ℕ) (object : Option (List Value)) where
+  -- of a note
   note-well : (u : SessionId) (note : Note) (x : Item) → IsIn x (get_item script key low high object u note) → is_refused x.answer ≡ false
   note-well u (a_note.Began number) x i = absurd i
   note-well u (a_note.Assigned w) x i = absurd i
@@ -93,6 +94,7 @@ module _ (script : Script) (key : List ℕ) (low : ℕ) (high : Option ℕ) (obj
           let c = and_parts (is_get_of key op) (not (is_refused answer)) b.0 in
           elim r.1 [ inl e ↦ ap (λ (y : Item). is_refused y.answer) e ∙ well (is_refused answer) c.1 | inr j ↦ absurd j ]
 
+  -- of a trace
   gets-well : (t : List Entry) (x : Item) → IsIn x (gets_of script key low high object t) → is_refused x.answer ≡ false
   gets-well [] x i = absurd i
   gets-well (e ∷ older) x i = elim (in-append (get_items script key low high object e.actor e.notes) (gets_of script key low high object older) x i) [
@@ -106,9 +108,11 @@ module _ (script : Script) (key : List ℕ) (low : ℕ) (high : Option ℕ) (obj
       entry (Session u) notes j = let r = in-flat_map (get_item script key low high object u) (reverse notes) x j in note-well u r.0 x r.2
 
 module _ (script : Script) (sound : IsScript script) (adds : AddsNothing script) (whole : List Entry) (run : IsRun script whole) (key : List ℕ) where
+  -- what the run keeps of epochs, keys and posts
   kept : RunKept script whole
   kept = run_kept script sound adds whole run
 
+  -- what it keeps of calls
   calls : Calls script whole
   calls = calls_kept script sound adds whole run
 
@@ -116,12 +120,15 @@ module _ (script : Script) (sound : IsScript script) (adds : AddsNothing script)
   abbrev line : List Update
   line = line_of key whole
 
+  -- the updates that were not refused
   abbrev ws : List Update
   ws = not_refused line
 
+  -- the line is lawful
   lawful : Lawful script key line
   lawful = (kept.chained.keyed key).lawful
 
+  -- they are sorted
   sorted : Sorted ws
   sorted = not_refused-sorted line (numbered-sorted line (lawful-numbered script key line lawful))
 
@@ -140,6 +147,7 @@ module _ (script : Script) (sound : IsScript script) (adds : AddsNothing script)
     pub low : v.0 ≤ length line
     pub answer : a ≡ get_answer (line_object (upto v.0 line))
 
+  -- such a get tells so
   get-told : (c : Caller) (v : Version) (a : Answer) (n : ℕ) → EndedAt whole c v a n → call_of script c ≡ Some (Get key) → is_refused a ≡ false → GetTold c v a
   get-told c v a n h called well = elim (calls.replied c v a n h (Get key) key called refl) [
     | inl r ↦ (let b = calls.asked r.0 c v a key r.1 called in by b.0 b.1 (kept.chained.valid (post r.0 (Session c.session) (a_message.Reply c.number v a)) r.1 (Get key) key called refl))
@@ -214,6 +222,7 @@ module _ (script : Script) (sound : IsScript script) (adds : AddsNothing script)
   in-place low None v l t = (leb-true low v t, l)
   in-place low (Some h) v l t = let b = and_parts (leb low v) (ltb v h) t in (leb-true low v b.0, ltb-true v h b.1)
 
+  -- a version of the place is in it
   place-in : (low : ℕ) (high : Option ℕ) (v : ℕ) → low ≤ v → Below high v → in_place low high v ≡ true
   place-in low None v l b = le-leb low v l
   place-in low (Some h) v l b = and_from (leb low v) (ltb v h) (le-leb low v l) (lt-ltb v h b)
@@ -230,6 +239,7 @@ module _ (script : Script) (sound : IsScript script) (adds : AddsNothing script)
     pub above : low ≤ x.version.0
     pub below : Below high x.version.0
 
+  -- an item among the gets of a place is one
   got : (low : ℕ) (high : Option ℕ) (object : Option (List Value)) (x : Item) → IsIn x (gets_of script key low high object whole) → Got low high object x
   got low high object x i =
       let g = gets-in script key low high object whole x i in
@@ -246,12 +256,14 @@ module _ (script : Script) (sound : IsScript script) (adds : AddsNothing script)
     pub answer : x.answer ≡ get_answer object
     pub object_is : x.object ≡ object
 
+  -- it is the effect of its operation
   get_legal : (object : Option (List Value)) (x : Item) → Gets object x → IsEffect script.space object x
   get_legal object x g = record {
     answer = g.answer ∙ sym (get_effect script.space key object) ∙ ap (λ (o : Op). (effect_of script.space object o).answer) (sym g.op);
     object = g.object_is ∙ sym (get_leaves script.space key object) ∙ ap (λ (o : Op). (effect_of script.space object o).object) (sym g.op);
   }
 
+  -- gets above a legal list are legal
   gets_legal : (object : Option (List Value)) (rest : List Item) (xs : List Item) → ((x : Item) → IsIn x xs → Gets object x)
       → IsLegal script.space rest → object_now rest ≡ object
       → IsLegal script.space (xs ++ rest) × (object_now (xs ++ rest) ≡ object)
@@ -271,6 +283,7 @@ module _ (script : Script) (sound : IsScript script) (adds : AddsNothing script)
         object_is = g.object_is;
       }
 
+  -- the story of a part is legal, and leaves the part's object
   story_legal : (high : Option ℕ) (us : List Update) (law : Writes script key us) → Place high us → IsLegal script.space (story high us law) × (object_now (story high us law) ≡ line_object us)
   story_legal high [] law p =
       let r = gets_legal None [] (gets_of script key 0 high None whole) (gets-answer high [] p) tt refl in
@@ -294,6 +307,7 @@ module _ (script : Script) (sound : IsScript script) (adds : AddsNothing script)
     pub on_key : key_of op ≡ Some key
     pub is : x ≡ write_of update op
 
+  -- an item of a get
   record AGet (x : Item) : Type 0 where
     pub entry : ℕ
     pub ended : EndedAt whole x.caller x.version x.answer entry
@@ -302,15 +316,19 @@ module _ (script : Script) (sound : IsScript script) (adds : AddsNothing script)
     pub well : is_refused x.answer ≡ false
     pub told : GetTold x.caller x.version x.answer
 
+  -- an item of either
   abbrev Kind : Item → Type 0
   Kind x = Wrote x ⊎ AGet x
 
+  -- a get of a place
   get-kind : (low : ℕ) (high : Option ℕ) (object : Option (List Value)) (x : Item) → IsIn x (gets_of script key low high object whole) → Kind x
   get-kind low high object x i = let g = got low high object x i in inr (record { entry = g.entry; ended = g.ended; called = g.called; op = g.op; well = g.well; told = g.told })
 
+  -- an update that was not refused
   abbrev write-kind : (u : Update) (us : List Update) (law : Write script key us u) → IsIn u ws → Wrote (write_of u law.op)
   write-kind u us law i = let r = not_refused-in line u i in record { update = u; stands = r.0; well = r.1; op = law.op; called = law.called; writes = law.writes; on_key = law.on_key; is = refl }
 
+  -- each item of the story
   kind : (high : Option ℕ) (us : List Update) (law : Writes script key us) → Place high us → (x : Item) → IsIn x (story high us law) → Kind x
   kind high [] law p x i = get-kind 0 high None x i
   kind high (u ∷ us) law p x i = elim (in-append (gets_of script key u.version.0 high u.object whole) (write_of u law.0.op ∷ story (Some u.version.0) us law.1) x i) [
@@ -478,6 +496,7 @@ module _ (script : Script) (sound : IsScript script) (adds : AddsNothing script)
     late = apart_late n z x h (get_low n x b.0 b.1);
   }
 
+  -- no item of the story ended before an older one began
   story_apart : (high : Option ℕ) (us : List Update) (law : Writes script key us) → Place high us → Pairwise Apart (story high us law)
   story_apart high [] law p = gets_apart 0 high None whole run (λ c v a n h. h)
   story_apart high (u ∷ us) law p =
@@ -500,18 +519,23 @@ module _ (script : Script) (sound : IsScript script) (adds : AddsNothing script)
 
   -- ---- linear
 
+  -- the updates that were not refused are effects of writes
   abbrev law0 : Writes script key ws
   law0 = writes script key line lawful
 
+  -- the whole story
   abbrev story0 : List Item
   story0 = story None ws law0
 
+  -- it is the history
   history_is : history_of script key whole ≡ story0
   history_is = story_is None ws law0
 
+  -- its items are apart
   all_apart : Pairwise Apart story0
   all_apart = story_apart None ws law0 place-whole
 
+  -- items that are apart stand once
   each_once : (zs : List Item) → Pairwise Apart zs → EachOnce zs
   each_once [] p = tt
   each_once (z ∷ zs) p = ((λ y i. (p.0 y i).other), each_once zs p.1)
@@ -524,6 +548,7 @@ module _ (script : Script) (sound : IsScript script) (adds : AddsNothing script)
       by None q = refl
       by (Some e) q = let n = end_noted c whole e q in f e (ended_at c whole e n.0) n.1
 
+  -- each item is a begun call of the script's
   is_call : (x : Item) → Kind x → IsCall script whole key x
   is_call x (inl w) = subst (IsCall script whole key) (sym w.is) (
       let p = calls.lined key w.update w.stands in
@@ -553,6 +578,7 @@ module _ (script : Script) (sound : IsScript script) (adds : AddsNothing script)
     | inr t ↦ elim t.1 [ inl z ↦ absurd (false≢true (sym sure ∙ z.0)) | inr z ↦ absurd (false≢true (sym well ∙ z.0)) ]
   ]
 
+  -- an item that ended before another began stands before it
   in_order : (x y : Item) (n : ℕ) → IsIn x story0 → IsIn y story0 → begin_of y.caller whole ≡ Some n → ended_before whole x.caller n ≡ true → IsBefore y x story0
   in_order x y n i j b e =
       let r = ended_early x.caller whole n e in
@@ -564,6 +590,7 @@ module _ (script : Script) (sound : IsScript script) (adds : AddsNothing script)
       (subst (λ (z : Item). EndedAt whole z.caller r.0.version r.0.answer r.0.entry) q ended) began in let l = r.2 in omega (arith, l, f)))
       (λ apart. apart.late r.0.version r.0.answer r.0.entry n ended noted.1 began r.2)
 
+  -- the history is linear
   pub linear : IsLinear script whole key
   linear = record {
     legal = subst (λ (h : List Item). IsLegal script.space h) (sym history_is) (story_legal None ws law0 place-whole).0;

@@ -40,15 +40,19 @@ pub record Up (c c' : Config) (live live' : ServerId → Type 0) (g : RegionId) 
   pub shown : (v : ℕ) → Settled live (order c g) f v → v ≤ length line → v ≤ n
 
 module _ (c c' : Config) (live live' : ServerId → Type 0) (g : RegionId) (line line' : List Update) (f f' : ServerId → KeyState) (n : ℕ) (up : Up c c' live live' g line line' f f' n) where
+  -- what was accepted before a member stays so
   pub before_up : (s : ServerId) (u : Update) → Before live (order c g) f s u → Before live' (order c' g) f' s u
   before_up s u h x l a = up.accepted_up x l (before-in x s (order c' g) a).0 u (h x (up.fewer x l) (up.same_order x s a))
 
+  -- what was committed after it stays so
   pub after_up : (s : ServerId) (u : Update) → After live (order c g) f s u → After live' (order c' g) f' s u
   after_up s u h x l a = (let b = h x (up.fewer x l) (up.same_order s x a) in let m = up.floor_up x l (before-in s x (order c' g) a).1 in omega (arith, b, m))
 
+  -- what every member has accepted stays so
   pub spread_up : (u : Update) → Everywhere live (order c g) f u → Everywhere live' (order c' g) f' u
   spread_up u h x l i = up.accepted_up x l i u (h x (up.fewer x l) (up.members x i))
 
+  -- what every member has committed stays so
   pub settled_up : (v : ℕ) → Settled live (order c g) f v → Settled live' (order c' g) f' v
   settled_up v h x l i = (let b = h x (up.fewer x l) (up.members x i) in let m = up.floor_up x l i in omega (arith, b, m))
 
@@ -93,6 +97,7 @@ module _ (script : Script) (w w' : World) (n : List ℕ → ℕ) (le : w.config.
           (subst (λ (h : RegionId). Follows w.config h j) q i.2))
       low (inr q) = (up u.key).spread u s.stands (s.outside q)
 
+  -- an acknowledgement under way stays true
   acking_up : w.config ≡ w'.config → (g : RegionId) (key : List ℕ) (v : ℕ) (j : ServerId) → w.live j → w'.live j → g ≡ key_region script.space key → Acking w g key v j → Acking w' g key v j
   acking_up e g key v j l l' q a =
       subst (λ (h : RegionId). Acking w' h key v j) (sym q) (at (subst (λ (h : RegionId). Acking w h key v j) q a))
@@ -111,6 +116,7 @@ module _ (script : Script) (w w' : World) (n : List ℕ → ℕ) (le : w.config.
             accepted = (up key).accepted_up j l' m a.update a.accepted;
           }
 
+  -- each post stays true
   pub valid_up : (from to : Actor) (m : Message) → Valid script w from to m → Valid script w' from to m
   valid_up from to (a_message.Call epoch number op) h = h
   valid_up from to (a_message.Reply number v a) h = at_session-map to (ReplyOk script w number v a) (ReplyOk script w' number v a) (λ s h op key p q.
@@ -160,23 +166,29 @@ module _ (script : Script) (c : Config) (live : ServerId → Type 0) (key : List
   abbrev pub E : ServerId → Update → Type 0
   E s u = Follows c g s
 
+  -- of those before it
   abbrev pub B : ServerId → Update → Type 0
   B s = Before live (order c g) (f g) s
 
+  -- of those after it
   abbrev pub A : ServerId → Update → Type 0
   A s = After live (order c g) (f g) s
 
+  -- each member on the longer line, before its moves
   before : (s : ServerId) → live s → IsIn s (order c g) → Own key line' (E s) (B s) (A s) (f g s)
   before s l i = own_rely key n line line' (E s) (B s) (B s) (A s) (A s) (f g s) turn.more (top-least (f g s).accepted n (turn.held s l i))
       (λ u j. (let e = (ok.own s l i).early u j in turn.sent s l i u e.0 e.1 e.2)) (λ u b. b) (λ u a. a) (ok.own s l i)
 
+  -- the line after is numbered
   numbered : Numbered line'
   numbered = lawful-numbered script key line' turn.lawful
 
+  -- each member after its moves
   later : (s : ServerId) → live s → IsIn s (order c g) → Later key line' (E s) (B s) (A s) (f g s) (f' g s)
   later s l i = subst (λ (t : KeyState). Later key line' (E s) (B s) (A s) (f g s) t) (sym (turn.here s l i))
       (later-all key line' g (E s) (B s) (A s) (numbered-sorted line' numbered) (λ u j. (in-below line' u numbered j).1) (following line' turn.lawful) (ms s) (f g s) (before s l i) (turn.allowed s l i))
 
+  -- nothing falls
   pub up : Up c c live live g line line' (f g) (f' g) n
   up = record {
     fewer = λ s l. l;
@@ -191,12 +203,15 @@ module _ (script : Script) (c : Config) (live : ServerId → Type 0) (key : List
     shown = turn.shown;
   }
 
+  -- what was accepted before stays so
   b_up : (s : ServerId) (u : Update) → B s u → Before live (order c g) (f' g) s u
   b_up s u = before_up c c live live g line line' (f g) (f' g) n up s u
 
+  -- what was committed after stays so
   a_up : (s : ServerId) (u : Update) → A s u → After live (order c g) (f' g) s u
   a_up s u = after_up c c live live g line line' (f g) (f' g) n up s u
 
+  -- all replicas of the key after the moves
   pub key_after : KeyOk script c live key g line' f'
   key_after = record {
     lawful = turn.lawful;
@@ -211,6 +226,7 @@ module _ (script : Script) (c : Config) (live : ServerId → Type 0) (key : List
       safe : (u : Update) → IsIn u line × Everywhere live (order c g) (f g) u → IsIn u line' × Everywhere live (order c g) (f' g) u
       safe u h = (turn.more.keeps u h.0 (turn.spread u h.0 h.1), spread_up c c live live g line line' (f g) (f' g) n up u h.1)
 
+  -- a move that was made holds its promise
   pub turn_promise : (s : ServerId) → live s → IsIn s (order c g) → (m : Move) → IsIn m (ms s) → Promise line' (Before live (order c g) (f' g) s) (After live (order c g) (f' g) s) (f' g s) m
   turn_promise s l i m j = promise_up m (subst (λ (t : KeyState). Promise line' (B s) (A s) t m) (sym (turn.here s l i))
       (promised key line' g (E s) (B s) (A s) (numbered-sorted line' numbered) (λ u j. (in-below line' u numbered j).1) (following line' turn.lawful) (ms s) (f g s) (before s l i) (turn.allowed s l i) m j))
@@ -230,10 +246,12 @@ module _ (script : Script) (c c' : Config) (live live' : ServerId → Type 0) (k
   numbered_now : Numbered line
   numbered_now = lawful-numbered script key line ok.lawful
 
+  -- what a member has accepted stands in the line
   pub in_line : (s : ServerId) → live s → IsIn s (order c g) → (u : Update) → IsIn u (f g s).accepted → IsIn u line
   in_line s l i u j = (accepted-in key line g (λ u. Follows c g s) (Before live (order c g) (f g) s) (After live (order c g) (f g) s) (numbered-sorted line numbered_now) (λ u j. (in-below line u numbered_now j).1)
       (following line ok.lawful) (f g s) u (ok.own s l i) j).0
 
+  -- nothing falls where what is accepted and committed stays
   pub same_up : ((s : ServerId) → live' s → (f' g s).accepted ≡ (f g s).accepted) → ((s : ServerId) → live' s → (f' g s).floor ≡ (f g s).floor) → Up c c' live live' g line line (f g) (f' g) (length line)
   same_up a b = record {
     fewer = fewer;

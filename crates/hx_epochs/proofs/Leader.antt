@@ -61,6 +61,7 @@ module _ (script : Script) (valid : IsSpace script.space) (key : List ℕ) (us :
   abbrev here : KeyState
   here = slot_of marks key us floor acked early
 
+  -- its top is the length of what it has accepted
   top-is : top_of here ≡ length us
   top-is = top-line space key us (lawful-steady script key us lawful)
 

@@ -66,6 +66,7 @@ module _ (script : Script) (w : World) (ok : (key : List ℕ) → KeyIn script w
     pub inside : h ≡ key_region script.space key → IsIn i (order w.config h) × Before w.live (order w.config h) (w.slot key h) i u × IsIn u (w.slot key h i).accepted
     pub outside : (h ≡ key_region script.space key → ⊥) → Everywhere w.live (order w.config (key_region script.space key)) (w.slot key (key_region script.space key)) u
 
+  -- what is known for a key is known
   known-at : (key : List ℕ) (h : RegionId) (u : Update) → KnownAt key h u → Known script w i h u
   known-at key h u k =
       let b = subst (λ (y : List ℕ). KnownAt y h u) (sym (line-key key u k.stands)) k in
@@ -99,6 +100,7 @@ module _ (script : Script) (w : World) (ok : (key : List ℕ) → KeyIn script w
         subst (λ (r : RegionId). After w.live (order w.config r) (w.slot key r) i u × (u.version.0 ≤ (w.slot key r i).floor)) (sym q) ((own-at key m1).freed u j1 l1, l1)));
   }
 
+  -- an update elsewhere that every member has accepted may be acknowledged
   pub committed-outside : (key : List ℕ) (h : RegionId) → (h ≡ key_region script.space key → ⊥) → (u : Update) → IsIn u (w.line key) → Everywhere w.live (order w.config (key_region script.space key)) (w.slot key (key_region script.space key)) u → Committed script w i h u
   committed-outside key h d u j e = record {
     known = known-outside key h d u j e;
@@ -130,9 +132,11 @@ module _ (script : Script) (w : World) (ok : (key : List ℕ) → KeyIn script w
 abbrev pub only_at : ServerId → List Move → ServerId → List Move
 only_at i ms s = cond (same_server s i) ms []
 
+-- here all are made
 pub only-here : (i : ServerId) (ms : List Move) → only_at i ms i ≡ ms
 only-here i ms = cond-true (same_server i i) ms [] (eq-eqb i.0 i.0 refl)
 
+-- elsewhere none
 pub only-off : (i : ServerId) (ms : List Move) (s : ServerId) → (s ≡ i → ⊥) → only_at i ms s ≡ []
 only-off i ms s n = cond-false (same_server s i) ms [] (ne_eqb s.0 i.0 (λ e. n (λ j. record { 0 = e j })))
 
@@ -146,9 +150,11 @@ module _ (script : Script) (c : Config) (live : ServerId → Type 0) (key : List
   abbrev g : RegionId
   g = key_region script.space key
 
+  -- the line is numbered
   numbered : Numbered line
   numbered = lawful-numbered script key line ok.lawful
 
+  -- what a member has accepted stands in the line
   in-the-line : (s : ServerId) → live s → IsIn s (order c g) → (u : Update) → IsIn u (f g s).accepted → IsIn u line
   in-the-line s l m u j = (accepted-in key line g (λ u. Follows c g s) (Before live (order c g) (f g) s) (After live (order c g) (f g) s)
       (numbered-sorted line numbered) (λ u j. (in-below line u numbered j).1) (follows-version script key line ok.lawful) (f g s) u (ok.own s l m) j).0
@@ -166,12 +172,14 @@ module _ (script : Script) (c : Config) (live : ServerId → Type 0) (key : List
     | inr n ↦ subst (λ (y : List Move). AllAllowed line' (λ u. Follows c g s) (Before live (order c g) (f g) s) (After live (order c g) (f g) s) (f g s) y) (sym (only-off i ms s n)) tt
   ]
 
+  -- each member is moved by its own moves
   each-here : (ms : List Move) → (live i → IsIn i (order c g) → f' g i ≡ moved_all ms (f g i)) → (s : ServerId) → live s → IsIn s (order c g) → f' g s ≡ moved_all (only_at i ms s) (f g s)
   each-here ms e s l m = elim (which-server s i) [
     | inl q ↦ subst (λ (x : ServerId). f' g x ≡ moved_all (only_at i ms x) (f g x)) (sym q) (e (subst live q l) (subst (λ (x : ServerId). IsIn x (order c g)) q m) ∙ ap (λ (y : List Move). moved_all y (f g i)) (sym (only-here i ms)))
     | inr n ↦ off s n g ∙ ap (λ (y : List Move). moved_all y (f g s)) (sym (only-off i ms s n))
   ]
 
+  -- all replicas of other regions hold what is safe
   each-outer : (live i → (h : RegionId) → (h ≡ g → ⊥) → Outer line (Everywhere live (order c g) (f g)) (f' h i)) → (h : RegionId) (s : ServerId) → live s → (h ≡ g → ⊥) → Outer line (Everywhere live (order c g) (f g)) (f' h s)
   each-outer mine h s l d = elim (which-server s i) [
     | inl q ↦ subst (λ (x : ServerId). Outer line (Everywhere live (order c g) (f g)) (f' h x)) (sym q) (mine (subst live q l) h d)
@@ -199,9 +207,11 @@ module _ (script : Script) (c : Config) (live : ServerId → Type 0) (key : List
 
   -- a turn of a leader that assigns the next update after those that it has accepted
   module _ (here : live i) (differ : Differ (members_of c g)) (lead : head_of c g ≡ Some i) where
+    -- the leader stands before all other members
     open_head : IsIn i (order c g) × ((y : ServerId) → IsIn y (order c g) → (y ≡ i) ⊎ IsBefore i y (order c g))
     open_head = head-order c g i lead
 
+    -- it is a member
     pub member : IsIn i (order c g)
     member = open_head.0
 
@@ -209,25 +219,31 @@ module _ (script : Script) (c : Config) (live : ServerId → Type 0) (key : List
     pub own : Own key line (λ u. Follows c g i) (Before live (order c g) (f g) i) (After live (order c g) (f g) i) (f g i)
     own = ok.own i here member
 
+    -- its top
     abbrev pub n : ℕ
     n = top_above 0 (f g i).accepted
 
+    -- nothing that it has accepted is above its top
     at-top : (u : Update) → IsIn u (f g i).accepted → u.version.0 ≤ n
     at-top u j = (accepted-in key line g (λ u. Follows c g i) (Before live (order c g) (f g) i) (After live (order c g) (f g) i)
         (numbered-sorted line numbered) (λ u j. (in-below line u numbered j).1) (follows-version script key line ok.lawful) (f g i) u own j).1
 
+    -- nor anything that a member has accepted
     pub held : (s : ServerId) → live s → IsIn s (order c g) → (u : Update) → IsIn u (f g s).accepted → u.version.0 ≤ n
     held s l m u j = elim (open_head.1 s m) [
       | inl e ↦ at-top u (subst (λ (x : ServerId). IsIn u (f g x).accepted) e j)
       | inr a ↦ at-top u ((ok.own s l m).taken u j i here a)
     ]
 
+    -- nor anything under way to a member
     pub sent : (s : ServerId) → live s → IsIn s (order c g) → (u : Update) → IsIn u line → Before live (order c g) (f g) s u → Follows c g s → u.version.0 ≤ n
     sent s l m u j b q = elim (open_head.1 s m) [ inl e ↦ absurd (q (lead ∙ ap Some (sym e))) | inr a ↦ at-top u (b i here a) ]
 
+    -- nor anything that every member has accepted
     pub spread : (u : Update) → IsIn u line → Everywhere live (order c g) (f g) u → u.version.0 ≤ n
     spread u j h = at-top u (h i here member)
 
+    -- nor anything that every member has committed
     pub shown : (v : ℕ) → Settled live (order c g) (f g) v → v ≤ n
     shown v s = (let m = s i here member in let t = own.floor_top in omega (arith, m, t))
 
@@ -235,6 +251,7 @@ module _ (script : Script) (c : Config) (live : ServerId → Type 0) (key : List
     pub leads-line : (f g i).accepted ≡ upto n line
     leads-line = own.front
 
+    -- what it has accepted is lawful
     pub lawful-here : Lawful script key (f g i).accepted
     lawful-here = subst (Lawful script key) (sym leads-line) (lawful-upto script key n line ok.lawful)
 
@@ -242,15 +259,19 @@ module _ (script : Script) (c : Config) (live : ServerId → Type 0) (key : List
     abbrev pub longer : Update → List Update
     longer u = u ∷ upto n line
 
+    -- its top counts what it has accepted
     top-length : n ≡ length (f g i).accepted
     top-length = top-numbered (f g i).accepted (lawful-numbered script key (f g i).accepted lawful-here)
 
+    -- the next update has the version after its top
     pub version-is : (u : Update) → Law script key (f g i).accepted u → u.version.0 ≡ n + 1
     version-is u law = (let v = law.lawful.version in let t = top-length in omega (arith, v, t))
 
+    -- the longer line is lawful
     pub longer-lawful : (u : Update) → Law script key (f g i).accepted u → Lawful script key (longer u)
     longer-lawful u law = subst (λ (l : List Update). Law script key l u × Lawful script key l) leads-line (law, lawful-here)
 
+    -- the line stays up to its top
     pub longer-more : (u : Update) → Law script key (f g i).accepted u → More n line (longer u)
     longer-more u law = more_cut n line u numbered own.top_line (version-is u law)
 

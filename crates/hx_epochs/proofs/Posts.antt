@@ -53,6 +53,7 @@ module _ (script : Script) (w : World) (ok : (key : List ℕ) → KeyIn script w
   abbrev pub spot : RegionId → Spot
   spot h = record { space = script.space; config = w.config; server = i; region = h }
 
+  -- the post is true
   abbrev pub Fine : Post → Type 0
   Fine p = Valid script w p.from p.to p.message
 
@@ -69,12 +70,15 @@ module _ (script : Script) (w : World) (ok : (key : List ℕ) → KeyIn script w
     abbrev first : Place
     first = key_place script.space u.key u.object (length (law u k.stands).0)
 
+    -- and those after the first
     abbrev rest : List Place
     rest = (law u k.stands).1.lawful.rest
 
+    -- those are not in the key's region
     elsewhere : (p : Place) → IsIn p rest → p.region ≡ g → ⊥
     elsewhere = (law u k.stands).1.elsewhere
 
+    -- these are its places
     places : u.places ≡ first ∷ rest
     places = (law u k.stands).1.lawful.places
 
@@ -82,9 +86,11 @@ module _ (script : Script) (w : World) (ok : (key : List ℕ) → KeyIn script w
     next-by : (y : Hop) → next_at (spot h) u ≡ y → next_of w.config (first ∷ rest) (place_number h (first ∷ rest)) i ≡ y
     next-by y e = sym (ap (λ (l : List Place). next_of w.config l (place_number h l) i) places) ∙ e
 
+    -- the one before
     prev-by : (y : Hop) → prev_at (spot h) u ≡ y → prev_of w.config (first ∷ rest) (place_number h (first ∷ rest)) i ≡ y
     prev-by y e = sym (ap (λ (l : List Place). prev_of w.config l (place_number h l) i) places) ∙ e
 
+    -- and its region
     region-by : (n : ℕ) (x : RegionId) → region_at u.places n ≡ x → region_at (first ∷ rest) n ≡ x
     region-by n x e = sym (ap (λ (l : List Place). region_at l n) places) ∙ e
 

@@ -78,12 +78,15 @@ pub record RunKept (script : Script) (t : List Entry) : Type 0 where
   pub ids : (u : SessionId) → ((session_of script u t).id ≡ u) × ((session_of script u t).calls ≡ calls_of script u)
 
 module _ (script : Script) (sound : IsScript script) (adds : AddsNothing script) (older : List Entry) (kept : RunKept script older) where
+  -- the servers before
   abbrev N : ServerId → ServerState
   N = servers script older
 
+  -- the coordinator before
   abbrev d : CoordinatorState
   d = coordinator_of script older
 
+  -- the lines before
   abbrev L : List ℕ → List Update
   L = lines older
 
@@ -149,6 +152,7 @@ module _ (script : Script) (sound : IsScript script) (adds : AddsNothing script)
           cond-false (eqb (N s).config.epoch.0 c'.epoch.0) x (moved Forget x) (ne_eqb (N s).config.epoch.0 c'.epoch.0 (λ q. omega (arith, b, e, q)))
           ∙ cond_both (eqb (N s).config.epoch.0 d.config.epoch.0) x (moved Forget x) (λ y. moved Forget x ≡ moved Forget y) (λ t. refl) (λ t. refl)
 
+  -- an entry of the coordinator
   coordinator_keeps : (input : Input) → MayTake older Coordinator input → let step = coordinator_step d input in Keeps Coordinator input step.posts step.notes
   coordinator_keeps input may =
       let fine = coordinator_good (Real script) N (posts_of older) d input kept.good (λ id from m e. kept.good.valid (post from Coordinator m) (arrives Coordinator id from m (subst (MayTake older Coordinator) e may))) in
@@ -234,6 +238,7 @@ module _ (script : Script) (sound : IsScript script) (adds : AddsNothing script)
       (turn.turn.id ∙ (started_same turn.start s).0 ∙ (kept.ids u).0, turn.turn.calls ∙ (started_same turn.start s).1 ∙ (kept.ids u).1))
       (λ t. kept.ids u)
 
+  -- an entry of whoever
   pub entry_kept : (x : Entry) → IsStep script older x → RunKept script (x ∷ older)
   entry_kept x step =
       let k = keeps x.actor x.input x.outputs x.notes step.actor step.running step.input step.made in
@@ -278,6 +283,7 @@ server-there n s = by (below n)
     by (k ∷ ks) (inl e) = inl (λ j. record { 0 = e j })
     by (k ∷ ks) (inr i) = inr (by ks i)
 
+-- at the start
 pub start_kept : (script : Script) → IsScript script → RunKept script []
 start_kept script sound = record {
   good = record {

@@ -69,9 +69,11 @@ module _ (script : Script) (c : Config) (live : ServerId → Type 0) (L : List �
   abbrev pub put : ServerState → List ℕ → RegionId → ServerId → KeyState
   put st key h s = cond (same_server s i) (slot_in script.space h key st) (F key h s)
 
+  -- here
   pub put-here : (st : ServerState) (key : List ℕ) (h : RegionId) → put st key h i ≡ slot_in script.space h key st
   put-here st key h = cond-true (same_server i i) (slot_in script.space h key st) (F key h i) (eq-eqb i.0 i.0 refl)
 
+  -- and elsewhere
   pub put-off : (st : ServerState) (key : List ℕ) (s : ServerId) → (s ≡ i → ⊥) → (h : RegionId) → put st key h s ≡ F key h s
   put-off st key s n h = cond-false (same_server s i) (slot_in script.space h key st) (F key h s) (ne_eqb s.0 i.0 (λ e. n (λ j. record { 0 = e j })))
 
@@ -100,12 +102,15 @@ module _ (script : Script) (c : Config) (live : ServerId → Type 0) (L : List �
 
   -- from the turn of each key
   module _ (st : ServerState) (notes : List Note) (turns : (key : List ℕ) → Turned st notes key) where
+    -- what holds of each key after
     pub keys-after : (key : List ℕ) → KeyIn script (after st notes) key
     keys-after key = key_after script c live key (key_region script.space key) (L key) (noted L notes key) (F key) (put st key) (turns key).0 (only_at i (turns key).1) (follows-version script key) (ok key) (turns key).2
 
+    -- nothing falls
     pub up-after : (key : List ℕ) → Up c c live live (key_region script.space key) (L key) (noted L notes key) (F key (key_region script.space key)) (put st key (key_region script.space key)) (turns key).0
     up-after key = up script c live key (key_region script.space key) (L key) (noted L notes key) (F key) (put st key) (turns key).0 (only_at i (turns key).1) (follows-version script key) (ok key) (turns key).2
 
+    -- each post stays true
     pub still-after : (from to : Actor) (m : Message) → Valid script world from to m → Valid script (after st notes) from to m
     still-after = valid_up script world (after st notes) (λ key. (turns key).0) (omega arith) (λ e. refl) ok up-after
 
@@ -135,6 +140,7 @@ module _ (script : Script) (c : Config) (live : ServerId → Type 0) (L : List �
     pub slot-was : F key r.region i ≡ state_in script.space r key
     slot-was = same key r.region ∙ slot-found script.space r.region key (standing c i rs) r found
 
+    -- the slot keeps its key
     key-kept : (moved_all ms (state_in script.space r key)).base.key ≡ key
     key-kept = ap (λ b. b.key) (base-moved_all ms (state_in script.space r key)) ∙ state-key (is_key_region script.space r.region) key r.states
 
@@ -258,6 +264,7 @@ module _ (script : Script) (Asks : Caller → Type 0) (w w' : World) (ok : (key 
       let o : l.1.op ≡ Get key = cc in
       false≢true (sym (ap is_write o) ∙ l.1.writes)))
 
+  -- an update to the next replica
   pub passed-late : (h : RegionId) (u : Update) (p : Post) → IsIn p (passed_on (spot script w' ok differ i here h) u) → LateTo script Asks w p.to p.message
   passed-late h u p = by (next_at (spot script w' ok differ i here h) u)
     where
@@ -267,12 +274,14 @@ module _ (script : Script) (Asks : Caller → Type 0) (w w' : World) (ok : (key 
       by (At y n) (inr j) = absurd j
       by (At y n) (inl q) = subst (λ (q : Post). LateTo script Asks w q.to q.message) (sym q) tt
 
+  -- an acknowledgement to the one before
   pub ack-late : (h : RegionId) (u : Update) (y : Hop) (p : Post) → IsIn p (ack_to (spot script w' ok differ i here h) u y) → LateTo script Asks w p.to p.message
   ack-late h u End p j = absurd j
   ack-late h u (Blocked r) p j = absurd j
   ack-late h u (At y n) p (inr j) = absurd j
   ack-late h u (At y n) p (inl q) = subst (λ (q : Post). LateTo script Asks w q.to q.message) (sym q) tt
 
+  -- what is posted with moves
   pub moves-late : (h : RegionId) (ms : List Move) → ((m : Move) → IsIn m ms → MoveOk script w' ok differ i here h m) → (p : Post) → IsIn p (flat_map (move_posts (spot script w' ok differ i here h)) ms) → LateTo script Asks w p.to p.message
   moves-late h ms f p j =
       let r = in-flat_map (move_posts (spot script w' ok differ i here h)) ms p j in

@@ -81,6 +81,7 @@ abbrev pub Apart : List RegionId → Type 0
 Apart [] = Unit {0}
 Apart (g ∷ rest) = ((x : RegionId) → IsIn x rest → x ≡ g → ⊥) × Apart rest
 
+-- one region more at the end
 apart-push : (gs : List RegionId) (g : RegionId) → Apart gs → ((x : RegionId) → IsIn x gs → g ≡ x → ⊥) → Apart (gs ++ g ∷ [])
 apart-push [] g a f = ((λ x i. absurd i), tt)
 apart-push (h ∷ gs) g a f = (
@@ -92,10 +93,12 @@ apart-push (h ∷ gs) g a f = (
 abbrev regions : List ℕ → List RegionId
 regions ns = map (λ n. record { 0 = n }) ns
 
+-- one number more at the end
 regions-push : (ns : List ℕ) (n : ℕ) → regions (ns ++ n ∷ []) ≡ regions ns ++ record { 0 = n } ∷ []
 regions-push [] n = refl
 regions-push (m ∷ ns) n = ap (λ (l : List RegionId). record { 0 = m } ∷ l) (regions-push ns n)
 
+-- the regions of the numbers below a bound stand once
 below-apart : (n : ℕ) → Apart (regions (below n))
 below-apart zero = tt
 below-apart (suc n) =
@@ -106,6 +109,7 @@ below-apart (suc n) =
     let q : n ≡ m.0 = ap (λ (r : RegionId). r.0) (e ∙ m.2) in
     omega (arith, b, q)))
 
+-- so do those that pass a test
 filter-apart : (test : RegionId → Bool) (gs : List RegionId) → Apart gs → Apart (filter test gs)
 filter-apart test [] = λ a. a
 filter-apart test (g ∷ gs) =
@@ -122,11 +126,13 @@ below-in : (n k : ℕ) → k < n → IsIn k (below n)
 below-in zero k l = absurd (omega arith)
 below-in (suc n) k l = elim (cases_lt k n) [ inl m ↦ in_left (below n) (n ∷ []) k (below-in n k m) | inr m ↦ in_right (below n) (n ∷ []) k (inl (let e : k ≡ n = omega arith in e)) ]
 
+-- the region of a number among these
 regions-in : (ns : List ℕ) (g : RegionId) → IsIn g.0 ns → IsIn g (regions ns)
 regions-in [] g i = absurd i
 regions-in (n ∷ ns) g (inl e) = inl (λ j. record { 0 = e j })
 regions-in (n ∷ ns) g (inr i) = inr (regions-in ns g i)
 
+-- who passes the test stays
 filter-here : (test : RegionId → Bool) (gs : List RegionId) (g : RegionId) → IsIn g gs → test g ≡ true → IsIn g (filter test gs)
 filter-here test [] g i t = absurd i
 filter-here test (x ∷ gs) g i t =
@@ -134,6 +140,7 @@ filter-here test (x ∷ gs) g i t =
     (λ u. elim i [ inl e ↦ inl e | inr j ↦ inr (filter-here test gs g j t) ])
     (λ u. elim i [ inl e ↦ absurd (false≢true (sym u ∙ ap test (sym e) ∙ t)) | inr j ↦ filter-here test gs g j t ])
 
+-- an index at which something stands is below the length
 get-below : {A : Type 0} (xs : List A) (k : ℕ) (x : A) → slice_get xs k ≡ Some x → k < length xs
 get-below [] k x e = absurd (cc)
 get-below (y ∷ xs) zero x e = omega arith
@@ -153,6 +160,7 @@ listed-only c g i j = (in-filter (λ (g : RegionId). lists c g i) (regions (belo
 
 -- replicas made of regions
 module _ (F : RegionId → Replica) (same : (g : RegionId) → (F g).region ≡ g) where
+  -- each is found
   pub made-found : (g : RegionId) (gs : List RegionId) → IsIn g gs → replica_of g (map F gs) ≡ Some (F g)
   made-found g [] i = absurd i
   made-found g (h ∷ gs) i = elim (which-region h g) [
@@ -161,6 +169,7 @@ module _ (F : RegionId → Replica) (same : (g : RegionId) → (F g).region ≡ 
         ∙ elim i [ inl e ↦ absurd (n (sym e)) | inr j ↦ made-found g gs j ]
   ]
 
+  -- no other is found
   pub made-in : (g : RegionId) (gs : List RegionId) (r : Replica) → replica_of g (map F gs) ≡ Some r → IsIn g gs
   made-in g [] r = λ e. absurd (cc)
   made-in g (h ∷ gs) r =
@@ -168,6 +177,7 @@ module _ (F : RegionId → Replica) (same : (g : RegionId) → (F g).region ≡ 
       (λ t e. inl (let q = eqb-true (F h).region.0 g.0 t in sym (sym (same h) ∙ (λ j. record { 0 = q j }))))
       (λ t e. inr (made-in g gs r e))
 
+  -- no region stands twice
   pub made-once : (gs : List RegionId) → Apart gs → Once (map F gs)
   made-once [] a = tt
   made-once (g ∷ gs) a = (
@@ -177,6 +187,7 @@ module _ (F : RegionId → Replica) (same : (g : RegionId) → (F g).region ≡ 
 
 -- replicas that keep their regions
 module _ (A : Replica → Replica) (same : (r : Replica) → (A r).region ≡ r.region) where
+  -- each that was found is found
   pub mapped-found : (g : RegionId) (rs : List Replica) (r : Replica) → replica_of g rs ≡ Some r → replica_of g (map A rs) ≡ Some (A r)
   mapped-found g [] r = λ e. absurd (cc)
   mapped-found g (x ∷ rs) r =
@@ -184,6 +195,7 @@ module _ (A : Replica → Replica) (same : (r : Replica) → (A r).region ≡ r.
       (λ t e. cond-true (same_region (A x).region g) (Some (A x)) (replica_of g (map A rs)) (ap (λ (h : RegionId). same_region h g) (same x) ∙ t) ∙ (let s : x ≡ r = cc in ap (λ (y : Replica). Some (A y)) s))
       (λ t e. cond-false (same_region (A x).region g) (Some (A x)) (replica_of g (map A rs)) (ap (λ (h : RegionId). same_region h g) (same x) ∙ t) ∙ mapped-found g rs r e)
 
+  -- no other is found
   pub mapped-from : (g : RegionId) (rs : List Replica) (r : Replica) → replica_of g (map A rs) ≡ Some r → (x : Replica) × (replica_of g rs ≡ Some x) × (A x ≡ r)
   mapped-from g [] r = λ e. absurd (cc)
   mapped-from g (x ∷ rs) r =
@@ -191,6 +203,7 @@ module _ (A : Replica → Replica) (same : (r : Replica) → (A r).region ≡ r.
       (λ t e. (x, cond-true (same_region x.region g) (Some x) (replica_of g rs) (ap (λ (h : RegionId). same_region h g) (sym (same x)) ∙ t), cc))
       (λ t e. let f = mapped-from g rs r e in (f.0, cond-false (same_region x.region g) (Some x) (replica_of g rs) (ap (λ (h : RegionId). same_region h g) (sym (same x)) ∙ t) ∙ f.1, f.2))
 
+  -- no region stands twice
   pub mapped-once : (rs : List Replica) → Once rs → Once (map A rs)
   mapped-once [] o = tt
   mapped-once (x ∷ rs) o = (

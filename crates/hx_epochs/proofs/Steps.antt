@@ -126,15 +126,19 @@ module _ (script : Script) (valid : IsSpace script.space) (c : Config) (live : S
     abbrev at : Spot
     at = record { space = script.space; config = c; server = i; region = r.region }
 
+    -- the slot as it stands in the world
     abbrev before-slot : F key r.region i ≡ t
     before-slot = slot-was script c live L F Asks ok differ i here rs same r found listed key [] [] (λ j n. refl)
 
+    -- a server of the key's region is a member
     member : r.region ≡ g → IsIn i (order c g)
     member q = subst (λ (x : RegionId). IsIn i (order c x)) q (listed-in c r.region i listed)
 
+    -- what it relies on
     own : r.region ≡ g → Own key (L key) (λ u. Follows c g i) (Before live (order c g) (F key g) i) (After live (order c g) (F key g) i) (F key g i)
     own q = (ok key).own i here (member q)
 
+    -- its slot at the key's region
     slot-at : r.region ≡ g → F key g i ≡ t
     slot-at q = subst (λ (x : RegionId). F key x i ≡ t) q before-slot
 
@@ -194,9 +198,11 @@ module _ (script : Script) (valid : IsSpace script.space) (c : Config) (live : S
     low : (u : Update) → IsIn u (L key) → u.version.0 ≤ length (L key)
     low u j = (in-below (L key) u (lawful-numbered script key (L key) (ok key).lawful) j).1
 
+    -- the version after which an update follows
     following : (u : Update) (v : ℕ) → IsIn u (L key) → follows g v u ≡ true → u.version.0 ≡ v + 1
     following = follows-version script key (L key) (ok key).lawful
 
+    -- where chains end nobody stands after
     ends : (u : Update) → IsIn u (L key) → is_end (next_at (record { space = script.space; config = c; server = i; region = g }) u) ≡ true → After live (order c g) (F key g) i u
     ends = ends-here script c live key (L key) (F key g) i (ok key).lawful (differ g)
 
@@ -296,9 +302,11 @@ module _ (script : Script) (valid : IsSpace script.space) (c : Config) (live : S
       (λ key' called'. absurd (false≢true (ap is_write (sym (the-call (Get key') called')) ∙ writes))),
     )
 
+    -- what the leader has accepted is lawful
     lawful : Lawful script key (F key h i).accepted
     lawful = lawful-here script c live key (L key) (F key) (F key) (ok key) i (λ s n h. refl) here (differ h) lead
 
+    -- what the leader relies on
     own-lead : Own key (L key) (λ u. Follows c h i) (Before live (order c h) (F key h) i) (After live (order c h) (F key h) i) (F key h i)
     own-lead = own r found key q
 
@@ -506,6 +514,7 @@ module _ (script : Script) (valid : IsSpace script.space) (c : Config) (live : S
   lead-of None e = absurd (false≢true e)
   lead-of (Some x) e = ap Some (sym (server-same i x e))
 
+  -- a call at a replica that is found
   call-at : (r : Replica) → replica_of r.region rs ≡ Some r → (key : List ℕ) → r.region ≡ key_region script.space key → (caller : Caller) (op : Op) → call_of script caller ≡ Some op → key_of op ≡ Some key → Asks caller
       → Step (call_at script.space st r key caller op)
   call-at r found key q caller op is on_key asks =
@@ -515,6 +524,7 @@ module _ (script : Script) (valid : IsSpace script.space) (c : Config) (live : S
       caller op is on_key asks)
       (λ l. still-standing)
 
+  -- a call on a key
   called-at : (epoch : Epoch) (caller : Caller) (op : Op) → call_of script caller ≡ Some op → Asks caller → (o : Option (List ℕ)) → key_of op ≡ o → Step (called script.space st epoch caller op o)
   called-at epoch caller op is asks None e = still-standing
   called-at epoch caller op is asks (Some key) e =
@@ -522,23 +532,27 @@ module _ (script : Script) (valid : IsSpace script.space) (c : Config) (live : S
       (λ z. still-standing)
       (λ (r : Replica) z. let f = hears epoch (key_region script.space key) r z in call-at r f.0 key f.1 caller op is e asks)
 
+  -- a call of whoever
   called-by : (from : Actor) (epoch : Epoch) (number : ℕ) (op : Op) → Valid script w from (Server i) (a_message.Call epoch number op) → ((u : _) → from ≡ Session u → Asks (record { session = u; number = number })) → Step (called_by script.space st from epoch number op)
   called-by Coordinator epoch number op v asks = still-standing
   called-by (Server x) epoch number op v asks = still-standing
   called-by (Session u) epoch number op v asks = called-at epoch (record { session = u; number = number }) op v (asks u refl) (key_of op) refl
 
+  -- an update, where a replica hears it
   updated-at : (epoch : Epoch) (g : RegionId) (u : Update) → UpdateOk script w epoch g u i → (o : Option Replica) → if_installed (hearing st epoch g) ≡ o → Step (updated script.space st u o)
   updated-at epoch g u v None e = still-standing
   updated-at epoch g u v (Some r) e =
       let f = hears-installed epoch g r e in
       update-step r f.0 u (subst (λ (x : RegionId). Sending script w x u i) (sym f.1) (v.1 f.2 here))
 
+  -- an acknowledgement, where a replica hears it
   acked-at : (epoch : Epoch) (g : RegionId) (key : List ℕ) (n : ℕ) → AckOk script w epoch g key n i → (o : Option Replica) → if_installed (hearing st epoch g) ≡ o → Step (acked script.space st key n o)
   acked-at epoch g key n v None e = still-standing
   acked-at epoch g key n v (Some r) e =
       let f = hears-installed epoch g r e in
       ack-step r f.0 key n (λ q. subst (λ (x : RegionId). Acking w x key n i) (sym f.1) (v.1 f.2 here (sym f.1 ∙ q)))
 
+  -- a search, where a replica hears it
   asked-at : (from : Actor) (epoch : Epoch) (number : ℕ) (terms : List Term) (o : Option Replica) → Step (asked st from epoch number terms o)
   asked-at from epoch number terms None = still-standing
   asked-at from epoch number terms (Some r) = says _ (λ p j. elim (in-provided (lists_ready c r.region i) (post (Server i) from (a_message.Found epoch number r.region (found_in r.region terms r.states)) ∷ []) p j).1 [
@@ -553,6 +567,7 @@ module _ (script : Script) (valid : IsSpace script.space) (c : Config) (live : S
   Plain a_message.Die = ⊥
   Plain other = ⊤
 
+  -- each message
   pub message-served : (from : Actor) (m : Message) → Plain m → Valid script w from (Server i) m → ((u : _) (epoch : Epoch) (number : ℕ) (op : Op) → from ≡ Session u → m ≡ a_message.Call epoch number op → Asks (record { session = u; number = number }))
       → Step (message_step script.space st from m)
   message-served from (a_message.Call epoch number op) plain v asks = called-by from epoch number op v (λ u e. asks u epoch number op e refl)

@@ -129,16 +129,19 @@ at_server Coordinator P = ⊤
 at_server (Server j) P = P j
 at_server (Session u) P = ⊤
 
+-- and of the session
 abbrev pub at_session : Actor → (SessionId → Type 0) → Type 0
 at_session Coordinator P = ⊤
 at_session (Server j) P = ⊤
 at_session (Session u) P = P u
 
+-- what follows of each server
 pub at_server-map : (a : Actor) (P Q : ServerId → Type 0) → ((j : ServerId) → P j → Q j) → at_server a P → at_server a Q
 at_server-map Coordinator P Q f h = tt
 at_server-map (Server j) P Q f h = f j h
 at_server-map (Session u) P Q f h = tt
 
+-- what follows of each session
 pub at_session-map : (a : Actor) (P Q : SessionId → Type 0) → ((j : SessionId) → P j → Q j) → at_session a P → at_session a Q
 at_session-map Coordinator P Q f h = tt
 at_session-map (Server j) P Q f h = tt
@@ -160,15 +163,19 @@ pub record Acking (w : World) (g : RegionId) (key : List ℕ) (v : ℕ) (j : Ser
   pub member : IsIn j (order w.config g)
   pub accepted : IsIn update (w.slot key g j).accepted
 
+-- an update post is of no later epoch than the newest, and of that one it is true
 abbrev pub UpdateOk : Script → World → Epoch → RegionId → Update → ServerId → Type 0
 UpdateOk script w e g u j = (e.0 ≤ w.config.epoch.0) × (e.0 ≡ w.config.epoch.0 → w.live j → Sending script w g u j)
 
+-- so is an acknowledgement
 abbrev pub AckOk : Script → World → Epoch → RegionId → List ℕ → ℕ → ServerId → Type 0
 AckOk script w e g key v j = (e.0 ≤ w.config.epoch.0) × (e.0 ≡ w.config.epoch.0 → w.live j → g ≡ key_region script.space key → Acking w g key v j)
 
+-- every member of the key's region that is up has committed the version
 abbrev pub SettledIn : Script → World → List ℕ → ℕ → Type 0
 SettledIn script w key = Settled w.live (order w.config (key_region script.space key)) (w.slot key (key_region script.space key))
 
+-- what a reply tells the caller on its key
 abbrev pub ReplyOk : Script → World → ℕ → Version → Answer → SessionId → Type 0
 ReplyOk script w number v a s =
     (op : Op) (key : List ℕ) → call_of script (record { session = s; number = number }) ≡ Some op → key_of op ≡ Some key

@@ -41,6 +41,7 @@ in-not_refused (x ∷ us) u i e =
     (λ t. elim i [ inl q ↦ inl q | inr j ↦ inr (in-not_refused us u j e) ])
     (λ t. elim i [ inl q ↦ absurd (false≢true (sym t ∙ ap (λ (y : Update). not (is_refused y.answer)) (sym q) ∙ ap not e)) | inr j ↦ in-not_refused us u j e ])
 
+-- and it stands in the line
 pub not_refused-in : (us : List Update) (u : Update) → IsIn u (not_refused us) → IsIn u us × (is_refused u.answer ≡ false)
 not_refused-in us u i = let r = in-filter (λ (y : Update). not (is_refused y.answer)) us u i in (r.0, by (is_refused u.answer) r.1)
   where
