@@ -1,7 +1,6 @@
 -- A server that ticks, and one that adopts the newest configuration.
-use Rattle.std.proofs.Common.{◌≡◌, ℕ, ◌+◌, ◌<◌, ◌≤◌, ◌⊎◌, inl, inr, Bool, true, false, not, ◌&&◌, List, [], ◌∷◌, ◌++◌, map, length, Option, Some, None, refl, sym, ap, ◌∙◌, subst, arith, cond, leb}
-use Rattle.std.specs.Prelude.{⊤}
-use Rattle.std.specs.List.{filter, flat_map, list_any}
+use Rattle.std.proofs.Common.{◌≡◌, ℕ, ◌≤◌, ◌⊎◌, inl, inr, Bool, true, false, not, ◌&&◌, List, [], ◌∷◌, ◌++◌, map, length, Option, Some, None, refl, sym, ap, ◌∙◌, subst, cond, leb}
+use Rattle.std.specs.List.{filter, flat_map}
 use Rattle.std.proofs.lemmas.Bool.{cond_both, cond-true, cond-false, cases_Bool, and_parts, false≢true}
 use Rattle.hx_types.specs.declared.calls.Caller.{Caller}
 use Rattle.hx_types.specs.declared.configs.Config.{Config}
@@ -13,17 +12,15 @@ use Rattle.hx_types.specs.declared.names.Version.{Version}
 use Rattle.hx_types.specs.declared.traces.Script.{Script}
 use Rattle.hx_types.specs.declared.updates.Update.{Update}
 use Rattle.hx_types.specs.declared.calls.Op.TheVariants.{Get}
-use Rattle.hx_types.specs.Words.{IsIn, provided, same_server, same_text, text_below, when_some}
+use Rattle.hx_types.specs.Words.{IsIn, same_server, same_text, text_below, when_some}
 use Rattle.hx_types.specs.Effects.{is_write}
-use Rattle.hx_types.specs.Fitting.{call_of}
 use Rattle.hx_types.specs.Subspaces.{is_key_region}
 use Rattle.hx_types.specs.Spaces.{IsSpace}
-use Rattle.hx_types.specs.Configs.{is_lost, joiner_for, leads, lists, lists_joining, members_of}
+use Rattle.hx_types.specs.Configs.{leads, lists, lists_joining, members_of}
 use Rattle.hx_model.specs.Regions.{key_region}
-use Rattle.hx_model.specs.Neighbours.{is_end}
 use Rattle.hx_model.specs.Leading.{StuckAt, stuck_of}
 use Rattle.hx_model.specs.Slots.{Acknowledge, Commit, Forget, Hold, KeyState, Move, Take, moved, moved_all, new_state, pending_of, state_among}
-use Rattle.hx_model.specs.ServerSteps.{Replica, ServerState, ServerStep, Spot, adopted, adopted_posts, adopted_replica, adopted_state, doubt_in, doubts_from, is_active, leader_doubts, listed_regions, move_posts, next_at, passed_on, pending_posts, ready_post, replica_of, replica_or_new, replica_tick, resumed, resumed_posts, saying, snap_posts, snap_to, state_in, with_config}
+use Rattle.hx_model.specs.ServerSteps.{Replica, ServerState, Spot, adopted, adopted_posts, adopted_replica, adopted_state, doubt_in, doubts_from, is_active, leader_doubts, listed_regions, move_posts, passed_on, pending_posts, ready_post, replica_of, replica_or_new, replica_tick, resumed, resumed_posts, saying, snap_posts, snap_to, state_in, with_config}
 use Rattle.hx_model.proofs.Laws.{base-moved_all}
 use Rattle.hx_steady.specs.Served.{slot_in}
 use Rattle.hx_steady.proofs.Lines.{pending-in}
@@ -37,12 +34,12 @@ use Rattle.hx_searches.proofs.Texts.{Ascend, state-there, state_key}
 use Rattle.hx_epochs.proofs.Holding as Holding
 use Rattle.hx_epochs.proofs.Holding.{AllKnown, Held, held-moved, held-moved_all, resumed-known}
 use Rattle.hx_epochs.proofs.Keys.{Turn, spread_up, turn_promise, up}
-use Rattle.hx_epochs.proofs.Moved.{MoveOk, committed-held, committed-outside, follows-version, held-line, known-held, known-outside, moves-fine, only-here, only_at, stay_turn}
+use Rattle.hx_epochs.proofs.Moved.{MoveOk, committed-held, committed-outside, follows-version, known-held, known-outside, moves-fine, only-here, only_at, stay_turn}
 use Rattle.hx_epochs.proofs.Moves.{AllAllowed, Promise, resumed-allowed}
 use Rattle.hx_epochs.proofs.Order.{in-listed, listed-in}
 use Rattle.hx_epochs.proofs.Posts.{law, passed-fine, spot, which-region}
 use Rattle.hx_epochs.proofs.Serving.{LateTo, Served, Turned, after, keys-after, moves-late, passed-late, put, put-here, put-off, saying-served, standing, still-after, world}
-use Rattle.hx_epochs.proofs.Shapes.{Once, Shape, listed-apart, listed-only, listed-there, made-found, made-in, made-once, mapped-found, mapped-from, mapped-once, once-found}
+use Rattle.hx_epochs.proofs.Shapes.{Shape, listed-apart, listed-only, listed-there, made-found, made-in, made-once, mapped-found, mapped-from, mapped-once, once-found}
 use Rattle.hx_epochs.proofs.Steps.{Step, ends-here}
 use Rattle.hx_epochs.proofs.World.{After, Before, Everywhere, Follows, KeyIn, Outer, Valid, World, lawful-numbered, order}
 

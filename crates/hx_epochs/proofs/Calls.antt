@@ -1,10 +1,9 @@
 -- What a run says of the begins and ends of calls, of replies and of the callers of updates, in whatever configurations.
-use Rattle.std.proofs.Common.{◌≡◌, ℕ, ◌+◌, ◌-◌, ◌<◌, ◌≤◌, ◌⊎◌, inl, inr, Bool, true, false, List, [], ◌∷◌, ◌++◌, length, Option, Some, None, refl, sym, ap, ◌∙◌, subst, arith, cond, eqb}
+use Rattle.std.proofs.Common.{◌≡◌, ℕ, ◌+◌, ◌-◌, ◌<◌, ◌≤◌, ◌⊎◌, inl, inr, Bool, true, false, List, [], ◌∷◌, length, Some, None, refl, sym, ap, ◌∙◌, subst, arith, eqb}
 use Rattle.std.proofs.lemmas.Bool.{cases_eq, cond-true, cond-false, eq-eqb, ne_eqb, true≢false, false≢true}
 use Rattle.hx_types.specs.declared.calls.Answer.{Answer}
 use Rattle.hx_types.specs.declared.calls.Caller.{Caller}
 use Rattle.hx_types.specs.declared.calls.Op.{Op}
-use Rattle.hx_types.specs.declared.messages.Message.{Message}
 use Rattle.hx_types.specs.declared.messages.Post.{Post}
 use Rattle.hx_types.specs.declared.messages.PostId.{PostId}
 use Rattle.hx_types.specs.declared.names.Actor.{Actor}
@@ -24,15 +23,13 @@ use Rattle.hx_types.specs.declared.traces.Note.TheVariants as a_note
 use Rattle.hx_types.specs.Words.{IsIn, post}
 use Rattle.hx_types.specs.Effects.{is_write, key_of}
 use Rattle.hx_types.specs.Fitting.{IsScript, call_of, calls_of, is_doubt, is_refused, numbered}
-use Rattle.hx_model.specs.Regions.{key_region}
 use Rattle.hx_model.specs.SessionSteps.{SessionState, no_version, session_step}
-use Rattle.hx_model.specs.CoordinatorSteps.{coordinator_step}
 use Rattle.hx_model.specs.ServerSteps.{server_step}
 use Rattle.hx_model.specs.Runs.{IsRun, IsStep, MayTake, coordinator_of, has_halted, is_actor, made_of, server_of, session_after, session_of}
 use Rattle.hx_model.specs.Histories.{line_notes, line_of}
 use Rattle.hx_model.specs.Slots.{upto}
 use Rattle.hx_steady.specs.Served.{posts_of}
-use Rattle.hx_steady.proofs.Lists.{in-append, in_left, in_right}
+use Rattle.hx_steady.proofs.Lists.{in-append, in_right}
 use Rattle.hx_steady.proofs.Turns.{noted}
 use Rattle.hx_linear.proofs.SessionMessages.{started}
 use Rattle.hx_linear.proofs.SessionNotes.{EndsNow, started_same, was_running}
@@ -40,14 +37,13 @@ use Rattle.hx_linear.proofs.SessionTurns.{CallStop, goes_on}
 use Rattle.hx_linear.proofs.Traces.{BeganAt, EndedAt, arrived}
 use Rattle.hx_searches.proofs.Lines.{in-upto}
 use Rattle.hx_epochs.specs.Headline.{AddsNothing}
-use Rattle.hx_epochs.proofs.Entries.{CallsBy, server-kept, slots, world_of}
+use Rattle.hx_epochs.proofs.Entries.{CallsBy, server-kept}
 use Rattle.hx_epochs.proofs.Epochs.{Ctl, coordinator_good}
-use Rattle.hx_epochs.proofs.Runs.{Real, RunKept, entry_kept, lines, run_kept, servers, world_after}
-use Rattle.hx_epochs.proofs.Serving.{Assigns, LateTo}
+use Rattle.hx_epochs.proofs.Runs.{Real, RunKept, lines, run_kept, servers, world_after}
+use Rattle.hx_epochs.proofs.Serving.{LateTo}
 use Rattle.hx_epochs.proofs.SessionMessages.{SessionTurn, session_turn}
 use Rattle.hx_epochs.proofs.SessionNotes.{begins_now, ends_now, keeps_lines, may_start}
-use Rattle.hx_epochs.proofs.SessionTurns.{SaysOf}
-use Rattle.hx_epochs.proofs.World.{SettledIn, Told, Valid, World}
+use Rattle.hx_epochs.proofs.World.{SettledIn, Told}
 
 -- call a was ended with this version and answer before call b began
 abbrev pub EndedFirst : List Entry → Caller → Version → Answer → Caller → Type 0
@@ -404,10 +400,13 @@ module _ (script : Script) (older : List Entry) (kept : RunKept script older) (c
       elim (turn.turn.cause _ m.stop_is) [
         | inl r ↦ inl (r.1, in_right x.outputs (posts_of older) _ (heard r.0 r.1 r.2 m.number))
         | inr (inl r) ↦ absurd (no_key r.0 r.1 r.2 m.number)
-        | inr (inr r) ↦ inr (r.2, elim r.3 [
-          | inl z ↦ inl (z.0, sym (ap is_write (same-op r.0 r.1 m.number)) ∙ z.1)
-          | inr z ↦ inr (z.0, λ w. never-posted c (own c h.0) m.number (turn.turn.running _ m.stop_is) (z.1 (ap is_write (same-op r.0 r.1 m.number) ∙ w)) (turn.turn.under_way ∙ ap (λ o. goes_on o mid.under_way) m.stop_is))
-        ])
+        | inr (inr r) ↦ inr (
+          r.2,
+          elim r.3 [
+            | inl z ↦ inl (z.0, sym (ap is_write (same-op r.0 r.1 m.number)) ∙ z.1)
+            | inr z ↦ inr (z.0, λ w. never-posted c (own c h.0) m.number (turn.turn.running _ m.stop_is) (z.1 (ap is_write (same-op r.0 r.1 m.number) ∙ w)) (turn.turn.under_way ∙ ap (λ o. goes_on o mid.under_way) m.stop_is))
+          ],
+        )
       ]
     where
       heard : (id : PostId) (from : Actor) → x.input ≡ Deliver id from (a_message.Reply mid.begun v a) → c.number ≡ mid.begun

@@ -1,5 +1,5 @@
 -- Each entry of a server keeps what holds of epochs, keys and posts.
-use Rattle.std.proofs.Common.{◌≡◌, ℕ, ◌+◌, ◌<◌, ◌≤◌, ◌⊎◌, inl, inr, Bool, true, false, not, ◌||◌, List, [], ◌∷◌, ◌++◌, length, Option, Some, None, refl, sym, ap, ◌∙◌, subst, arith, cond, eqb, ltb}
+use Rattle.std.proofs.Common.{◌≡◌, ℕ, ◌+◌, ◌<◌, ◌≤◌, ◌⊎◌, inl, inr, true, false, not, ◌||◌, List, [], ◌∷◌, ◌++◌, length, Option, Some, None, refl, sym, ap, ◌∙◌, subst, arith, cond, eqb, ltb}
 use Rattle.std.specs.Prelude.{⊤}
 use Rattle.std.specs.List.{flat_map}
 use Rattle.std.proofs.lemmas.Bool.{cond_both, cond-true, cond-false, cases_Bool, eq-eqb, ne_eqb, ltb-true, false≢true, eqb-true, cases_lt}
@@ -16,32 +16,30 @@ use Rattle.hx_types.specs.declared.names.ServerId.{ServerId}
 use Rattle.hx_types.specs.declared.names.SessionId.{SessionId}
 use Rattle.hx_types.specs.declared.spaces.Space.{Space}
 use Rattle.hx_types.specs.declared.traces.Input.{Input}
-use Rattle.hx_types.specs.declared.traces.Note.{Note}
 use Rattle.hx_types.specs.declared.traces.Script.{Script}
 use Rattle.hx_types.specs.declared.updates.Update.{Update}
 use Rattle.hx_types.specs.declared.messages.Message.TheVariants as a_message
 use Rattle.hx_types.specs.declared.names.Actor.TheVariants.{Coordinator, Server, Session}
 use Rattle.hx_types.specs.declared.traces.Input.TheVariants.{Tick, Halt, Deliver}
-use Rattle.hx_types.specs.Words.{IsBefore, IsIn, post, same_server, when_some}
+use Rattle.hx_types.specs.Words.{IsIn, post, same_server, when_some}
 use Rattle.hx_types.specs.Effects.{key_of}
 use Rattle.hx_types.specs.Spaces.{IsSpace}
-use Rattle.hx_types.specs.Configs.{is_lost, lists, members_of}
+use Rattle.hx_types.specs.Configs.{is_lost, lists}
 use Rattle.hx_model.specs.Regions.{key_region}
 use Rattle.hx_model.specs.Slots.{Forget, KeyState, moved}
-use Rattle.hx_model.specs.ServerSteps.{Replica, ServerState, ServerStep, acked, adopted, asked, call_at, called, called_by, halting, hearing, if_installed, input_step, install_at, message_step, replica_of, replica_tick, saying, seal_at, server_step, snapped, tick_step, unmoved, updated, with_config}
+use Rattle.hx_model.specs.ServerSteps.{Replica, ServerState, ServerStep, acked, adopted, asked, call_at, called, halting, hearing, if_installed, input_step, install_at, message_step, replica_of, replica_tick, saying, seal_at, server_step, snapped, tick_step, unmoved, updated, with_config}
 use Rattle.hx_model.specs.CoordinatorSteps.{CoordinatorState, Phase, Sealing, Steady}
 use Rattle.hx_steady.specs.Served.{slot_in}
 use Rattle.hx_steady.proofs.Lists.{in-append}
 use Rattle.hx_steady.proofs.Turns.{noted}
-use Rattle.hx_searches.proofs.Chains.{Differ}
 use Rattle.hx_epochs.proofs.Adopting.{adopted-served, adopted-state, tick-served}
 use Rattle.hx_epochs.proofs.Epochs.{Ctl, Epochal, Good, Live, Near, SealedIn, SealedOk, Waits}
-use Rattle.hx_epochs.proofs.Keys.{Up, halt_key, same_up, valid_up}
+use Rattle.hx_epochs.proofs.Keys.{halt_key, same_up, valid_up}
 use Rattle.hx_epochs.proofs.Moved.{follows-version, which-server}
-use Rattle.hx_epochs.proofs.Serving.{Assigns, LateTo, Served, after, put, put-here, put-off, standing}
+use Rattle.hx_epochs.proofs.Serving.{Assigns, LateTo, Served, put, put-here, put-off, standing}
 use Rattle.hx_epochs.proofs.Shapes.{Shape}
 use Rattle.hx_epochs.proofs.Steps.{Plain, Step, message-served}
-use Rattle.hx_epochs.proofs.World.{Chained, KeyIn, Valid, World, at_server, at_server-map, order}
+use Rattle.hx_epochs.proofs.World.{Chained, KeyIn, Valid, World, at_server-map}
 
 -- what a slot is worth in an epoch
 abbrev pub view : Config → ServerState → KeyState → KeyState

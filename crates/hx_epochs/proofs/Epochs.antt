@@ -1,8 +1,8 @@
 -- What holds of epochs: servers that are up have the newest configuration, or the one before it and are sealed; the coordinator issues where all others are sealed or halted.
-use Rattle.std.proofs.Common.{◌≡◌, ℕ, zero, suc, ◌+◌, ◌<◌, ◌≤◌, ◌⊎◌, inl, inr, Bool, true, false, not, ◌&&◌, ◌||◌, List, [], ◌∷◌, ◌++◌, map, Option, Some, None, refl, sym, ap, ◌∙◌, subst, arith, cond, ltb, eqb}
+use Rattle.std.proofs.Common.{◌≡◌, ℕ, zero, suc, ◌+◌, ◌<◌, ◌≤◌, ◌⊎◌, inl, inr, Bool, true, false, not, ◌&&◌, ◌||◌, List, [], ◌∷◌, ◌++◌, map, Option, Some, None, refl, sym, ap, ◌∙◌, subst, arith, ltb, eqb}
 use Rattle.std.specs.Prelude.{⊤}
-use Rattle.std.specs.List.{filter, flat_map, list_any, slice_get}
-use Rattle.std.proofs.lemmas.Bool.{cond_both, cases_Bool, and_parts, eqb-true, eq-eqb, ltb-true, false≢true, true≢false, or_cases}
+use Rattle.std.specs.List.{filter, list_any, slice_get}
+use Rattle.std.proofs.lemmas.Bool.{cond_both, cases_Bool, eqb-true, eq-eqb, false≢true}
 use Rattle.hx_types.specs.declared.calls.Answer.{Answer}
 use Rattle.hx_types.specs.declared.calls.Caller.{Caller}
 use Rattle.hx_types.specs.declared.calls.Op.{Op}
@@ -26,7 +26,7 @@ use Rattle.hx_types.specs.Words.{IsBefore, IsIn, below, post, provided, same_ser
 use Rattle.hx_types.specs.Configs.{is_lost, lists, lists_joining, members_of}
 use Rattle.hx_model.specs.Histories.{line_notes}
 use Rattle.hx_model.specs.ServerSteps.{ServerState}
-use Rattle.hx_model.specs.CoordinatorSteps.{Answered, CoordinatorState, CoordinatorStep, Issuing, Joined, Newest, Phase, Sealing, Steady, Task, again, answers_with, by_number, config_without, coordinator_message, coordinator_step, coordinator_tick, die_for, die_posts, does, does_all, gone_step, goes, is_joined, is_out, issue, issued, issuing, leaves, lists_without, made_ready, newest_of, outcome, poll_step, ready_now, ready_step, remaining, resting, seal, sealed_now, sealed_step, sealing_or_issue, session_posts, still_sealing, stop_step, stops, telling, to_server, waits_less, with_number, with_server, with_task}
+use Rattle.hx_model.specs.CoordinatorSteps.{Answered, CoordinatorState, CoordinatorStep, Issuing, Joined, Newest, Phase, Sealing, Steady, Task, again, answers_with, by_number, config_without, coordinator_message, coordinator_step, coordinator_tick, die_for, die_posts, does, does_all, gone_step, goes, is_joined, is_out, issue, issued, issuing, leaves, lists_without, made_ready, newest_of, outcome, ready_now, ready_step, remaining, resting, seal, sealed_now, sealed_step, sealing_or_issue, session_posts, still_sealing, stop_step, stops, telling, to_server, waits_less, with_number, with_server, with_task}
 use Rattle.hx_steady.proofs.Lists.{any-in, in-append, in-filter, in-flat_map, in-map, in-provided}
 use Rattle.hx_searches.proofs.Chains.{Differ, server-same}
 use Rattle.hx_epochs.specs.Headline.{IsNoAdd}

@@ -1,13 +1,11 @@
 -- The history of a key in whatever configurations is linear.
-use Rattle.std.proofs.Common.{◌≡◌, ℕ, ◌+◌, ◌<◌, ◌≤◌, ◌≢◌, ◌⊎◌, inl, inr, Bool, true, false, not, ◌&&◌, List, [], ◌∷◌, ◌++◌, length, Option, Some, None, refl, sym, ap, ◌∙◌, subst, arith, cond, leb, ltb, append-nil, append_assoc}
-use Rattle.std.specs.Prelude.{⊤, reverse}
-use Rattle.std.specs.List.{flat_map}
+use Rattle.std.proofs.Common.{◌≡◌, ℕ, ◌+◌, ◌<◌, ◌≤◌, ◌⊎◌, inl, inr, Bool, true, false, not, ◌&&◌, List, [], ◌∷◌, ◌++◌, length, Option, Some, None, refl, sym, ap, ◌∙◌, subst, arith, cond, leb, ltb, append-nil, append_assoc}
+use Rattle.std.specs.Prelude.{reverse}
 use Rattle.std.proofs.lemmas.Bool.{cond_both, and_parts, and_from, leb-true, le-leb, ltb-true, lt-ltb, false≢true, true≢false, cases_lt}
 use Rattle.hx_types.specs.declared.calls.Answer.{Answer}
 use Rattle.hx_types.specs.declared.calls.Caller.{Caller}
 use Rattle.hx_types.specs.declared.calls.Op.{Op}
 use Rattle.hx_types.specs.declared.histories.Item.{Item}
-use Rattle.hx_types.specs.declared.messages.Post.{Post}
 use Rattle.hx_types.specs.declared.names.Actor.{Actor}
 use Rattle.hx_types.specs.declared.names.SessionId.{SessionId}
 use Rattle.hx_types.specs.declared.names.Version.{Version}
@@ -27,26 +25,26 @@ use Rattle.hx_model.specs.Runs.{IsRun}
 use Rattle.hx_model.specs.Slots.{top_above, upto}
 use Rattle.hx_model.specs.ServerSteps.{get_answer}
 use Rattle.hx_model.specs.SessionSteps.{no_version}
-use Rattle.hx_model.specs.Histories.{CallEnd, begin_of, end_of, get_item, get_items, gets_of, history_of, history_on, in_place, is_get_of, line_of, not_refused, note_of_end, write_item}
+use Rattle.hx_model.specs.Histories.{CallEnd, begin_of, end_of, get_item, get_items, gets_of, history_of, history_on, in_place, is_get_of, line_of, not_refused, note_of_end}
 use Rattle.hx_model.specs.Legal.{IsEffect, IsLegal, object_now}
-use Rattle.hx_model.specs.Linear.{EachOnce, IsAnswered, IsCall, IsHonest, IsLinear, ended_before, was_refused}
-use Rattle.hx_steady.specs.Served.{line_object, posts_of}
+use Rattle.hx_model.specs.Linear.{EachOnce, IsCall, IsLinear, ended_before, was_refused}
+use Rattle.hx_steady.specs.Served.{line_object}
 use Rattle.hx_steady.proofs.Calls.{get-of}
 use Rattle.hx_steady.proofs.Lists.{in-append, in-flat_map, in-provided, in_left, in_right}
 use Rattle.hx_linear.proofs.Lines.{in-below, upto_past}
-use Rattle.hx_linear.proofs.Lists.{Pairwise, of-reverse, pairwise-append, stands_before}
+use Rattle.hx_linear.proofs.Lists.{Pairwise, pairwise-append, stands_before}
 use Rattle.hx_linear.proofs.EffectLaws.{get_effect, get_leaves}
 use Rattle.hx_linear.proofs.Gets.{GetEnd, GetNote, entry_got, entry_short, gets-in, in-gets}
 use Rattle.hx_linear.proofs.SessionMessages.{began_notes}
 use Rattle.hx_linear.proofs.SessionTurns.{end_notes}
 use Rattle.hx_linear.proofs.Traces.{BeganAt, EndedAt, began_at, begin_is, ended_at}
-use Rattle.hx_searches.proofs.Lines.{Sorted, numbered-sorted, top-least, upto_all, upto_upto}
+use Rattle.hx_searches.proofs.Lines.{Sorted, numbered-sorted, upto_all, upto_upto}
 use Rattle.hx_epochs.specs.Headline.{AddsNothing}
-use Rattle.hx_epochs.proofs.Calls.{Calls, Ends, LaterThan, NoCall, SettledAt, WasPosted, calls_kept, turn_is}
+use Rattle.hx_epochs.proofs.Calls.{Calls, LaterThan, NoCall, SettledAt, calls_kept, turn_is}
 use Rattle.hx_epochs.proofs.Runs.{RunKept, run_kept}
 use Rattle.hx_epochs.proofs.SessionNotes.{all_notes}
 use Rattle.hx_epochs.proofs.Times.{begins_first, ended_unique, first_of, not_again}
-use Rattle.hx_epochs.proofs.World.{Law, Lawful, Told, law-of, lawful-numbered}
+use Rattle.hx_epochs.proofs.World.{Lawful, Told, law-of, lawful-numbered}
 use Rattle.hx_epochs.proofs.Writes.{Write, Writes, caller-once, in-not_refused, not_refused-in, not_refused-sorted, object-after, writes}
 
 -- the item of an update and its operation
@@ -89,7 +87,7 @@ module _ (script : Script) (key : List ℕ) (low : ℕ) (high : Option ℕ) (obj
       by None i = absurd i
       by (Some op) i =
           let r = in-provided (is_get_of key op && not (is_refused answer) && in_place low high version.0)
-              (record { version = version; caller = record { session = u; number = number }; op = op; answer = answer; object = object } ∷ []) x i in
+          (record { version = version; caller = record { session = u; number = number }; op = op; answer = answer; object = object } ∷ []) x i in
           let b = and_parts (is_get_of key op && not (is_refused answer)) (in_place low high version.0) r.0 in
           let c = and_parts (is_get_of key op) (not (is_refused answer)) b.0 in
           elim r.1 [ inl e ↦ ap (λ (y : Item). is_refused y.answer) e ∙ well (is_refused answer) c.1 | inr j ↦ absurd j ]
@@ -471,8 +469,10 @@ module _ (script : Script) (sound : IsScript script) (adds : AddsNothing script)
   low-kind high [] law p x i = let g = got 0 (Some high) None x i in inr (record { entry = g.entry; ended = g.ended; called = g.called; op = g.op; well = g.well; told = g.told }, g.below)
   low-kind high (u ∷ us) law p x i = elim (in-append (gets_of script key u.version.0 (Some high) u.object whole) (write_of u law.0.op ∷ story (Some u.version.0) us law.1) x i) [
     | inl j ↦ (let g = got u.version.0 (Some high) u.object x j in inr (record { entry = g.entry; ended = g.ended; called = g.called; op = g.op; well = g.well; told = g.told }, g.below))
-    | inr (inl e) ↦ inl (subst Wrote (sym e) (write-kind u us law.0 (p.1 u (inl refl)).0),
-        λ w. (let v : w.update.version ≡ u.version = ap (λ (y : Item). y.version) (sym w.is ∙ e) in let q : w.update.version.0 ≡ u.version.0 = ap (λ (y : Version). y.0) v in let b = (p.1 u (inl refl)).1 in omega (arith, q, b)))
+    | inr (inl e) ↦ inl (
+      subst Wrote (sym e) (write-kind u us law.0 (p.1 u (inl refl)).0),
+      λ w. (let v : w.update.version ≡ u.version = ap (λ (y : Item). y.version) (sym w.is ∙ e) in let q : w.update.version.0 ≡ u.version.0 = ap (λ (y : Version). y.0) v in let b = (p.1 u (inl refl)).1 in omega (arith, q, b)),
+    )
     | inr (inr j) ↦ (let b = (p.1 u (inl refl)).1 in elim (low-kind u.version.0 us law.1 (place-next (Some high) u us law p) x j) [
       | inl r ↦ inl (r.0, λ w. (let z = r.1 w in omega (arith, z, b)))
       | inr r ↦ inr (r.0, (let z = r.1 in omega (arith, z, b)))
@@ -504,10 +504,9 @@ module _ (script : Script) (sound : IsScript script) (adds : AddsNothing script)
       let item = write_of u law.0.op in
       let wrote = write-kind u us law.0 (p.1 u (inl refl)).0 in
       pairwise-append Apart (gets_of script key u.version.0 high u.object whole) (item ∷ story (Some u.version.0) us law.1)
-      (gets_apart u.version.0 high u.object whole run (λ c v a n h. h))
-      (
-      (λ x j. under u.version.0 item x (write_high item wrote) (inl wrote) (λ w. (let v : w.update.version.0 ≡ u.version.0 = ap (λ (y : Item). y.version.0) (sym w.is) in omega (arith, v))) (λ g. absurd (get_no_write item item g wrote refl)) (low-kind u.version.0 us law.1 next x j)),
-      story_apart (Some u.version.0) us law.1 next,
+      (gets_apart u.version.0 high u.object whole run (λ c v a n h. h)) (
+        (λ x j. under u.version.0 item x (write_high item wrote) (inl wrote) (λ w. (let v : w.update.version.0 ≡ u.version.0 = ap (λ (y : Item). y.version.0) (sym w.is) in omega (arith, v))) (λ g. absurd (get_no_write item item g wrote refl)) (low-kind u.version.0 us law.1 next x j)),
+        story_apart (Some u.version.0) us law.1 next,
       )
       (λ z x i j. let g = got u.version.0 high u.object z i in
       let a : AGet z = record { entry = g.entry; ended = g.ended; called = g.called; op = g.op; well = g.well; told = g.told } in

@@ -1,5 +1,5 @@
 -- Moves of a slot whose updates have a property.
-use Rattle.std.proofs.Common.{◌≡◌, ℕ, zero, suc, inl, inr, List, [], ◌∷◌, ◌++◌, length, Some, refl, sym, subst, leb}
+use Rattle.std.proofs.Common.{ℕ, zero, suc, inl, inr, List, [], ◌∷◌, ◌++◌, length, refl, sym, subst, leb}
 use Rattle.std.specs.Prelude.{⊤}
 use Rattle.std.specs.List.{filter, find}
 use Rattle.std.proofs.lemmas.Bool.{cond_both}

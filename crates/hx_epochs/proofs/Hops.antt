@@ -11,7 +11,7 @@ use Rattle.hx_types.specs.declared.results.Hop.TheVariants.{At, End, Blocked}
 use Rattle.hx_types.specs.declared.updates.Place.{Place}
 use Rattle.hx_types.specs.Words.{IsIn, same_region, when_some}
 use Rattle.hx_types.specs.Configs.{head_of, is_lost, members_of}
-use Rattle.hx_model.specs.Neighbours.{enters, enters_last, hop_at, last_member, member_after, member_before, members_at, next_of, place_before, place_number, prev_of, region_at}
+use Rattle.hx_model.specs.Neighbours.{enters, enters_last, hop_at, last_member, member_after, member_before, members_at, next_of, place_number, prev_of, region_at}
 use Rattle.hx_steady.proofs.Chains.{enters-no_end, place-some}
 use Rattle.hx_steady.proofs.Lists.{in-slice_get}
 

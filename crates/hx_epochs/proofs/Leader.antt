@@ -20,7 +20,7 @@ use Rattle.hx_types.specs.Fitting.{call_of}
 use Rattle.hx_types.specs.Spaces.{AllDiffer, IsSpace}
 use Rattle.hx_model.specs.Regions.{key_region}
 use Rattle.hx_model.specs.Places.{key_place, places_of}
-use Rattle.hx_model.specs.Slots.{KeyState, kept_row, latest_of, mark_among, mark_of, marks_after, no_kept, object_in, object_of, top_of, touches_after, touches_of, upto}
+use Rattle.hx_model.specs.Slots.{KeyState, latest_of, mark_among, marks_after, no_kept, object_in, object_of, top_of, touches_of, upto}
 use Rattle.hx_model.specs.Leading.{StuckAt, assigned, by_mark, decide, first_lost, fresh, granted, refusal, stuck_of, with_places}
 use Rattle.hx_model.specs.ServerSteps.{get_answer}
 use Rattle.hx_steady.specs.Served.{line_object}
@@ -70,7 +70,7 @@ module _ (script : Script) (valid : IsSpace script.space) (key : List ℕ) (us :
       → (p : Place) → IsIn p rest → p.region ≡ key_region space key → ⊥
   places-elsewhere old new changes rest e p i q =
       let a = placed space valid key old new (touches_of here) changes (top_of here)
-          (touches-by (top_of here) us (λ w j. let b = (in-below us w (lawful-numbered script key us lawful) j).1 in let t = top-is in omega (arith, b, t))) in
+      (touches-by (top_of here) us (λ w j. let b = (in-below us w (lawful-numbered script key us lawful) j).1 in let t = top-is in omega (arith, b, t))) in
       let d = subst (λ (l : List Place). AllDiffer (map (λ (q : Place). q.region.0) l)) e a.once in
       all-in (λ m. m ≡ (key_region space key).0 → ⊥) (map (λ (q : Place). q.region.0) rest) p.region.0 d.0 (number-in rest p i) (ap (λ (r : RegionId). r.0) q)
 
@@ -87,40 +87,46 @@ module _ (script : Script) (valid : IsSpace script.space) (key : List ℕ) (us :
 
       by : (o : Option RegionId) → Next (when_some o (granted here caller (effect_of space (line_object us) op) places)
           (λ (g : RegionId). let r = refusal space config here (line_object us) g in granted here caller r.0 r.1))
-      by None = (record {
-        lawful = record {
-          version = ap (λ n. n + 1) top-is;
-          key_is = refl;
-          rest = _;
-          places = ap (λ n. places_of space key (line_object us) (effect_of space (line_object us) op).object (effect_of space (line_object us) op).changes n (touches_of here)) top-is;
-          present = places-not-lost space valid key (line_object us) (effect_of space (line_object us) op).object (effect_of space (line_object us) op).changes (top_of here) (touches_of here);
-          same = effect-same space (line_object us) op;
-          newer = newer;
-        };
-        op = op;
-        called = called;
-        writes = writes;
-        on_key = on_key;
-        elsewhere = places-elsewhere (line_object us) (effect_of space (line_object us) op).object (effect_of space (line_object us) op).changes _ refl;
-        effect = inl (refl, refl);
-      }, refl)
-      by (Some g) = (record {
-        lawful = record {
-          version = ap (λ n. n + 1) top-is;
-          key_is = refl;
-          rest = [];
-          places = ap (λ n. key_place space key (line_object us) n ∷ []) top-is;
-          present = places-not-lost space valid key (line_object us) (line_object us) false (top_of here) [];
-          same = λ e. refl;
-          newer = newer;
-        };
-        op = op;
-        called = called;
-        writes = writes;
-        on_key = on_key;
-        elsewhere = λ p i q. absurd i;
-        effect = inr (refl, refl);
-      }, refl)
+      by None = (
+        record {
+          lawful = record {
+            version = ap (λ n. n + 1) top-is;
+            key_is = refl;
+            rest = _;
+            places = ap (λ n. places_of space key (line_object us) (effect_of space (line_object us) op).object (effect_of space (line_object us) op).changes n (touches_of here)) top-is;
+            present = places-not-lost space valid key (line_object us) (effect_of space (line_object us) op).object (effect_of space (line_object us) op).changes (top_of here) (touches_of here);
+            same = effect-same space (line_object us) op;
+            newer = newer;
+          };
+          op = op;
+          called = called;
+          writes = writes;
+          on_key = on_key;
+          elsewhere = places-elsewhere (line_object us) (effect_of space (line_object us) op).object (effect_of space (line_object us) op).changes _ refl;
+          effect = inl (refl, refl);
+        },
+        refl,
+      )
+      by (Some g) = (
+        record {
+          lawful = record {
+            version = ap (λ n. n + 1) top-is;
+            key_is = refl;
+            rest = [];
+            places = ap (λ n. key_place space key (line_object us) n ∷ []) top-is;
+            present = places-not-lost space valid key (line_object us) (line_object us) false (top_of here) [];
+            same = λ e. refl;
+            newer = newer;
+          };
+          op = op;
+          called = called;
+          writes = writes;
+          on_key = on_key;
+          elsewhere = λ p i q. absurd i;
+          effect = inr (refl, refl);
+        },
+        refl,
+      )
 
   -- what a decision can be
   abbrev pub Decided : Decision → Type 0

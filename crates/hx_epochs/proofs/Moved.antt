@@ -1,9 +1,9 @@
 -- One replica of a server moves its slot of a key: what it knows of the updates that it holds, and that the turn of each key is kept.
-use Rattle.std.proofs.Common.{◌≡◌, ℕ, ◌+◌, ◌<◌, ◌≤◌, ◌⊎◌, inl, inr, Bool, true, false, List, [], ◌∷◌, length, Option, Some, None, refl, sym, ap, ◌∙◌, subst, arith, cond, eqb}
+use Rattle.std.proofs.Common.{◌≡◌, ℕ, ◌+◌, ◌≤◌, ◌⊎◌, inl, inr, true, false, List, [], ◌∷◌, length, Option, Some, refl, sym, ap, ◌∙◌, subst, arith, cond, eqb}
 use Rattle.std.specs.Prelude.{⊤}
 use Rattle.std.specs.List.{flat_map}
 use Rattle.std.specs.Option.{option_map}
-use Rattle.std.proofs.lemmas.Bool.{cond_both, cond-true, cond-false, cases_Bool, cases_eq, eq-eqb, ne_eqb, eqb-true, false≢true}
+use Rattle.std.proofs.lemmas.Bool.{cond-true, cond-false, cases_eq, eq-eqb, ne_eqb, eqb-true}
 use Rattle.hx_types.specs.declared.configs.Config.{Config}
 use Rattle.hx_types.specs.declared.messages.Post.{Post}
 use Rattle.hx_types.specs.declared.names.RegionId.{RegionId}
@@ -14,17 +14,16 @@ use Rattle.hx_types.specs.declared.updates.Update.{Update}
 use Rattle.hx_types.specs.Words.{IsBefore, IsIn, same_server, when_some}
 use Rattle.hx_types.specs.Configs.{head_of, members_of}
 use Rattle.hx_model.specs.Regions.{key_region}
-use Rattle.hx_model.specs.Slots.{Acknowledge, Commit, Forget, Hold, KeyState, Move, Take, after_at, follows, moved, moved_all, place_in, top_above, upto}
+use Rattle.hx_model.specs.Slots.{Acknowledge, Commit, Forget, Hold, KeyState, Move, Take, follows, moved_all, top_above, upto}
 use Rattle.hx_model.specs.ServerSteps.{move_posts}
 use Rattle.hx_steady.proofs.Lines.{place-first}
 use Rattle.hx_steady.proofs.Lists.{in-flat_map}
 use Rattle.hx_linear.proofs.Lines.{Numbered, in-below}
 use Rattle.hx_searches.proofs.Chains.{Differ}
 use Rattle.hx_searches.proofs.Lines.{numbered-sorted, top-numbered}
-use Rattle.hx_epochs.proofs.Holding.{AllKnown, Held, held-moved_all}
-use Rattle.hx_epochs.proofs.Keys.{Turn, Up, key_after, spread_up, turn_promise, up}
+use Rattle.hx_epochs.proofs.Keys.{Turn}
 use Rattle.hx_epochs.proofs.Lines.{More, more_cut, more_same}
-use Rattle.hx_epochs.proofs.Moves.{AllAllowed, Own, Promise, accepted-in, own_rely}
+use Rattle.hx_epochs.proofs.Moves.{AllAllowed, Own, accepted-in, own_rely}
 use Rattle.hx_epochs.proofs.Order.{head-nobody, head-order}
 use Rattle.hx_epochs.proofs.Posts.{Committed, Known, passed-fine, spot, told-fine, which-region}
 use Rattle.hx_epochs.proofs.World.{After, Before, Everywhere, Follows, KeyIn, KeyOk, Law, Lawful, Outer, Valid, World, Settled, law-of, lawful-numbered, lawful-upto, order}

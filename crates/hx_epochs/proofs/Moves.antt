@@ -1,11 +1,11 @@
 -- One slot at a member of a key's region: what it relies on, and that each move which is allowed keeps it.
-use Rattle.std.proofs.Common.{◌≡◌, ℕ, zero, suc, ◌+◌, ◌<◌, ◌≤◌, ◌⊎◌, inl, inr, Bool, true, false, not, List, [], ◌∷◌, ◌++◌, map, length, Option, Some, None, refl, sym, ap, ◌∙◌, subst, arith, leb, eqb}
+use Rattle.std.proofs.Common.{◌≡◌, ℕ, zero, suc, ◌+◌, ◌<◌, ◌≤◌, ◌⊎◌, inl, inr, Bool, true, false, not, List, [], ◌∷◌, ◌++◌, map, length, Some, refl, sym, ap, ◌∙◌, subst, arith, leb, eqb}
 use Rattle.std.specs.Prelude.{⊤}
 use Rattle.std.specs.List.{filter, find, list_any}
 use Rattle.std.proofs.lemmas.Bool.{cond_both, eqb-true, leb-true, leb-false, false≢true, cases_lt}
 use Rattle.hx_types.specs.declared.names.RegionId.{RegionId}
 use Rattle.hx_types.specs.declared.updates.Update.{Update}
-use Rattle.hx_types.specs.Words.{IsIn, provided, when_some}
+use Rattle.hx_types.specs.Words.{IsIn, provided}
 use Rattle.hx_model.specs.Neighbours.{is_end}
 use Rattle.hx_model.specs.Slots.{Acknowledge, Commit, Forget, Hold, KeyState, Move, Take, acknowledged, commits, follows, is_pending, moved, moved_all, no_kept, offered, other_version, pending_above, pending_of, settled, taken, top_above, top_of, turns, upto}
 use Rattle.hx_model.specs.ServerSteps.{Spot, accepting, end_marks, next_at, resumed, with_commits}
@@ -373,7 +373,9 @@ module _ (key : List ℕ) (line : List Update) (g : RegionId) (E B A : Update �
   resumed-allowed spot t ends own =
       let own' = own_forget key line E E B A t own in
       let p = pending-is t.floor t.accepted (accepted-sorted t own) in
-      with_commits-allowed t (Forget ∷ end_marks spot (pending_of t)) own
-      (tt, marks-allowed (filter (λ (u : Update). is_end (next_at spot u)) (pending_of t)) (moved Forget t) own'
-      (λ u i. let f = in-filter (λ (x : Update). is_end (next_at spot x)) (pending_of t) u i in
-      let k = (p.0 u f.0).0 in (k, ends u (accepted-in t u own k).0 f.1)))
+      with_commits-allowed t (Forget ∷ end_marks spot (pending_of t)) own (
+        tt,
+        marks-allowed (filter (λ (u : Update). is_end (next_at spot u)) (pending_of t)) (moved Forget t) own'
+            (λ u i. let f = in-filter (λ (x : Update). is_end (next_at spot x)) (pending_of t) u i in
+            let k = (p.0 u f.0).0 in (k, ends u (accepted-in t u own k).0 f.1)),
+      )

@@ -1,23 +1,17 @@
 -- What a replica posts of an update that it knows: to the next one, to the previous one, or to the caller.
-use Rattle.std.proofs.Common.{◌≡◌, ℕ, ◌+◌, ◌<◌, ◌≤◌, ◌⊎◌, inl, inr, true, false, List, [], ◌∷◌, length, Option, Some, None, refl, sym, ap, ◌∙◌, subst, arith}
-use Rattle.std.proofs.lemmas.Bool.{cases_eq, false≢true}
-use Rattle.hx_types.specs.declared.calls.Answer.{Answer}
-use Rattle.hx_types.specs.declared.calls.Caller.{Caller}
+use Rattle.std.proofs.Common.{◌≡◌, ℕ, ◌≤◌, ◌⊎◌, inl, inr, List, ◌∷◌, length, Some, None, refl, sym, ap, ◌∙◌, subst, arith}
+use Rattle.std.proofs.lemmas.Bool.{cases_eq}
 use Rattle.hx_types.specs.declared.calls.Op.{Op}
 use Rattle.hx_types.specs.declared.messages.Post.{Post}
 use Rattle.hx_types.specs.declared.names.RegionId.{RegionId}
 use Rattle.hx_types.specs.declared.names.ServerId.{ServerId}
-use Rattle.hx_types.specs.declared.names.Version.{Version}
 use Rattle.hx_types.specs.declared.results.Hop.{Hop}
 use Rattle.hx_types.specs.declared.traces.Script.{Script}
 use Rattle.hx_types.specs.declared.updates.Place.{Place}
 use Rattle.hx_types.specs.declared.updates.Update.{Update}
-use Rattle.hx_types.specs.declared.messages.Message.TheVariants as a_message
-use Rattle.hx_types.specs.declared.names.Actor.TheVariants.{Server, Session}
 use Rattle.hx_types.specs.declared.results.Hop.TheVariants.{At, End, Blocked}
-use Rattle.hx_types.specs.Words.{IsIn, post}
+use Rattle.hx_types.specs.Words.{IsIn}
 use Rattle.hx_types.specs.Effects.{is_write, key_of}
-use Rattle.hx_types.specs.Fitting.{call_of, is_doubt}
 use Rattle.hx_types.specs.Configs.{head_of, members_of}
 use Rattle.hx_model.specs.Regions.{key_region}
 use Rattle.hx_model.specs.Places.{key_place}
@@ -27,7 +21,7 @@ use Rattle.hx_steady.proofs.Chains.{first-listed}
 use Rattle.hx_searches.proofs.Chains.{Differ, after-before, after-last}
 use Rattle.hx_epochs.proofs.Hops.{next-inside, next-outside, prev-end, prev-inside, prev-outside, prev-outside_end}
 use Rattle.hx_epochs.proofs.Order.{after-nobody, after-order, before-in, before-trans, head-nobody, head-order, in-listed, last-server, order-cases}
-use Rattle.hx_epochs.proofs.World.{Acking, After, Before, Everywhere, KeyIn, Law, Sending, Settled, SettledIn, Told, Valid, World, law-of, order}
+use Rattle.hx_epochs.proofs.World.{Acking, After, Before, Everywhere, KeyIn, Law, Sending, SettledIn, Told, Valid, World, law-of, order}
 
 -- what a replica knows of an update that it has accepted
 pub record Known (script : Script) (w : World) (i : ServerId) (h : RegionId) (u : Update) : Type 0 where
@@ -152,7 +146,7 @@ module _ (script : Script) (w : World) (ok : (key : List ℕ) → KeyIn script w
       inner : (y : ServerId) (n : ℕ) → prev_at (spot h) u ≡ At y n → w.live y → region_at u.places n ≡ g1 → (h ≡ g1) ⊎ (h ≡ g1 → ⊥) → Acking w g1 u.key u.version.0 y
       inner y n e l z (inl q) =
           let r = prev-inside w.config g1 (first h u k.known) (rest h u k.known) refl (elsewhere h u k.known) i y n
-              (subst (λ (x : RegionId). prev_of w.config (first h u k.known ∷ rest h u k.known) (place_number x (first h u k.known ∷ rest h u k.known)) i ≡ At y n) q (prev-by h u k.known (At y n) e)) in
+          (subst (λ (x : RegionId). prev_of w.config (first h u k.known ∷ rest h u k.known) (place_number x (first h u k.known ∷ rest h u k.known)) i ≡ At y n) q (prev-by h u k.known (At y n) e)) in
           let m = after-before i y (members_of w.config g1) (differ g1) r.1 in
           let o = after-order y i (members_of w.config g1) (differ g1) m in
           let a = subst (λ (r : RegionId). IsIn i (order w.config r) × Before w.live (order w.config r) (w.slot u.key r) i u × IsIn u (w.slot u.key r i).accepted) q (k.known.inside q) in

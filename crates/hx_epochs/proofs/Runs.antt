@@ -1,8 +1,6 @@
 -- Each entry of a run in which no replica is added keeps what holds of epochs, keys and posts.
-use Rattle.std.proofs.Common.{◌≡◌, ℕ, zero, suc, ◌+◌, ◌<◌, ◌≤◌, ◌⊎◌, inl, inr, Bool, true, false, ◌&&◌, List, [], ◌∷◌, ◌++◌, map, length, Option, Some, None, refl, sym, ap, ◌∙◌, subst, arith, cond, eqb, ltb, leb}
-use Rattle.std.specs.Prelude.{⊤}
-use Rattle.std.proofs.lemmas.Bool.{cond_both, cond-true, cond-false, and_parts, eq-eqb, ne_eqb, ltb-true, leb-true, false≢true, cases_lt}
-use Rattle.hx_types.specs.declared.calls.Caller.{Caller}
+use Rattle.std.proofs.Common.{◌≡◌, ℕ, zero, suc, ◌+◌, ◌<◌, ◌≤◌, inl, inr, Bool, true, false, List, [], ◌∷◌, ◌++◌, map, length, Option, Some, None, refl, sym, ap, ◌∙◌, subst, arith, cond, eqb, ltb, leb}
+use Rattle.std.proofs.lemmas.Bool.{cond_both, cond-true, cond-false, and_parts, eq-eqb, ne_eqb, ltb-true, leb-true, cases_lt}
 use Rattle.hx_types.specs.declared.calls.Op.{Op}
 use Rattle.hx_types.specs.declared.configs.Config.{Config}
 use Rattle.hx_types.specs.declared.messages.Message.{Message}
@@ -20,20 +18,20 @@ use Rattle.hx_types.specs.declared.updates.Update.{Update}
 use Rattle.hx_types.specs.declared.calls.Op.TheVariants.{Add}
 use Rattle.hx_types.specs.declared.messages.Message.TheVariants as a_message
 use Rattle.hx_types.specs.declared.names.Actor.TheVariants.{Coordinator, Server, Session}
-use Rattle.hx_types.specs.declared.traces.Input.TheVariants.{Tick, Halt, Deliver}
-use Rattle.hx_types.specs.Words.{IsBefore, IsIn, below, post, same_server, when_some}
-use Rattle.hx_types.specs.Configs.{first_config, lists}
+use Rattle.hx_types.specs.declared.traces.Input.TheVariants.{Deliver}
+use Rattle.hx_types.specs.Words.{IsIn, below, post, same_server, when_some}
+use Rattle.hx_types.specs.Configs.{first_config}
 use Rattle.hx_types.specs.Fitting.{IsScript, call_of, calls_of, numbered}
 use Rattle.hx_types.specs.Subspaces.{is_key_region}
 use Rattle.hx_model.specs.Regions.{key_region}
 use Rattle.hx_model.specs.Slots.{Forget, KeyState, moved, new_state, state_among}
 use Rattle.hx_model.specs.ServerSteps.{Replica, ServerState, listed_regions, replica_of, server_at_start, server_step, state_in}
-use Rattle.hx_model.specs.CoordinatorSteps.{CoordinatorState, coordinator_at_start, coordinator_step}
-use Rattle.hx_model.specs.SessionSteps.{SessionState, SessionStep, session_step}
+use Rattle.hx_model.specs.CoordinatorSteps.{CoordinatorState, coordinator_step}
+use Rattle.hx_model.specs.SessionSteps.{SessionState, session_step}
 use Rattle.hx_model.specs.Runs.{IsRun, IsStep, Made, MayTake, coordinator_after, coordinator_of, has_halted, is_actor, made_of, server_after, server_of, session_after, session_of}
-use Rattle.hx_model.specs.Histories.{line_notes, line_of}
+use Rattle.hx_model.specs.Histories.{line_of}
 use Rattle.hx_steady.specs.Served.{posts_of, slot_in}
-use Rattle.hx_steady.proofs.Lists.{in-append, in-map, in_left, in_right, when_some_both}
+use Rattle.hx_steady.proofs.Lists.{in-append, in-map, in_left, in_right}
 use Rattle.hx_steady.proofs.Members.{all-ready}
 use Rattle.hx_steady.proofs.Replicas.{replica-found}
 use Rattle.hx_steady.proofs.Turns.{noted}
@@ -43,16 +41,16 @@ use Rattle.hx_linear.proofs.Traces.{arrived}
 use Rattle.hx_searches.proofs.Chains.{members-differ}
 use Rattle.hx_searches.proofs.Texts.{Ascend, state_key}
 use Rattle.hx_epochs.specs.Headline.{AddsNothing}
-use Rattle.hx_epochs.proofs.Entries.{CallsBy, ctl-valid, server-kept, slots, view, world_of}
-use Rattle.hx_epochs.proofs.Epochs.{Ctl, Epochal, Good, Live, Near, Next, coordinator_good}
+use Rattle.hx_epochs.proofs.Entries.{ctl-valid, server-kept, slots, world_of}
+use Rattle.hx_epochs.proofs.Epochs.{Epochal, Good, Live, Next, coordinator_good}
 use Rattle.hx_epochs.proofs.Keys.{forget_key, same_up, valid_up}
 use Rattle.hx_epochs.proofs.Moved.{follows-version, which-server}
 use Rattle.hx_epochs.proofs.Moves.{Own}
-use Rattle.hx_epochs.proofs.SessionMessages.{SessionTurn, session_turn}
+use Rattle.hx_epochs.proofs.SessionMessages.{session_turn}
 use Rattle.hx_epochs.proofs.SessionNotes.{keeps_lines}
 use Rattle.hx_epochs.proofs.SessionTurns.{SaysOf}
 use Rattle.hx_epochs.proofs.Shapes.{Shape, listed-apart, listed-only, listed-there, made-found, made-in, made-once}
-use Rattle.hx_epochs.proofs.World.{After, Before, Chained, Everywhere, Follows, KeyIn, Outer, Valid, World, order}
+use Rattle.hx_epochs.proofs.World.{After, Before, Chained, Everywhere, Follows, Outer, Valid, World, order}
 
 -- a server of the script
 abbrev pub Real : Script → ServerId → Type 0

@@ -1,5 +1,5 @@
 -- A step of a server that has the newest configuration: what it keeps, from the turn of each key.
-use Rattle.std.proofs.Common.{◌≡◌, ℕ, ◌+◌, ◌-◌, ◌<◌, ◌≤◌, ◌⊎◌, inl, inr, Bool, true, false, List, [], ◌∷◌, length, Option, Some, None, refl, sym, ap, ◌∙◌, subst, arith, cond}
+use Rattle.std.proofs.Common.{◌≡◌, ℕ, ◌-◌, ◌<◌, ◌≤◌, ◌⊎◌, inl, inr, true, false, List, [], ◌∷◌, length, Some, refl, sym, ap, ◌∙◌, subst, arith, cond}
 use Rattle.std.specs.Prelude.{⊤}
 use Rattle.std.specs.List.{flat_map}
 use Rattle.std.proofs.lemmas.Bool.{cond-true, cond-false, cases_Bool, eq-eqb, false≢true, ne_eqb}
@@ -22,22 +22,20 @@ use Rattle.hx_types.specs.Configs.{lists, members_of}
 use Rattle.hx_types.specs.Effects.{is_write}
 use Rattle.hx_types.specs.Fitting.{call_of}
 use Rattle.hx_types.specs.Subspaces.{is_key_region}
-use Rattle.hx_types.specs.Spaces.{IsSpace}
 use Rattle.hx_model.specs.Regions.{key_region}
 use Rattle.hx_model.specs.Slots.{Acknowledge, Commit, Forget, Hold, KeyState, Move, Take, moved_all, upto}
 use Rattle.hx_model.specs.ServerSteps.{Replica, ServerState, ack_to, move_posts, next_at, passed_on, prev_at, replica_of, reply, state_in, told_to, update_to, with_slot}
 use Rattle.hx_model.proofs.Laws.{base-moved_all}
 use Rattle.hx_model.proofs.States.{eq_of_same_text}
 use Rattle.hx_steady.specs.Served.{slot_in}
-use Rattle.hx_steady.proofs.Replicas.{in-with_replica, replica-found, replica-here, replica-other, slot-found, slot-here, slot-other_key, slot-other_region, state-key, with_slot_at}
+use Rattle.hx_steady.proofs.Replicas.{slot-found, slot-here, slot-other_key, slot-other_region, state-key}
 use Rattle.hx_steady.proofs.Lists.{in-flat_map}
 use Rattle.hx_steady.proofs.Turns.{noted}
 use Rattle.hx_searches.proofs.Chains.{Differ}
-use Rattle.hx_searches.proofs.Texts.{Ascend, state_key, with_state-ascends}
 use Rattle.hx_epochs.proofs.Holding as Holding
 use Rattle.hx_epochs.proofs.Holding.{AllKnown, Held, held-moved_all}
 use Rattle.hx_epochs.proofs.Keys.{Turn, Up, key_after, spread_up, turn_promise, up, valid_up}
-use Rattle.hx_epochs.proofs.Moved.{May, MoveOk, committed-held, committed-outside, follows-version, known-held, known-outside, moves-fine, only-here, only_at, same_turn, stay_turn, which-server}
+use Rattle.hx_epochs.proofs.Moved.{MoveOk, committed-held, committed-outside, follows-version, known-held, known-outside, only-here, only_at, same_turn, stay_turn}
 use Rattle.hx_epochs.proofs.Moves.{AllAllowed, Promise}
 use Rattle.hx_epochs.proofs.Order.{listed-in}
 use Rattle.hx_epochs.proofs.Posts.{Committed, law, spot, which-region}

@@ -1,9 +1,9 @@
 -- What a session's step does at each input: a call may begin, and one may end.
-use Rattle.std.proofs.Common.{◌≡◌, ℕ, ◌+◌, ◌<◌, inl, inr, true, false, List, [], ◌∷◌, ◌++◌, Option, Some, None, refl, sym, ap, ◌∙◌, arith, eqb, ltb}
+use Rattle.std.proofs.Common.{◌≡◌, ℕ, ◌+◌, inl, inr, true, false, List, ◌++◌, Option, Some, None, refl, ap, eqb, ltb}
 use Rattle.std.specs.Prelude.{Bool, ◌&&◌, map}
 use Rattle.std.specs.List.{list_any}
 use Rattle.std.specs.Prelude.{if◌then◌else◌}
-use Rattle.std.proofs.lemmas.Bool.{cond_both, and_parts, ltb-true}
+use Rattle.std.proofs.lemmas.Bool.{cond_both, and_parts}
 use Rattle.hx_types.specs.declared.calls.Answer.{Answer}
 use Rattle.hx_types.specs.declared.configs.Config.{Config}
 use Rattle.hx_types.specs.declared.names.Actor.{Actor}
@@ -12,26 +12,18 @@ use Rattle.hx_types.specs.declared.traces.Input.{Input}
 use Rattle.hx_types.specs.declared.messages.Message.{Message}
 use Rattle.hx_types.specs.declared.traces.Note.{Note}
 use Rattle.hx_types.specs.declared.calls.Op.{Op}
-use Rattle.hx_types.specs.declared.results.Planned.{Planned}
 use Rattle.hx_types.specs.declared.messages.PostId.{PostId}
 use Rattle.hx_types.specs.declared.names.RegionId.{RegionId}
 use Rattle.hx_types.specs.declared.calls.Row.{Row}
 use Rattle.hx_types.specs.declared.spaces.Space.{Space}
-use Rattle.hx_types.specs.declared.values.Term.{Term}
 use Rattle.hx_types.specs.declared.names.Version.{Version}
 use Rattle.hx_types.specs.Effects.{key_of}
 use Rattle.hx_types.specs.declared.calls.Answer.TheVariants as an_answer
 use Rattle.hx_types.specs.declared.messages.Message.TheVariants as a_message
-use Rattle.hx_types.specs.declared.traces.Note.TheVariants as a_note
-use Rattle.hx_types.specs.declared.results.Planned.TheVariants as a_plan
-use Rattle.hx_types.specs.declared.calls.Op.TheVariants.{Put, Get, Del, Cput, Search, Stop, Add}
 use Rattle.hx_types.specs.declared.traces.Input.TheVariants.{Tick, Halt, Deliver}
 use Rattle.hx_types.specs.Words.{when_some}
-use Rattle.hx_types.specs.Configs.{head_of, is_lost}
 use Rattle.hx_types.specs.Fitting.{numbered}
-use Rattle.hx_model.specs.Regions.{key_region}
-use Rattle.hx_model.specs.Planning.{plan_of}
-use Rattle.hx_model.specs.SessionSteps.{Part, SessionState, SessionStep, all_parts, ask_regions, awaits, begin, call_to, call_under_way, end_with_parts, ending, found_step, is_administrative, is_key_call, is_search, lacks_part, lost_answer, merged_parts, no_version, send, send_to, session_install, session_message, session_step, session_tick, staying, with_part, with_poll}
+use Rattle.hx_model.specs.SessionSteps.{Part, SessionState, SessionStep, all_parts, awaits, begin, call_under_way, end_with_parts, ending, found_step, is_administrative, is_key_call, is_search, lacks_part, merged_parts, no_version, send, session_install, session_message, session_step, session_tick, staying, with_part, with_poll}
 use Rattle.hx_steady.proofs.Lists.{when_some_both}
 use Rattle.hx_linear.proofs.SessionMessages.{began_notes, started}
 use Rattle.hx_linear.proofs.SessionTurns.{administrative_no_key, awaited, search_no_key}

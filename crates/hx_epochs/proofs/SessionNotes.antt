@@ -11,9 +11,9 @@ use Rattle.hx_types.specs.Words.{IsIn}
 use Rattle.hx_model.specs.SessionSteps.{SessionState, SessionStep}
 use Rattle.hx_model.specs.Histories.{line_notes}
 use Rattle.hx_steady.proofs.Lists.{in-append}
-use Rattle.hx_linear.proofs.SessionTurns.{CallStop, end_notes, goes_on}
+use Rattle.hx_linear.proofs.SessionTurns.{CallStop, end_notes}
 use Rattle.hx_linear.proofs.SessionMessages.{began_notes, started}
-use Rattle.hx_linear.proofs.SessionNotes.{EndsNow, started_or, started_same, was_running}
+use Rattle.hx_linear.proofs.SessionNotes.{EndsNow, started_or}
 use Rattle.hx_epochs.proofs.SessionMessages.{SessionTurn}
 
 -- an end among the notes of a turn
@@ -89,4 +89,3 @@ pub keeps_lines : (input : Input) (s : SessionState) (step : SessionStep) (t : S
 keeps_lines input s step t key line =
     ap (λ ns. line_notes key line ns) (all_notes input s step t)
     ∙ turn_lines key line t.start (s.begun + 1) (started t.start s).begun t.turn.stop
-

@@ -1,12 +1,11 @@
 -- What a session's step does to the call under way in whatever configuration: nothing, or an end; and what it posts.
-use Rattle.std.proofs.Common.{cond, ◌≡◌, ℕ, ◌⊎◌, inl, inr, true, false, List, [], ◌∷◌, Option, Some, None, refl, sym, ap, ◌∙◌, subst, eqb}
+use Rattle.std.proofs.Common.{◌≡◌, ◌⊎◌, inl, inr, true, false, List, [], ◌∷◌, Option, Some, None, refl, sym, ap, ◌∙◌, subst}
 use Rattle.std.specs.Prelude.{Bool, ◌&&◌, ⊤}
-use Rattle.std.proofs.lemmas.Bool.{cond_both, eqb-true, and_parts, true≢false}
+use Rattle.std.proofs.lemmas.Bool.{cond_both, and_parts}
 use Rattle.hx_types.specs.declared.calls.Answer.{Answer}
 use Rattle.hx_types.specs.declared.names.Actor.{Actor}
 use Rattle.hx_types.specs.declared.traces.Input.{Input}
 use Rattle.hx_types.specs.declared.messages.Message.{Message}
-use Rattle.hx_types.specs.declared.traces.Note.{Note}
 use Rattle.hx_types.specs.declared.calls.Op.{Op}
 use Rattle.hx_types.specs.declared.results.Planned.{Planned}
 use Rattle.hx_types.specs.declared.messages.Post.{Post}
@@ -18,20 +17,19 @@ use Rattle.hx_types.specs.declared.values.Term.{Term}
 use Rattle.hx_types.specs.declared.names.Version.{Version}
 use Rattle.hx_types.specs.declared.calls.Answer.TheVariants as an_answer
 use Rattle.hx_types.specs.declared.messages.Message.TheVariants as a_message
-use Rattle.hx_types.specs.declared.traces.Note.TheVariants as a_note
 use Rattle.hx_types.specs.declared.results.Planned.TheVariants as a_plan
 use Rattle.hx_types.specs.declared.calls.Op.TheVariants.{Put, Get, Del, Cput, Search, Stop, Add}
 use Rattle.hx_types.specs.declared.names.Actor.TheVariants.{Coordinator, Session}
 use Rattle.hx_types.specs.declared.traces.Input.TheVariants.{Deliver}
-use Rattle.hx_types.specs.Words.{IsIn, post, provided, when_some}
+use Rattle.hx_types.specs.Words.{IsIn, post, provided}
 use Rattle.hx_types.specs.Effects.{is_write, key_of}
 use Rattle.hx_types.specs.Configs.{head_of, is_lost}
 use Rattle.hx_types.specs.Fitting.{is_doubt, is_refused, numbered}
 use Rattle.hx_model.specs.Regions.{key_region}
 use Rattle.hx_model.specs.Planning.{plan_of}
-use Rattle.hx_model.specs.SessionSteps.{SessionState, SessionStep, ask_regions, ask_to, awaits, call_to, call_under_way, ending, is_administrative, is_search, lost_answer, no_version, send, send_to, staying, with_poll}
+use Rattle.hx_model.specs.SessionSteps.{SessionState, SessionStep, ask_regions, ask_to, call_to, ending, lost_answer, no_version, send, send_to, staying, with_poll}
 use Rattle.hx_steady.proofs.Lists.{in-append, in-flat_map}
-use Rattle.hx_linear.proofs.SessionTurns.{CallStop, administrative_no_key, awaited, end_notes, goes_on, search_no_key}
+use Rattle.hx_linear.proofs.SessionTurns.{CallStop, end_notes, goes_on}
 
 -- what a session says of its call under way, and whether that is sent and goes on: it replies to nobody, and says nothing of updates and epochs
 abbrev pub SaysOf : SessionState → Bool → Bool → Message → Type 0
@@ -225,4 +223,3 @@ polls input s step turn = record {
     by true p (inl e) = rw e (ap Session turn.id, tt)
     by true p (inr i) = absurd i
     by false p i = absurd i
-

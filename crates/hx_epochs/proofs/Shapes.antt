@@ -1,6 +1,5 @@
 -- The replicas of a server: those in which its configuration lists it, installed, each once, with slots in order of keys.
-use Rattle.std.proofs.Common.{◌≡◌, ℕ, zero, suc, ◌+◌, ◌<◌, ◌≤◌, ◌⊎◌, inl, inr, Bool, true, false, List, [], ◌∷◌, ◌++◌, map, length, Option, Some, None, refl, sym, ap, ◌∙◌, subst, arith, cond}
-use Rattle.std.specs.Prelude.{⊤}
+use Rattle.std.proofs.Common.{◌≡◌, ℕ, zero, suc, ◌<◌, inl, inr, Bool, true, List, [], ◌∷◌, ◌++◌, map, length, Option, Some, None, refl, sym, ap, ◌∙◌, subst, arith}
 use Rattle.std.specs.List.{filter, list_any, slice_get}
 use Rattle.std.proofs.lemmas.Bool.{cond_both, cond-true, cond-false, eq-eqb, ne_eqb, eqb-true, false≢true, cases_lt}
 use Rattle.hx_types.specs.declared.configs.Config.{Config}
@@ -8,9 +7,9 @@ use Rattle.hx_types.specs.declared.configs.Member.{Member}
 use Rattle.hx_types.specs.declared.names.RegionId.{RegionId}
 use Rattle.hx_types.specs.declared.names.ServerId.{ServerId}
 use Rattle.hx_types.specs.Words.{IsIn, below, same_region, same_server, when_some}
-use Rattle.hx_types.specs.Configs.{lists, members_of}
+use Rattle.hx_types.specs.Configs.{lists}
 use Rattle.hx_model.specs.Slots.{KeyState}
-use Rattle.hx_model.specs.ServerSteps.{Replica, listed_regions, replica_of, replica_or_new, with_replica}
+use Rattle.hx_model.specs.ServerSteps.{Replica, listed_regions, replica_of, with_replica}
 use Rattle.hx_steady.proofs.Lists.{in-append, in-below, in-filter, in-map, in_left, in_right}
 use Rattle.hx_steady.proofs.Replicas.{in-with_replica, replica-found, replica-here, replica-other, with_slot_at}
 use Rattle.hx_searches.proofs.Texts.{Ascend, state_key, with_state-ascends}

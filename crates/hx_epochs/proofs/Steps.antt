@@ -1,13 +1,11 @@
 -- Each message of a server that has the newest configuration and isn't sealed.
-use Rattle.std.proofs.Common.{◌≡◌, ℕ, ◌+◌, ◌-◌, ◌<◌, ◌≤◌, ◌⊎◌, inl, inr, Bool, true, false, not, ◌&&◌, ◌||◌, List, [], ◌∷◌, length, Option, Some, None, refl, sym, ap, ◌∙◌, subst, arith, cond, leb, eqb}
+use Rattle.std.proofs.Common.{◌≡◌, ℕ, ◌+◌, ◌-◌, ◌≤◌, ◌⊎◌, inl, inr, Bool, true, false, not, ◌&&◌, ◌||◌, List, [], ◌∷◌, length, Option, Some, None, refl, sym, ap, ◌∙◌, subst, arith, leb, eqb}
 use Rattle.std.specs.Prelude.{⊤}
 use Rattle.std.specs.List.{flat_map}
-use Rattle.std.proofs.lemmas.Bool.{cond_both, cond-true, cond-false, cases_Bool, and_parts, eq-eqb, eqb-true, false≢true, leb-true, cases_eq}
-use Rattle.hx_types.specs.declared.calls.Answer.{Answer}
+use Rattle.std.proofs.lemmas.Bool.{cond_both, cond-true, cond-false, cases_Bool, and_parts, eqb-true, false≢true, leb-true, cases_eq}
 use Rattle.hx_types.specs.declared.calls.Caller.{Caller}
 use Rattle.hx_types.specs.declared.calls.Op.{Op}
 use Rattle.hx_types.specs.declared.configs.Config.{Config}
-use Rattle.hx_types.specs.declared.configs.Member.{Member}
 use Rattle.hx_types.specs.declared.messages.Message.{Message}
 use Rattle.hx_types.specs.declared.messages.Post.{Post}
 use Rattle.hx_types.specs.declared.names.Actor.{Actor}
@@ -21,7 +19,6 @@ use Rattle.hx_types.specs.declared.traces.Note.{Note}
 use Rattle.hx_types.specs.declared.traces.Script.{Script}
 use Rattle.hx_types.specs.declared.updates.Update.{Update}
 use Rattle.hx_types.specs.declared.values.Term.{Term}
-use Rattle.hx_types.specs.declared.calls.Answer.TheVariants as an_answer
 use Rattle.hx_types.specs.declared.calls.Op.TheVariants.{Get}
 use Rattle.hx_types.specs.declared.messages.Message.TheVariants as a_message
 use Rattle.hx_types.specs.declared.names.Actor.TheVariants.{Coordinator, Server, Session}
@@ -30,7 +27,7 @@ use Rattle.hx_types.specs.declared.results.Hop.TheVariants.{At, End, Blocked}
 use Rattle.hx_types.specs.declared.traces.Note.TheVariants as a_note
 use Rattle.hx_types.specs.Words.{IsIn, post, same_text}
 use Rattle.hx_types.specs.Effects.{is_write, key_of}
-use Rattle.hx_types.specs.Fitting.{call_of, is_doubt}
+use Rattle.hx_types.specs.Fitting.{call_of}
 use Rattle.hx_types.specs.Subspaces.{is_key_region}
 use Rattle.hx_types.specs.Configs.{head_of, is_lost, is_server, leads, lists, lists_ready, members_of}
 use Rattle.hx_types.specs.Spaces.{IsSpace}
@@ -52,15 +49,15 @@ use Rattle.hx_searches.proofs.Lines.{numbered-sorted, top-numbered, upto_upto}
 use Rattle.hx_epochs.proofs.Holding.{AllKnown, Held, accepting-known, acknowledged-known, offered-known}
 use Rattle.hx_epochs.proofs.Hops.{next-end}
 use Rattle.hx_epochs.proofs.Keys.{Turn}
-use Rattle.hx_epochs.proofs.Leader.{Decided, decide-decided, get-answered, slot-parts, slot_of}
+use Rattle.hx_epochs.proofs.Leader.{Decided, decide-decided, get-answered, slot-parts}
 use Rattle.hx_epochs.proofs.Lines.{version-there}
-use Rattle.hx_epochs.proofs.Moved.{committed-held, committed-outside, follows-version, held-line, lawful-here, lead_turn, line-key, longer, longer-lawful, own-longer, alone, shown, moves-fine, only_at, same_turn, version-is}
+use Rattle.hx_epochs.proofs.Moved.{committed-held, committed-outside, follows-version, held-line, lawful-here, lead_turn, line-key, longer-lawful, own-longer, alone, shown, moves-fine, only_at, same_turn, version-is}
 use Rattle.hx_epochs.proofs.Moves.{AllAllowed, Own, accepted-in, accepting-allowed, acknowledged-allowed, in-accepted, offered-allowed, top-is}
 use Rattle.hx_epochs.proofs.Order.{after-nobody, head-order, listed-in}
-use Rattle.hx_epochs.proofs.Posts.{Committed, ack-fine, reply-fine, same-key, spot, which-region}
-use Rattle.hx_epochs.proofs.Serving.{Assigns, LateTo, Ok, Safe, Served, after, all-turns, ack-late, inside-ok, inside-turn, keys-now, moved-state, moves-late, now, outside-ok, outside-turn, put, put-off, reply-late, saying-served, slot-elsewhere, slot-now, slot-served, slot-was, standing, still-after, world}
+use Rattle.hx_epochs.proofs.Posts.{Committed, ack-fine, reply-fine, same-key, which-region}
+use Rattle.hx_epochs.proofs.Serving.{Assigns, LateTo, Ok, Safe, Served, all-turns, ack-late, inside-ok, inside-turn, keys-now, moved-state, moves-late, now, outside-ok, outside-turn, put, put-off, reply-late, saying-served, slot-elsewhere, slot-now, slot-served, slot-was, standing, still-after, world}
 use Rattle.hx_epochs.proofs.Shapes.{Shape, shape-moved}
-use Rattle.hx_epochs.proofs.World.{AckOk, Acking, After, Before, Everywhere, Follows, KeyIn, KeyOk, Law, Lawful, Sending, SettledIn, Told, UpdateOk, Valid, World, law-of, lawful-numbered, lawful-upto, order}
+use Rattle.hx_epochs.proofs.World.{AckOk, Acking, After, Before, Everywhere, Follows, KeyIn, Law, Lawful, Sending, SettledIn, Told, UpdateOk, Valid, World, law-of, lawful-numbered, order}
 
 -- where the chain of an update of a line ends at a member of the key's region, nobody that is up stands after it
 pub ends-here : (script : Script) (c : Config) (live : ServerId → Type 0) (key : List ℕ) (line : List Update) (f : ServerId → KeyState) (i : ServerId) → Lawful script key line → Differ (members_of c (key_region script.space key))

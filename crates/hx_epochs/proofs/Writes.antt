@@ -1,6 +1,6 @@
 -- A key's line without what was refused: each update is the effect of its write on the object after those before it, and objects after versions stay.
-use Rattle.std.proofs.Common.{◌≡◌, ℕ, ◌+◌, ◌<◌, ◌≤◌, ◌⊎◌, inl, inr, Bool, true, false, not, List, [], ◌∷◌, length, Some, refl, sym, ap, ◌∙◌, subst, arith, cond, leb}
-use Rattle.std.proofs.lemmas.Bool.{cond_both, cond-true, cond-false, cases_Bool, leb-true, leb-false, false≢true}
+use Rattle.std.proofs.Common.{◌≡◌, ℕ, ◌<◌, ◌≤◌, inl, inr, Bool, true, false, not, List, [], ◌∷◌, Some, refl, sym, ap, ◌∙◌, arith, leb}
+use Rattle.std.proofs.lemmas.Bool.{cond_both, leb-true, leb-false, false≢true}
 use Rattle.hx_types.specs.declared.calls.Caller.{Caller}
 use Rattle.hx_types.specs.declared.calls.Op.{Op}
 use Rattle.hx_types.specs.declared.traces.Script.{Script}
@@ -9,11 +9,11 @@ use Rattle.hx_types.specs.Words.{IsIn}
 use Rattle.hx_types.specs.Effects.{effect_of, is_write, key_of}
 use Rattle.hx_types.specs.Fitting.{call_of, is_refused}
 use Rattle.hx_model.specs.Histories.{not_refused}
-use Rattle.hx_model.specs.Slots.{top_above, upto}
+use Rattle.hx_model.specs.Slots.{upto}
 use Rattle.hx_steady.specs.Served.{line_object}
 use Rattle.hx_steady.proofs.Lists.{in-filter}
 use Rattle.hx_linear.proofs.EffectLaws.{effect_well}
-use Rattle.hx_linear.proofs.Lines.{Numbered, in-below, upto_past}
+use Rattle.hx_linear.proofs.Lines.{in-below, upto_past}
 use Rattle.hx_searches.proofs.Lines.{Sorted, numbered-sorted, top-least, upto_all}
 use Rattle.hx_epochs.proofs.World.{Law, Lawful, lawful-numbered, lawful-upto}
 
