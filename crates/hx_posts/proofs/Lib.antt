@@ -1,0 +1,15 @@
+pub mod Texts
+pub mod Configs
+pub mod Hops
+pub mod Bounds
+pub mod Moves
+pub mod Slots
+pub mod Kept
+pub mod SlotPosts
+pub mod Doubts
+pub mod Deciding
+pub mod Servers
+pub mod Calls
+pub mod Snapshots
+pub mod Installs
+pub mod ServerSteps
