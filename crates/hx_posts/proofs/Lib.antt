@@ -13,3 +13,4 @@ pub mod Calls
 pub mod Snapshots
 pub mod Installs
 pub mod ServerSteps
+pub mod SessionSteps
