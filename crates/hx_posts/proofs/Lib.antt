@@ -14,3 +14,6 @@ pub mod Snapshots
 pub mod Installs
 pub mod ServerSteps
 pub mod SessionSteps
+pub mod Issuing
+pub mod CoordinatorSteps
+pub mod Runs

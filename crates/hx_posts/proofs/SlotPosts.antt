@@ -25,7 +25,7 @@ use Rattle.hx_posts.proofs.Bounds.{IsSoundConfig, bounds}
 use Rattle.hx_posts.proofs.Hops.{Reaches, next-reaches, prev-reaches}
 
 -- a test that holds of an item finds one
-any-of : {A : Type 0} (test : A → Bool) (xs : List A) (x : A) → IsIn x xs → test x ≡ true → list_any test xs ≡ true
+pub any-of : {A : Type 0} (test : A → Bool) (xs : List A) (x : A) → IsIn x xs → test x ≡ true → list_any test xs ≡ true
 any-of test [] x i t = absurd i
 any-of test (y ∷ xs) x (inl e) t = or_left (test y) (list_any test xs) (sym (ap test e) ∙ t)
 any-of test (y ∷ xs) x (inr i) t = or_right (test y) (list_any test xs) (any-of test xs x i t)
