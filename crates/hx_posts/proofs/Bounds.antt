@@ -1,6 +1,5 @@
 -- What bounds the state of an actor after so many entries, and that it bounds it after more of them.
-use Rattle.std.proofs.Common.{◌≡◌, ℕ, ◌+◌, ◌≤◌, true, subst, arith}
-use Rattle.std.specs.List.{All}
+use Rattle.std.proofs.Common.{◌≡◌, ℕ, ◌+◌, ◌≤◌, true, arith}
 use Rattle.hx_types.specs.declared.calls.Answer.{Answer}
 use Rattle.hx_types.specs.declared.calls.Row.{Row}
 use Rattle.hx_types.specs.declared.names.Actor.{Actor}
@@ -11,7 +10,6 @@ use Rattle.hx_types.specs.declared.spaces.Space.{Space}
 use Rattle.hx_types.specs.declared.updates.Update.{Update}
 use Rattle.hx_types.specs.declared.calls.Answer.TheVariants as an_answer
 use Rattle.hx_types.specs.declared.names.Actor.TheVariants.{Coordinator, Server, Session}
-use Rattle.hx_types.specs.Words.{IsIn}
 use Rattle.hx_types.specs.Spaces.{IsConfigOf}
 use Rattle.hx_types.specs.Posts.{ActorExists, AnswerUpTo, Bounds, IsSessionOf, IsSoundAnswer, IsSoundKept, IsSoundUpdate, has_place_in}
 use Rattle.hx_types.specs.declared.configs.Config.{Config}

@@ -139,13 +139,13 @@ module _ (space : Space) (sessions n : ℕ) (s : ServerId) (st : ServerState) (r
       let k = replica-found g st.replicas r (f r refl) in
       saying-good space sessions n s st relies _
       (λ p i. one-sound (post (Server st.id) from (a_message.Found epoch number r.region (found_in r.region terms r.states)))
-        (record {
-          from = relies.exists;
-          to = x;
-          between = session;
-          message = (e, (relies.sound.replicas r k.0).region, all-of (λ (row : Row). IsRowOf space row × (row.version.0 ≤ n + 1)) (found_in r.region terms r.states) (row-good r k.0 terms));
-        })
-        p (in-provided (lists_ready st.config r.region st.id) _ p i).1)
+      (record {
+        from = relies.exists;
+        to = x;
+        between = session;
+        message = (e, (relies.sound.replicas r k.0).region, all-of (λ (row : Row). IsRowOf space row × (row.version.0 ≤ n + 1)) (found_in r.region terms r.states) (row-good r k.0 terms));
+      })
+      p (in-provided (lists_ready st.config r.region st.id) _ p i).1)
 
   module _ (m : ℕ) (before : IsSoundServer space sessions m s st) (less : m < n) where
     -- a write of a key that fits

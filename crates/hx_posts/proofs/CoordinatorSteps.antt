@@ -1,12 +1,10 @@
 -- Each step of the coordinator posts what is sound, and leaves it with a configuration of the space.
-use Rattle.std.proofs.Common.{◌≡◌, ℕ, ◌+◌, ◌<◌, ◌≤◌, ◌⊎◌, inl, inr, Bool, true, false, not, ◌&&◌, List, [], ◌∷◌, ◌++◌, map, Option, Some, None, refl, sym, ap, subst, arith, cond, eqb, ltb}
+use Rattle.std.proofs.Common.{◌≡◌, ℕ, ◌+◌, ◌≤◌, ◌⊎◌, inl, inr, Bool, true, not, ◌&&◌, List, [], ◌∷◌, ◌++◌, map, Option, Some, None, refl, sym, subst, arith, cond, eqb, ltb}
 use Rattle.std.specs.Prelude.{⊤}
-use Rattle.std.specs.List.{filter, flat_map}
 use Rattle.std.proofs.lemmas.Bool.{and_parts, cond_both, false≢true}
 use Rattle.hx_types.specs.declared.calls.Answer.{Answer}
 use Rattle.hx_types.specs.declared.calls.Caller.{Caller}
 use Rattle.hx_types.specs.declared.calls.Op.{Op}
-use Rattle.hx_types.specs.declared.configs.Config.{Config}
 use Rattle.hx_types.specs.declared.messages.Message.{Message}
 use Rattle.hx_types.specs.declared.messages.Post.{Post}
 use Rattle.hx_types.specs.declared.messages.PostId.{PostId}
@@ -22,9 +20,9 @@ use Rattle.hx_types.specs.declared.calls.Op.TheVariants.{Put, Get, Del, Cput, Se
 use Rattle.hx_types.specs.declared.messages.Message.TheVariants as a_message
 use Rattle.hx_types.specs.declared.names.Actor.TheVariants.{Coordinator, Server, Session}
 use Rattle.hx_types.specs.declared.traces.Input.TheVariants.{Tick, Halt, Deliver}
-use Rattle.hx_types.specs.Words.{IsIn, below, post, provided, same_server, same_session, server_in, without_server}
+use Rattle.hx_types.specs.Words.{IsIn, below, post, same_server, same_session, server_in, without_server}
 use Rattle.hx_types.specs.Configs.{is_lost, lists_joining}
-use Rattle.hx_types.specs.Spaces.{Fits, IsRegionOf, IsServerOf}
+use Rattle.hx_types.specs.Spaces.{Fits, IsServerOf}
 use Rattle.hx_types.specs.Posts.{ActorExists, IsSessionOf, IsSoundAnswer, IsSoundMessage, IsSoundPost, goes_between, is_session_actor}
 use Rattle.hx_model.specs.CoordinatorSteps.{Answered, CoordinatorState, CoordinatorStep, Issuing, Newest, Phase, Sealing, Steady, Task, adds, adds_steady, administers, again, by_number, coordinator_message, coordinator_step, coordinator_tick, die_for, die_posts, gone_step, goes, is_out, issue, issued, issuing, judged, newest_answered, newest_of, outcome, poll_step, ready_now, ready_step, remaining, resting, seal, sealed_now, sealed_step, sealing_or_issue, session_posts, still_sealing, stops, telling, to_server, waits_less, with_newest, with_number, with_server, with_task, add_step, stop_step}
 use Rattle.hx_steady.proofs.Lists.{all-in, in-append, in-below, in-filter, in-flat_map, in-map, in-provided}
@@ -171,6 +169,7 @@ module _ (space : Space) (sessions n : ℕ) where
   sealing-good c h [] f = issue-good c h
   sealing-good c h (s ∷ rest) f = telling-good (record c { phase = Sealing (s ∷ rest) }) (with_phase c h.sound (s ∷ rest) f) _ (seals-sound c h (s ∷ rest) f)
 
+  -- all servers that aren't gone are to be sealed
   seal-good : (c : CoordinatorState) → Relies c → DoesWell (seal c)
   seal-good c h =
       sealing-good c h (remaining c.gone c.config.servers)
@@ -181,6 +180,7 @@ module _ (space : Space) (sessions n : ℕ) where
   still-good c h [] f = issue-good c h
   still-good c h (s ∷ rest) f = resting-good (record c { phase = Sealing (s ∷ rest) }) (with_phase c h.sound (s ∷ rest) f)
 
+  -- one server is waited for no longer
   waits-good : (c : CoordinatorState) → Relies c → (waited : List ServerId) → ((s : ServerId) → IsIn s waited → IsServerOf space s) → (s : ServerId) → DoesWell (waits_less c waited s)
   waits-good c h waited f s =
       cond_both (server_in s waited) (still_sealing c (without_server s waited)) (resting c) DoesWell
@@ -238,6 +238,7 @@ module _ (space : Space) (sessions n : ℕ) where
       telling-good (with_number c caller (Some answer)) (with_number-sound c h.sound caller (Some answer) a) _ (one-sound (outcome caller answer) (outcome-sound caller answer session a))
   adds_steady-good c h caller session s g fits None a = seal-good (with_task c caller (Add s g)) (record { sound = with_task-sound c h.sound caller session (Add s g) fits; low = h.low })
 
+  -- a new Add, in each phase
   adds-good : (c : CoordinatorState) → Relies c → (caller : Caller) → IsSessionOf sessions caller.session → (s : ServerId) (g : RegionId) → Fits space (Add s g) → (phase : Phase) → DoesWell (adds c caller s g phase)
   adds-good c h caller session s g fits Steady = adds_steady-good c h caller session s g fits (judged c.config s g) (judged-sound space sessions n c.config s g h.sound.config.epoch)
   adds-good c h caller session s g fits (Sealing waited) = resting-good (with_task c caller (Add s g)) (with_task-sound c h.sound caller session (Add s g) fits)
@@ -247,6 +248,7 @@ module _ (space : Space) (sessions n : ℕ) where
   again-good c h caller session None a = resting-good c h.sound
   again-good c h caller session (Some answer) a = telling-good c h.sound _ (one-sound (outcome caller answer) (outcome-sound caller answer session a))
 
+  -- an old call is dropped, the newest answered again, and a higher one new
   by_number-good : (c : CoordinatorState) → Relies c → (caller : Caller) → IsSessionOf sessions caller.session → (o : Option Newest) → newest_of caller.session c.newest ≡ o → (new : CoordinatorStep) → DoesWell new → DoesWell (by_number c caller o new)
   by_number-good c h caller session None e new a = a
   by_number-good c h caller session (Some x) e new a =
@@ -258,11 +260,13 @@ module _ (space : Space) (sessions n : ℕ) where
       (λ b. a)
       )
 
+  -- a Stop
   stop-good : (c : CoordinatorState) → Relies c → (number : ℕ) (s : ServerId) → IsServerOf space s → (u : SessionId) → IsSessionOf sessions u → DoesWell (stop_step c number s u)
   stop-good c h number s exists u session =
       by_number-good c h (record { session = u; number = number }) session (newest_of u c.newest) refl (stops c (record { session = u; number = number }) s)
       (stops-good c h (record { session = u; number = number }) session s exists)
 
+  -- an Add
   add-good : (c : CoordinatorState) → Relies c → (number : ℕ) (s : ServerId) (g : RegionId) → Fits space (Add s g) → (u : SessionId) → IsSessionOf sessions u → DoesWell (add_step c number s g u)
   add-good c h number s g fits u session =
       by_number-good c h (record { session = u; number = number }) session (newest_of u c.newest) refl (adds c (record { session = u; number = number }) s g c.phase)
@@ -277,6 +281,7 @@ module _ (space : Space) (sessions n : ℕ) where
       waits-good (record c { gone = with_server s c.gone })
       (record { sound = record { config = h.sound.config; todo = h.sound.todo; newest = h.sound.newest; phase = h.sound.phase; sessions_are = h.sound.sessions_are }; low = h.low }) waited w s
 
+  -- a server tells that it is gone
   gone-good : (c : CoordinatorState) → Relies c → (from : Actor) → DoesWell (gone_step c from)
   gone-good c h Coordinator = resting-good c h.sound
   gone-good c h (Server s) = cond_both (server_in s c.config.servers && not (is_out c.gone s)) (goes c s c.phase) (resting c) DoesWell (λ t. goes-good c h s c.phase h.sound.phase) (λ t. resting-good c h.sound)
@@ -291,6 +296,7 @@ module _ (space : Space) (sessions n : ℕ) where
   install-sound : (c : CoordinatorState) → Relies c → IsSoundMessage (bounds space sessions n) (a_message.Install c.config)
   install-sound c h = (h.sound.config.epoch, h.sound.config.of_space)
 
+  -- a server tells that it is sealed
   sealed-good : (c : CoordinatorState) → Relies c → (epoch : Epoch) (from : Actor) → ActorExists (bounds space sessions n) from → DoesWell (sealed_step c epoch from)
   sealed-good c h epoch Coordinator x = resting-good c h.sound
   sealed-good c h epoch (Server s) x =
@@ -314,6 +320,7 @@ module _ (space : Space) (sessions n : ℕ) where
       )
       (λ t. resting-good c h.sound)
 
+  -- a joiner tells that it is ready
   ready-good : (c : CoordinatorState) → Relies c → (epoch : Epoch) (g : RegionId) (from : Actor) → DoesWell (ready_step c epoch g from)
   ready-good c h epoch g Coordinator = resting-good c h.sound
   ready-good c h epoch g (Server s) = cond_both (eqb epoch.0 c.config.epoch.0) (ready_now c s g c.phase) (resting c) DoesWell (λ t. ready_now-good c h s g c.phase) (λ t. resting-good c h.sound)
@@ -340,9 +347,11 @@ module _ (space : Space) (sessions n : ℕ) where
   die-sound test (Stop s) f p i = one-sound (to_server a_message.Die s) (to_server-sound a_message.Die s f refl tt) p (in-provided (test s) (to_server a_message.Die s ∷ []) p i).1
   die-sound test (Add s g) f p i = absurd i
 
+  -- everyone who is to stop is told again
   dies-sound : (c : CoordinatorState) → Relies c → (test : ServerId → Bool) (p : Post) → IsIn p (die_posts test c.todo) → IsSound p
   dies-sound c h test p i = let m = in-flat_map (λ (t : Task). die_for test t.op) c.todo p i in die-sound test m.0.op (h.sound.todo m.0 m.1).fits p m.2
 
+  -- a tick
   tick-good : (c : CoordinatorState) → Relies c → (phase : Phase) → WaitsFor space phase → DoesWell (coordinator_tick c phase)
   tick-good c h Steady w = telling-good c h.sound _ (dies-sound c h (λ s. true))
   tick-good c h (Sealing waited) w =
@@ -360,6 +369,7 @@ module _ (space : Space) (sessions n : ℕ) where
   administers-good c h (Server s) x act f = resting-good c h.sound
   administers-good c h (Session u) x act f = f u x
 
+  -- each message, where its post is sound
   message-good : (c : CoordinatorState) → Relies c → (from : Actor) → ActorExists (bounds space sessions n) from → (m : Message) → goes_between from Coordinator m ≡ true → (j : ℕ) → IsSoundMessage (bounds space sessions j) m → DoesWell (coordinator_message c from m)
   message-good c h from x (a_message.Call epoch number op) b j k = resting-good c h.sound
   message-good c h from x (a_message.Reply number version answer) b j k = resting-good c h.sound

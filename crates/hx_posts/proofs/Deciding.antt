@@ -1,7 +1,6 @@
 -- What a leader decides on a write that fits is sound, in every configuration of the space.
-use Rattle.std.proofs.Common.{◌≡◌, ℕ, ◌+◌, ◌<◌, ◌≤◌, inl, inr, false, true, List, [], ◌∷◌, Option, Some, None, refl, sym, ap, subst, arith, leb, ltb, eqb}
+use Rattle.std.proofs.Common.{◌≡◌, ℕ, ◌+◌, ◌<◌, ◌≤◌, false, List, [], Option, Some, None, refl, sym, subst, arith, leb, ltb, eqb}
 use Rattle.std.specs.Prelude.{⊤}
-use Rattle.std.specs.List.{list_any}
 use Rattle.std.proofs.lemmas.Bool.{cond_both, eq-eqb, or_left}
 use Rattle.hx_types.specs.declared.calls.Caller.{Caller}
 use Rattle.hx_types.specs.declared.calls.Op.{Op}
@@ -14,21 +13,20 @@ use Rattle.hx_types.specs.declared.spaces.Space.{Space}
 use Rattle.hx_types.specs.declared.updates.Place.{Place}
 use Rattle.hx_types.specs.declared.updates.Update.{Update}
 use Rattle.hx_types.specs.declared.values.Value.{Value}
-use Rattle.hx_types.specs.declared.calls.Answer.TheVariants as an_answer
 use Rattle.hx_types.specs.declared.results.Decision.TheVariants as a_decision
-use Rattle.hx_types.specs.Words.{same_region, when_some}
+use Rattle.hx_types.specs.Words.{same_region}
 use Rattle.hx_types.specs.Effects.{effect_of}
 use Rattle.hx_types.specs.Spaces.{Fits, IsAnswerOf, IsMaybeObjectOf, IsRegionOf, IsSpace}
-use Rattle.hx_types.specs.Posts.{AnswerUpTo, IsSessionOf, IsSoundAnswer, has_place_in}
+use Rattle.hx_types.specs.Posts.{AnswerUpTo, IsSessionOf, IsSoundAnswer}
 use Rattle.hx_model.specs.Regions.{key_region}
 use Rattle.hx_model.specs.Places.{places_of}
 use Rattle.hx_model.specs.Slots.{KeyState, latest_of, mark_of, top_of, touches_of}
-use Rattle.hx_model.specs.Leading.{StuckAt, assigned, by_mark, decide, first_lost, fresh, granted, refusal, stuck_of, unless_lost}
+use Rattle.hx_model.specs.Leading.{StuckAt, assigned, by_mark, decide, first_lost, fresh, granted, refusal, stuck_of}
 use Rattle.hx_steady.proofs.Lists.{all-in, when_some_both}
 use Rattle.hx_sound.proofs.Objects.{effect-sound}
 use Rattle.hx_sound.proofs.Placed.{ArePlaced, placed}
 use Rattle.hx_posts.proofs.Bounds.{IsSoundAt, IsSoundConfig, bounds}
-use Rattle.hx_posts.proofs.Slots.{IsSoundSlot, top-small}
+use Rattle.hx_posts.proofs.Slots.{IsSoundSlot}
 use Rattle.hx_posts.proofs.Kept.{latest-sound, mark-sound, touches-below}
 use Rattle.hx_posts.proofs.Doubts.{lost-region, stuck-region}
 

@@ -1,5 +1,5 @@
 -- Doubts: what is posted of updates that a lost region holds up.
-use Rattle.std.proofs.Common.{◌≡◌, ℕ, ◌+◌, ◌≤◌, inl, inr, List, [], ◌∷◌, map, Option, Some, None, refl, sym, ap, subst, arith, leb}
+use Rattle.std.proofs.Common.{◌≡◌, ℕ, ◌+◌, ◌≤◌, inl, inr, List, [], ◌∷◌, Option, Some, None, refl, sym, subst, arith, leb}
 use Rattle.std.specs.List.{filter}
 use Rattle.std.proofs.lemmas.Bool.{cond_both}
 use Rattle.hx_types.specs.declared.calls.Caller.{Caller}
@@ -19,7 +19,6 @@ use Rattle.hx_model.specs.Slots.{KeyState, pending_of}
 use Rattle.hx_model.specs.Leading.{StuckAt, first_lost, stuck_among, stuck_of}
 use Rattle.hx_model.specs.ServerSteps.{Spot, doubt_in, doubts_from, leader_doubts, waiting_doubt}
 use Rattle.hx_steady.proofs.Lists.{all-in, in-filter, in-map, in-provided, when_some_both}
-use Rattle.hx_posts.proofs.Bounds.{IsSoundAt}
 use Rattle.hx_posts.proofs.Slots.{IsSoundSlot, pending-sound}
 use Rattle.hx_posts.proofs.SlotPosts.{IsSpot, reply-sound}
 

@@ -1,5 +1,5 @@
 -- Neighbours in a configuration of the space are servers of the space, at a place of the update.
-use Rattle.std.proofs.Common.{◌≡◌, ℕ, zero, suc, ◌+◌, ◌-◌, ◌⊎◌, inl, inr, List, [], ◌∷◌, map, Option, Some, None, refl, sym, ap, ◌∙◌, subst, arith}
+use Rattle.std.proofs.Common.{◌≡◌, ℕ, zero, suc, ◌+◌, ◌-◌, ◌⊎◌, inl, inr, List, [], ◌∷◌, Option, Some, None, refl, sym, ap, ◌∙◌, subst, arith}
 use Rattle.std.specs.List.{slice_get}
 use Rattle.std.specs.Option.{option_map}
 use Rattle.std.proofs.lemmas.Bool.{cond_both}
@@ -11,11 +11,11 @@ use Rattle.hx_types.specs.declared.results.Hop.{Hop}
 use Rattle.hx_types.specs.declared.spaces.Space.{Space}
 use Rattle.hx_types.specs.declared.updates.Place.{Place}
 use Rattle.hx_types.specs.declared.results.Hop.TheVariants.{At, Blocked}
-use Rattle.hx_types.specs.Words.{IsIn, below, first_of_list, same_server, when_some}
+use Rattle.hx_types.specs.Words.{IsIn, first_of_list, same_server, when_some}
 use Rattle.hx_types.specs.Configs.{head_of, is_lost, members_of}
 use Rattle.hx_types.specs.Spaces.{IsConfigOf, IsServerOf}
 use Rattle.hx_model.specs.Neighbours.{enters, enters_last, hop_at, last_member, member_after, member_before, members_at, next_of, place_before, prev_of}
-use Rattle.hx_steady.proofs.Lists.{in-slice_get, when_some_both}
+use Rattle.hx_steady.proofs.Lists.{when_some_both}
 use Rattle.hx_posts.proofs.Configs.{member-server}
 
 -- the member of a list with this server

@@ -1,5 +1,5 @@
 -- A configuration is adopted: what a server keeps, posts and makes of its slots is sound.
-use Rattle.std.proofs.Common.{◌≡◌, ℕ, ◌+◌, ◌<◌, ◌≤◌, inl, inr, Bool, true, false, List, [], ◌∷◌, ◌++◌, map, length, Option, Some, None, refl, sym, ap, ◌∙◌, subst, arith, ltb}
+use Rattle.std.proofs.Common.{◌≡◌, ℕ, inl, inr, Bool, true, false, List, [], ◌∷◌, ◌++◌, map, length, refl, sym, ap, subst, arith, ltb}
 use Rattle.std.specs.List.{flat_map}
 use Rattle.std.proofs.lemmas.Bool.{cond_both}
 use Rattle.hx_types.specs.declared.configs.Config.{Config}
@@ -7,24 +7,23 @@ use Rattle.hx_types.specs.declared.messages.Post.{Post}
 use Rattle.hx_types.specs.declared.names.RegionId.{RegionId}
 use Rattle.hx_types.specs.declared.names.ServerId.{ServerId}
 use Rattle.hx_types.specs.declared.spaces.Space.{Space}
-use Rattle.hx_types.specs.declared.updates.Update.{Update}
 use Rattle.hx_types.specs.declared.messages.Message.TheVariants as a_message
 use Rattle.hx_types.specs.declared.names.Actor.TheVariants.{Coordinator, Server}
-use Rattle.hx_types.specs.Words.{IsIn, below, post, text_below}
+use Rattle.hx_types.specs.Words.{IsIn, below, post}
 use Rattle.hx_types.specs.Configs.{lists}
 use Rattle.hx_types.specs.Spaces.{IsRegionOf}
 use Rattle.hx_types.specs.Posts.{IsSoundPost}
-use Rattle.hx_model.specs.Slots.{Forget, KeyState, Move, moved, moved_all, pending_of}
-use Rattle.hx_model.specs.ServerSteps.{Replica, ServerState, ServerStep, Spot, adopted, adopted_posts, adopted_replica, adopted_state, end_marks, install_at, is_active, leader_doubts, listed_regions, move_posts, passed_on, pending_posts, ready_post, replica_of, replica_or_new, replica_tick, resumed, resumed_posts, saying, snap_posts, spot_of, tick_step, unmoved, with_config}
+use Rattle.hx_model.specs.Slots.{Forget, KeyState, moved_all, pending_of}
+use Rattle.hx_model.specs.ServerSteps.{Replica, ServerState, Spot, adopted, adopted_posts, adopted_replica, adopted_state, end_marks, install_at, is_active, leader_doubts, listed_regions, move_posts, passed_on, pending_posts, ready_post, replica_of, replica_or_new, replica_tick, resumed, resumed_posts, saying, snap_posts, spot_of, tick_step, unmoved, with_config}
 use Rattle.hx_model.proofs.Laws.{base-moved_all}
 use Rattle.hx_steady.proofs.Lists.{in-append, in-below, in-filter, in-flat_map, in-map, in-provided, when_some_both}
 use Rattle.hx_steady.proofs.Moves.{AllKnown, Known, marks-known, with_commits-known}
 use Rattle.hx_steady.proofs.Replicas.{replica-found}
-use Rattle.hx_posts.proofs.Texts.{Ascend, state_key}
-use Rattle.hx_posts.proofs.Bounds.{IsSoundAt, IsSoundConfig}
-use Rattle.hx_posts.proofs.Moves.{AllRise, resumed-rise}
+use Rattle.hx_posts.proofs.Texts.{state_key}
+use Rattle.hx_posts.proofs.Bounds.{IsSoundConfig}
+use Rattle.hx_posts.proofs.Moves.{resumed-rise}
 use Rattle.hx_posts.proofs.Slots.{IsSoundSlot, held-together, pending-sound, slot-moved, together, together-sound}
-use Rattle.hx_posts.proofs.SlotPosts.{IsSpot, moves-sound, update_to-sound}
+use Rattle.hx_posts.proofs.SlotPosts.{moves-sound, update_to-sound}
 use Rattle.hx_posts.proofs.Doubts.{leader-sound}
 use Rattle.hx_posts.proofs.Servers.{DoesWell, IsSoundReplica, IsSoundServer, Relies, here, saying-good, unmoved-good}
 use Rattle.hx_posts.proofs.Snapshots.{map-ascends, ready-sound, snap-sound}

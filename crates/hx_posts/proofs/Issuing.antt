@@ -1,7 +1,7 @@
 -- The next configuration: it is of the space, and what is answered and left of the calls is sound.
-use Rattle.std.proofs.Common.{◌≡◌, ℕ, zero, suc, ◌+◌, ◌<◌, ◌≤◌, ◌≢◌, ◌⊎◌, inl, inr, Bool, true, false, List, [], ◌∷◌, ◌++◌, map, length, Option, Some, None, refl, sym, ap, ◌∙◌, subst, arith, cond}
-use Rattle.std.specs.Prelude.{⊤, not, ◌&&◌}
-use Rattle.std.specs.List.{All, filter, list_any, slice_get, slice_set}
+use Rattle.std.proofs.Common.{◌≡◌, ℕ, zero, suc, ◌+◌, ◌≤◌, ◌≢◌, ◌⊎◌, inl, inr, Bool, true, false, List, [], ◌∷◌, ◌++◌, map, length, Option, Some, None, refl, sym, ap, ◌∙◌, subst, arith, cond}
+use Rattle.std.specs.Prelude.{not, ◌&&◌}
+use Rattle.std.specs.List.{filter, slice_get, slice_set}
 use Rattle.std.proofs.lemmas.Bool.{and_from, cond_both, eq-eqb, false≢true}
 use Rattle.std.proofs.lemmas.List.{map-append}
 use Rattle.std.proofs.lemmas.List.Elements.{All-nil}
@@ -14,9 +14,9 @@ use Rattle.hx_types.specs.declared.names.ServerId.{ServerId}
 use Rattle.hx_types.specs.declared.spaces.Space.{Space}
 use Rattle.hx_types.specs.declared.calls.Answer.TheVariants as an_answer
 use Rattle.hx_types.specs.declared.calls.Op.TheVariants.{Put, Get, Del, Cput, Search, Stop, Add}
-use Rattle.hx_types.specs.Words.{IsIn, same_server, server_in, when_some}
+use Rattle.hx_types.specs.Words.{IsIn, same_server, server_in}
 use Rattle.hx_types.specs.Configs.{is_lost, lists_ready, members_of}
-use Rattle.hx_types.specs.Spaces.{AllDiffer, Fits, IsConfigOf, IsListOf, IsRegionOf, IsServerOf}
+use Rattle.hx_types.specs.Spaces.{AllDiffer, Fits, IsConfigOf, IsListOf, IsServerOf}
 use Rattle.hx_types.specs.Posts.{IsSessionOf, IsSoundAnswer}
 use Rattle.hx_model.specs.CoordinatorSteps.{Answered, CoordinatorState, Issuing, Joined, Task, adds_by, answers_with, any_joining, appended, config_without, does, does_all, is_out, issuing, judged, leaves, lists_without, made_ready, remaining}
 use Rattle.hx_steady.proofs.Lists.{all-in, in-append, in-filter, in-map, in-slice_get, when_some_both}
@@ -60,11 +60,13 @@ list-without space gone joined g ms h = record {
   once = subst AllDiffer (sym (ready-servers joined g (filter (λ (m : Member). not (is_out gone m.server)) ms))) (differ-filter server_number (λ (m : Member). not (is_out gone m.server)) ms h.once);
 }
 
+-- each list without some servers
 lists-each : (space : Space) (gone : List ServerId) (joined : List Joined) (g : ℕ) (lists : List (List Member)) → ((ms : List Member) → IsIn ms lists → IsListOf space ms) → (ms : List Member) → IsIn ms (lists_without gone joined g lists) → IsListOf space ms
 lists-each space gone joined g [] f ms i = absurd i
 lists-each space gone joined g (x ∷ rest) f ms (inl e) = subst (IsListOf space) (sym e) (list-without space gone joined g x (f x (inl refl)))
 lists-each space gone joined g (x ∷ rest) f ms (inr i) = lists-each space gone joined (g + 1) rest (λ y j. f y (inr j)) ms i
 
+-- and as many lists as before
 lists-count : (gone : List ServerId) (joined : List Joined) (g : ℕ) (lists : List (List Member)) → length (lists_without gone joined g lists) ≡ length lists
 lists-count gone joined g [] = refl
 lists-count gone joined g (x ∷ rest) = ap (λ k. suc k) (lists-count gone joined (g + 1) rest)
@@ -87,6 +89,7 @@ in-slice_set (a ∷ xs) zero y x (inr j) = inr (inr j)
 in-slice_set (a ∷ xs) (suc i) y x (inl e) = inr (inl e)
 in-slice_set (a ∷ xs) (suc i) y x (inr j) = elim (in-slice_set xs i y x j) [ inl e ↦ inl e | inr k ↦ inr (inr k) ]
 
+-- and as many items as before
 count-slice_set : {A : Type 0} (xs : List A) (i : ℕ) (y : A) → length (slice_set xs i y) ≡ length xs
 count-slice_set [] i y = refl
 count-slice_set (a ∷ xs) zero y = refl

@@ -1,6 +1,5 @@
 -- What a sound slot has committed: its row, marks and touches are of the space and not above the floor.
 use Rattle.std.proofs.Common.{◌≡◌, ℕ, ◌+◌, ◌<◌, ◌≤◌, ◌⊎◌, inl, inr, Bool, true, false, List, [], ◌∷◌, map, Option, Some, None, refl, sym, ap, subst, arith, cond, eqb, leb, ltb}
-use Rattle.std.specs.List.{All}
 use Rattle.std.specs.Option.{option_map}
 use Rattle.std.proofs.lemmas.Bool.{cond_both, cases_order, eqb-false, eqb-true, leb-true, ltb-false, ltb-true}
 use Rattle.std.proofs.lemmas.List.Elements.{All-nil}
@@ -8,7 +7,6 @@ use Rattle.hx_types.specs.declared.calls.Row.{Row}
 use Rattle.hx_types.specs.declared.names.RegionId.{RegionId}
 use Rattle.hx_types.specs.declared.names.SessionId.{SessionId}
 use Rattle.hx_types.specs.declared.names.Version.{Version}
-use Rattle.hx_types.specs.declared.snapshots.Kept.{Kept}
 use Rattle.hx_types.specs.declared.snapshots.Mark.{Mark}
 use Rattle.hx_types.specs.declared.snapshots.Touch.{Touch}
 use Rattle.hx_types.specs.declared.spaces.Space.{Space}
@@ -16,15 +14,15 @@ use Rattle.hx_types.specs.declared.updates.Place.{Place}
 use Rattle.hx_types.specs.declared.updates.Update.{Update}
 use Rattle.hx_types.specs.declared.values.Value.{Value}
 use Rattle.hx_types.specs.Words.{IsIn, provided, same_region, same_session}
-use Rattle.hx_types.specs.Spaces.{IsAnswerOf, IsAscending, IsMaybeObjectOf, IsMaybeRowUpTo, IsObjectOf, IsRegionOf, IsRowOf}
+use Rattle.hx_types.specs.Spaces.{IsAnswerOf, IsAscending, IsMaybeObjectOf, IsMaybeRowUpTo, IsRegionOf}
 use Rattle.hx_types.specs.Posts.{AnswerUpTo, IsSessionOf, IsSoundKept}
 use Rattle.hx_model.specs.Slots.{KeyState, keeps_at, kept_of, kept_row, latest_of, mark_among, mark_by, mark_of, marks_after, object_in, object_of, row_of, top_above, top_of, touches_after, touches_of, upto, with_mark, with_touch, with_touches}
 use Rattle.hx_steady.proofs.Lists.{all-in, in-provided}
 use Rattle.hx_sound.proofs.Lists.{all-of}
 use Rattle.hx_sound.proofs.Slots.{TouchedBy, in-upto}
 use Rattle.hx_posts.proofs.Bounds.{IsSoundAt, bounds}
-use Rattle.hx_posts.proofs.Moves.{Descends, IsOrdered}
-use Rattle.hx_posts.proofs.Slots.{IsSoundSlot, after-of, top-small}
+use Rattle.hx_posts.proofs.Moves.{Descends}
+use Rattle.hx_posts.proofs.Slots.{IsSoundSlot, top-small}
 
 -- ---- versions that descend
 
@@ -152,10 +150,11 @@ module _ (space : Space) (sessions n : ℕ) (g : RegionId) where
 
 -- ---- the order of marks and touches
 
--- the numbers of sessions, and of regions
+-- the number of a mark's session
 abbrev session_number : Mark → ℕ
 session_number m = m.session.0
 
+-- the number of a touch's region
 abbrev region_number : Touch → ℕ
 region_number t = t.region.0
 
@@ -329,7 +328,7 @@ module _ (space : Space) (sessions n : ℕ) (g : RegionId) (t : KeyState) (h : I
   pub mark-sound : (session : SessionId) (m : Mark) → mark_of session t ≡ Some m → IsSoundMark space sessions n g n m
   mark-sound session m e =
       let a = marks-sound space sessions n g (top_of t) t.base.marks (base-marks (top_of t) (base-below t.base.floor.0 t.accepted h.ordered.descends)) t.accepted below-top m
-          (among (marks_after t.base.marks t.accepted) e) in
+      (among (marks_after t.base.marks t.accepted) e) in
       let l = top-small space sessions n g t h in
       record { version = (let v = a.version in omega (arith, v, l)); of_space = a.of_space; session = a.session; answer = a.answer }
     where

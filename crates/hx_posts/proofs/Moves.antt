@@ -1,5 +1,5 @@
 -- Moves of a slot: versions of what it has accepted descend to its base, and its floor is never below the base.
-use Rattle.std.proofs.Common.{◌≡◌, ℕ, zero, suc, ◌<◌, ◌≤◌, inl, inr, Bool, true, false, List, [], ◌∷◌, ◌++◌, map, length, Option, Some, None, refl, sym, ◌∙◌, subst, arith, eqb, leb}
+use Rattle.std.proofs.Common.{◌≡◌, ℕ, zero, suc, ◌<◌, ◌≤◌, inl, inr, Bool, true, false, List, [], ◌∷◌, ◌++◌, map, length, Option, Some, None, refl, subst, arith, eqb, leb}
 use Rattle.std.specs.Prelude.{⊤}
 use Rattle.std.specs.List.{All, filter, find, list_any}
 use Rattle.std.specs.Option.{option_map}
@@ -11,7 +11,6 @@ use Rattle.hx_types.specs.Words.{IsIn, provided, same_region, when_some}
 use Rattle.hx_model.specs.Neighbours.{is_end}
 use Rattle.hx_model.specs.Slots.{Acknowledge, Commit, Forget, Hold, KeyState, Move, Take, acknowledged, commits, follows, is_pending, moved, moved_all, offered, pending_of, place_in, settled, taken, top_above, top_of, turns}
 use Rattle.hx_model.specs.ServerSteps.{Spot, accepting, end_marks, next_at, offered_all, resumed, with_commits}
-use Rattle.hx_model.proofs.Laws.{base-moved_all}
 use Rattle.hx_steady.proofs.Lists.{all-in, in-find, when_some_both}
 use Rattle.hx_steady.proofs.Lines.{pending-in}
 use Rattle.hx_steady.proofs.Moves.{AllKnown, Held, held-moved_all, known-append, offered-known}

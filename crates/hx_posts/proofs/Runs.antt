@@ -15,13 +15,12 @@ use Rattle.hx_types.specs.declared.traces.Script.{Script}
 use Rattle.hx_types.specs.declared.names.Actor.TheVariants.{Coordinator, Server, Session}
 use Rattle.hx_types.specs.declared.traces.Input.TheVariants.{Deliver}
 use Rattle.hx_types.specs.Words.{IsIn, below, post, same_server, same_session, when_some}
-use Rattle.hx_types.specs.Subspaces.{region_count}
-use Rattle.hx_types.specs.Configs.{first_config, first_member, lists}
+use Rattle.hx_types.specs.Configs.{first_config, lists}
 use Rattle.hx_types.specs.Spaces.{IsRegionOf, IsServerOf}
 use Rattle.hx_types.specs.Posts.{IsSessionOf, IsSoundPost}
 use Rattle.hx_types.specs.Fitting.{IsScript}
-use Rattle.hx_model.specs.ServerSteps.{Replica, ServerState, listed_regions, server_at_start, server_step}
-use Rattle.hx_model.specs.SessionSteps.{SessionState, session_step}
+use Rattle.hx_model.specs.ServerSteps.{Replica, listed_regions, server_at_start, server_step}
+use Rattle.hx_model.specs.SessionSteps.{session_step}
 use Rattle.hx_model.specs.Runs.{IsRun, IsStep, MayTake, coordinator_of, entry_at, entry_of, is_actor, made_of, post_named, server_of, session_of}
 use Rattle.hx_steady.proofs.Lists.{in-below, in-filter, in-map, in-slice_get}
 use Rattle.hx_posts.specs.Posts.{EpochsStaySmall, PostsStaySound, VersionsStaySmall}
@@ -92,6 +91,7 @@ kept-start script valid = record {
 server-exists : (script : Script) (s : ServerId) → is_actor script (Server s) ≡ true → IsServerOf script.space s
 server-exists script s e = let a = and_parts (ltb 0 s.0) (leb s.0 script.space.servers) e in (ltb-true 0 s.0 a.0, leb-true s.0 script.space.servers a.1)
 
+-- and so is a session
 session-exists : (script : Script) (u : SessionId) → is_actor script (Session u) ≡ true → IsSessionOf (length script.sessions) u
 session-exists script u e = let a = and_parts (ltb 0 u.0) (leb u.0 (length script.sessions)) e in (ltb-true 0 u.0 a.0, leb-true u.0 (length script.sessions) a.1)
 
@@ -107,13 +107,15 @@ module _ (script : Script) (valid : IsScript script) (older : List Entry) (kept 
       let r = named-sound script older kept.posts id (post from a m) (subst (λ (i : Input). MayTake older a i) e take) in
       (id.entry, r.0, r.1)
 
-  -- what stays of the others
+  -- a server that took no step
   server-stays : (s : ServerId) → IsSoundServer script.space (length script.sessions) (length older + 1) s (server_of script s older)
   server-stays s = server-up script.space (length script.sessions) (length older) (length older + 1) (omega arith) s (server_of script s older) (kept.servers s)
 
+  -- a session that took no step
   session-stays : (u : SessionId) → session.IsOwn script (length older + 1) u (session_of script u older)
   session-stays u = session.own-up script (length older) (length older + 1) (omega arith) u (session_of script u older) (kept.own u)
 
+  -- the coordinator, where it took no step
   coordinator-stays : coordinator.IsSoundCoordinator script.space (length script.sessions) (length older + 1) (coordinator_of script older)
   coordinator-stays = coordinator.coordinator-up script.space (length script.sessions) (length older) (length older + 1) (omega arith) (coordinator_of script older) kept.coordinator
 
@@ -122,8 +124,8 @@ module _ (script : Script) (valid : IsScript script) (older : List Entry) (kept 
   server-entry s exists input take =
       let sound = server-stays s in
       let well = server-good script.space (length script.sessions) (length older + 1) s (server_of script s older)
-          (record { valid = valid.space; exists = subst (IsServerOf script.space) (sym sound.id) exists; sound = sound })
-          (length older) (kept.servers s) (omega arith) input (delivered (Server s) input take) in
+      (record { valid = valid.space; exists = subst (IsServerOf script.space) (sym sound.id) exists; sound = sound })
+      (length older) (kept.servers s) (omega arith) input (delivered (Server s) input take) in
       record {
         servers = λ x. cond_both (same_server s x) (server_step script.space (server_of script x older) input).state (server_of script x older)
             (IsSoundServer script.space (length script.sessions) (length older + 1) x)
@@ -142,7 +144,7 @@ module _ (script : Script) (valid : IsScript script) (older : List Entry) (kept 
   session-entry : (v : SessionId) → IsSessionOf (length script.sessions) v → (input : Input) → MayTake older (Session v) input → KeptSound script (length older + 1) (here (Session v) input ∷ older)
   session-entry v exists input take =
       let well = session.session-good script valid (length older + 1) v exists (session_of script v older) (session-stays v) input
-          (λ id from m e. let d = delivered (Session v) input take id from m e in let l = d.1 in (d.0, omega (arith, l), d.2.message)) in
+      (λ id from m e. let d = delivered (Session v) input take id from m e in let l = d.1 in (d.0, omega (arith, l), d.2.message)) in
       record {
         servers = server-stays;
         own = λ u. cond_both (same_session v u) (session_step script.space (session_of script u older) input).state (session_of script u older) (session.IsOwn script (length older + 1) u)
@@ -160,8 +162,8 @@ module _ (script : Script) (valid : IsScript script) (older : List Entry) (kept 
   coordinator-entry : (input : Input) → MayTake older Coordinator input → KeptSound script (length older + 1) (here Coordinator input ∷ older)
   coordinator-entry input take =
       let well = coordinator.coordinator-good script.space (length script.sessions) (length older + 1) (coordinator_of script older)
-          (record { sound = coordinator-stays; low = (let e = kept.coordinator.config.epoch in omega (arith, e)) }) input
-          (λ id from m e. let d = delivered Coordinator input take id from m e in (d.0, d.2)) in
+      (record { sound = coordinator-stays; low = (let e = kept.coordinator.config.epoch in omega (arith, e)) }) input
+      (λ id from m e. let d = delivered Coordinator input take id from m e in (d.0, d.2)) in
       record { servers = server-stays; own = session-stays; coordinator = well.state; posts = (well.posts, kept.posts) }
 
   -- an entry of any actor

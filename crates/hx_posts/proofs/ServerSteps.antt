@@ -1,5 +1,5 @@
 -- Each step of a server does well.
-use Rattle.std.proofs.Common.{◌≡◌, ℕ, ◌+◌, ◌<◌, ◌≤◌, inl, inr, true, not, List, [], ◌∷◌, map, refl, sym, subst, arith, eqb}
+use Rattle.std.proofs.Common.{◌≡◌, ℕ, ◌+◌, ◌<◌, ◌≤◌, inl, inr, true, [], ◌∷◌, refl, sym, subst, arith, eqb}
 use Rattle.std.proofs.lemmas.Bool.{and_parts, cond_both}
 use Rattle.hx_types.specs.declared.messages.Message.{Message}
 use Rattle.hx_types.specs.declared.messages.Post.{Post}
@@ -7,7 +7,6 @@ use Rattle.hx_types.specs.declared.messages.PostId.{PostId}
 use Rattle.hx_types.specs.declared.names.Actor.{Actor}
 use Rattle.hx_types.specs.declared.names.Epoch.{Epoch}
 use Rattle.hx_types.specs.declared.names.ServerId.{ServerId}
-use Rattle.hx_types.specs.declared.snapshots.Kept.{Kept}
 use Rattle.hx_types.specs.declared.spaces.Space.{Space}
 use Rattle.hx_types.specs.declared.traces.Input.{Input}
 use Rattle.hx_types.specs.declared.updates.Update.{Update}
@@ -33,10 +32,11 @@ module _ (space : Space) (sessions n : ℕ) (s : ServerId) (st : ServerState) (r
   stays : IsGood (unmoved st)
   stays = unmoved-good space sessions n s st relies
 
-  -- one post to the coordinator, where the server is sealed or halts
+  -- one sound post
   one-sound : (p : Post) → IsSoundPost space sessions n p → (q : Post) → IsIn q (p ∷ []) → IsSoundPost space sessions n q
   one-sound p h q i = elim i [ inl e ↦ subst (IsSoundPost space sessions n) (sym e) h | inr j ↦ absurd j ]
 
+  -- a server is sealed in its own epoch
   seal-good : (epoch : Epoch) → epoch.0 ≤ n + 1 → IsGood (seal_at st epoch)
   seal-good epoch e =
       cond_both (eqb epoch.0 st.config.epoch.0) (record { state = record st { sealed = true }; posts = post (Server st.id) Coordinator (a_message.Sealed epoch) ∷ []; notes = [] }) (unmoved st) IsGood
@@ -48,6 +48,7 @@ module _ (space : Space) (sessions n : ℕ) (s : ServerId) (st : ServerState) (r
       )
       (λ t. stays)
 
+  -- a server halts
   halt-good : IsGood (halting st)
   halt-good = record {
     state = record { id = relies.sound.id; config = relies.sound.config; replicas = relies.sound.replicas };

@@ -1,5 +1,5 @@
 -- Sound servers: their configuration is of the space, and so is all that their replicas hold; what a step of one slot does.
-use Rattle.std.proofs.Common.{◌≡◌, ℕ, ◌+◌, ◌<◌, ◌≤◌, inl, inr, not, ◌||◌, List, [], ◌∷◌, ◌++◌, Option, Some, None, refl, sym, ap, ◌∙◌, subst, arith, eqb}
+use Rattle.std.proofs.Common.{◌≡◌, ℕ, ◌≤◌, inl, inr, not, ◌||◌, List, [], Option, Some, None, sym, subst, eqb}
 use Rattle.std.proofs.lemmas.Bool.{cond_both}
 use Rattle.hx_types.specs.declared.messages.Post.{Post}
 use Rattle.hx_types.specs.declared.names.Epoch.{Epoch}
@@ -12,10 +12,10 @@ use Rattle.hx_types.specs.Subspaces.{is_key_region}
 use Rattle.hx_types.specs.Configs.{is_lost}
 use Rattle.hx_types.specs.Spaces.{IsRegionOf, IsServerOf, IsSpace, KeyFits}
 use Rattle.hx_types.specs.Posts.{IsSoundPost}
-use Rattle.hx_model.specs.Slots.{KeyState, Move, moved_all, new_state, with_state}
+use Rattle.hx_model.specs.Slots.{KeyState, Move, moved_all}
 use Rattle.hx_model.specs.ServerSteps.{Replica, ServerState, ServerStep, SlotStep, at_slot, by_moves, by_posts, hearing, if_installed, replica_of, saying, spot_of, state_in, unmoved, with_replica}
 use Rattle.hx_steady.proofs.Moves.{AllKnown}
-use Rattle.hx_steady.proofs.Replicas.{in-with_replica, in-with_state, replica-found, state-from, with_slot_at}
+use Rattle.hx_steady.proofs.Replicas.{in-with_replica, in-with_state, state-from, with_slot_at}
 use Rattle.hx_posts.proofs.Texts.{Ascend, state_key, with_state-ascends}
 use Rattle.hx_posts.proofs.Bounds.{IsSoundAt, IsSoundConfig, config-up}
 use Rattle.hx_posts.proofs.Moves.{AllRise}

@@ -1,5 +1,5 @@
 -- What a server posts of an update of the space is sound, in every configuration of the space.
-use Rattle.std.proofs.Common.{◌≡◌, ℕ, ◌+◌, ◌≤◌, inl, inr, Bool, true, List, [], ◌∷◌, Option, refl, sym, ap, ◌∙◌, subst, arith}
+use Rattle.std.proofs.Common.{◌≡◌, ℕ, ◌+◌, ◌≤◌, inl, inr, Bool, true, List, [], ◌∷◌, Option, refl, sym, ap, ◌∙◌, subst}
 use Rattle.std.specs.List.{flat_map, list_any}
 use Rattle.std.proofs.lemmas.Bool.{eq-eqb, or_left, or_right}
 use Rattle.hx_types.specs.declared.calls.Answer.{Answer}
@@ -41,7 +41,6 @@ pub record IsSpot (space : Space) (n : ℕ) (spot : Spot) : Type 0 where
   pub region : IsRegionOf space spot.region
 
 module _ (space : Space) (sessions n : ℕ) (spot : Spot) (here : IsSpot space n spot) where
-
   -- a post of the entry that is sound
   abbrev pub IsSound : Post → Type 0
   IsSound p = IsSoundPost space sessions n p

@@ -1,7 +1,7 @@
 -- Snapshots: what a server posts to a joiner is sound, and what a joiner makes of it is too.
-use Rattle.std.proofs.Common.{◌≡◌, ℕ, ◌+◌, ◌<◌, ◌≤◌, ◌⊎◌, inl, inr, Bool, true, false, ◌&&◌, List, [], ◌∷◌, ◌++◌, map, Option, Some, None, refl, sym, ap, ◌∙◌, subst, arith, cond, ltb}
-use Rattle.std.specs.Prelude.{⊤, not}
-use Rattle.std.specs.List.{filter, flat_map, list_all}
+use Rattle.std.proofs.Common.{◌≡◌, ℕ, ◌+◌, ◌≤◌, ◌⊎◌, inl, inr, Bool, true, false, ◌&&◌, List, [], ◌∷◌, ◌++◌, map, Option, Some, None, refl, sym, ap, ◌∙◌, subst, arith, cond, ltb}
+use Rattle.std.specs.Prelude.{not}
+use Rattle.std.specs.List.{filter, list_all}
 use Rattle.std.proofs.lemmas.Bool.{and_parts, cond_both}
 use Rattle.std.proofs.lemmas.List.Elements.{All-nil}
 use Rattle.hx_types.specs.declared.configs.Member.{Member}
@@ -17,9 +17,8 @@ use Rattle.hx_types.specs.Configs.{joiner_after, joiner_for, joiner_in, lists_jo
 use Rattle.hx_types.specs.Spaces.{IsServerOf, KeyFits}
 use Rattle.hx_types.specs.Posts.{IsSoundKept, IsSoundPost, IsSoundUpdate, has_place_in, keys_ascend}
 use Rattle.hx_model.specs.Slots.{KeyState, kept_of, moved_all, pending_of, pending_of_all, snapshot_of, state_among}
-use Rattle.hx_model.specs.ServerSteps.{Replica, ServerState, ServerStep, Slots, Spot, accepting, installed_slots, join_keys, join_slot, keys_of, offered_all, ready_post, replica_of, saying, snap_posts, snap_to, snapped, spot_of, state_from, with_key, with_slots}
-use Rattle.hx_model.proofs.Laws.{base-moved_all}
-use Rattle.hx_steady.proofs.Lists.{all-in, in-append, in-filter, in-flat_map, in-map, in-provided, in_left}
+use Rattle.hx_model.specs.ServerSteps.{Replica, ServerState, Slots, Spot, accepting, installed_slots, join_keys, join_slot, keys_of, offered_all, ready_post, replica_of, saying, snap_posts, snap_to, snapped, spot_of, state_from, with_key, with_slots}
+use Rattle.hx_steady.proofs.Lists.{in-append, in-filter, in-flat_map, in-map, in-provided, in_left}
 use Rattle.hx_steady.proofs.Moves.{accepting-known}
 use Rattle.hx_steady.proofs.Replicas.{in-with_state, replica-found, state-from}
 use Rattle.hx_sound.proofs.Lists.{all-of}
@@ -42,11 +41,12 @@ joiner-after s m (y ∷ rest) x =
     (λ t e. let q : y.server ≡ x = cc in (y, inl refl, q))
     (λ t e. let r = joiner-after s y rest x e in (r.0, inr r.1, r.2))
 
+-- and so is who joins after a server of a list
 joiner-in : (s : ServerId) (ms : List Member) (x : ServerId) → joiner_in s ms ≡ Some x → (y : Member) × IsIn y ms × (y.server ≡ x)
 joiner-in s [] x e = absurd (cc)
 joiner-in s (m ∷ rest) x e = let r = joiner-after s m rest x e in (r.0, inr r.1, r.2)
 
--- what is filtered from a list that ascends, ascends
+-- what is filtered from a list that ascends by its keys ascends too
 filter-ascends : {A : Type 0} (key : A → List ℕ) (test : A → Bool) (xs : List A) → Ascend key xs → Ascend key (filter test xs)
 filter-ascends key test [] h = tt
 filter-ascends key test (x ∷ xs) h =
@@ -54,7 +54,7 @@ filter-ascends key test (x ∷ xs) h =
     (λ t. ((λ y i. h.0 y (in-filter test xs y i).0), filter-ascends key test xs h.1))
     (λ t. filter-ascends key test xs h.1)
 
--- keys of a mapped list
+-- a list that is mapped and keeps its keys ascends too
 pub map-ascends : {A B : Type 0} (key : A → List ℕ) (other : B → List ℕ) (f : A → B) → ((x : A) → other (f x) ≡ key x) → (xs : List A) → Ascend key xs → Ascend other (map f xs)
 map-ascends key other f e [] h = tt
 map-ascends key other f e (x ∷ xs) h = (
@@ -91,9 +91,6 @@ module _ (space : Space) (sessions n : ℕ) (s : ServerId) (st : ServerState) (r
     where
       h : IsSoundReplica space sessions n r
       h = relies.sound.replicas r i
-
-      states-of : List KeyState
-      states-of = filter (λ (t : KeyState). ltb 0 t.floor) r.states
 
       kept-sound : (k : Kept) → IsIn k (snapshot_of r.region r.states) → IsSoundKept (bounds space sessions n) k
       kept-sound k j =
@@ -159,6 +156,7 @@ in-with_key key (x ∷ ks) k =
     (λ b i. elim i [ inl e ↦ inr (inl e) | inr j ↦ elim (in-with_key key ks k j) [ inl e ↦ inl e | inr q ↦ inr (inr q) ] ])
     )
 
+-- the keys of updates with keys that fit
 keys-fit : (us : List Update) → ((u : Update) → IsIn u us → KeyFits u.key) → (k : List ℕ) → IsIn k (keys_of us) → KeyFits k
 keys-fit [] f k i = absurd i
 keys-fit (u ∷ us) f k i = elim (in-with_key u.key (keys_of us) k i) [
@@ -176,7 +174,7 @@ module _ (space : Space) (sessions n : ℕ) (spot : Spot) (at : IsSpot space n s
       let inside = λ (u : Update) (i : IsIn u ws). in_left us (t.accepted ++ t.early) u (w u i) in
       let known = accepting-known (together us t) spot t (offered_all spot.region t ws) held (offered_all-known (together us t) spot.region t ws held inside) in
       let rise = accepting-rise spot (offered_all spot.region t ws) t a.ordered
-          (offered_all-rise (together us t) (λ u i. after-of space sessions n spot.region u (all u i)) spot.region t ws held inside) in
+      (offered_all-rise (together us t) (λ u i. after-of space sessions n spot.region u (all u i)) spot.region t ws held inside) in
       let moves = accepting spot t (offered_all spot.region t ws) in
       record {
         each = λ x i. elim (in-with_state (moved_all moves t) slots.states x i) [
@@ -214,6 +212,7 @@ from-sound space sessions n g false k h l =
     })
     l
 
+-- and its key
 from-key : (marks : Bool) (k : Kept) → state_key (state_from marks k) ≡ kept_key k
 from-key true k = refl
 from-key false k = refl

@@ -1,5 +1,5 @@
 -- Byte order of texts, and lists that ascend by their keys.
-use Rattle.std.proofs.Common.{arith, ◌≡◌, ℕ, inl, inr, Bool, true, false, ◌&&◌, List, [], ◌∷◌, map, refl, sym, ap, ◌∙◌, subst, cond, eqb, ltb}
+use Rattle.std.proofs.Common.{arith, ◌≡◌, ℕ, inl, inr, true, false, ◌&&◌, List, [], ◌∷◌, map, refl, sym, ap, ◌∙◌, subst, cond, eqb, ltb}
 use Rattle.std.specs.List.{list_all}
 use Rattle.std.proofs.lemmas.Bool.{and_from, and_parts, cases_order, cond_both, eq-eqb, eqb-true, false_from_ne_true, false≢true, lt-ltb, ltb-true, or_cases, or_left, or_right}
 use Rattle.hx_types.specs.Words.{IsIn, same_text, text_below}
