@@ -23,3 +23,4 @@ pub mod Times
 pub mod Writes
 pub mod Histories
 pub mod Headline
+mod Example
