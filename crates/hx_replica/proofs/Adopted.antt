@@ -1,7 +1,7 @@
 -- What a server's replicas become in a new configuration.
-use Rattle.std.proofs.Common.{◌≡◌, ℕ, ◌+◌, ◌<◌, Bool, true, false, cond, List, [], ◌∷◌, ◌++◌, map, length, take, get_or, Option, None, Some, refl, ap, sym, ◌∙◌, subst, append_assoc, append-nil, arith}
+use Rattle.std.proofs.Common.{◌≡◌, ℕ, ◌+◌, ◌<◌, Bool, true, false, cond, List, [], ◌∷◌, ◌++◌, map, length, take, get_or, Option, None, Some, refl, ap, sym, ◌∙◌, subst, append_assoc, append-nil}
 use Rattle.std.specs.Borrow.{Bor}
-use Rattle.std.specs.List.{All, AllByRecursion, flat_map, slice_get}
+use Rattle.std.specs.List.{AllByRecursion, flat_map, slice_get}
 use Rattle.std.specs.Option.{option_map}
 use Rattle.std.proofs.lemmas.List.{map_push}
 use Rattle.std.proofs.lemmas.Grind.{flat_map-append}
@@ -18,7 +18,7 @@ use Rattle.hx_types.specs.Words.{provided, when_some}
 use Rattle.hx_model.specs.ServerSteps.{Replica as ReplicaState, ServerState, Spot as ModelSpot, adopted_posts, adopted_replica, adopted_state, is_active, listed_regions, ready_post, replica_of, replica_or_new, resumed, resumed_posts, snap_to}
 use Rattle.hx_model.specs.Slots.{KeyState, with_state}
 use Rattle.hx_slot.specs.States.{SlotState}
-use Rattle.hx_store.specs.Stores.{KeysAscend, StoreState, lent_states}
+use Rattle.hx_store.specs.Stores.{KeysAscend, lent_states}
 use Rattle.hx_store.proofs.Moves.{moved_all_parts}
 use Rattle.hx_store.proofs.Putting.{put_next}
 use Rattle.hx_store.proofs.Reading.{take_next}

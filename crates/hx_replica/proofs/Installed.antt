@@ -1,22 +1,16 @@
 -- The plan of a server that adopts a configuration.
-use Rattle.std.proofs.Common.{◌≡◌, ◌<◌, ◌≤◌, ℕ, List, [], ◌∷◌, ◌++◌, map, Vec, refl, ap, sym, ◌∙◌, subst}
+use Rattle.std.proofs.Common.{◌≡◌, ◌<◌, ◌≤◌, List, [], ◌∷◌, ◌++◌, map, Vec, refl, ap, sym, ◌∙◌, subst}
 use Rattle.std.specs.List.{flat_map}
 use Rattle.std.specs.declared.alloc.Global.{Global}
 use Rattle.std.proofs.lemmas.Bool.{cond-true, cond-false, lt-ltb, le-ltb}
 use Rattle.hx_types.specs.declared.configs.Config.{Config}
-use Rattle.hx_types.specs.declared.messages.Message.{Message}
 use Rattle.hx_types.specs.declared.messages.Post.{Post}
-use Rattle.hx_types.specs.declared.messages.PostId.{PostId}
-use Rattle.hx_types.specs.declared.names.Actor.{Actor}
 use Rattle.hx_types.specs.declared.names.RegionId.{RegionId}
 use Rattle.hx_types.specs.declared.names.ServerId.{ServerId}
 use Rattle.hx_types.specs.declared.spaces.Space.{Space}
 use Rattle.hx_types.specs.declared.traces.Input.{Input}
-use Rattle.hx_types.specs.declared.messages.Message.TheVariants as a_message
 use Rattle.hx_types.specs.declared.names.Actor.TheVariants.{Server}
-use Rattle.hx_types.specs.declared.traces.Input.TheVariants.{Deliver}
 use Rattle.hx_types.specs.Configs.{joiner_for}
-use Rattle.hx_types.specs.Spaces.{IsConfigOf}
 use Rattle.hx_types.specs.Words.{provided}
 use Rattle.hx_model.specs.ServerSteps.{Replica as ReplicaState, ServerState, ServerStep, adopted, adopted_posts, adopted_replica, install_at, is_active, listed_regions, ready_post, replica_or_new, resumed_posts, server_step, spot_of, unmoved, with_config}
 use Rattle.hx_replica.specs.declared.plans.Change.{Change}
@@ -25,9 +19,8 @@ use Rattle.hx_replica.specs.declared.plans.Change.TheVariants as a_change
 use Rattle.hx_replica.specs.declared.replicas.Replica.{Replica}
 use Rattle.hx_replica.specs.Adopting.{AreAdopted}
 use Rattle.hx_replica.specs.Plans.{IsAdoptionOn, IsChange, IsPlanOn}
-use Rattle.hx_replica.specs.Servers.{CanTake, ServerValue}
+use Rattle.hx_replica.specs.Servers.{ServerValue}
 use Rattle.hx_replica.specs.Ticking.{standing}
-use Rattle.hx_replica.proofs.Planning.{running_step}
 use Rattle.hx_replica.proofs.Sending.{snap_same}
 
 posts_same : (space : Space) (s : ServerState) (r : ReplicaState) → adopted_posts space (standing s.config s.id) r ≡ adopted_posts space s r

@@ -8,13 +8,11 @@ use Rattle.hx_types.specs.declared.names.RegionId.{RegionId}
 use Rattle.hx_types.specs.declared.names.Version.{Version}
 use Rattle.hx_types.specs.declared.updates.Update.{Update}
 use Rattle.hx_types.specs.Words.{provided}
-use Rattle.hx_model.specs.Neighbours.{is_end}
-use Rattle.hx_model.specs.Leading.{StuckAt}
-use Rattle.hx_model.specs.ServerSteps.{Spot as ModelSpot, doubt_in, doubts_from, end_marks, leader_doubts, move_posts, next_at, passed_on, resumed, resumed_posts}
-use Rattle.hx_model.specs.Slots.{Acknowledge, Forget, KeyState, Move, commits, moved, moved_all, pending_of, settled}
+use Rattle.hx_model.specs.ServerSteps.{Spot as ModelSpot, doubt_in, end_marks, leader_doubts, move_posts, passed_on, resumed, resumed_posts}
+use Rattle.hx_model.specs.Slots.{Forget, KeyState, Move, commits, moved, moved_all, pending_of, settled}
 use Rattle.hx_store.specs.Stores.{ArePending, acknowledging}
 use Rattle.hx_replica.specs.Adopting.{IsCarriedOn, doubt_of}
-use Rattle.hx_replica.specs.Made.{end_of, seen, settled_among, settles, told_of}
+use Rattle.hx_replica.specs.Made.{end_of, seen, settled_among, told_of}
 use Rattle.hx_replica.proofs.Offers.{Stands, ends_marked, ends_stand, marks_acked, marks_pending, no_end_posts, seen_stand, told_commits}
 use Rattle.hx_replica.proofs.Sending.{of_updates}
 

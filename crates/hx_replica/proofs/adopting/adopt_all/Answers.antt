@@ -1,4 +1,4 @@
-use Rattle.std.proofs.Common.{◌≡◌, ◌+◌, ℕ, List, ap, arith, length, subst, sym, ◌∙◌}
+use Rattle.std.proofs.Common.{◌+◌, List, ap, arith, subst, sym, ◌∙◌}
 use Rattle.hx_types.specs.declared.messages.Post.{Post}
 use Rattle.hx_types.specs.Subspaces.{region_count}
 use Rattle.hx_replica.specs.declared.replicas.Replica.{Replica}

@@ -1,8 +1,7 @@
-use Rattle.std.proofs.Common.{List, sym, subst}
+use Rattle.std.proofs.Common.{sym, subst}
 use Rattle.std.proofs.lemmas.Result.{IfOk-weaker}
 use Rattle.hx_model.specs.ServerSteps.{Replica as ReplicaState}
 use Rattle.hx_replica.specs.Adopting.{IsAdopted}
-use Rattle.hx_replica.specs.Replicas.{views_of}
 use Rattle.hx_replica.specs.Ticking.{standing}
 use Rattle.hx_replica.proofs.Adopted.{there}
 use Rattle.hx_replica.proofs.adopting.adopt_region.Goals as goal

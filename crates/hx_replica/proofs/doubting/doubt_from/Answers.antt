@@ -1,7 +1,6 @@
 use Rattle.std.proofs.Common.{◌++◌, List, ap, ◌∙◌}
 use Rattle.std.proofs.lemmas.Result.{on_ok_weaker}
 use Rattle.hx_types.specs.declared.messages.Post.{Post}
-use Rattle.hx_model.specs.Leading.{StuckAt}
 use Rattle.hx_replica.specs.Made.{seen, spot_seen}
 use Rattle.hx_replica.proofs.Resumed.{doubts}
 use Rattle.hx_replica.proofs.doubting.doubt_from.Goals as goal
