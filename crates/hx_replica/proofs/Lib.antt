@@ -13,3 +13,6 @@ pub mod Inside
 pub mod Examples
 pub mod Sending
 pub mod Searching
+pub mod Resumed
+pub mod Adopted
+pub mod Installed

@@ -112,7 +112,7 @@ offered_is spot g s u above = cond-false _ [] _ (not_known u.version.0 (top_of s
     not_known v top l = grind (arith, nat_tests)
 
 -- acknowledgements leave what is pending
-marks_pending : (ends : List Version) (s : KeyState) → pending_of (moved_all (acknowledging ends) s) ≡ pending_of s
+pub marks_pending : (ends : List Version) (s : KeyState) → pending_of (moved_all (acknowledging ends) s) ≡ pending_of s
 marks_pending [] s = refl
 marks_pending (e ∷ ends) s = marks_pending ends (moved (Acknowledge e.0) s)
 
@@ -187,14 +187,14 @@ ends_marked spot (b ∷ bs) =
     by false more = more
 
 -- each of them is pending
-abbrev Stands : List Update → Version → Type 0
+abbrev pub Stands : List Update → Version → Type 0
 Stands us v = list_any (λ (u : Update). u.version.0 == v.0) us ≡ true
 
 all_append : {A : Type 0} (P : A → Type 0) (xs ys : List A) → All P xs → All P ys → All P (xs ++ ys)
 all_append P [] ys h k = k
 all_append P (x ∷ xs) ys h k = All-cons P x (xs ++ ys) (All-head P x xs h) (all_append P xs ys (All-tail P x xs h) k)
 
-ends_stand : (spot : ModelSpot) (us : List Update) (bs : List (Bor Update)) → All (λ (b : Bor Update). Stands us b.now.version) bs → All (Stands us) (flat_map (λ (b : Bor Update). end_of spot b.now) bs)
+pub ends_stand : (spot : ModelSpot) (us : List Update) (bs : List (Bor Update)) → All (λ (b : Bor Update). Stands us b.now.version) bs → All (Stands us) (flat_map (λ (b : Bor Update). end_of spot b.now) bs)
 ends_stand spot us [] h = All-nil (Stands us)
 ends_stand spot us (b ∷ bs) h =
     all_append (Stands us) (end_of spot b.now) (flat_map (λ (x : Bor Update). end_of spot x.now) bs)
@@ -215,11 +215,20 @@ self_stands before b bs =
     ∙ or_true (list_any (λ (u : Update). u.version.0 == b.now.version.0) before) _
     (ap (λ t. t || list_any (λ (u : Update). u.version.0 == b.now.version.0) (seen bs)) (eq-eqb b.now.version.0 b.now.version.0 refl))
 
-seen_stand : (before : List Update) (bs : List (Bor Update)) → All (λ (b : Bor Update). Stands (before ++ seen bs) b.now.version) bs
+pub seen_stand : (before : List Update) (bs : List (Bor Update)) → All (λ (b : Bor Update). Stands (before ++ seen bs) b.now.version) bs
 seen_stand before [] = All-nil (λ (b : Bor Update). Stands (before ++ []) b.now.version)
 seen_stand before (b ∷ bs) =
     All-cons (λ (x : Bor Update). Stands (before ++ b.now ∷ seen bs) x.now.version) b bs (self_stands before b bs)
     (subst (λ (us : List Update). All (λ (x : Bor Update). Stands us x.now.version) bs) (append_assoc before (b.now ∷ []) (seen bs)) (seen_stand (before ++ b.now ∷ []) bs))
+
+-- an acknowledgement posts nothing
+pub no_end_posts : (spot : ModelSpot) (us : List Update) → flat_map (move_posts spot) (end_marks spot us) ≡ []
+no_end_posts spot [] = refl
+no_end_posts spot (x ∷ xs) = by (is_end (next_at spot x)) (no_end_posts spot xs)
+  where
+    by : (t : Bool) → flat_map (move_posts spot) (end_marks spot xs) ≡ [] → flat_map (move_posts spot) (map (λ (v : Update). Acknowledge v.version.0) (cond t (x ∷ filter (λ (v : Update). is_end (next_at spot v)) xs) (filter (λ (v : Update). is_end (next_at spot v)) xs))) ≡ []
+    by true more = more
+    by false more = more
 
 -- all together
 pub acceptance : (spot : ModelSpot) (s : KeyState) (u : Update) (bs line : List (Bor Update)) (ends : List Version) (posts : List Post)
@@ -254,16 +263,8 @@ acceptance spot s u bs line ends posts top took new ended lined posted =
     passed_seen [] = refl
     passed_seen (x ∷ xs) = ap (λ (ps : List Post). passed_on spot x.now ++ ps) (passed_seen xs)
 
-    no_posts : (us : List Update) → flat_map (move_posts spot) (end_marks spot us) ≡ []
-    no_posts [] = refl
-    no_posts (x ∷ xs) = by (is_end (next_at spot x)) (no_posts xs)
-      where
-        by : (t : Bool) → flat_map (move_posts spot) (end_marks spot xs) ≡ [] → flat_map (move_posts spot) (map (λ (v : Update). Acknowledge v.version.0) (cond t (x ∷ filter (λ (v : Update). is_end (next_at spot v)) xs) (filter (λ (v : Update). is_end (next_at spot v)) xs))) ≡ []
-        by true more = more
-        by false more = more
-
     whole : (rest : List Move) → flat_map (move_posts spot) (offered spot.region s u ++ end_marks spot (taken (offered spot.region s u)) ++ rest) ≡ flat_map (move_posts spot) (offered spot.region s u) ++ flat_map (move_posts spot) rest
     whole rest =
         flat_map-append (move_posts spot) (offered spot.region s u ++ end_marks spot (taken (offered spot.region s u))) rest
         ∙ ap (λ (ps : List Post). ps ++ flat_map (move_posts spot) rest)
-        (flat_map-append (move_posts spot) (offered spot.region s u) (end_marks spot (taken (offered spot.region s u))) ∙ ap (λ (ps : List Post). flat_map (move_posts spot) (offered spot.region s u) ++ ps) (no_posts (taken (offered spot.region s u))) ∙ append-nil _)
+        (flat_map-append (move_posts spot) (offered spot.region s u) (end_marks spot (taken (offered spot.region s u))) ∙ ap (λ (ps : List Post). flat_map (move_posts spot) (offered spot.region s u) ++ ps) (no_end_posts spot (taken (offered spot.region s u))) ∙ append-nil _)

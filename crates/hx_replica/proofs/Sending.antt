@@ -26,7 +26,7 @@ pub of_slots : (f : KeyState → List Post) (bs : List (Bor SlotState)) → flat
 of_slots f [] = refl
 of_slots f (b ∷ rest) = ap (λ (l : List Post). f b.now.state ++ l) (of_slots f rest)
 
-snap_same : (s : ServerState) (r : ReplicaState) (o : Option ServerId) → snap_to (standing s.config s.id) r o ≡ snap_to s r o
+pub snap_same : (s : ServerState) (r : ReplicaState) (o : Option ServerId) → snap_to (standing s.config s.id) r o ≡ snap_to s r o
 snap_same s r None = refl
 snap_same s r (Some joiner) = refl
 

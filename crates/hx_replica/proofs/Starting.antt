@@ -21,10 +21,10 @@ use Rattle.hx_replica.specs.Replicas.{AreReplicas, IsReplicaIn, first_replica, v
 abbrev pub passing : (RegionId → Bool) → ℕ → List RegionId
 passing p n = filter p (map (λ m. record { 0 = m }) (below n))
 
-abbrev numbered : ℕ → RegionId
+abbrev pub numbered : ℕ → RegionId
 numbered n = record { 0 = n }
 
-passing_more : (p : RegionId → Bool) (n : ℕ) → passing p (n + 1) ≡ passing p n ++ cond (p (numbered n)) (numbered n ∷ []) []
+pub passing_more : (p : RegionId → Bool) (n : ℕ) → passing p (n + 1) ≡ passing p n ++ cond (p (numbered n)) (numbered n ∷ []) []
 passing_more p n = ap (filter p) (map_below_next numbered n) ∙ filter-append p (map numbered (below n)) (numbered n ∷ [])
 
 -- a region more that passes, or doesn't
@@ -43,7 +43,7 @@ ascend_push [] n a l = (All-nil (λ m. n < m), tt)
 ascend_push (x ∷ xs) n a l =
     (All-push (λ m. x < m) xs n a.0 (All-head (λ m. m < n) x xs l), ascend_push xs n a.1 (All-tail (λ m. m < n) x xs l))
 
-abbrev numbers : (RegionId → Bool) → ℕ → List ℕ
+abbrev pub numbers : (RegionId → Bool) → ℕ → List ℕ
 numbers p n = map (λ (g : RegionId). g.0) (passing p n)
 
 numbers_more : (p : RegionId → Bool) (n : ℕ) → numbers p (n + 1) ≡ cond (p (numbered n)) (numbers p n ++ n ∷ []) (numbers p n)
@@ -53,7 +53,7 @@ numbers_more p n = by (p (numbered n)) refl
     by true e = sym (with_more (λ (g : RegionId). g.0) p n (numbers p n) refl e) ∙ ap (λ b. cond b (numbers p n ++ n ∷ []) (numbers p n)) (sym e)
     by false e = sym (without_more (λ (g : RegionId). g.0) p n (numbers p n) refl e) ∙ ap (λ b. cond b (numbers p n ++ n ∷ []) (numbers p n)) (sym e)
 
-numbers_ascend : (p : RegionId → Bool) (n : ℕ) → IsAscending (numbers p n) × All (λ m. m < n) (numbers p n)
+pub numbers_ascend : (p : RegionId → Bool) (n : ℕ) → IsAscending (numbers p n) × All (λ m. m < n) (numbers p n)
 numbers_ascend p zero = (tt, All-nil (λ m. m < 0))
 numbers_ascend p (suc n) =
     let rest = numbers_ascend p n in

@@ -6,3 +6,4 @@ pub mod Inside
 pub mod Plans
 pub mod Examples
 pub mod Ticking
+pub mod Adopting

@@ -28,10 +28,9 @@ abbrev pub server_entry : Space → ServerState → Input → Entry
 server_entry space s input =
     let step = server_step space s input in entry_of (Server s.id) input (record { posts = step.posts; notes = step.notes })
 
--- the messages that a server can take today: all but configurations, snapshots and calls on no key
+-- the messages that a server can take today: all but snapshots and calls on no key
 abbrev pub IsHandled : Message → Type 0
 IsHandled (a_message.Call epoch number op) = IsSome (key_of op)
-IsHandled (a_message.Install config) = ⊥
 IsHandled (a_message.Snap epoch g snapshot pending) = ⊥
 IsHandled other = ⊤
 

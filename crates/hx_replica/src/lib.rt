@@ -2,10 +2,13 @@
 #![tactic(auto)]
 
 mod accepting;
+mod adopting;
+mod doubting;
 mod made;
 mod members;
 mod plans;
 mod replicas;
+mod resuming;
 mod rows;
 mod servers;
 mod settling;

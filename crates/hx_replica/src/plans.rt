@@ -4,7 +4,10 @@ ghost use Rattle.hx_types.specs.Words.{post};
 ghost use Rattle.hx_replica.specs.declared.plans.Change.TheVariants as a_change;
 
 use crate::made::{SlotChange, SlotMade};
-use hx_types::{Actor, Entry, Exact, Input, Memory, Message, Notes, Post, Posts, ServerId, Text};
+use crate::replicas::Replica;
+use hx_types::{
+    Actor, Config, Entry, Exact, Input, Memory, Message, Notes, Post, Posts, ServerId, Text,
+};
 use std::alloc::Global;
 
 /// What a step changes of its server.
@@ -15,6 +18,11 @@ pub enum Change {
     Seal,
     /// The server takes no further step.
     Halt,
+    /// The server adopts a configuration: it isn't sealed any more, and has these replicas.
+    Adopt {
+        config: Config,
+        replicas: Vec<Replica>,
+    },
     /// The slot of a key, at the replica with this place among the server's, makes its part.
     Slot {
         replica: usize,

@@ -1,10 +1,10 @@
 ghost use Rattle.std.specs.Prelude.{◌≡◌, ◌<◌, ◌≤◌, IfOk, IfNone, IfSome, IsSomeAnd, OnOk, Some, None, slice_get};
 ghost use Rattle.std.specs.Option.{option_map};
 ghost use Rattle.hx_types.specs.Effects.{key_of};
-ghost use Rattle.hx_types.specs.Spaces.{IsServerOf, IsSpace};
+ghost use Rattle.hx_types.specs.Spaces.{IsConfigOf, IsServerOf, IsSpace};
 ghost use Rattle.hx_types.specs.Subspaces.{is_key_region};
 ghost use Rattle.hx_types.specs.Words.{when_some};
-ghost use Rattle.hx_model.specs.ServerSteps.{Replica as ReplicaState, asked, halting, hearing, if_installed, replica_of, seal_at, server_at_start, server_step, state_in, tick_step};
+ghost use Rattle.hx_model.specs.ServerSteps.{Replica as ReplicaState, asked, halting, hearing, if_installed, install_at, replica_of, seal_at, server_at_start, server_step, state_in, tick_step};
 ghost use Rattle.hx_model.specs.Slots.{new_state};
 ghost use Rattle.hx_replica.specs.Hearing.{IsOfOneSlot, heard, leading};
 ghost use Rattle.hx_store.specs.Stores.{HasRoom, state_at};
@@ -12,6 +12,7 @@ ghost use Rattle.hx_replica.specs.Made.{IsMade, IsSlotInput, key_in, slot_step_o
 ghost use Rattle.hx_replica.specs.Plans.{CanStep, HasRoomAt, IsDelivery, IsMadeAt, IsPlanOn};
 ghost use Rattle.hx_replica.specs.Servers.{CanTake, server_entry};
 
+use crate::adopting::adopt_all;
 use crate::made::SlotMade;
 use crate::members::lists_ready;
 use crate::plans::{Change, Plan, moved, said, to_coordinator, unmoved};
@@ -114,6 +115,11 @@ impl Server {
             Change::Nothing => {}
             Change::Seal => self.sealed = true,
             Change::Halt => self.halted = true,
+            Change::Adopt { config, replicas } => {
+                self.config = config;
+                self.sealed = false;
+                self.replicas = replicas;
+            }
             Change::Slot {
                 replica,
                 key,
@@ -196,6 +202,37 @@ impl Server {
         said(alloc, self.id, input, posts, Change::Seal)
     }
 
+    /// The server adopts a configuration of a higher epoch than its own. An older one, or the same,
+    /// is nothing to it.
+    fn install(&self, alloc: Global, input: &Input, config: &Config) -> Result<Plan, Memory>
+        requires step { server_step self.now.space self.now.state input.now ≡ install_at self.now.space self.now.state config.now }
+        requires config { IsConfigOf self.now.space config.now }
+        ensures plan { IfOk result (IsPlanOn self.now) }
+        ensures input { IfOk result (λ plan. plan.entry.input ≡ input.now) }
+    {
+        if config.epoch.0 <= self.config.epoch.0 {
+            return unmoved(alloc, self.id, input);
+        }
+        let mut posts = Posts::new(alloc);
+        let replicas = adopt_all(
+            alloc,
+            &self.space,
+            &self.map,
+            config,
+            self.id,
+            self.replicas.as_slice(),
+            &mut posts,
+        )?;
+        let config = config.copy(alloc)?;
+        said(
+            alloc,
+            self.id,
+            input,
+            posts,
+            Change::Adopt { config, replicas },
+        )
+    }
+
     /// The step that a message makes.
     fn deliver(
         &mut self,
@@ -222,6 +259,7 @@ impl Server {
                 said(alloc, self.id, input, posts, Change::Nothing)
             }
             Message::Seal { epoch } => self.seal(alloc, input, *epoch),
+            Message::Install { config } => self.install(alloc, input, config),
             Message::Die => self.halt(alloc, input),
             _ => self.take(alloc, input, from, message),
         }

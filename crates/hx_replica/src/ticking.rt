@@ -68,7 +68,7 @@ fn tick_replica(
 }
 
 /// Posts a snapshot to the joiner that this server feeds, if there is one.
-fn snap(alloc: Global, spot: &Spot, store: &Store, posts: &mut Posts) -> Result<(), Memory>
+pub fn snap(alloc: Global, spot: &Spot, store: &Store, posts: &mut Posts) -> Result<(), Memory>
     requires { store.now.region ≡ spot.now.region }
     ensures { OnOk result (posts.new ≡ posts.old ++ snap_posts (standing spot.now.config.now spot.now.server) (kept_here spot.now.region store.now.states)) }
 {
@@ -125,7 +125,7 @@ fn send_slot(alloc: Global, spot: &Spot, slot: &Slot, posts: &mut Posts) -> Resu
 }
 
 /// Tells the coordinator that this server has joined, where it is listed as joining.
-fn tell_ready(spot: &Spot, posts: &mut Posts) -> Result<(), Memory>
+pub fn tell_ready(spot: &Spot, posts: &mut Posts) -> Result<(), Memory>
     ensures { OnOk result (posts.new ≡ posts.old ++ ready_post (standing spot.now.config.now spot.now.server) spot.now.region) }
 {
     if lists_joining(spot.config, spot.region, spot.server) {

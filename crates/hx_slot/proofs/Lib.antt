@@ -14,3 +14,4 @@ pub mod Turns
 pub mod Offering
 pub mod Carrying
 pub mod Orderly
+pub mod Renewed

@@ -10,8 +10,8 @@
 //! that [`Slot::mark`] and [`Slot::touched`] don't go through the updates. [`Slot::reserve`] makes
 //! room ahead; offers and acknowledgements then take no memory, so that none of them can fail.
 //! [`Slot::object`] and [`Slot::latest`] go back to the last update that changed the object, and
-//! [`Slot::kept`] goes through all committed ones. It and [`Slot::reserve`] alone take memory: that
-//! they can succeed no contract says, but the tests show it.
+//! [`Slot::kept`] goes through all committed ones. It, [`Slot::renewed`] and [`Slot::reserve`] alone
+//! take memory: that they can succeed no contract says, but the tests show it.
 #![tactic(auto)]
 
 mod acks;
@@ -19,6 +19,7 @@ mod early;
 mod entries;
 mod line;
 mod marks;
+mod renewing;
 mod rooms;
 mod slots;
 mod tables;

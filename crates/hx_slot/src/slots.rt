@@ -24,6 +24,7 @@ use crate::line::{
     Found, copy_row, last_version, only_object, rest_of, row_over, update_at, version_and_object,
 };
 use crate::marks::{mark_of, marks_over, newer, newest_of};
+use crate::renewing::{renewed_line, renewed_tables};
 use crate::rooms::{grow, insert_within};
 use crate::tables::Tables;
 use crate::touches::{last_touch, touches_over};
@@ -202,6 +203,29 @@ impl Slot {
             marks: marks_over(alloc, self.marks, &self.base.marks, line)?,
             touches: touches_over(alloc, self.marks, &self.base.touches, line)?,
         }))
+    }
+
+    /// A copy of the slot that has forgotten the acknowledgements of pending updates and all early
+    /// updates. It has no room.
+    pub fn renewed(&self, alloc: Global) -> Result<Slot, Memory>
+        ensures state { IfOk result (λ slot. slot.state ≡ moved Forget self.now.state) }
+        ensures region { IfOk result (λ slot. slot.region ≡ self.now.region) }
+    {
+        let mut acked = Vec::new(alloc);
+        grow(&mut acked, self.accepted.len() - self.committed)?;
+        let accepted = renewed_line(alloc, self.accepted.as_slice())?;
+        Ok(Slot {
+            region: self.region,
+            marks: self.marks,
+            base: self.base.copy(alloc)?,
+            accepted,
+            committed: self.committed,
+            floor: self.floor,
+            acked,
+            early: Vec::new(alloc),
+            tables: renewed_tables(alloc, &self.tables)?,
+            spare: 0,
+        })
     }
 
     /// The object after all accepted updates.

@@ -87,7 +87,7 @@ module _ (g : RegionId) (marks : Bool) where
       (λ c. closed_found key e es each.0 c (behind e es s) t refl (state_among marks key (states_of es)) rest)
 
   -- a slot of a lower key goes to the front
-  front : (s : KeyState) (es : List Entry) → Each es → AllAbove s.base.key es → with_state s (states_of es) ≡ s ∷ states_of es
+  pub front : (s : KeyState) (es : List Entry) → Each es → AllAbove s.base.key es → with_state s (states_of es) ≡ s ∷ states_of es
   front s [] each a = refl
   front s (e ∷ es) each a =
       cond_both e.1.opened (e.1.slot.state ∷ states_of es) (states_of es) (λ states. with_state s states ≡ s ∷ states)

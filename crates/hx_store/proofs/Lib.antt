@@ -4,3 +4,4 @@ pub mod Texts
 pub mod Finding
 pub mod Stepping
 pub mod Reading
+pub mod Putting

@@ -1,12 +1,12 @@
 -- A store as contracts see it: the slots of a region, in byte order of keys.
-use Rattle.std.specs.Prelude.{◌≡◌, ℕ, ◌<◌, ◌≤◌, Bool, true, List, [], ◌∷◌, ◌++◌, map, length, if◌then◌else◌, IsSomeAnd, Option, None, Some}
+use Rattle.std.specs.Prelude.{◌≡◌, ℕ, ◌<◌, ◌≤◌, Bool, true, ⊤, List, [], ◌∷◌, ◌++◌, map, length, if◌then◌else◌, IsSomeAnd, Option, None, Some}
 use Rattle.std.specs.Borrow.{Bor}
-use Rattle.std.specs.List.{All}
+use Rattle.std.specs.List.{All, AllByRecursion}
 use Rattle.hx_types.specs.declared.names.RegionId.{RegionId}
 use Rattle.hx_types.specs.declared.names.Version.{Version}
 use Rattle.hx_types.specs.declared.updates.Place.{Place}
 use Rattle.hx_types.specs.declared.updates.Update.{Update}
-use Rattle.hx_types.specs.Words.{same_text}
+use Rattle.hx_types.specs.Words.{same_text, text_below}
 use Rattle.hx_model.specs.Neighbours.{place_number}
 use Rattle.hx_slot.specs.States.{SlotState}
 use Rattle.hx_model.specs.Slots.{Acknowledge, KeyState, acknowledged, Move, is_pending, moved_all, offered, settled, state_among, with_state}
@@ -38,6 +38,11 @@ state_at s key = state_among s.marks key s.states
 -- the slots after moves of a key's
 abbrev pub after_moves : StoreState → List ℕ → List Move → List KeyState
 after_moves s key moves = with_state (moved_all moves (state_at s key)) s.states
+
+-- the keys of slots ascend
+abbrev pub KeysAscend : List KeyState → Type 0
+KeysAscend [] = ⊤
+KeysAscend (s ∷ rest) = AllByRecursion (λ (t : KeyState). text_below s.base.key t.base.key ≡ true) rest × KeysAscend rest
 
 -- the slots that are lent
 abbrev pub lent : List (Bor SlotState) → List SlotState

@@ -13,6 +13,7 @@ mod searching;
 mod slots;
 mod stores;
 
+pub use slots::settle_all;
 pub use stores::Store;
 
 #[cfg(test)]

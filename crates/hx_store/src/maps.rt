@@ -1,6 +1,6 @@
-ghost use Rattle.std.specs.Prelude.{◌≡◌, ◌<◌, ◌≤◌, IfOk, IsSome, IsSomeAnd, OnOk, false};
+ghost use Rattle.std.specs.Prelude.{◌≡◌, ◌<◌, ◌≤◌, IfOk, IsSome, IsSomeAnd, OnErr, OnOk, false};
 ghost use Rattle.std.specs.Option.{option_copied, is_some};
-ghost use Rattle.hx_model.specs.Slots.{acknowledged, moved_all, offered};
+ghost use Rattle.hx_model.specs.Slots.{acknowledged, moved_all, offered, with_state};
 ghost use Rattle.hx_store.specs.Held.{AreHeld, HasMoved, held_at, slots_of, states_of};
 ghost use Rattle.hx_store.specs.Stores.{lent};
 ghost use Rattle.hx_store.specs.Stores.{ArePending, CanBeOffered, accepted, acknowledged_at, accepted_at, no_moves};
@@ -63,6 +63,27 @@ pub fn make(
         slot,
         opened: false,
     };
+    slots.insert(name, held)?;
+    Ok(())
+}
+
+/// Puts a slot at its key: it is part of the store from now on.
+pub fn put_at(
+    alloc: Global,
+    slots: &mut Slots,
+    region: RegionId,
+    marks: bool,
+    slot: Slot,
+) -> Result<(), Memory>
+    requires held { AreHeld region marks slots.old.entries }
+    requires region { slot.region ≡ region }
+    requires marks { slot.state.marks ≡ marks }
+    ensures held { AreHeld region marks slots.new.entries }
+    ensures states { OnOk result (states_of slots.new.entries ≡ with_state slot.state (states_of slots.old.entries)) }
+    ensures stays { OnErr result (states_of slots.new.entries ≡ states_of slots.old.entries) }
+{
+    let name = String::from_str(alloc, slot.key().as_str())?;
+    let held = Held { slot, opened: true };
     slots.insert(name, held)?;
     Ok(())
 }

@@ -1,5 +1,5 @@
-ghost use Rattle.std.specs.Prelude.{◌≡◌, ◌<◌, ◌≤◌, ◌+◌, true, length};
-ghost use Rattle.hx_model.specs.Slots.{acknowledged, moved_all, offered};
+ghost use Rattle.std.specs.Prelude.{◌≡◌, ◌<◌, ◌≤◌, ◌+◌, ◌++◌, true, length};
+ghost use Rattle.hx_model.specs.Slots.{acknowledged, moved_all, offered, settled};
 ghost use Rattle.hx_store.specs.Stores.{accepted, acknowledging, ArePending, CanBeOffered};
 
 use hx_slot::Slot;
@@ -35,6 +35,16 @@ pub fn accept(held: &mut Held, update: Update, place: u32, ends: &[Version])
     acknowledge_all(&mut held.slot, ends);
     let _ = held.slot.settle();
     held.opened = true;
+}
+
+/// Pending versions of a slot are acknowledged, and what can be committed is.
+pub fn settle_all(slot: &mut Slot, versions: &[Version])
+    requires { ArePending slot.old.state versions.now }
+    ensures state { slot.new.state ≡ moved_all (acknowledging versions.now ++ settled (moved_all (acknowledging versions.now) slot.old.state)) slot.old.state }
+    ensures region { slot.new.region ≡ slot.old.region }
+{
+    acknowledge_all(slot, versions);
+    let _ = slot.settle();
 }
 
 fn acknowledge_all(slot: &mut Slot, versions: &[Version])

@@ -1,12 +1,14 @@
-ghost use Rattle.std.specs.Prelude.{◌≡◌, ◌<◌, ◌≤◌, true, [], OnOk, IfNone, IfOk, IfSome, IsSome};
+ghost use Rattle.std.specs.Prelude.{◌≡◌, ◌<◌, ◌≤◌, true, [], OnErr, OnOk, IfNone, IfOk, IfSome, IsSome};
 ghost use Rattle.std.specs.Borrow.{Bor};
 ghost use Rattle.std.specs.List.{All};
-ghost use Rattle.hx_model.specs.Slots.{acknowledged, found_in, moved_all, new_state, offered, pending_of_all, snapshot_of, state_among};
+ghost use Rattle.hx_model.specs.Slots.{acknowledged, found_in, moved_all, new_state, offered, pending_of_all, snapshot_of, state_among, with_state};
 ghost use Rattle.hx_slot.specs.States.{SlotState};
-ghost use Rattle.hx_store.specs.Stores.{ArePending, CanBeOffered, HasRoom, accepted, after_moves, lent_states, state_at};
+ghost use Rattle.hx_store.specs.Stores.{ArePending, CanBeOffered, HasRoom, KeysAscend, accepted, after_moves, lent_states, state_at};
 
 use crate::copying::{kept_of, pending_of};
-use crate::maps::{Slots, accept_at, acknowledge_at, held, make, open_at, opened, slot_of, widen};
+use crate::maps::{
+    Slots, accept_at, acknowledge_at, held, make, open_at, opened, put_at, slot_of, widen,
+};
 use crate::searching::matching;
 use hx_slot::Slot;
 use hx_types::{Memory, RegionId, Rows, Snapshot, Terms, Text, Update, Updates, Version};
@@ -64,6 +66,8 @@ impl Store {
     pub fn slots(&self, alloc: Global) -> Result<Vec<&Slot>, Memory>
         ensures states { IfOk result (λ slots. lent_states slots.items ≡ self.now.states) }
         ensures regions { IfOk result (λ slots. All (λ (b : Bor SlotState). b.now.region ≡ self.now.region) slots.items) }
+        ensures marks { IfOk result (λ slots. All (λ (b : Bor SlotState). b.now.state.marks ≡ self.now.marks) slots.items) }
+        ensures ascend { IfOk result (λ slots. KeysAscend (lent_states slots.items)) }
     {
         opened(alloc, &self.slots)
     }
@@ -103,6 +107,18 @@ impl Store {
     {
         make(alloc, &mut self.slots, self.region, self.marks, key)?;
         widen(&mut self.slots, self.region, self.marks, key, n)
+    }
+
+    /// Puts a slot at its key, in place of the one that is there.
+    pub fn put(&mut self, alloc: Global, slot: Slot) -> Result<(), Memory>
+        requires region { slot.region ≡ self.old.region }
+        requires marks { slot.state.marks ≡ self.old.marks }
+        ensures region { self.new.region ≡ self.old.region }
+        ensures marks { self.new.marks ≡ self.old.marks }
+        ensures states { OnOk result (self.new.states ≡ with_state slot.state self.old.states) }
+        ensures stays { OnErr result (self.new.states ≡ self.old.states) }
+    {
+        put_at(alloc, &mut self.slots, self.region, self.marks, slot)
     }
 
     /// The key has a slot from now on. It takes no memory.

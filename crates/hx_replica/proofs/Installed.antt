@@ -1,0 +1,74 @@
+-- The plan of a server that adopts a configuration.
+use Rattle.std.proofs.Common.{◌≡◌, ◌<◌, ◌≤◌, List, [], ◌∷◌, ◌++◌, map, Vec, refl, ap, sym, ◌∙◌, subst}
+use Rattle.std.specs.List.{flat_map}
+use Rattle.std.specs.declared.alloc.Global.{Global}
+use Rattle.std.proofs.lemmas.Bool.{cond-true, cond-false, lt-ltb, le-ltb}
+use Rattle.hx_types.specs.declared.configs.Config.{Config}
+use Rattle.hx_types.specs.declared.messages.Post.{Post}
+use Rattle.hx_types.specs.declared.names.RegionId.{RegionId}
+use Rattle.hx_types.specs.declared.names.ServerId.{ServerId}
+use Rattle.hx_types.specs.declared.spaces.Space.{Space}
+use Rattle.hx_types.specs.declared.traces.Input.{Input}
+use Rattle.hx_types.specs.declared.names.Actor.TheVariants.{Server}
+use Rattle.hx_types.specs.Configs.{joiner_for}
+use Rattle.hx_types.specs.Words.{provided}
+use Rattle.hx_model.specs.ServerSteps.{Replica as ReplicaState, ServerState, ServerStep, adopted, adopted_posts, adopted_replica, install_at, is_active, listed_regions, ready_post, replica_or_new, resumed_posts, server_step, spot_of, unmoved, with_config}
+use Rattle.hx_replica.specs.declared.plans.Change.{Change}
+use Rattle.hx_replica.specs.declared.plans.Plan.{Plan}
+use Rattle.hx_replica.specs.declared.plans.Change.TheVariants as a_change
+use Rattle.hx_replica.specs.declared.replicas.Replica.{Replica}
+use Rattle.hx_replica.specs.Adopting.{AreAdopted}
+use Rattle.hx_replica.specs.Plans.{IsAdoptionOn, IsChange, IsPlanOn}
+use Rattle.hx_replica.specs.Servers.{ServerValue}
+use Rattle.hx_replica.specs.Ticking.{standing}
+use Rattle.hx_replica.proofs.Sending.{snap_same}
+
+posts_same : (space : Space) (s : ServerState) (r : ReplicaState) → adopted_posts space (standing s.config s.id) r ≡ adopted_posts space s r
+posts_same space s r =
+    ap (λ (l : List Post). provided (is_active s.config r) (l ++ flat_map (resumed_posts (spot_of space s r.region)) r.states ++ ready_post s r.region)) (snap_same s r (joiner_for s.config r.region s.id))
+
+posts_of : (space : Space) (s : ServerState) (old : List ReplicaState) (gs : List RegionId)
+    → flat_map (λ (g : RegionId). adopted_posts space (standing s.config s.id) (replica_or_new old g)) gs ≡ flat_map (adopted_posts space s) (map (replica_or_new old) gs)
+posts_of space s old [] = refl
+posts_of space s old (g ∷ gs) =
+    ap (λ (l : List Post). l ++ flat_map (λ (x : RegionId). adopted_posts space (standing s.config s.id) (replica_or_new old x)) gs) (posts_same space s (replica_or_new old g))
+    ∙ ap (λ (l : List Post). adopted_posts space s (replica_or_new old g) ++ l) (posts_of space s old gs)
+
+views_of_all : (space : Space) (s : ServerState) (old : List ReplicaState) (gs : List RegionId)
+    → map (λ (g : RegionId). adopted_replica space (standing s.config s.id) (replica_or_new old g)) gs ≡ map (adopted_replica space s) (map (replica_or_new old) gs)
+views_of_all space s old [] = refl
+views_of_all space s old (g ∷ gs) = ap (λ (l : List ReplicaState). adopted_replica space s (replica_or_new old g) ∷ l) (views_of_all space s old gs)
+
+abbrev pub adopting_plan : ServerId → Input → List Post → Config → Vec Replica Global → Plan
+adopting_plan server input posts config replicas =
+    record { entry = record { actor = Server server; input = input; outputs = posts; notes = [] }; change = a_change.Adopt config replicas }
+
+-- a newer configuration is adopted
+pub adoption_planned : (v : ServerValue) (input : Input) (config copy : Config) (replicas : Vec Replica Global) (before posts : List Post) (plan : Plan) → v.state.config.epoch.0 < config.epoch.0
+    → server_step v.space v.state input ≡ install_at v.space v.state config → before ≡ []
+    → AreAdopted v.space (standing config v.state.id) v.state.replicas (listed_regions config v.state.id) before posts replicas.items
+    → copy ≡ config → plan ≡ adopting_plan v.state.id input posts copy replicas → IsPlanOn v plan
+adoption_planned v input config copy replicas before posts plan newer is none a same e =
+    let s : ServerState = v.state in
+    let next : ServerState = with_config s config in
+    let step : server_step v.space s input ≡ adopted v.space next = is ∙ cond-true _ (adopted v.space next) (unmoved s) (lt-ltb s.config.epoch.0 config.epoch.0 newer) in
+    let gs = listed_regions config s.id in
+    let said : posts ≡ (adopted v.space next).posts = a.posts ∙ ap (λ (l : List Post). l ++ flat_map (λ (g : RegionId). adopted_posts v.space (standing config s.id) (replica_or_new s.replicas g)) gs) none ∙ posts_of v.space next s.replicas gs in
+    let views = a.views ∙ views_of_all v.space next s.replicas gs in
+    subst (IsPlanOn v) (sym (e ∙ ap (λ (c : Config). adopting_plan s.id input posts c replicas) same))
+    (record {
+      entry = ap (λ (ps : List Post). record { actor = Server s.id; input = input; outputs = ps; notes = [] }) said
+          ∙ ap (λ (t : ServerStep). record { actor = Server s.id; input = input; outputs = t.posts; notes = t.notes }) (sym step);
+      change = record {
+        are = a.are;
+        state = ap (λ (t : ServerStep). t.state) step ∙ ap (λ (l : List ReplicaState). record { id = s.id; config = config; sealed = next.sealed; halted = s.halted; replicas = l }) (sym views);
+      };
+    })
+
+-- an older one is nothing
+pub older_step : (v : ServerValue) (input : Input) (config : Config) → config.epoch.0 ≤ v.state.config.epoch.0 → server_step v.space v.state input ≡ install_at v.space v.state config → server_step v.space v.state input ≡ unmoved v.state
+older_step v input config older is = is ∙ cond-false _ (adopted v.space (with_config v.state config)) (unmoved v.state) (le-ltb v.state.config.epoch.0 config.epoch.0 older)
+
+-- the change of a plan that adopts a configuration
+pub adoption : (v : ServerValue) (input : Input) (change : Change) (config : Config) (replicas : Vec Replica Global) → change ≡ a_change.Adopt config replicas → IsChange v input change → IsAdoptionOn v input config replicas.items
+adoption v input change config replicas e h = subst (IsChange v input) e h

@@ -1,0 +1,29 @@
+use Rattle.std.proofs.Common.{◌≡◌, List, arith, subst, sym}
+use Rattle.std.proofs.lemmas.Result.{IfOk-weaker}
+use Rattle.hx_model.specs.ServerSteps.{install_at, listed_regions, server_step}
+use Rattle.hx_replica.specs.declared.replicas.Replica.{Replica}
+use Rattle.hx_replica.specs.Adopting.{AreAdopted}
+use Rattle.hx_replica.specs.Inside.{value_of}
+use Rattle.hx_replica.specs.Plans.{IsPlanOn}
+use Rattle.hx_replica.specs.Replicas.{views_of}
+use Rattle.hx_replica.specs.Servers.{ServerValue}
+use Rattle.hx_replica.specs.Ticking.{standing}
+use Rattle.hx_replica.proofs.Installed.{adoption_planned}
+use Rattle.hx_replica.proofs.servers.Server.install.Goals as goal
+
+pub returns-clause-plan : goal.returns-clause-plan
+returns-clause-plan c =
+    let i = c.self.inside in
+    let config = c.args.config.now in
+    IfOk-weaker c.said.result _ _
+    (
+    λ plan e. subst (λ (v : ServerValue). IsPlanOn v plan) c.self.view_is
+    (
+    adoption_planned (value_of i) c.args.input.now config c.in_ok-config.config c.in_ok-replicas.replicas c.new-posts.result c.adopt_all.new.posts plan (omega (arith, c.if-config-self.false))
+    (subst (λ (v : ServerValue). server_step v.space v.state c.args.input.now ≡ install_at v.space v.state config) (sym c.self.view_is) c.requires.step)
+    c.new-posts.ensures
+    (subst (λ (rs : List Replica). AreAdopted i.space (standing config i.id) (views_of rs) (listed_regions config i.id) c.new-posts.result c.adopt_all.new.posts c.in_ok-replicas.replicas.items) c.as_slice.ensures.value c.in_ok-replicas.ensures)
+    c.in_ok-config.ensures e
+    )
+    )
+    c.said.ensures

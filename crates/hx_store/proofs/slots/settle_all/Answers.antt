@@ -1,0 +1,11 @@
+use Rattle.std.proofs.Common.{ap, sym, ◌∙◌}
+use Rattle.hx_model.specs.Slots.{KeyState, moved_all, settled}
+use Rattle.hx_store.specs.Stores.{acknowledging}
+use Rattle.hx_store.proofs.Moves.{moved_all_append}
+use Rattle.hx_store.proofs.slots.settle_all.Goals as goal
+
+pub returns-clause-state : goal.returns-clause-state
+returns-clause-state c =
+    let s : KeyState = c.args.slot.now.state in
+    let ends = acknowledging c.args.versions.now in
+    c.settle.ensures.state ∙ ap (λ (x : KeyState). moved_all (settled x) x) c.acknowledge_all.ensures.state ∙ sym (moved_all_append ends (settled (moved_all ends s)) s)
