@@ -1,1 +1,3 @@
 pub mod Servers
+pub mod Stays
+pub mod Founds

@@ -246,8 +246,16 @@ slot-plain space s r g found key step w = record {
 }
 
 -- what hears is a replica of the server
-hearing-found : (s : ServerState) (epoch : Epoch) (g : RegionId) (r : Replica) → hearing s epoch g ≡ Some r → replica_of g s.replicas ≡ Some r
+pub hearing-found : (s : ServerState) (epoch : Epoch) (g : RegionId) (r : Replica) → hearing s epoch g ≡ Some r → replica_of g s.replicas ≡ Some r
 hearing-found s epoch g r = cond_both (s.sealed || not (eqb epoch.0 s.config.epoch.0) || is_lost s.config g) None (replica_of g s.replicas) (λ o. o ≡ Some r → replica_of g s.replicas ≡ Some r) (λ t e. absurd (cc)) (λ t e. e)
+
+-- where one hears the server isn't sealed
+pub hearing-open : (s : ServerState) (epoch : Epoch) (g : RegionId) (r : Replica) → hearing s epoch g ≡ Some r → s.sealed ≡ false
+hearing-open s epoch g r = by s.sealed
+  where
+    by : (b : Bool) → cond (b || not (eqb epoch.0 s.config.epoch.0) || is_lost s.config g) None (replica_of g s.replicas) ≡ Some r → b ≡ false
+    by true e = absurd (cc)
+    by false e = refl
 
 -- so is what is installed
 installed-found : (o : Option Replica) (r : Replica) → if_installed o ≡ Some r → o ≡ Some r
