@@ -1,3 +1,4 @@
 pub mod Servers
 pub mod Stays
 pub mod Founds
+pub mod Asking
