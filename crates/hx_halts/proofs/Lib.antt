@@ -2,3 +2,4 @@ pub mod Servers
 pub mod Stays
 pub mod Founds
 pub mod Asking
+pub mod Searched

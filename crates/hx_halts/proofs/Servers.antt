@@ -51,9 +51,10 @@ use Rattle.hx_steady.proofs.Replicas.{in-with_replica, in-with_state, replica-fo
 use Rattle.hx_sound.proofs.Servers.{AreBare, bare-slot}
 use Rattle.hx_sound.proofs.Slots.{IsBare}
 
--- a post of neither rows nor a snapshot
+-- a post that shows no rows and asks for none
 abbrev pub NoRows : Message → Type 0
 NoRows (a_message.Found epoch number g rows) = ⊥
+NoRows (a_message.Ask epoch number g terms) = ⊥
 NoRows other = ⊤
 
 -- an update that was assigned changes where it is answered Done, and nowhere else
