@@ -3,3 +3,4 @@ pub mod Stays
 pub mod Founds
 pub mod Asking
 pub mod Searched
+pub mod Gathering
