@@ -1,5 +1,5 @@
 -- What the rows say that a member finds for a search in whatever configuration: each is of a change that every member of its key's region that is up has accepted, and in the key's own region nothing that was committed is missing.
-use Rattle.std.proofs.Common.{◌≡◌, ℕ, ◌+◌, ◌≤◌, ◌⊎◌, inl, inr, Bool, true, false, List, [], ◌∷◌, length, Option, Some, None, refl, sym, ap, ◌∙◌, subst, arith, cond, eqb}
+use Rattle.std.proofs.Common.{◌≡◌, ℕ, ◌≤◌, ◌⊎◌, inl, inr, true, false, List, [], ◌∷◌, length, Option, Some, None, refl, sym, ap, ◌∙◌, subst, arith, cond, eqb}
 use Rattle.std.specs.Option.{option_map}
 use Rattle.std.proofs.lemmas.Bool.{cond_both, cond-true, eq-eqb, false≢true}
 use Rattle.hx_types.specs.declared.calls.Answer.{Answer}
@@ -17,8 +17,7 @@ use Rattle.hx_types.specs.declared.updates.Update.{Update}
 use Rattle.hx_types.specs.declared.values.Term.{Term}
 use Rattle.hx_types.specs.declared.values.Value.{Value}
 use Rattle.hx_types.specs.declared.calls.Op.TheVariants.{Search}
-use Rattle.hx_types.specs.declared.names.Actor.TheVariants.{Server, Session}
-use Rattle.hx_types.specs.declared.traces.Note.TheVariants as a_note
+use Rattle.hx_types.specs.declared.names.Actor.TheVariants.{Server}
 use Rattle.hx_types.specs.Words.{IsBefore, IsIn}
 use Rattle.hx_types.specs.Configs.{lists}
 use Rattle.hx_types.specs.Effects.{key_of}
@@ -35,23 +34,21 @@ use Rattle.hx_steady.proofs.Lists.{in-filter}
 use Rattle.hx_steady.proofs.Replicas.{replica-found, slot-found, state-from}
 use Rattle.hx_sound.proofs.Servers.{AreBare}
 use Rattle.hx_sound.proofs.Slots.{IsRowOfUpdate, found-row}
-use Rattle.hx_linear.proofs.Lines.{Numbered, in-below}
+use Rattle.hx_linear.proofs.Lines.{Numbered}
 use Rattle.hx_linear.proofs.Traces.{BeganAt}
 use Rattle.hx_searches.proofs.Founds.{row-found}
 use Rattle.hx_searches.proofs.Lines.{in-upto, in-upto_from, numbered-sorted, upto-low, upto_upto}
 use Rattle.hx_searches.proofs.Texts.{state-there}
 use Rattle.hx_epochs.proofs.Calls.{EndedFirst, SettledAt}
-use Rattle.hx_epochs.proofs.Entries.{slots, view}
-use Rattle.hx_epochs.proofs.Epochs.{Live}
+use Rattle.hx_epochs.proofs.Entries.{slots}
 use Rattle.hx_epochs.proofs.Lines.{length-upto}
 use Rattle.hx_epochs.proofs.Moved.{held-line, known-held, line-key}
-use Rattle.hx_epochs.proofs.Moves.{accepted-in}
 use Rattle.hx_epochs.proofs.Order.{listed-in, order-cases}
 use Rattle.hx_epochs.proofs.Posts.{which-region}
-use Rattle.hx_epochs.proofs.Runs.{Real, RunKept, servers, world_after}
-use Rattle.hx_epochs.proofs.World.{After, Before, Everywhere, Follows, Lawful, World, lawful-numbered, lawful-upto, order}
+use Rattle.hx_epochs.proofs.Runs.{RunKept, servers, world_after}
+use Rattle.hx_epochs.proofs.World.{Everywhere, Lawful, World, lawful-numbered, lawful-upto, order}
 use Rattle.hx_halts.proofs.Servers.{hearing-found, hearing-open}
-use Rattle.hx_halts.proofs.Stays.{Stays, stays-up}
+use Rattle.hx_halts.proofs.Stays.{Stays}
 
 -- a row of a change that stays
 pub record RowOf (script : Script) (w : World) (terms : List Term) (r : Row) : Type 0 where

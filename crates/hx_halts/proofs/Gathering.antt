@@ -1,5 +1,5 @@
 -- What a finished search was gathered from, in whatever configurations, as facts on the whole run.
-use Rattle.std.proofs.Common.{◌≡◌, ℕ, ◌+◌, ◌<◌, ◌≤◌, ◌⊎◌, inl, inr, List, [], ◌∷◌, length, Option, Some, None, refl, sym, ap, ◌∙◌, subst, arith}
+use Rattle.std.proofs.Common.{◌≡◌, ℕ, ◌+◌, ◌<◌, ◌⊎◌, inl, inr, List, [], ◌∷◌, length, Option, Some, None, refl, sym, ap, ◌∙◌, subst, arith}
 use Rattle.hx_types.specs.declared.calls.Answer.{Answer}
 use Rattle.hx_types.specs.declared.calls.Caller.{Caller}
 use Rattle.hx_types.specs.declared.calls.Op.{Op}
@@ -16,7 +16,7 @@ use Rattle.hx_types.specs.declared.calls.Op.TheVariants.{Put, Get, Del, Cput, Se
 use Rattle.hx_types.specs.Words.{IsIn, when_some}
 use Rattle.hx_types.specs.Fitting.{IsScript, call_of, numbered}
 use Rattle.hx_model.specs.Regions.{key_region}
-use Rattle.hx_model.specs.Runs.{IsRun, IsStep}
+use Rattle.hx_model.specs.Runs.{IsRun}
 use Rattle.hx_model.specs.Histories.{CallEnd, begin_of, end_of}
 use Rattle.hx_model.specs.Searching.{FinishedSearch, rows_in, search_of, terms_of, with_rows}
 use Rattle.hx_linear.proofs.Traces.{BeganAt, EndedAt, began_at, ended_at}

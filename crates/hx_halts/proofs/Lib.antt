@@ -4,3 +4,6 @@ pub mod Founds
 pub mod Asking
 pub mod Searched
 pub mod Gathering
+pub mod Histories
+pub mod Shown
+pub mod Headline

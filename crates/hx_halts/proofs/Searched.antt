@@ -1,5 +1,5 @@
 -- What every run in which no replica is added keeps for searches.
-use Rattle.std.proofs.Common.{◌≡◌, ℕ, ◌+◌, ◌-◌, ◌<◌, ◌≤◌, ◌⊎◌, inl, inr, Bool, true, false, List, [], ◌∷◌, length, Some, None, refl, sym, ap, ◌∙◌, subst, arith, cond}
+use Rattle.std.proofs.Common.{◌≡◌, ℕ, ◌-◌, ◌⊎◌, inl, inr, true, false, List, [], ◌∷◌, Some, refl, sym, ap, ◌∙◌, subst, arith}
 use Rattle.std.specs.Prelude.{⊤}
 use Rattle.std.proofs.lemmas.Bool.{cond_both, cond-false, cases_eq, eqb-true, ne_eqb, false≢true}
 use Rattle.hx_types.specs.declared.calls.Answer.{Answer}
@@ -8,7 +8,6 @@ use Rattle.hx_types.specs.declared.calls.Op.{Op}
 use Rattle.hx_types.specs.declared.calls.Row.{Row}
 use Rattle.hx_types.specs.declared.messages.Message.{Message}
 use Rattle.hx_types.specs.declared.messages.Post.{Post}
-use Rattle.hx_types.specs.declared.messages.PostId.{PostId}
 use Rattle.hx_types.specs.declared.names.Actor.{Actor}
 use Rattle.hx_types.specs.declared.names.Epoch.{Epoch}
 use Rattle.hx_types.specs.declared.names.RegionId.{RegionId}
@@ -16,24 +15,21 @@ use Rattle.hx_types.specs.declared.names.ServerId.{ServerId}
 use Rattle.hx_types.specs.declared.names.SessionId.{SessionId}
 use Rattle.hx_types.specs.declared.names.Version.{Version}
 use Rattle.hx_types.specs.declared.traces.Entry.{Entry}
-use Rattle.hx_types.specs.declared.traces.Input.{Input}
 use Rattle.hx_types.specs.declared.traces.Note.{Note}
 use Rattle.hx_types.specs.declared.traces.Script.{Script}
 use Rattle.hx_types.specs.declared.updates.Update.{Update}
 use Rattle.hx_types.specs.declared.values.Term.{Term}
-use Rattle.hx_types.specs.declared.calls.Answer.TheVariants as an_answer
 use Rattle.hx_types.specs.declared.calls.Op.TheVariants.{Search}
 use Rattle.hx_types.specs.declared.messages.Message.TheVariants as a_message
 use Rattle.hx_types.specs.declared.names.Actor.TheVariants.{Coordinator, Server, Session}
-use Rattle.hx_types.specs.declared.traces.Input.TheVariants.{Deliver}
 use Rattle.hx_types.specs.declared.traces.Note.TheVariants as a_note
 use Rattle.hx_types.specs.Words.{IsIn, post, same_server, same_session, same_text}
 use Rattle.hx_types.specs.Configs.{first_config}
 use Rattle.hx_types.specs.Effects.{key_of}
-use Rattle.hx_types.specs.Fitting.{IsScript, call_of, calls_of, is_doubt, numbered}
+use Rattle.hx_types.specs.Fitting.{IsScript, call_of, is_doubt, numbered}
 use Rattle.hx_model.specs.Slots.{KeyState, found_in, upto}
 use Rattle.hx_model.specs.ServerSteps.{Replica, ServerState, hearing, listed_regions, server_step}
-use Rattle.hx_model.specs.SessionSteps.{SessionState, SessionStep, session_step}
+use Rattle.hx_model.specs.SessionSteps.{SessionState, session_step}
 use Rattle.hx_model.specs.Runs.{IsRun, IsStep, Made, MayTake, coordinator_of, has_halted, is_actor, made_of, server_after, server_of, session_after, session_of}
 use Rattle.hx_model.specs.Histories.{line_note, line_notes, line_of}
 use Rattle.hx_steady.specs.Served.{posts_of}
@@ -45,13 +41,12 @@ use Rattle.hx_searches.proofs.Lines.{in-upto}
 use Rattle.hx_epochs.specs.Headline.{AddsNothing}
 use Rattle.hx_epochs.proofs.Calls.{Calls, EndedFirst, SettledAt, calls_kept, ended-settled, step_is, turn_is}
 use Rattle.hx_epochs.proofs.Epochs.{Ctl, coordinator_good}
-use Rattle.hx_epochs.proofs.Runs.{Real, RunKept, run_kept, servers, world_after}
-use Rattle.hx_epochs.proofs.SessionMessages.{session_turn}
+use Rattle.hx_epochs.proofs.Runs.{Real, RunKept, run_kept, servers}
 use Rattle.hx_epochs.proofs.SessionNotes.{begins_now, keeps_lines}
 use Rattle.hx_halts.proofs.Servers.{Asked, Honest, NoRows, Shows, Stepped}
 use Rattle.hx_halts.proofs.Stays.{step-is, stays-up}
-use Rattle.hx_halts.proofs.Founds.{IsFound, KeyFound, RowOf, found-here}
-use Rattle.hx_halts.proofs.Asking.{Asks, Gathered, HasParts, Parted, SearchTurn, search-turn}
+use Rattle.hx_halts.proofs.Founds.{IsFound, found-here}
+use Rattle.hx_halts.proofs.Asking.{Asks, HasParts, SearchTurn, search-turn}
 
 -- who asks is a session whose search has begun
 abbrev pub AskedBy : Script → List Entry → Actor → ℕ → List Term → Type 0

@@ -1,9 +1,8 @@
 -- What a server's step leaves of its slots, what it notes, and that it posts rows alone where it was asked.
-use Rattle.std.proofs.Common.{◌≡◌, ℕ, ◌⊎◌, inl, inr, Bool, true, false, ◌||◌, List, [], ◌∷◌, ◌++◌, map, Option, Some, None, refl, sym, ap, ◌∙◌, subst, cond, eqb, ltb, leb}
+use Rattle.std.proofs.Common.{◌≡◌, ℕ, ◌⊎◌, inl, inr, Bool, true, false, ◌||◌, List, [], ◌∷◌, ◌++◌, Option, Some, None, refl, sym, ap, subst, cond, eqb, ltb, leb}
 use Rattle.std.specs.Prelude.{⊤, not}
 use Rattle.std.specs.List.{filter, flat_map}
 use Rattle.std.proofs.lemmas.Bool.{cond_both, cond-false}
-use Rattle.hx_types.specs.declared.calls.Answer.{Answer}
 use Rattle.hx_types.specs.declared.calls.Caller.{Caller}
 use Rattle.hx_types.specs.declared.calls.Op.{Op}
 use Rattle.hx_types.specs.declared.calls.Row.{Row}
@@ -15,14 +14,11 @@ use Rattle.hx_types.specs.declared.names.Actor.{Actor}
 use Rattle.hx_types.specs.declared.names.Epoch.{Epoch}
 use Rattle.hx_types.specs.declared.names.RegionId.{RegionId}
 use Rattle.hx_types.specs.declared.names.ServerId.{ServerId}
-use Rattle.hx_types.specs.declared.names.SessionId.{SessionId}
 use Rattle.hx_types.specs.declared.results.Decision.{Decision}
 use Rattle.hx_types.specs.declared.results.Hop.{Hop}
 use Rattle.hx_types.specs.declared.snapshots.Mark.{Mark}
 use Rattle.hx_types.specs.declared.spaces.Space.{Space}
 use Rattle.hx_types.specs.declared.traces.Input.{Input}
-use Rattle.hx_types.specs.declared.traces.Note.{Note}
-use Rattle.hx_types.specs.declared.updates.Place.{Place}
 use Rattle.hx_types.specs.declared.updates.Update.{Update}
 use Rattle.hx_types.specs.declared.values.Term.{Term}
 use Rattle.hx_types.specs.declared.values.Value.{Value}
@@ -34,20 +30,19 @@ use Rattle.hx_types.specs.declared.results.Decision.TheVariants as a_decision
 use Rattle.hx_types.specs.declared.results.Hop.TheVariants.{At, End, Blocked}
 use Rattle.hx_types.specs.declared.traces.Input.TheVariants.{Tick, Halt, Deliver}
 use Rattle.hx_types.specs.declared.traces.Note.TheVariants as a_note
-use Rattle.hx_types.specs.Words.{IsIn, post, provided, when_some}
+use Rattle.hx_types.specs.Words.{IsIn, post, provided}
 use Rattle.hx_types.specs.Configs.{is_lost, joiner_for, leads, lists_joining, lists_ready}
 use Rattle.hx_types.specs.Effects.{changed_to, effect_of, is_write, key_of, left_as, tests_hold, written}
 use Rattle.hx_types.specs.Fitting.{is_done}
-use Rattle.hx_types.specs.Subspaces.{is_key_region}
 use Rattle.hx_model.specs.Regions.{key_region}
-use Rattle.hx_model.specs.Leading.{StuckAt, assigned, by_mark, decide, first_lost, fresh, granted, refusal, stuck_of, unless_lost, with_places}
+use Rattle.hx_model.specs.Leading.{StuckAt, assigned, by_mark, decide, first_lost, fresh, granted, refusal, stuck_of}
 use Rattle.hx_model.specs.Places.{places_of}
 use Rattle.hx_model.specs.Neighbours.{region_at}
 use Rattle.hx_model.specs.Slots.{Acknowledge, Commit, Forget, Hold, KeyState, Move, Take, acknowledged, found_in, offered, latest_of, mark_of, moved, moved_all, no_kept, pending_of, top_of, touches_of}
 use Rattle.hx_model.specs.ServerSteps.{Replica, ServerState, ServerStep, SlotStep, Spot, accepting, ack_step, doubt_in, next_at, resumed, ack_to, acked, adopted, adopted_posts, adopted_replica, adopted_state, asked, at_slot, by_moves, by_posts, call_at, call_step, called, called_by, decided, halting, hearing, if_installed, input_step, install_at, is_active, known_to, leader_doubts, listed_regions, message_step, move_posts, passed_on, pending_posts, ready_post, replica_of, replica_or_new, replica_tick, reply, resumed_posts, saying, seal_at, server_step, snap_posts, spot_of, state_in, tick_step, told_to, unmoved, update_step, update_to, updated, waiting_doubt, with_config, write_step, doubts_from, snap_to}
 use Rattle.hx_model.proofs.Laws.{base-moved_all}
 use Rattle.hx_steady.proofs.Lists.{in-append, in-flat_map, in-map, in-provided, when_some_both}
-use Rattle.hx_steady.proofs.Replicas.{in-with_replica, in-with_state, replica-found, state-from, with_slot_at}
+use Rattle.hx_steady.proofs.Replicas.{in-with_replica, in-with_state, replica-found, with_slot_at}
 use Rattle.hx_sound.proofs.Servers.{AreBare, bare-slot}
 use Rattle.hx_sound.proofs.Slots.{IsBare}
 

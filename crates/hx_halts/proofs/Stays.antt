@@ -1,6 +1,5 @@
 -- An update of a line that every member of its key's region that is up has accepted stays in the line, and every such member keeps it.
-use Rattle.std.proofs.Common.{◌≡◌, ℕ, ◌+◌, ◌≤◌, ◌⊎◌, inl, inr, Bool, true, false, List, [], ◌∷◌, ◌++◌, Some, None, refl, sym, ap, ◌∙◌, subst, arith, cond, eqb}
-use Rattle.std.specs.Prelude.{⊤}
+use Rattle.std.proofs.Common.{◌≡◌, ℕ, ◌+◌, inl, inr, true, false, List, ◌∷◌, refl, sym, ap, ◌∙◌, subst, arith, cond, eqb}
 use Rattle.std.proofs.lemmas.Bool.{cond_both, cond-true, cond-false, eq-eqb, ne_eqb, false≢true}
 use Rattle.hx_types.specs.declared.configs.Config.{Config}
 use Rattle.hx_types.specs.declared.messages.Message.{Message}
@@ -25,19 +24,18 @@ use Rattle.hx_model.specs.Slots.{Forget, KeyState, moved}
 use Rattle.hx_model.specs.ServerSteps.{ServerState, ServerStep, halting, server_step}
 use Rattle.hx_model.specs.CoordinatorSteps.{CoordinatorState, coordinator_step}
 use Rattle.hx_model.specs.SessionSteps.{session_step}
-use Rattle.hx_model.specs.Runs.{IsRun, IsStep, Made, MayTake, coordinator_after, coordinator_of, has_halted, is_actor, made_of, server_after, server_of, session_of}
+use Rattle.hx_model.specs.Runs.{IsStep, Made, MayTake, coordinator_after, coordinator_of, has_halted, is_actor, made_of, server_after, session_of}
 use Rattle.hx_steady.specs.Served.{posts_of, slot_in}
 use Rattle.hx_steady.proofs.Turns.{noted}
 use Rattle.hx_steady.proofs.Lists.{in_right}
 use Rattle.hx_linear.proofs.Traces.{arrived}
-use Rattle.hx_epochs.specs.Headline.{AddsNothing}
-use Rattle.hx_epochs.proofs.Entries.{CallsBy, Kept, next, server-kept, slots, view, world_of}
-use Rattle.hx_epochs.proofs.Epochs.{Epochal, Good, Live, Next, coordinator_good}
+use Rattle.hx_epochs.proofs.Entries.{server-kept, view, world_of}
+use Rattle.hx_epochs.proofs.Epochs.{Epochal, Good, coordinator_good}
 use Rattle.hx_epochs.proofs.Moved.{which-server}
 use Rattle.hx_epochs.proofs.Runs.{Real, RunKept, lines, servers, world_after}
 use Rattle.hx_epochs.proofs.SessionMessages.{session_turn}
 use Rattle.hx_epochs.proofs.SessionNotes.{keeps_lines}
-use Rattle.hx_epochs.proofs.World.{Chained, Everywhere, Sending, UpdateOk, Valid, World, order}
+use Rattle.hx_epochs.proofs.World.{Chained, Everywhere, Sending, Valid, World, order}
 use Rattle.hx_halts.proofs.Servers.{NoSnap, Stepped, stepped}
 
 -- the update stands in its line, and every member of its key's region that is up has accepted it
@@ -191,13 +189,13 @@ module _ (script : Script) (sound : IsScript script) (older : List Entry) (kept 
       let fine = coordinator_good (Real script) N (posts_of older) d input kept.good (λ id from m e. kept.good.valid (post from Coordinator m) (arrives Coordinator id from m (subst (MayTake older Coordinator) e may))) in (
         subst (λ (l : List Update). IsIn u l) (sym (fine.lines u.key (L u.key))) s.0,
         λ x l m. (
-          let g = key_region script.space u.key in
-          let t = slot_in script.space g u.key (N x) in
-          let c = (coordinator_step d input).state.config in
-          subst (λ (us : List Update). IsIn u us) (view-accepted d.config (N x) t ∙ sym (view-accepted c (N x) t)) (s.1 x l (elim fine.next [
-            | inl e ↦ subst (λ (y : Config). IsIn x (order y g)) e m
-            | inr n ↦ n.members g x m
-          ]))),
+            let g = key_region script.space u.key in
+            let t = slot_in script.space g u.key (N x) in
+            let c = (coordinator_step d input).state.config in
+            subst (λ (us : List Update). IsIn u us) (view-accepted d.config (N x) t ∙ sym (view-accepted c (N x) t)) (s.1 x l (elim fine.next [
+              | inl e ↦ subst (λ (y : Config). IsIn x (order y g)) e m
+              | inr n ↦ n.members g x m
+            ]))),
       )
 
   -- ---- a session
