@@ -50,11 +50,12 @@ use Rattle.hx_epochs.proofs.World.{Everywhere, Lawful, World, lawful-numbered, l
 use Rattle.hx_halts.proofs.Servers.{hearing-found, hearing-open}
 use Rattle.hx_halts.proofs.Stays.{Stays}
 
--- a row of a change that stays
-pub record RowOf (script : Script) (w : World) (terms : List Term) (r : Row) : Type 0 where
+-- a row of a change that stays, and keeps its object in a region
+pub record RowOf (script : Script) (w : World) (g : RegionId) (terms : List Term) (r : Row) : Type 0 where
   pub update : Update
   pub stays : Stays script w update
   pub changes : update.changes ≡ true
+  pub keeps : keeps_at g update ≡ true
   pub key : r.key ≡ update.key
   pub version : r.version ≡ update.version
   pub object : update.object ≡ Some r.object
@@ -75,18 +76,18 @@ pub record IsFound (script : Script) (t : List Entry) (c : Caller) (g : RegionId
   pub called : call_of script c ≡ Some (Search terms)
   pub entry : ℕ
   pub begun : BeganAt t c entry
-  pub rows_are : (r : Row) → IsIn r rows → RowOf script (world_after script t) terms r
+  pub rows_are : (r : Row) → IsIn r rows → RowOf script (world_after script t) g terms r
   pub keyed : (key : List ℕ) → key_region script.space key ≡ g → KeyFound script t c terms rows key
 
 -- a kept row is that of a change
-kept-change : (g : RegionId) (us : List Update) (r : Row) → kept_row g None us ≡ Some r → (u : Update) × IsIn u us × (u.changes ≡ true) × IsRowOfUpdate r u
+kept-change : (g : RegionId) (us : List Update) (r : Row) → kept_row g None us ≡ Some r → (u : Update) × IsIn u us × (u.changes ≡ true) × (keeps_at g u ≡ true) × IsRowOfUpdate r u
 kept-change g [] r = λ e. absurd (cc)
 kept-change g (u ∷ us) r =
-    cond_both (keeps_at g u) (cond u.changes (row_of u) (kept_row g None us)) None (λ o. o ≡ Some r → (w : Update) × IsIn w (u ∷ us) × (w.changes ≡ true) × IsRowOfUpdate r w)
+    cond_both (keeps_at g u) (cond u.changes (row_of u) (kept_row g None us)) None (λ o. o ≡ Some r → (w : Update) × IsIn w (u ∷ us) × (w.changes ≡ true) × (keeps_at g w ≡ true) × IsRowOfUpdate r w)
     (
-    λ t. cond_both u.changes (row_of u) (kept_row g None us) (λ o. o ≡ Some r → (w : Update) × IsIn w (u ∷ us) × (w.changes ≡ true) × IsRowOfUpdate r w)
-    (λ c e. (u, inl refl, c, by u.object refl e))
-    (λ c e. let k = kept-change g us r e in (k.0, inr k.1, k.2, k.3))
+    λ t. cond_both u.changes (row_of u) (kept_row g None us) (λ o. o ≡ Some r → (w : Update) × IsIn w (u ∷ us) × (w.changes ≡ true) × (keeps_at g w ≡ true) × IsRowOfUpdate r w)
+    (λ c e. (u, inl refl, c, t, by u.object refl e))
+    (λ c e. let k = kept-change g us r e in (k.0, inr k.1, k.2, k.3, k.4))
     )
     (λ t e. absurd (cc))
   where
@@ -137,7 +138,7 @@ module _ (script : Script) (older : List Entry) (kept : RunKept script older) (i
     ordered t j = state-there (is_key_region script.space r.region) r.states t ((kept.shapes i here).1.ascends r (replica-found g (N i).replicas r found).0) j
 
     -- a row of a slot is that of a change that it has committed
-    row-from : (t : KeyState) → IsIn t r.states → (row : Row) → object_of g t ≡ Some row → (u : Update) × IsIn u (upto t.floor t.accepted) × (u.changes ≡ true) × IsRowOfUpdate row u
+    row-from : (t : KeyState) → IsIn t r.states → (row : Row) → object_of g t ≡ Some row → (u : Update) × IsIn u (upto t.floor t.accepted) × (u.changes ≡ true) × (keeps_at g u ≡ true) × IsRowOfUpdate row u
     row-from t j row e =
         kept-change g (upto t.floor t.accepted) row (sym (ap (λ b. kept_row g b.object (upto t.floor t.accepted)) (bare r (replica-found g (N i).replicas r found).0 t j)) ∙ e)
 
@@ -153,7 +154,7 @@ module _ (script : Script) (older : List Entry) (kept : RunKept script older) (i
     row-key : (t : KeyState) → IsIn t r.states → (row : Row) → object_of g t ≡ Some row → row.key ≡ t.base.key
     row-key t j row e =
         let f = row-from t j row e in
-        f.3.0 ∙ line-key script w0 kept.chained.keyed kept.good.differ i here t.base.key f.0 (in-line t j f.0 (in-upto t.floor t.accepted f.0 f.1))
+        f.4.0 ∙ line-key script w0 kept.chained.keyed kept.good.differ i here t.base.key f.0 (in-line t j f.0 (in-upto t.floor t.accepted f.0 f.1))
 
   -- in a key's own region
   module _ (key : List ℕ) (r : Replica) (heard : hearing (N i) epoch (key_region script.space key) ≡ Some r) where
@@ -243,10 +244,10 @@ module _ (script : Script) (older : List Entry) (kept : RunKept script older) (i
     }
 
   -- a row of a slot is of a change that stays
-  row-of : (g : RegionId) (r : Replica) (heard : hearing (N i) epoch g ≡ Some r) (t : KeyState) → IsIn t r.states → (terms : List Term) (row : Row) → object_of g t ≡ Some row → matches terms row.key row.object ≡ true → RowOf script w0 terms row
+  row-of : (g : RegionId) (r : Replica) (heard : hearing (N i) epoch g ≡ Some r) (t : KeyState) → IsIn t r.states → (terms : List Term) (row : Row) → object_of g t ≡ Some row → matches terms row.key row.object ≡ true → RowOf script w0 g terms row
   row-of g r heard t j terms row e m =
       let f = row-from g r heard t j row e in
-      record { update = f.0; stays = by (which-region g (key_region script.space t.base.key)) f.0 f.1; changes = f.2; key = f.3.0; version = f.3.1; object = f.3.2; match = m }
+      record { update = f.0; stays = by (which-region g (key_region script.space t.base.key)) f.0 f.1; changes = f.2; keeps = f.3; key = f.4.0; version = f.4.1; object = f.4.2; match = m }
     where
       by : (g ≡ key_region script.space t.base.key) ⊎ (g ≡ key_region script.space t.base.key → ⊥) → (u : Update) → IsIn u (upto t.floor t.accepted) → Stays script w0 u
       by (inl q) u a =

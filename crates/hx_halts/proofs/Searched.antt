@@ -128,7 +128,7 @@ KnownFor script t u n g rows = IsFound script t (record { session = u; number = 
 -- what every run keeps
 pub record Searched (script : Script) (t : List Entry) : Type 0 where
   pub bare : (s : ServerId) → AreBare (server_of script s t).replicas
-  pub honest : (key : List ℕ) (u : Update) → IsIn u (line_of key t) → Honest u
+  pub honest : (key : List ℕ) (u : Update) → IsIn u (line_of key t) → Honest script.space u
   pub parts : (u : SessionId) → HasParts script.space (KnownFor script t u) (session_of script u t)
   pub tells : (p : Post) → IsIn p (posts_of t) → Tells script t p.from p.to p.message
 
@@ -171,6 +171,7 @@ module _ (script : Script) (sound : IsScript script) (adds : AddsNothing script)
       update = s.update;
       stays = stays-up script sound older kept x step s.update s.stays;
       changes = s.changes;
+      keeps = s.keeps;
       key = s.key;
       version = s.version;
       object = s.object;
@@ -231,7 +232,7 @@ module _ (script : Script) (sound : IsScript script) (adds : AddsNothing script)
     }
 
     -- what an entry keeps
-    keeps : ((s : ServerId) → AreBare (server_of script s (x ∷ older)).replicas) → ((key : List ℕ) (u : Update) → IsIn u (line_of key (x ∷ older)) → Honest u)
+    keeps : ((s : ServerId) → AreBare (server_of script s (x ∷ older)).replicas) → ((key : List ℕ) (u : Update) → IsIn u (line_of key (x ∷ older)) → Honest script.space u)
         → ((u : SessionId) → HasParts script.space (KnownFor script (x ∷ older) u) (session_of script u (x ∷ older)))
         → ((p : Post) → IsIn p x.outputs → Tells script (x ∷ older) p.from p.to p.message) → Searched script (x ∷ older)
     keeps bare honest parts tells = record {
@@ -281,7 +282,7 @@ module _ (script : Script) (sound : IsScript script) (adds : AddsNothing script)
         may : MayTake older (Server i) x.input
         may = subst (λ (a : Actor). MayTake older a x.input) acts step.input
 
-        does : Stepped (server_of script i older) x.input (server_step script.space (server_of script i older) x.input)
+        does : Stepped script.space (server_of script i older) x.input (server_step script.space (server_of script i older) x.input)
         does = step-is script sound older kept i x.input real up may
 
         settled : (c : Caller) (key : List ℕ) (a : Caller) (v : Version) (answer : Answer) (op : Op) → EndedFirst older a v answer c → call_of script a ≡ Some op → key_of op ≡ Some key → is_doubt answer ≡ false → SettledAt script older key v.0

@@ -1,8 +1,8 @@
 -- What a server's step leaves of its slots, what it notes, and that it posts rows alone where it was asked.
-use Rattle.std.proofs.Common.{◌≡◌, ℕ, ◌⊎◌, inl, inr, Bool, true, false, ◌||◌, List, [], ◌∷◌, ◌++◌, Option, Some, None, refl, sym, ap, subst, cond, eqb, ltb, leb}
+use Rattle.std.proofs.Common.{◌≡◌, ℕ, suc, ◌+◌, ◌⊎◌, inl, inr, Bool, true, false, ◌||◌, List, [], ◌∷◌, ◌++◌, map, length, Option, Some, None, refl, sym, ap, ◌∙◌, subst, arith, cond, eqb, ltb, leb, add-one}
 use Rattle.std.specs.Prelude.{⊤, not}
 use Rattle.std.specs.List.{filter, flat_map}
-use Rattle.std.proofs.lemmas.Bool.{cond_both, cond-false}
+use Rattle.std.proofs.lemmas.Bool.{cond_both, cond-false, ltb-true}
 use Rattle.hx_types.specs.declared.calls.Caller.{Caller}
 use Rattle.hx_types.specs.declared.calls.Op.{Op}
 use Rattle.hx_types.specs.declared.calls.Row.{Row}
@@ -17,8 +17,10 @@ use Rattle.hx_types.specs.declared.names.ServerId.{ServerId}
 use Rattle.hx_types.specs.declared.results.Decision.{Decision}
 use Rattle.hx_types.specs.declared.results.Hop.{Hop}
 use Rattle.hx_types.specs.declared.snapshots.Mark.{Mark}
+use Rattle.hx_types.specs.declared.snapshots.Touch.{Touch}
 use Rattle.hx_types.specs.declared.spaces.Space.{Space}
 use Rattle.hx_types.specs.declared.traces.Input.{Input}
+use Rattle.hx_types.specs.declared.updates.Place.{Place}
 use Rattle.hx_types.specs.declared.updates.Update.{Update}
 use Rattle.hx_types.specs.declared.values.Term.{Term}
 use Rattle.hx_types.specs.declared.values.Value.{Value}
@@ -30,13 +32,14 @@ use Rattle.hx_types.specs.declared.results.Decision.TheVariants as a_decision
 use Rattle.hx_types.specs.declared.results.Hop.TheVariants.{At, End, Blocked}
 use Rattle.hx_types.specs.declared.traces.Input.TheVariants.{Tick, Halt, Deliver}
 use Rattle.hx_types.specs.declared.traces.Note.TheVariants as a_note
-use Rattle.hx_types.specs.Words.{IsIn, post, provided}
+use Rattle.hx_types.specs.Words.{IsIn, below, post, provided, same_region}
 use Rattle.hx_types.specs.Configs.{is_lost, joiner_for, leads, lists_joining, lists_ready}
 use Rattle.hx_types.specs.Effects.{changed_to, effect_of, is_write, key_of, left_as, tests_hold, written}
 use Rattle.hx_types.specs.Fitting.{is_done}
-use Rattle.hx_model.specs.Regions.{key_region}
+use Rattle.hx_types.specs.Subspaces.{is_key_region}
+use Rattle.hx_model.specs.Regions.{key_region, place_of}
 use Rattle.hx_model.specs.Leading.{StuckAt, assigned, by_mark, decide, first_lost, fresh, granted, refusal, stuck_of}
-use Rattle.hx_model.specs.Places.{places_of}
+use Rattle.hx_model.specs.Places.{declared_subspaces, place_after, places_of, regions_between}
 use Rattle.hx_model.specs.Neighbours.{region_at}
 use Rattle.hx_model.specs.Slots.{Acknowledge, Commit, Forget, Hold, KeyState, Move, Take, acknowledged, found_in, offered, latest_of, mark_of, moved, moved_all, no_kept, pending_of, top_of, touches_of}
 use Rattle.hx_model.specs.ServerSteps.{Replica, ServerState, ServerStep, SlotStep, Spot, accepting, ack_step, doubt_in, next_at, resumed, ack_to, acked, adopted, adopted_posts, adopted_replica, adopted_state, asked, at_slot, by_moves, by_posts, call_at, call_step, called, called_by, decided, halting, hearing, if_installed, input_step, install_at, is_active, known_to, leader_doubts, listed_regions, message_step, move_posts, passed_on, pending_posts, ready_post, replica_of, replica_or_new, replica_tick, reply, resumed_posts, saying, seal_at, server_step, snap_posts, spot_of, state_in, tick_step, told_to, unmoved, update_step, update_to, updated, waiting_doubt, with_config, write_step, doubts_from, snap_to}
@@ -52,9 +55,10 @@ NoRows (a_message.Found epoch number g rows) = ⊥
 NoRows (a_message.Ask epoch number g terms) = ⊥
 NoRows other = ⊤
 
--- an update that was assigned changes where it is answered Done, and nowhere else
-abbrev pub Honest : Update → Type 0
-Honest u = u.changes ≡ is_done u.answer
+-- an update that was assigned: it changes where it is answered Done, and nowhere else, and of all key regions it passes its own key's alone
+pub record Honest (space : Space) (u : Update) : Type 0 where
+  pub done : u.changes ≡ is_done u.answer
+  pub at_key : (p : Place) → IsIn p u.places → is_key_region space p.region ≡ true → p.region ≡ key_region space u.key
 
 -- an effect changes the object where it is answered Done, and nowhere else
 effect-done : (space : Space) (old : Option (List Value)) (op : Op) → (effect_of space old op).changes ≡ is_done (effect_of space old op).answer
@@ -73,35 +77,63 @@ effect-done space old (Search terms) = refl
 effect-done space old (Stop server) = refl
 effect-done space old (Add server region) = refl
 
+-- no region of a declared subspace is a key region
+declared-off : (space : Space) (n : ℕ) (key : List ℕ) (o : List Value) → is_key_region space (place_of space (suc n) key o) ≡ true → ⊥
+declared-off space n key o e =
+    let l = ltb-true (place_of space (suc n) key o).0 space.key_parts e in
+    omega (arith, l)
+
+-- among the places of an update the key's region alone is a key region
+places-at-key : (space : Space) (key : List ℕ) (old new : Option (List Value)) (changes : Bool) (top : ℕ) (touches : List Touch) (p : Place) → IsIn p (places_of space key old new changes top touches)
+    → is_key_region space p.region ≡ true → p.region ≡ key_region space key
+places-at-key space key old new changes top touches p (inl e) t = ap (λ (q : Place). q.region) e
+places-at-key space key old new changes top touches p (inr i) t =
+    let f = in-flat_map (λ s. map (place_after space s key new touches) (regions_between space s key old new)) (declared_subspaces space) p (in-provided changes (flat_map (λ s. map (place_after space s key new touches) (regions_between space s key old new)) (declared_subspaces space)) p i).1 in
+    let d = in-map (λ n. n + 1) (below (length space.subspaces)) f.0 f.1 in
+    let m = in-map (place_after space f.0 key new touches) (regions_between space f.0 key old new) p f.2 in
+    let b = between f.0 old new m.0 m.1 in
+    let r : p.region ≡ place_of space (suc d.0) key b.0 = ap (λ (q : Place). q.region) m.2 ∙ b.1 ∙ ap (λ k. place_of space k key b.0) (d.2 ∙ add-one d.0) in
+    absurd (declared-off space d.0 key b.0 (ap (is_key_region space) (sym r) ∙ t))
+  where
+    between : (s : ℕ) (old new : Option (List Value)) (g : RegionId) → IsIn g (regions_between space s key old new) → (o : List Value) × (g ≡ place_of space s key o)
+    between s None None g i = absurd i
+    between s None (Some y) g (inl e) = (y, e)
+    between s None (Some y) g (inr i) = absurd i
+    between s (Some x) None g (inl e) = (x, e)
+    between s (Some x) None g (inr i) = absurd i
+    between s (Some x) (Some y) g (inl e) = (x, e)
+    between s (Some x) (Some y) g (inr i) = elim (in-provided (not (same_region (place_of space s key x) (place_of space s key y))) (place_of space s key y ∷ []) g i).1 [ inl e ↦ (y, e) | inr j ↦ absurd j ]
+
 -- so does what a leader assigns
-assigned-honest : (space : Space) (c : Config) (g : RegionId) (t : KeyState) (caller : Caller) (op : Op) → Honest (assigned space c g t caller op)
+assigned-honest : (space : Space) (c : Config) (g : RegionId) (t : KeyState) (caller : Caller) (op : Op) → Honest space (assigned space c g t caller op)
 assigned-honest space c g t caller op =
     let old = latest_of g t in
     let e = effect_of space old op in
     let places = places_of space t.base.key old e.object e.changes (top_of t) (touches_of t) in
-    when_some_both (first_lost c places) (granted t caller e places) (λ (h : RegionId). let r = refusal space c t old h in granted t caller r.0 r.1) Honest
-    (λ q. effect-done space old op) (λ h q. refl)
+    when_some_both (first_lost c places) (granted t caller e places) (λ (h : RegionId). let r = refusal space c t old h in granted t caller r.0 r.1) (Honest space)
+    (λ q. record { done = effect-done space old op; at_key = places-at-key space t.base.key old e.object e.changes (top_of t) (touches_of t) })
+    (λ h q. record { done = refl; at_key = places-at-key space t.base.key old old false (top_of t) [] })
 
 -- a decision assigns nothing else
-abbrev Assigns-well : Decision → Type 0
-Assigns-well d = (u : Update) → d ≡ a_decision.Assign u → Honest u
+abbrev Assigns-well : Space → Decision → Type 0
+Assigns-well space d = (u : Update) → d ≡ a_decision.Assign u → Honest space u
 
 -- the decision on a write
-decide-honest : (space : Space) (c : Config) (g : RegionId) (t : KeyState) (caller : Caller) (op : Op) → Assigns-well (decide space c g t caller op)
+decide-honest : (space : Space) (c : Config) (g : RegionId) (t : KeyState) (caller : Caller) (op : Op) → Assigns-well space (decide space c g t caller op)
 decide-honest space c g t caller op = by (mark_of caller.session t)
   where
-    fresh-honest : Assigns-well (fresh space c g t caller op)
-    fresh-honest = when_some_both (stuck_of c t) (a_decision.Assign (assigned space c g t caller op)) (λ (x : StuckAt). a_decision.Stuck x.region) Assigns-well
-        (λ q u e. (let r : assigned space c g t caller op ≡ u = cc in subst Honest r (assigned-honest space c g t caller op)))
+    fresh-honest : Assigns-well space (fresh space c g t caller op)
+    fresh-honest = when_some_both (stuck_of c t) (a_decision.Assign (assigned space c g t caller op)) (λ (x : StuckAt). a_decision.Stuck x.region) (Assigns-well space)
+        (λ q u e. (let r : assigned space c g t caller op ≡ u = cc in subst (Honest space) r (assigned-honest space c g t caller op)))
         (λ x q u e. absurd (cc))
 
-    by : (o : Option Mark) → Assigns-well (by_mark space c g t caller op o)
+    by : (o : Option Mark) → Assigns-well space (by_mark space c g t caller op o)
     by None = fresh-honest
     by (Some m) =
-        cond_both (ltb caller.number m.number) a_decision.Old _ Assigns-well
+        cond_both (ltb caller.number m.number) a_decision.Old _ (Assigns-well space)
         (λ a u e. absurd (cc))
-        (λ a. cond_both (eqb m.number caller.number) _ (fresh space c g t caller op) Assigns-well
-        (λ b. cond_both (leb m.version.0 t.floor) (a_decision.Again m.version m.answer) (a_decision.Wait m.version) Assigns-well (λ z u e. absurd (cc)) (λ z u e. absurd (cc)))
+        (λ a. cond_both (eqb m.number caller.number) _ (fresh space c g t caller op) (Assigns-well space)
+        (λ b. cond_both (leb m.version.0 t.floor) (a_decision.Again m.version m.answer) (a_decision.Wait m.version) (Assigns-well space) (λ z u e. absurd (cc)) (λ z u e. absurd (cc)))
         (λ b. fresh-honest))
 
 -- ---- posts without rows
@@ -163,46 +195,46 @@ snap-none s r None = λ p i. absurd i
 snap-none s r (Some j) = λ p i. elim i [ inl e ↦ subst (λ (x : Post). NoRows x.message) (sym e) tt | inr k ↦ absurd k ]
 
 -- what a slot does on a message: no rows are posted, and what is assigned is honest
-record SlotWell (step : SlotStep) : Type 0 where
+record SlotWell (space : Space) (step : SlotStep) : Type 0 where
   pub posts : NoneShow step.posts
-  pub notes : (u : Update) → IsIn (a_note.Assigned u) step.notes → Honest u
+  pub notes : (u : Update) → IsIn (a_note.Assigned u) step.notes → Honest space u
 
 -- moves
-moves-well : (spot : Spot) (ms : List Move) → SlotWell (by_moves spot ms)
+moves-well : (spot : Spot) (ms : List Move) → SlotWell spot.space (by_moves spot ms)
 moves-well spot ms = record { posts = none-flat (move_posts spot) ms (move-none spot); notes = λ u i. absurd i }
 
 -- posts
-posts-well : (ps : List Post) → NoneShow ps → SlotWell (by_posts ps)
-posts-well ps h = record { posts = h; notes = λ u i. absurd i }
+posts-well : (space : Space) (ps : List Post) → NoneShow ps → SlotWell space (by_posts ps)
+posts-well space ps h = record { posts = h; notes = λ u i. absurd i }
 
 -- an update
-update-well : (spot : Spot) (t : KeyState) (u : Update) → SlotWell (update_step spot t u)
+update-well : (spot : Spot) (t : KeyState) (u : Update) → SlotWell spot.space (update_step spot t u)
 update-well spot t u =
-    cond_both (leb u.version.0 (top_of t)) (by_posts (known_to spot t u)) _ SlotWell
-    (λ e. posts-well (known_to spot t u) (none-provided (leb u.version.0 t.floor) _ (ack-none spot u _)))
+    cond_both (leb u.version.0 (top_of t)) (by_posts (known_to spot t u)) _ (SlotWell spot.space)
+    (λ e. posts-well spot.space (known_to spot t u) (none-provided (leb u.version.0 t.floor) _ (ack-none spot u _)))
     (λ e. moves-well spot _)
 
 -- a decision
-decided-well : (spot : Spot) (t : KeyState) (caller : Caller) (d : Decision) → Assigns-well d → SlotWell (decided spot t caller d)
-decided-well spot t caller a_decision.Old h = posts-well [] (λ p i. absurd i)
-decided-well spot t caller (a_decision.Again v answer) h = posts-well (reply spot caller v answer ∷ []) (none-one (reply spot caller v answer) tt)
-decided-well spot t caller (a_decision.Wait v) h = posts-well (waiting_doubt spot caller v (stuck_of spot.config t)) (by (stuck_of spot.config t))
+decided-well : (spot : Spot) (t : KeyState) (caller : Caller) (d : Decision) → Assigns-well spot.space d → SlotWell spot.space (decided spot t caller d)
+decided-well spot t caller a_decision.Old h = posts-well spot.space [] (λ p i. absurd i)
+decided-well spot t caller (a_decision.Again v answer) h = posts-well spot.space (reply spot caller v answer ∷ []) (none-one (reply spot caller v answer) tt)
+decided-well spot t caller (a_decision.Wait v) h = posts-well spot.space (waiting_doubt spot caller v (stuck_of spot.config t)) (by (stuck_of spot.config t))
   where
     by : (o : Option StuckAt) → NoneShow (waiting_doubt spot caller v o)
     by None = λ p i. absurd i
     by (Some x) = none-provided (leb x.version.0 v.0) _ (λ p i. elim i [ inl e ↦ subst (λ (x : Post). NoRows x.message) (sym e) tt | inr k ↦ absurd k ])
-decided-well spot t caller (a_decision.Stuck g) h = posts-well _ (λ p i. elim i [ inl e ↦ subst (λ (x : Post). NoRows x.message) (sym e) tt | inr k ↦ absurd k ])
+decided-well spot t caller (a_decision.Stuck g) h = posts-well spot.space _ (λ p i. elim i [ inl e ↦ subst (λ (x : Post). NoRows x.message) (sym e) tt | inr k ↦ absurd k ])
 decided-well spot t caller (a_decision.Assign u) h = record {
   posts = none-flat (move_posts spot) (accepting spot t (offered spot.region t u)) (move-none spot);
   notes = λ w i. elim i [ inl e ↦ h w (let q : w ≡ u = cc in ap a_decision.Assign (sym q)) | inr k ↦ absurd k ];
 }
 
 -- a call
-call-well : (spot : Spot) (t : KeyState) (caller : Caller) (op : Op) → SlotWell (call_step spot t caller op)
+call-well : (spot : Spot) (t : KeyState) (caller : Caller) (op : Op) → SlotWell spot.space (call_step spot t caller op)
 call-well spot t caller op =
-    cond_both (is_write op) (write_step spot t caller op) _ SlotWell
+    cond_both (is_write op) (write_step spot t caller op) _ (SlotWell spot.space)
     (λ e. decided-well spot t caller (decide spot.space spot.config spot.region t caller op) (decide-honest spot.space spot.config spot.region t caller op))
-    (λ e. posts-well _ (λ p i. elim i [ inl q ↦ subst (λ (x : Post). NoRows x.message) (sym q) tt | inr k ↦ absurd k ]))
+    (λ e. posts-well spot.space _ (λ p i. elim i [ inl q ↦ subst (λ (x : Post). NoRows x.message) (sym q) tt | inr k ↦ absurd k ]))
 
 -- moves leave a slot bare
 bare-moved : (ms : List Move) (t : KeyState) → IsBare t → IsBare (moved_all ms t)
@@ -211,22 +243,22 @@ bare-moved ms t h = let e = base-moved_all ms t in subst (λ b. b ≡ no_kept b.
 -- ---- a server's step
 
 -- it shows no rows, assigns honestly, leaves bare slots, and the server up
-pub record Plain (s : ServerState) (step : ServerStep) : Type 0 where
+pub record Plain (space : Space) (s : ServerState) (step : ServerStep) : Type 0 where
   pub posts : (p : Post) → IsIn p step.posts → NoRows p.message
-  pub notes : (u : Update) → IsIn (a_note.Assigned u) step.notes → Honest u
+  pub notes : (u : Update) → IsIn (a_note.Assigned u) step.notes → Honest space u
   pub bare : AreBare s.replicas → AreBare step.state.replicas
   pub halted : step.state.halted ≡ s.halted
 
 -- posts alone
-saying-plain : (s : ServerState) (ps : List Post) → NoneShow ps → Plain s (saying s ps)
-saying-plain s ps h = record { posts = h; notes = λ u i. absurd i; bare = λ b. b; halted = refl }
+saying-plain : (space : Space) (s : ServerState) (ps : List Post) → NoneShow ps → Plain space s (saying s ps)
+saying-plain space s ps h = record { posts = h; notes = λ u i. absurd i; bare = λ b. b; halted = refl }
 
 -- nothing
-unmoved-plain : (s : ServerState) → Plain s (unmoved s)
-unmoved-plain s = saying-plain s [] (λ p i. absurd i)
+unmoved-plain : (space : Space) (s : ServerState) → Plain space s (unmoved s)
+unmoved-plain space s = saying-plain space s [] (λ p i. absurd i)
 
 -- one slot
-slot-plain : (space : Space) (s : ServerState) (r : Replica) (g : RegionId) → replica_of g s.replicas ≡ Some r → (key : List ℕ) (step : SlotStep) → SlotWell step → Plain s (at_slot s r (state_in space r key) step)
+slot-plain : (space : Space) (s : ServerState) (r : Replica) (g : RegionId) → replica_of g s.replicas ≡ Some r → (key : List ℕ) (step : SlotStep) → SlotWell space step → Plain space s (at_slot s r (state_in space r key) step)
 slot-plain space s r g found key step w = record {
   posts = w.posts;
   notes = w.notes;
@@ -259,42 +291,42 @@ installed-found None r = λ e. absurd (cc)
 installed-found (Some x) r = cond_both x.installed (Some x) None (λ o. o ≡ Some r → Some x ≡ Some r) (λ t e. e) (λ t e. absurd (cc))
 
 -- a call
-called-plain : (space : Space) (s : ServerState) (from : Actor) (epoch : Epoch) (number : ℕ) (op : Op) → Plain s (called_by space s from epoch number op)
-called-plain space s Coordinator epoch number op = unmoved-plain s
-called-plain space s (Server x) epoch number op = unmoved-plain s
+called-plain : (space : Space) (s : ServerState) (from : Actor) (epoch : Epoch) (number : ℕ) (op : Op) → Plain space s (called_by space s from epoch number op)
+called-plain space s Coordinator epoch number op = unmoved-plain space s
+called-plain space s (Server x) epoch number op = unmoved-plain space s
 called-plain space s (Session u) epoch number op = by (key_of op)
   where
     caller : Caller
     caller = record { session = u; number = number }
 
-    by : (o : Option (List ℕ)) → Plain s (called space s epoch (record { session = u; number = number }) op o)
-    by None = unmoved-plain s
+    by : (o : Option (List ℕ)) → Plain space s (called space s epoch (record { session = u; number = number }) op o)
+    by None = unmoved-plain space s
     by (Some key) =
-        when_some_both (hearing s epoch (key_region space key)) (unmoved s) (λ (r : Replica). call_at space s r key (record { session = u; number = number }) op) (Plain s)
-        (λ e. unmoved-plain s)
-        (λ r e. cond_both (leads space s.config s.id r.region) (at_slot s r (state_in space r key) (call_step (spot_of space s r.region) (state_in space r key) (record { session = u; number = number }) op)) (unmoved s) (Plain s)
+        when_some_both (hearing s epoch (key_region space key)) (unmoved s) (λ (r : Replica). call_at space s r key (record { session = u; number = number }) op) (Plain space s)
+        (λ e. unmoved-plain space s)
+        (λ r e. cond_both (leads space s.config s.id r.region) (at_slot s r (state_in space r key) (call_step (spot_of space s r.region) (state_in space r key) (record { session = u; number = number }) op)) (unmoved s) (Plain space s)
         (λ t. slot-plain space s r (key_region space key) (hearing-found s epoch (key_region space key) r e) key _ (call-well (spot_of space s r.region) (state_in space r key) (record { session = u; number = number }) op))
-        (λ t. unmoved-plain s))
+        (λ t. unmoved-plain space s))
 
 -- an update
-updated-plain : (space : Space) (s : ServerState) (g : RegionId) (u : Update) (o : Option Replica) → ((r : Replica) → o ≡ Some r → replica_of g s.replicas ≡ Some r) → Plain s (updated space s u o)
-updated-plain space s g u None f = unmoved-plain s
+updated-plain : (space : Space) (s : ServerState) (g : RegionId) (u : Update) (o : Option Replica) → ((r : Replica) → o ≡ Some r → replica_of g s.replicas ≡ Some r) → Plain space s (updated space s u o)
+updated-plain space s g u None f = unmoved-plain space s
 updated-plain space s g u (Some r) f = slot-plain space s r g (f r refl) u.key _ (update-well (spot_of space s r.region) (state_in space r u.key) u)
 
 -- an acknowledgement
-acked-plain : (space : Space) (s : ServerState) (g : RegionId) (key : List ℕ) (v : ℕ) (o : Option Replica) → ((r : Replica) → o ≡ Some r → replica_of g s.replicas ≡ Some r) → Plain s (acked space s key v o)
-acked-plain space s g key v None f = unmoved-plain s
+acked-plain : (space : Space) (s : ServerState) (g : RegionId) (key : List ℕ) (v : ℕ) (o : Option Replica) → ((r : Replica) → o ≡ Some r → replica_of g s.replicas ≡ Some r) → Plain space s (acked space s key v o)
+acked-plain space s g key v None f = unmoved-plain space s
 acked-plain space s g key v (Some r) f = slot-plain space s r g (f r refl) key (ack_step (spot_of space s r.region) (state_in space r key) v) (moves-well (spot_of space s r.region) (acknowledged (state_in space r key) v))
 
 -- a seal
-seal-plain : (s : ServerState) (epoch : Epoch) → Plain s (seal_at s epoch)
-seal-plain s epoch = cond_both (eqb epoch.0 s.config.epoch.0) _ (unmoved s) (Plain s)
+seal-plain : (space : Space) (s : ServerState) (epoch : Epoch) → Plain space s (seal_at s epoch)
+seal-plain space s epoch = cond_both (eqb epoch.0 s.config.epoch.0) _ (unmoved s) (Plain space s)
     (λ t. record { posts = none-one (post (Server s.id) Coordinator (a_message.Sealed epoch)) tt; notes = λ u i. absurd i; bare = λ b. b; halted = refl })
-    (λ t. unmoved-plain s)
+    (λ t. unmoved-plain space s)
 
 -- a tick
-tick-plain : (space : Space) (s : ServerState) → Plain s (tick_step space s)
-tick-plain space s = saying-plain s _ (cond_both s.sealed (post (Server s.id) Coordinator (a_message.Sealed s.config.epoch) ∷ []) (flat_map (replica_tick space s) s.replicas) NoneShow
+tick-plain : (space : Space) (s : ServerState) → Plain space s (tick_step space s)
+tick-plain space s = saying-plain space s _ (cond_both s.sealed (post (Server s.id) Coordinator (a_message.Sealed s.config.epoch) ∷ []) (flat_map (replica_tick space s) s.replicas) NoneShow
     (λ t. none-one (post (Server s.id) Coordinator (a_message.Sealed s.config.epoch)) tt)
     (λ t. none-flat (replica_tick space s) s.replicas (λ r. none-provided (is_active s.config r) _
     (none-append (snap_posts s r ++ pending_posts (spot_of space s r.region) r.states) (ready_post s r.region)
@@ -303,7 +335,7 @@ tick-plain space s = saying-plain s _ (cond_both s.sealed (post (Server s.id) Co
     (ready-none s r.region)))))
 
 -- a configuration
-adopted-plain : (space : Space) (p : ServerState) (s : ServerState) → (AreBare p.replicas → AreBare s.replicas) → s.halted ≡ p.halted → Plain p (adopted space s)
+adopted-plain : (space : Space) (p : ServerState) (s : ServerState) → (AreBare p.replicas → AreBare s.replicas) → s.halted ≡ p.halted → Plain space p (adopted space s)
 adopted-plain space p s f h = record {
   posts = none-flat (adopted_posts space s) s.replicas (λ r. none-provided (is_active s.config r) _
       (none-append (snap_posts s r ++ flat_map (resumed_posts (spot_of space s r.region)) r.states) (ready_post s r.region)
@@ -339,10 +371,10 @@ config-bare s c b x i =
     (λ r e. b r (replica-found m.0 s.replicas r e).0))
 
 -- an install
-install-plain : (space : Space) (s : ServerState) (c : Config) → Plain s (install_at space s c)
-install-plain space s c = cond_both (ltb s.config.epoch.0 c.epoch.0) (adopted space (with_config s c)) (unmoved s) (Plain s)
+install-plain : (space : Space) (s : ServerState) (c : Config) → Plain space s (install_at space s c)
+install-plain space s c = cond_both (ltb s.config.epoch.0 c.epoch.0) (adopted space (with_config s c)) (unmoved s) (Plain space s)
     (λ t. adopted-plain space s (with_config s c) (config-bare s c) refl)
-    (λ t. unmoved-plain s)
+    (λ t. unmoved-plain space s)
 
 -- ---- where rows are posted
 
@@ -364,26 +396,26 @@ abbrev pub Shows : ServerState → Input → Post → Type 0
 Shows s input p = NoRows p.message ⊎ RowsOf s input p
 
 -- what a step does
-pub record Stepped (s : ServerState) (input : Input) (step : ServerStep) : Type 0 where
+pub record Stepped (space : Space) (s : ServerState) (input : Input) (step : ServerStep) : Type 0 where
   pub posts : (p : Post) → IsIn p step.posts → Shows s input p
-  pub notes : (u : Update) → IsIn (a_note.Assigned u) step.notes → Honest u
+  pub notes : (u : Update) → IsIn (a_note.Assigned u) step.notes → Honest space u
   pub bare : AreBare s.replicas → AreBare step.state.replicas
   pub halts : (step.state.halted ≡ s.halted) ⊎ (step ≡ halting s)
 
 -- a plain step
-plain-stepped : (s : ServerState) (input : Input) (step : ServerStep) → Plain s step → Stepped s input step
-plain-stepped s input step h = record { posts = λ p i. inl (h.posts p i); notes = h.notes; bare = h.bare; halts = inl h.halted }
+plain-stepped : (space : Space) (s : ServerState) (input : Input) (step : ServerStep) → Plain space s step → Stepped space s input step
+plain-stepped space s input step h = record { posts = λ p i. inl (h.posts p i); notes = h.notes; bare = h.bare; halts = inl h.halted }
 
 -- a halt
-halt-stepped : (s : ServerState) (input : Input) → Stepped s input (halting s)
-halt-stepped s input = record { posts = λ p i. inl (none-one (post (Server s.id) Coordinator a_message.Gone) tt p i); notes = λ u i. absurd i; bare = λ b. b; halts = inr refl }
+halt-stepped : (space : Space) (s : ServerState) (input : Input) → Stepped space s input (halting s)
+halt-stepped space s input = record { posts = λ p i. inl (none-one (post (Server s.id) Coordinator a_message.Gone) tt p i); notes = λ u i. absurd i; bare = λ b. b; halts = inr refl }
 
 -- an ask
-asked-stepped : (s : ServerState) (id : PostId) (from : Actor) (epoch : Epoch) (number : ℕ) (g : RegionId) (terms : List Term) → Stepped s (Deliver id from (a_message.Ask epoch number g terms)) (asked s from epoch number terms (if_installed (hearing s epoch g)))
-asked-stepped s id from epoch number g terms = by (if_installed (hearing s epoch g)) (λ r e. installed-found (hearing s epoch g) r e)
+asked-stepped : (space : Space) (s : ServerState) (id : PostId) (from : Actor) (epoch : Epoch) (number : ℕ) (g : RegionId) (terms : List Term) → Stepped space s (Deliver id from (a_message.Ask epoch number g terms)) (asked s from epoch number terms (if_installed (hearing s epoch g)))
+asked-stepped space s id from epoch number g terms = by (if_installed (hearing s epoch g)) (λ r e. installed-found (hearing s epoch g) r e)
   where
-    by : (o : Option Replica) → ((r : Replica) → o ≡ Some r → hearing s epoch g ≡ Some r) → Stepped s (Deliver id from (a_message.Ask epoch number g terms)) (asked s from epoch number terms o)
-    by None f = plain-stepped s (Deliver id from (a_message.Ask epoch number g terms)) (unmoved s) (unmoved-plain s)
+    by : (o : Option Replica) → ((r : Replica) → o ≡ Some r → hearing s epoch g ≡ Some r) → Stepped space s (Deliver id from (a_message.Ask epoch number g terms)) (asked s from epoch number terms o)
+    by None f = plain-stepped space s (Deliver id from (a_message.Ask epoch number g terms)) (unmoved s) (unmoved-plain space s)
     by (Some r) f = record {
       posts = λ p i. elim (in-provided (lists_ready s.config r.region s.id) (post (Server s.id) from (a_message.Found epoch number r.region (found_in r.region terms r.states)) ∷ []) p i).1 [
         | inl e ↦ inr (subst (RowsOf s (Deliver id from (a_message.Ask epoch number g terms))) (sym e) there)
@@ -406,30 +438,30 @@ NoSnap (a_message.Snap epoch g snapshot pending) = ⊥
 NoSnap other = ⊤
 
 -- each message
-message-stepped : (space : Space) (s : ServerState) (id : PostId) (from : Actor) (m : Message) → NoSnap m → Stepped s (Deliver id from m) (message_step space s from m)
-message-stepped space s id from (a_message.Call epoch number op) h = plain-stepped s (Deliver id from (a_message.Call epoch number op)) (called_by space s from epoch number op) (called-plain space s from epoch number op)
-message-stepped space s id from (a_message.Reply number version answer) h = plain-stepped s (Deliver id from (a_message.Reply number version answer)) (unmoved s) (unmoved-plain s)
-message-stepped space s id from (a_message.Update epoch g u) h = plain-stepped s (Deliver id from (a_message.Update epoch g u)) (updated space s u (if_installed (hearing s epoch g))) (updated-plain space s g u (if_installed (hearing s epoch g)) (λ r e. hearing-found s epoch g r (installed-found (hearing s epoch g) r e)))
-message-stepped space s id from (a_message.Ack epoch g key version) h = plain-stepped s (Deliver id from (a_message.Ack epoch g key version)) (acked space s key version.0 (if_installed (hearing s epoch g))) (acked-plain space s g key version.0 (if_installed (hearing s epoch g)) (λ r e. hearing-found s epoch g r (installed-found (hearing s epoch g) r e)))
-message-stepped space s id from (a_message.Ask epoch number g terms) h = asked-stepped s id from epoch number g terms
-message-stepped space s id from (a_message.Found epoch number g rows) h = plain-stepped s (Deliver id from (a_message.Found epoch number g rows)) (unmoved s) (unmoved-plain s)
-message-stepped space s id from (a_message.Seal epoch) h = plain-stepped s (Deliver id from (a_message.Seal epoch)) (seal_at s epoch) (seal-plain s epoch)
-message-stepped space s id from (a_message.Sealed epoch) h = plain-stepped s (Deliver id from (a_message.Sealed epoch)) (unmoved s) (unmoved-plain s)
-message-stepped space s id from (a_message.Install config) h = plain-stepped s (Deliver id from (a_message.Install config)) (install_at space s config) (install-plain space s config)
-message-stepped space s id from a_message.Die h = halt-stepped s (Deliver id from a_message.Die)
-message-stepped space s id from a_message.Gone h = plain-stepped s (Deliver id from a_message.Gone) (unmoved s) (unmoved-plain s)
-message-stepped space s id from (a_message.StopServer number server) h = plain-stepped s (Deliver id from (a_message.StopServer number server)) (unmoved s) (unmoved-plain s)
-message-stepped space s id from (a_message.AddReplica number server g) h = plain-stepped s (Deliver id from (a_message.AddReplica number server g)) (unmoved s) (unmoved-plain s)
-message-stepped space s id from (a_message.Outcome number answer) h = plain-stepped s (Deliver id from (a_message.Outcome number answer)) (unmoved s) (unmoved-plain s)
+message-stepped : (space : Space) (s : ServerState) (id : PostId) (from : Actor) (m : Message) → NoSnap m → Stepped space s (Deliver id from m) (message_step space s from m)
+message-stepped space s id from (a_message.Call epoch number op) h = plain-stepped space s (Deliver id from (a_message.Call epoch number op)) (called_by space s from epoch number op) (called-plain space s from epoch number op)
+message-stepped space s id from (a_message.Reply number version answer) h = plain-stepped space s (Deliver id from (a_message.Reply number version answer)) (unmoved s) (unmoved-plain space s)
+message-stepped space s id from (a_message.Update epoch g u) h = plain-stepped space s (Deliver id from (a_message.Update epoch g u)) (updated space s u (if_installed (hearing s epoch g))) (updated-plain space s g u (if_installed (hearing s epoch g)) (λ r e. hearing-found s epoch g r (installed-found (hearing s epoch g) r e)))
+message-stepped space s id from (a_message.Ack epoch g key version) h = plain-stepped space s (Deliver id from (a_message.Ack epoch g key version)) (acked space s key version.0 (if_installed (hearing s epoch g))) (acked-plain space s g key version.0 (if_installed (hearing s epoch g)) (λ r e. hearing-found s epoch g r (installed-found (hearing s epoch g) r e)))
+message-stepped space s id from (a_message.Ask epoch number g terms) h = asked-stepped space s id from epoch number g terms
+message-stepped space s id from (a_message.Found epoch number g rows) h = plain-stepped space s (Deliver id from (a_message.Found epoch number g rows)) (unmoved s) (unmoved-plain space s)
+message-stepped space s id from (a_message.Seal epoch) h = plain-stepped space s (Deliver id from (a_message.Seal epoch)) (seal_at s epoch) (seal-plain space s epoch)
+message-stepped space s id from (a_message.Sealed epoch) h = plain-stepped space s (Deliver id from (a_message.Sealed epoch)) (unmoved s) (unmoved-plain space s)
+message-stepped space s id from (a_message.Install config) h = plain-stepped space s (Deliver id from (a_message.Install config)) (install_at space s config) (install-plain space s config)
+message-stepped space s id from a_message.Die h = halt-stepped space s (Deliver id from a_message.Die)
+message-stepped space s id from a_message.Gone h = plain-stepped space s (Deliver id from a_message.Gone) (unmoved s) (unmoved-plain space s)
+message-stepped space s id from (a_message.StopServer number server) h = plain-stepped space s (Deliver id from (a_message.StopServer number server)) (unmoved s) (unmoved-plain space s)
+message-stepped space s id from (a_message.AddReplica number server g) h = plain-stepped space s (Deliver id from (a_message.AddReplica number server g)) (unmoved s) (unmoved-plain space s)
+message-stepped space s id from (a_message.Outcome number answer) h = plain-stepped space s (Deliver id from (a_message.Outcome number answer)) (unmoved s) (unmoved-plain space s)
 message-stepped space s id from (a_message.Snap epoch g snapshot pending) h = absurd h
-message-stepped space s id from (a_message.Ready epoch g) h = plain-stepped s (Deliver id from (a_message.Ready epoch g)) (unmoved s) (unmoved-plain s)
-message-stepped space s id from (a_message.Poll epoch) h = plain-stepped s (Deliver id from (a_message.Poll epoch)) (unmoved s) (unmoved-plain s)
+message-stepped space s id from (a_message.Ready epoch g) h = plain-stepped space s (Deliver id from (a_message.Ready epoch g)) (unmoved s) (unmoved-plain space s)
+message-stepped space s id from (a_message.Poll epoch) h = plain-stepped space s (Deliver id from (a_message.Poll epoch)) (unmoved s) (unmoved-plain space s)
 
 -- each input of a server that is up
-pub stepped : (space : Space) (s : ServerState) (input : Input) → s.halted ≡ false → ((id : PostId) (from : Actor) (m : Message) → input ≡ Deliver id from m → NoSnap m) → Stepped s input (server_step space s input)
-stepped space s input up f = subst (Stepped s input) (sym (cond-false s.halted (unmoved s) (input_step space s input) up)) (by input f)
+pub stepped : (space : Space) (s : ServerState) (input : Input) → s.halted ≡ false → ((id : PostId) (from : Actor) (m : Message) → input ≡ Deliver id from m → NoSnap m) → Stepped space s input (server_step space s input)
+stepped space s input up f = subst (Stepped space s input) (sym (cond-false s.halted (unmoved s) (input_step space s input) up)) (by input f)
   where
-    by : (input : Input) → ((id : PostId) (from : Actor) (m : Message) → input ≡ Deliver id from m → NoSnap m) → Stepped s input (input_step space s input)
-    by Tick f = plain-stepped s Tick (tick_step space s) (tick-plain space s)
-    by Halt f = halt-stepped s Halt
+    by : (input : Input) → ((id : PostId) (from : Actor) (m : Message) → input ≡ Deliver id from m → NoSnap m) → Stepped space s input (input_step space s input)
+    by Tick f = plain-stepped space s Tick (tick_step space s) (tick-plain space s)
+    by Halt f = halt-stepped space s Halt
     by (Deliver id from m) f = message-stepped space s id from m (f id from m refl)

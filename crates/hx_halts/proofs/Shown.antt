@@ -48,7 +48,7 @@ module _ (script : Script) (sound : IsScript script) (adds : AddsNothing script)
 
   -- a change is done
   pub change-done : (key : List ℕ) (u : Update) → IsIn u (line_of key t) → u.changes ≡ true → is_done u.answer ≡ true
-  change-done key u i c = sym ((searched-run script sound adds t run).honest key u i) ∙ c
+  change-done key u i c = sym ((searched-run script sound adds t run).honest key u i).done ∙ c
 
   module _ (c : Caller) (s : FinishedSearch) (known : Finished script sound adds t c s) where
     -- the terms of what was found are the search's

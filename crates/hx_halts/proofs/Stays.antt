@@ -101,7 +101,7 @@ module _ (script : Script) (sound : IsScript script) (older : List Entry) (kept 
     step = server_step script.space (N i) input
 
     -- what is known of it
-    pub step-is : Stepped (N i) input step
+    pub step-is : Stepped script.space (N i) input step
     step-is = stepped script.space (N i) input up (no-snap i input may)
 
     -- the servers after it
