@@ -6,4 +6,5 @@ pub mod Searched
 pub mod Gathering
 pub mod Histories
 pub mod Shown
+pub mod Orders
 pub mod Headline
