@@ -7,4 +7,6 @@ pub mod Gathering
 pub mod Histories
 pub mod Shown
 pub mod Orders
+pub mod Parts
+pub mod Trueness
 pub mod Headline

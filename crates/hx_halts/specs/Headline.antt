@@ -1,18 +1,24 @@
 -- The law on searches for runs in which no replica is added.
-use Rattle.std.specs.Prelude.{◌≡◌, true, List, map, Some}
+use Rattle.std.specs.Prelude.{◌≡◌, ℕ, true, List, [], map, Some}
 use Rattle.hx_types.specs.declared.calls.Caller.{Caller}
 use Rattle.hx_types.specs.declared.calls.Row.{Row}
+use Rattle.hx_types.specs.declared.configs.Config.{Config}
 use Rattle.hx_types.specs.declared.histories.Item.{Item}
+use Rattle.hx_types.specs.declared.names.RegionId.{RegionId}
+use Rattle.hx_types.specs.declared.spaces.Space.{Space}
 use Rattle.hx_types.specs.declared.traces.Entry.{Entry}
 use Rattle.hx_types.specs.declared.traces.Script.{Script}
+use Rattle.hx_types.specs.declared.values.Term.{Term}
+use Rattle.hx_types.specs.declared.results.Planned.TheVariants as a_plan
 use Rattle.hx_types.specs.Words.{IsIn}
 use Rattle.hx_types.specs.Fitting.{IsScript}
 use Rattle.hx_types.specs.Posts.{keys_ascend}
 use Rattle.hx_model.specs.Matching.{matches}
+use Rattle.hx_model.specs.Planning.{plan_of}
 use Rattle.hx_model.specs.Runs.{IsRun}
 use Rattle.hx_model.specs.Histories.{history_of}
 use Rattle.hx_model.specs.Linear.{began_before}
-use Rattle.hx_model.specs.Searching.{FinishedSearch, changes_object, search_of}
+use Rattle.hx_model.specs.Searching.{FinishedSearch, IsSearchTrue, IsSearchWhole, changes_object, search_of}
 use Rattle.hx_epochs.specs.Headline.{AddsNothing}
 
 -- the row is a write of its key that was done, stays in the key's history, matches, and began before the search ended
@@ -36,3 +42,23 @@ RunsShowChanges =
     (script : Script) → IsScript script → AddsNothing script
     → (trace : List Entry) → IsRun script trace
     → (c : Caller) (s : FinishedSearch) → search_of script trace c ≡ Some s → ShowsChanges script trace s
+
+-- in whatever configuration a search for these terms asks regions of keys alone
+abbrev pub AsksKeys : Space → List Term → Type 0
+AsksKeys space terms = (config : Config) (subspace : ℕ) (regions : List RegionId) → plan_of space config terms ≡ a_plan.Regions subspace regions → subspace ≡ 0
+
+-- in every run of a script that adds no replica each finished search that asks regions of keys alone is true, and whole for every key
+abbrev pub RunsSearchKeysWell : Type 0
+RunsSearchKeysWell =
+    (script : Script) → IsScript script → AddsNothing script
+    → (trace : List Entry) → IsRun script trace
+    → (c : Caller) (s : FinishedSearch) → search_of script trace c ≡ Some s → AsksKeys script.space s.terms
+    → IsSearchTrue script trace s × ((key : List ℕ) → IsSearchWhole script trace key s)
+
+-- in every run of a script that adds no replica, in a space that declares no subspace, each finished search is true, and whole for every key
+abbrev pub RunsSearchPlainSpaces : Type 0
+RunsSearchPlainSpaces =
+    (script : Script) → IsScript script → AddsNothing script → script.space.subspaces ≡ []
+    → (trace : List Entry) → IsRun script trace
+    → (c : Caller) (s : FinishedSearch) → search_of script trace c ≡ Some s
+    → IsSearchTrue script trace s × ((key : List ℕ) → IsSearchWhole script trace key s)
