@@ -1,8 +1,32 @@
 -- The laws on searches from what every run keeps.
-use Rattle.hx_halts.specs.Headline.{RunsShowChanges}
+use Rattle.std.proofs.Common.{◌≡◌, List, [], length, ap, arith}
+use Rattle.hx_types.specs.declared.spaces.Axis.{Axis}
+use Rattle.hx_types.specs.declared.spaces.Space.{Space}
+use Rattle.hx_types.specs.declared.values.Term.{Term}
+use Rattle.hx_plan.proofs.Planned.{asked}
+use Rattle.hx_halts.specs.Headline.{AsksKeys, RunsSearchKeysWell, RunsSearchPlainSpaces, RunsShowChanges}
 use Rattle.hx_halts.proofs.Gathering.{finished}
 use Rattle.hx_halts.proofs.Shown.{shows-changes}
+use Rattle.hx_halts.proofs.Trueness.{search-true}
+use Rattle.hx_halts.proofs.Wholeness.{search-whole}
 
 -- each finished search shows changes alone
 pub runs_show_changes : RunsShowChanges
 runs_show_changes script sound adds trace run c s e = shows-changes script sound adds trace run c s (finished script sound adds trace run c s e)
+
+-- each finished search that asks regions of keys alone is true and whole
+pub runs_search_keys_well : RunsSearchKeysWell
+runs_search_keys_well script sound adds trace run c s e keyed =
+    let known = finished script sound adds trace run c s e in
+    (search-true script sound adds trace run c s known keyed, search-whole script sound adds trace run c s known keyed)
+
+-- in a space without subspaces each search asks regions of keys
+plain-keys : (space : Space) → space.subspaces ≡ [] → (terms : List Term) → AsksKeys space terms
+plain-keys space plain terms config subspace regions plan =
+    let l = (asked space config terms subspace regions plan).subspace in
+    let n : length space.subspaces ≡ 0 = ap (λ (x : List (List Axis)). length x) plain in
+    omega (arith, l, n)
+
+-- there each finished search is true and whole
+pub runs_search_plain_spaces : RunsSearchPlainSpaces
+runs_search_plain_spaces script sound adds plain trace run c s e = runs_search_keys_well script sound adds trace run c s e (plain-keys script.space plain s.terms)

@@ -9,4 +9,5 @@ pub mod Shown
 pub mod Orders
 pub mod Parts
 pub mod Trueness
+pub mod Wholeness
 pub mod Headline

@@ -1,9 +1,19 @@
 //! The law on searches over all runs in which no replica is added: servers may halt or be stopped, and configurations follow one another.
 #![tactic(auto)]
 
-ghost use Rattle.hx_halts.specs.Headline.{RunsShowChanges};
+ghost use Rattle.hx_halts.specs.Headline.{RunsSearchKeysWell, RunsSearchPlainSpaces, RunsShowChanges};
 
 /// In every run in which no replica is added - whatever is delivered, lost, repeated, halted or stopped, in whatever configurations - each finished search shows changes alone: each of its rows is a write of the row's key that was done and stays in the key's history, matches the search, and began before the search ended; and the rows ascend by keys, each key once.
 pub fn searches_show_changes()
     ensures { RunsShowChanges }
+{}
+
+/// In every run in which no replica is added each finished search that asks regions of keys alone is whole and true, though servers halt or are stopped and configurations follow one another: it holds every match that was committed before it began and not changed meanwhile, and only versions that were committed or under way during it.
+pub fn searches_of_keys()
+    ensures { RunsSearchKeysWell }
+{}
+
+/// In a space that declares no subspace every search asks regions of keys alone; so each finished search is whole and true in every run in which no replica is added.
+pub fn searches_in_plain_spaces()
+    ensures { RunsSearchPlainSpaces }
 {}
