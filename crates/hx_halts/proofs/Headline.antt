@@ -4,11 +4,16 @@ use Rattle.hx_types.specs.declared.spaces.Axis.{Axis}
 use Rattle.hx_types.specs.declared.spaces.Space.{Space}
 use Rattle.hx_types.specs.declared.values.Term.{Term}
 use Rattle.hx_plan.proofs.Planned.{asked}
-use Rattle.hx_halts.specs.Headline.{AsksKeys, RunsSearchKeysWell, RunsSearchPlainSpaces, RunsShowChanges}
+use Rattle.hx_halts.specs.Headline.{AsksKeys, RunsKeepRows, RunsSearchKeysWell, RunsSearchPlainSpaces, RunsShowChanges}
 use Rattle.hx_halts.proofs.Gathering.{finished}
+use Rattle.hx_halts.proofs.Rows.{row-stays}
 use Rattle.hx_halts.proofs.Shown.{shows-changes}
 use Rattle.hx_halts.proofs.Trueness.{search-true}
 use Rattle.hx_halts.proofs.Wholeness.{search-whole}
+
+-- rows that a session was sent stay
+pub runs_keep_rows : RunsKeepRows
+runs_keep_rows script sound adds trace run p i u epoch number g rows to e r j = row-stays script sound adds trace run p i u epoch number g rows to e r j
 
 -- each finished search shows changes alone
 pub runs_show_changes : RunsShowChanges

@@ -10,4 +10,5 @@ pub mod Orders
 pub mod Parts
 pub mod Trueness
 pub mod Wholeness
+pub mod Rows
 pub mod Headline

@@ -4,11 +4,17 @@ use Rattle.hx_types.specs.declared.calls.Caller.{Caller}
 use Rattle.hx_types.specs.declared.calls.Row.{Row}
 use Rattle.hx_types.specs.declared.configs.Config.{Config}
 use Rattle.hx_types.specs.declared.histories.Item.{Item}
+use Rattle.hx_types.specs.declared.messages.Post.{Post}
+use Rattle.hx_types.specs.declared.names.Epoch.{Epoch}
 use Rattle.hx_types.specs.declared.names.RegionId.{RegionId}
+use Rattle.hx_types.specs.declared.names.SessionId.{SessionId}
 use Rattle.hx_types.specs.declared.spaces.Space.{Space}
 use Rattle.hx_types.specs.declared.traces.Entry.{Entry}
 use Rattle.hx_types.specs.declared.traces.Script.{Script}
+use Rattle.hx_types.specs.declared.updates.Update.{Update}
 use Rattle.hx_types.specs.declared.values.Term.{Term}
+use Rattle.hx_types.specs.declared.messages.Message.TheVariants as a_message
+use Rattle.hx_types.specs.declared.names.Actor.TheVariants.{Session}
 use Rattle.hx_types.specs.declared.results.Planned.TheVariants as a_plan
 use Rattle.hx_types.specs.Words.{IsIn}
 use Rattle.hx_types.specs.Fitting.{IsScript}
@@ -16,10 +22,28 @@ use Rattle.hx_types.specs.Posts.{keys_ascend}
 use Rattle.hx_model.specs.Matching.{matches}
 use Rattle.hx_model.specs.Planning.{plan_of}
 use Rattle.hx_model.specs.Runs.{IsRun}
-use Rattle.hx_model.specs.Histories.{history_of}
+use Rattle.hx_model.specs.Histories.{history_of, line_of}
 use Rattle.hx_model.specs.Linear.{began_before}
 use Rattle.hx_model.specs.Searching.{FinishedSearch, IsSearchTrue, IsSearchWhole, changes_object, search_of}
+use Rattle.hx_steady.specs.Served.{posts_of}
 use Rattle.hx_epochs.specs.Headline.{AddsNothing}
+
+-- the row is of a change of its key's line
+pub record IsRowOfLine (trace : List Entry) (r : Row) : Type 0 where
+  pub update : Update
+  pub stands : IsIn update (line_of r.key trace)
+  pub changes : update.changes ≡ true
+  pub version : update.version ≡ r.version
+  pub object : update.object ≡ Some r.object
+
+-- in every run of a script that adds no replica each row that a session was ever sent is of a change that stands in its key's line
+abbrev pub RunsKeepRows : Type 0
+RunsKeepRows =
+    (script : Script) → IsScript script → AddsNothing script
+    → (trace : List Entry) → IsRun script trace
+    → (p : Post) → IsIn p (posts_of trace)
+    → (u : SessionId) (epoch : Epoch) (number : ℕ) (g : RegionId) (rows : List Row) → p.to ≡ Session u → p.message ≡ a_message.Found epoch number g rows
+    → (r : Row) → IsIn r rows → IsRowOfLine trace r
 
 -- the row is a write of its key that was done, stays in the key's history, matches, and began before the search ended
 pub record IsChangeOf (script : Script) (trace : List Entry) (s : FinishedSearch) (r : Row) : Type 0 where

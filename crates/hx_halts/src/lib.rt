@@ -1,7 +1,12 @@
 //! The law on searches over all runs in which no replica is added: servers may halt or be stopped, and configurations follow one another.
 #![tactic(auto)]
 
-ghost use Rattle.hx_halts.specs.Headline.{RunsSearchKeysWell, RunsSearchPlainSpaces, RunsShowChanges};
+ghost use Rattle.hx_halts.specs.Headline.{RunsKeepRows, RunsSearchKeysWell, RunsSearchPlainSpaces, RunsShowChanges};
+
+/// In every run in which no replica is added each row that a session was ever sent, by a member of whatever region in whatever epoch, is of a change that stands in its key's line, and so in each later line: what was shown is never cut off, whichever servers halt.
+pub fn found_rows_stay()
+    ensures { RunsKeepRows }
+{}
 
 /// In every run in which no replica is added - whatever is delivered, lost, repeated, halted or stopped, in whatever configurations - each finished search shows changes alone: each of its rows is a write of the row's key that was done and stays in the key's history, matches the search, and began before the search ended; and the rows ascend by keys, each key once.
 pub fn searches_show_changes()
