@@ -124,11 +124,11 @@ module _ (script : Script) (older : List Entry) (kept : RunKept script older) (i
     newest = elim (kept.good.near i here) [ inl e ↦ e | inr e ↦ absurd (false≢true (sym (hearing-open (N i) epoch g r heard) ∙ e.1)) ]
 
     -- so it is a member
-    member : IsIn i (order c g)
+    pub member : IsIn i (order c g)
     member = listed-in c g i (subst (λ (x : Config). lists x g i ≡ true) newest ((kept.shapes i here).1.only g r found))
 
     -- the slot of a key
-    slot-is : (key : List ℕ) → slots script.space c N key g i ≡ state_in script.space r key
+    pub slot-is : (key : List ℕ) → slots script.space c N key g i ≡ state_in script.space r key
     slot-is key =
         cond-true (eqb (N i).config.epoch.0 c.epoch.0) (slot_in script.space g key (N i)) (moved Forget (slot_in script.space g key (N i))) (eq-eqb (N i).config.epoch.0 c.epoch.0 (ap (λ (x : Config). x.epoch.0) newest))
         ∙ slot-found script.space g key (N i) r found

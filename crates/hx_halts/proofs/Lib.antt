@@ -11,4 +11,6 @@ pub mod Parts
 pub mod Trueness
 pub mod Wholeness
 pub mod Rows
+pub mod Assigning
+pub mod Made
 pub mod Headline

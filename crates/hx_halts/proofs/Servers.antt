@@ -61,7 +61,7 @@ pub record Honest (space : Space) (u : Update) : Type 0 where
   pub at_key : (p : Place) → IsIn p u.places → is_key_region space p.region ≡ true → p.region ≡ key_region space u.key
 
 -- an effect changes the object where it is answered Done, and nowhere else
-effect-done : (space : Space) (old : Option (List Value)) (op : Op) → (effect_of space old op).changes ≡ is_done (effect_of space old op).answer
+pub effect-done : (space : Space) (old : Option (List Value)) (op : Op) → (effect_of space old op).changes ≡ is_done (effect_of space old op).answer
 effect-done space old (Put key sets) = refl
 effect-done space None (Get key) = refl
 effect-done space (Some x) (Get key) = refl
