@@ -1,15 +1,28 @@
 -- The laws on searches from what every run keeps.
-use Rattle.std.proofs.Common.{◌≡◌, List, [], length, ap, arith}
+use Rattle.std.proofs.Common.{ℕ, ◌∷◌, ◌≡◌, List, [], length, ap, arith}
 use Rattle.hx_types.specs.declared.spaces.Axis.{Axis}
 use Rattle.hx_types.specs.declared.spaces.Space.{Space}
 use Rattle.hx_types.specs.declared.values.Term.{Term}
+use Rattle.hx_types.specs.declared.updates.Update.{Update}
 use Rattle.hx_plan.proofs.Planned.{asked}
-use Rattle.hx_halts.specs.Headline.{AsksKeys, RunsKeepRows, RunsSearchKeysWell, RunsSearchPlainSpaces, RunsShowChanges}
+use Rattle.hx_model.specs.Histories.{line_of}
+use Rattle.hx_searches.proofs.Placed.{AllMade}
+use Rattle.hx_halts.specs.Headline.{AsksKeys, ArePlaced, RunsKeepRows, RunsPlaceUpdates, RunsSearchKeysWell, RunsSearchPlainSpaces, RunsShowChanges}
 use Rattle.hx_halts.proofs.Gathering.{finished}
+use Rattle.hx_halts.proofs.Made.{lines-made}
 use Rattle.hx_halts.proofs.Rows.{row-stays}
 use Rattle.hx_halts.proofs.Shown.{shows-changes}
 use Rattle.hx_halts.proofs.Trueness.{search-true}
 use Rattle.hx_halts.proofs.Wholeness.{search-whole}
+
+-- a made line is placed
+made-placed : (space : Space) (key : List ℕ) (us : List Update) → AllMade space key us → ArePlaced space key us
+made-placed space key [] h = tt
+made-placed space key (u ∷ us) h = (record { key_is = h.0.key_is; version = h.0.version; done = h.0.done; places = h.0.places }, made-placed space key us h.1)
+
+-- each update of a line is placed
+pub runs_place_updates : RunsPlaceUpdates
+runs_place_updates script sound adds trace run key = made-placed script.space key (line_of key trace) (lines-made script sound adds trace run key)
 
 -- rows that a session was sent stay
 pub runs_keep_rows : RunsKeepRows

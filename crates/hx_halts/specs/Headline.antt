@@ -1,5 +1,5 @@
 -- The law on searches for runs in which no replica is added.
-use Rattle.std.specs.Prelude.{◌≡◌, ℕ, true, List, [], map, Some}
+use Rattle.std.specs.Prelude.{◌≡◌, ℕ, ◌+◌, true, List, [], ◌∷◌, length, map, Some, ⊤}
 use Rattle.hx_types.specs.declared.calls.Caller.{Caller}
 use Rattle.hx_types.specs.declared.calls.Row.{Row}
 use Rattle.hx_types.specs.declared.configs.Config.{Config}
@@ -17,16 +17,37 @@ use Rattle.hx_types.specs.declared.messages.Message.TheVariants as a_message
 use Rattle.hx_types.specs.declared.names.Actor.TheVariants.{Session}
 use Rattle.hx_types.specs.declared.results.Planned.TheVariants as a_plan
 use Rattle.hx_types.specs.Words.{IsIn}
-use Rattle.hx_types.specs.Fitting.{IsScript}
+use Rattle.hx_types.specs.Fitting.{IsScript, is_done}
 use Rattle.hx_types.specs.Posts.{keys_ascend}
 use Rattle.hx_model.specs.Matching.{matches}
+use Rattle.hx_model.specs.Places.{places_of}
 use Rattle.hx_model.specs.Planning.{plan_of}
+use Rattle.hx_model.specs.Slots.{touches_after}
 use Rattle.hx_model.specs.Runs.{IsRun}
 use Rattle.hx_model.specs.Histories.{history_of, line_of}
 use Rattle.hx_model.specs.Linear.{began_before}
 use Rattle.hx_model.specs.Searching.{FinishedSearch, IsSearchTrue, IsSearchWhole, changes_object, search_of}
-use Rattle.hx_steady.specs.Served.{posts_of}
+use Rattle.hx_steady.specs.Served.{line_object, posts_of}
 use Rattle.hx_epochs.specs.Headline.{AddsNothing}
+
+-- the update stands after the older ones of its key's line, changes where it is answered Done, and goes through the places that the object before and after it ask for, in each after the last version that had a place there
+pub record IsPlaced (space : Space) (key : List ℕ) (older : List Update) (u : Update) : Type 0 where
+  pub key_is : u.key ≡ key
+  pub version : u.version.0 ≡ length older + 1
+  pub done : u.changes ≡ is_done u.answer
+  pub places : u.places ≡ places_of space key (line_object older) u.object u.changes (length older) (touches_after [] older)
+
+-- each update of the line does
+abbrev pub ArePlaced : Space → List ℕ → List Update → Type 0
+ArePlaced space key [] = ⊤
+ArePlaced space key (u ∷ older) = IsPlaced space key older u × ArePlaced space key older
+
+-- in every run of a script that adds no replica, in whatever configuration, each update of a line is placed so
+abbrev pub RunsPlaceUpdates : Type 0
+RunsPlaceUpdates =
+    (script : Script) → IsScript script → AddsNothing script
+    → (trace : List Entry) → IsRun script trace
+    → (key : List ℕ) → ArePlaced script.space key (line_of key trace)
 
 -- the row is of a change of its key's line
 pub record IsRowOfLine (trace : List Entry) (r : Row) : Type 0 where
