@@ -7,8 +7,9 @@ use Rattle.hx_types.specs.declared.updates.Update.{Update}
 use Rattle.hx_plan.proofs.Planned.{asked}
 use Rattle.hx_model.specs.Histories.{line_of}
 use Rattle.hx_searches.proofs.Placed.{AllMade}
-use Rattle.hx_halts.specs.Headline.{AsksKeys, ArePlaced, RunsKeepRows, RunsPlaceUpdates, RunsSearchKeysWell, RunsSearchPlainSpaces, RunsShowChanges}
+use Rattle.hx_halts.specs.Headline.{AsksKeys, ArePlaced, RunsKeepParts, RunsKeepRows, RunsPlaceUpdates, RunsSearchKeysWell, RunsSearchPlainSpaces, RunsShowChanges}
 use Rattle.hx_halts.proofs.Gathering.{finished}
+use Rattle.hx_halts.proofs.Fronts.{replica-front}
 use Rattle.hx_halts.proofs.Made.{lines-made}
 use Rattle.hx_halts.proofs.Rows.{row-stays}
 use Rattle.hx_halts.proofs.Shown.{shows-changes}
@@ -23,6 +24,10 @@ made-placed space key (u ∷ us) h = (record { key_is = h.0.key_is; version = h.
 -- each update of a line is placed
 pub runs_place_updates : RunsPlaceUpdates
 runs_place_updates script sound adds trace run key = made-placed script.space key (line_of key trace) (lines-made script sound adds trace run key)
+
+-- replicas hold their region's part of a line
+pub runs_keep_parts : RunsKeepParts
+runs_keep_parts script sound adds trace run s real up key g off = replica-front script sound adds trace run s real up key g off
 
 -- rows that a session was sent stay
 pub runs_keep_rows : RunsKeepRows

@@ -13,4 +13,6 @@ pub mod Wholeness
 pub mod Rows
 pub mod Assigning
 pub mod Made
+pub mod Linked
+pub mod Fronts
 pub mod Headline

@@ -286,7 +286,7 @@ hearing-open s epoch g r = by s.sealed
     by false e = refl
 
 -- so is what is installed
-installed-found : (o : Option Replica) (r : Replica) → if_installed o ≡ Some r → o ≡ Some r
+pub installed-found : (o : Option Replica) (r : Replica) → if_installed o ≡ Some r → o ≡ Some r
 installed-found None r = λ e. absurd (cc)
 installed-found (Some x) r = cond_both x.installed (Some x) None (λ o. o ≡ Some r → Some x ≡ Some r) (λ t e. e) (λ t e. absurd (cc))
 

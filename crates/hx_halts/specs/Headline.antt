@@ -1,5 +1,6 @@
 -- The law on searches for runs in which no replica is added.
-use Rattle.std.specs.Prelude.{◌≡◌, ℕ, ◌+◌, true, List, [], ◌∷◌, length, map, Some, ⊤}
+use Rattle.std.specs.Prelude.{◌≡◌, ℕ, ◌+◌, true, List, [], ◌∷◌, length, map, false, Some, ⊤}
+use Rattle.std.specs.List.{filter}
 use Rattle.hx_types.specs.declared.calls.Caller.{Caller}
 use Rattle.hx_types.specs.declared.calls.Row.{Row}
 use Rattle.hx_types.specs.declared.configs.Config.{Config}
@@ -7,6 +8,7 @@ use Rattle.hx_types.specs.declared.histories.Item.{Item}
 use Rattle.hx_types.specs.declared.messages.Post.{Post}
 use Rattle.hx_types.specs.declared.names.Epoch.{Epoch}
 use Rattle.hx_types.specs.declared.names.RegionId.{RegionId}
+use Rattle.hx_types.specs.declared.names.ServerId.{ServerId}
 use Rattle.hx_types.specs.declared.names.SessionId.{SessionId}
 use Rattle.hx_types.specs.declared.spaces.Space.{Space}
 use Rattle.hx_types.specs.declared.traces.Entry.{Entry}
@@ -14,20 +16,21 @@ use Rattle.hx_types.specs.declared.traces.Script.{Script}
 use Rattle.hx_types.specs.declared.updates.Update.{Update}
 use Rattle.hx_types.specs.declared.values.Term.{Term}
 use Rattle.hx_types.specs.declared.messages.Message.TheVariants as a_message
-use Rattle.hx_types.specs.declared.names.Actor.TheVariants.{Session}
+use Rattle.hx_types.specs.declared.names.Actor.TheVariants.{Server, Session}
 use Rattle.hx_types.specs.declared.results.Planned.TheVariants as a_plan
 use Rattle.hx_types.specs.Words.{IsIn}
 use Rattle.hx_types.specs.Fitting.{IsScript, is_done}
 use Rattle.hx_types.specs.Posts.{keys_ascend}
 use Rattle.hx_model.specs.Matching.{matches}
 use Rattle.hx_model.specs.Places.{places_of}
+use Rattle.hx_model.specs.Regions.{key_region}
 use Rattle.hx_model.specs.Planning.{plan_of}
-use Rattle.hx_model.specs.Slots.{touches_after}
-use Rattle.hx_model.specs.Runs.{IsRun}
+use Rattle.hx_model.specs.Slots.{has_place, top_above, touches_after, upto}
+use Rattle.hx_model.specs.Runs.{IsRun, is_actor, server_of}
 use Rattle.hx_model.specs.Histories.{history_of, line_of}
 use Rattle.hx_model.specs.Linear.{began_before}
 use Rattle.hx_model.specs.Searching.{FinishedSearch, IsSearchTrue, IsSearchWhole, changes_object, search_of}
-use Rattle.hx_steady.specs.Served.{line_object, posts_of}
+use Rattle.hx_steady.specs.Served.{line_object, posts_of, slot_in}
 use Rattle.hx_epochs.specs.Headline.{AddsNothing}
 
 -- the update stands after the older ones of its key's line, changes where it is answered Done, and goes through the places that the object before and after it ask for, in each after the last version that had a place there
@@ -48,6 +51,15 @@ RunsPlaceUpdates =
     (script : Script) → IsScript script → AddsNothing script
     → (trace : List Entry) → IsRun script trace
     → (key : List ℕ) → ArePlaced script.space key (line_of key trace)
+
+-- in every run of a script that adds no replica, in whatever configuration, each server that hasn't halted has accepted of a key, in another region than the key's own, that region's part of the key's line up to some version
+abbrev pub RunsKeepParts : Type 0
+RunsKeepParts =
+    (script : Script) → IsScript script → AddsNothing script
+    → (trace : List Entry) → IsRun script trace
+    → (s : ServerId) → is_actor script (Server s) ≡ true → (server_of script s trace).halted ≡ false
+    → (key : List ℕ) (g : RegionId) → (g ≡ key_region script.space key → ⊥)
+    → let slot = slot_in script.space g key (server_of script s trace) in slot.accepted ≡ upto (top_above 0 slot.accepted) (filter (has_place g) (line_of key trace))
 
 -- the row is of a change of its key's line
 pub record IsRowOfLine (trace : List Entry) (r : Row) : Type 0 where

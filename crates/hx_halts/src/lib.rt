@@ -1,11 +1,16 @@
 //! The law on searches over all runs in which no replica is added: servers may halt or be stopped, and configurations follow one another.
 #![tactic(auto)]
 
-ghost use Rattle.hx_halts.specs.Headline.{RunsKeepRows, RunsPlaceUpdates, RunsSearchKeysWell, RunsSearchPlainSpaces, RunsShowChanges};
+ghost use Rattle.hx_halts.specs.Headline.{RunsKeepParts, RunsKeepRows, RunsPlaceUpdates, RunsSearchKeysWell, RunsSearchPlainSpaces, RunsShowChanges};
 
 /// In every run in which no replica is added, in whatever configuration, each update of a key's line goes through the key's region and, where it changes the object, through the regions of the object before and after it, in each after the last version that had a place there.
 pub fn updates_are_placed()
     ensures { RunsPlaceUpdates }
+{}
+
+/// In every run in which no replica is added, in whatever configuration, a server that hasn't halted holds of each key, in another region than the key's own, that region's part of the key's line up to some version, with nothing left out - though lines are cut where a leader halts.
+pub fn replicas_hold_their_part()
+    ensures { RunsKeepParts }
 {}
 
 /// In every run in which no replica is added each row that a session was ever sent, by a member of whatever region in whatever epoch, is of a change that stands in its key's line, and so in each later line: what was shown is never cut off, whichever servers halt.
