@@ -75,14 +75,14 @@ Asks s (a_message.Poll epoch) = ⊤
 module _ (space : Space) (Known : ℕ → RegionId → List Row → Type 0) where
   -- what the session has of its search under way
   abbrev pub HasParts : SessionState → Type 0
-  HasParts s = (terms : List Term) → s.under_way ≡ true → numbered s.calls s.begun ≡ Some (Search terms) → Parted space terms (Known s.begun) s.parts
+  HasParts s = (terms : List Term) → s.under_way ≡ true → numbered s.calls s.begun ≡ Some (Search terms) → (p : Parted space terms (Known s.begun) s.parts) × (p.config ≡ s.config)
 
   -- what a step keeps
   pub record SearchTurn (s : SessionState) (step : SessionStep) : Type 0 where
     pub posts : (p : Post) → IsIn p step.posts → (p.from ≡ Session s.id) × Asks step.state p.message
     pub parts : HasParts step.state
     pub ends : (n : ℕ) (v : Version) (rows : List Row) (terms : List Term) → IsIn (a_note.Ended n v (an_answer.Rows rows)) step.notes → numbered s.calls n ≡ Some (Search terms)
-        → Gathered space terms (Known n) rows
+        → (g : Gathered space terms (Known n) rows) × (g.parted.config ≡ step.state.config)
 
   -- nothing happens
   stays : (s : SessionState) → HasParts s → SearchTurn s (staying s)
@@ -90,7 +90,7 @@ module _ (space : Space) (Known : ℕ → RegionId → List Row → Type 0) wher
 
   -- a call ends
   ends-with : (s : SessionState) (version : Version) (answer : Answer)
-      → ((rows : List Row) (terms : List Term) → answer ≡ an_answer.Rows rows → numbered s.calls s.begun ≡ Some (Search terms) → Gathered space terms (Known s.begun) rows)
+      → ((rows : List Row) (terms : List Term) → answer ≡ an_answer.Rows rows → numbered s.calls s.begun ≡ Some (Search terms) → (g : Gathered space terms (Known s.begun) rows) × (g.parted.config ≡ s.config))
       → SearchTurn s (ending s version answer)
   ends-with s version answer f = record {
     posts = λ p i. absurd i;
@@ -98,7 +98,7 @@ module _ (space : Space) (Known : ℕ → RegionId → List Row → Type 0) wher
     ends = λ n v rows terms i e. elim i [
       | inl q ↦ (let a : n ≡ s.begun = cc in
           let b : answer ≡ an_answer.Rows rows = cc in
-          subst (λ k. Gathered space terms (Known k) rows) (sym a) (f rows terms b (ap (numbered s.calls) (sym a) ∙ e)))
+          subst (λ k. (g : Gathered space terms (Known k) rows) × (g.parted.config ≡ s.config)) (sym a) (f rows terms b (ap (numbered s.calls) (sym a) ∙ e)))
       | inr j ↦ absurd j
     ];
   }
@@ -136,7 +136,7 @@ module _ (space : Space) (Known : ℕ → RegionId → List Row → Type 0) wher
   asks-regions s terms (a_plan.Regions subspace regions) e w c = record {
     posts = λ p i. (let f = in-flat_map (λ (g : RegionId). ask_to s terms g (head_of s.config g)) regions p i in by f.0 (head_of s.config f.0) p f.2);
     parts = λ ts x q. (let r : Search terms ≡ Search ts = (let u : Some (Search terms) ≡ Some (Search ts) = sym c ∙ q in cc) in let t : terms ≡ ts = cc in
-        subst (λ (l : List Term). Parted space l (Known s.begun) new-parts) t (record { config = s.config; subspace = subspace; regions = regions; plan = e; regions_are = new-regions regions; each = none }));
+        subst (λ (l : List Term). (p : Parted space l (Known s.begun) new-parts) × (p.config ≡ s.config)) t (record { config = s.config; subspace = subspace; regions = regions; plan = e; regions_are = new-regions regions; each = none }, refl));
     ends = λ n v rows ts i. absurd i;
   }
     where
@@ -263,22 +263,24 @@ module _ (space : Space) (Known : ℕ → RegionId → List Row → Type 0) wher
     where
       taken : (number ≡ s.begun) → HasParts (record s { parts = map (with_part g rows) s.parts })
       taken e terms w c =
-          let old = h terms w c in
-          record {
-            config = old.config;
-            subspace = old.subspace;
-            regions = old.regions;
-            plan = old.plan;
-            regions_are = with-regions g rows s.parts ∙ old.regions_are;
-            each = with-each s.begun g rows s.parts (subst (λ n. Known n g rows) e known) old.each;
-          }
+          let old = (h terms w c).0 in (
+            record {
+              config = old.config;
+              subspace = old.subspace;
+              regions = old.regions;
+              plan = old.plan;
+              regions_are = with-regions g rows s.parts ∙ old.regions_are;
+              each = with-each s.begun g rows s.parts (subst (λ n. Known n g rows) e known) old.each;
+            },
+            (h terms w c).1,
+          )
 
       all : (number ≡ s.begun) → s.under_way ≡ true → (b : Bool) → all_parts (map (with_part g rows) s.parts) ≡ b
           → SearchTurn s (cond b (ending (record s { parts = map (with_part g rows) s.parts }) no_version (an_answer.Rows (merged_parts (map (with_part g rows) s.parts)))) (staying (record s { parts = map (with_part g rows) s.parts })))
       all e w false t = record { posts = λ p i. absurd i; parts = taken e; ends = λ n v rows terms i. absurd i }
       all e w true t =
           let r = ends-with (record s { parts = map (with_part g rows) s.parts }) no_version (an_answer.Rows (merged_parts (map (with_part g rows) s.parts)))
-          (λ rs terms q c. record { parts = map (with_part g rows) s.parts; parted = taken e terms w c; all = t; rows_are = (let x : rs ≡ merged_parts (map (with_part g rows) s.parts) = cc in x) }) in
+          (λ rs terms q c. (record { parts = map (with_part g rows) s.parts; parted = (taken e terms w c).0; all = t; rows_are = (let x : rs ≡ merged_parts (map (with_part g rows) s.parts) = cc in x) }, (taken e terms w c).1)) in
           record { posts = r.posts; parts = r.parts; ends = r.ends }
 
       by : (b : Bool) → (awaits s number is_search && eqb epoch.0 s.config.epoch.0 && list_any (lacks_part g) s.parts) ≡ b
@@ -304,9 +306,9 @@ module _ (space : Space) (Known : ℕ → RegionId → List Row → Type 0) wher
           let a = awaited s number is_administrative t in
           ends-with s no_version answer (λ rows terms q e. absurd (office-no_search a.2.0 a.2.2 terms (let r : Some a.2.0 ≡ Some (Search terms) = sym a.2.1 ∙ e in cc)))
 
-  -- another configuration, and nothing else
-  adopts : (s : SessionState) → HasParts s → (config : Config) → SearchTurn s (staying (record s { config = config }))
-  adopts s h config = record { posts = λ p i. absurd i; parts = h; ends = λ n v rows terms i. absurd i }
+  -- another configuration, where no search is under way
+  adopts : (s : SessionState) → (config : Config) → ((terms : List Term) → s.under_way ≡ true → numbered s.calls s.begun ≡ Some (Search terms) → ⊥) → SearchTurn s (staying (record s { config = config }))
+  adopts s config none = record { posts = λ p i. absurd i; parts = λ terms w e. absurd (none terms w e); ends = λ n v rows terms i. absurd i }
 
   -- the call under way
   under : (s : SessionState) (op : Op) → call_under_way s ≡ Some op → (s.under_way ≡ true) × (numbered s.calls s.begun ≡ Some op)
@@ -323,9 +325,9 @@ module _ (space : Space) (Known : ℕ → RegionId → List Row → Type 0) wher
       (when_some (call_under_way s) (staying (record s { config = config })) (λ (op : Op). cond (is_administrative op) (staying (record s { config = config })) (send space (record s { config = config }) op))) (staying s) (SearchTurn s)
       (
       λ t. when_some_both (call_under_way s) (staying (record s { config = config })) (λ (op : Op). cond (is_administrative op) (staying (record s { config = config })) (send space (record s { config = config }) op)) (SearchTurn s)
-      (λ e. adopts s h config)
+      (λ e. adopts s config (λ terms w q. let r : None ≡ Some (Search terms) = sym e ∙ ap (λ b. cond b (numbered s.calls s.begun) None) w ∙ q in cc))
       (λ op e. cond_both (is_administrative op) (staying (record s { config = config })) (send space (record s { config = config }) op) (SearchTurn s)
-      (λ q. adopts s h config)
+      (λ q. adopts s config (λ terms w z. office-no_search op q terms (let r : Some op ≡ Some (Search terms) = sym (under s op e).1 ∙ z in cc)))
       (λ q. let u = under s op e in let r = sends (record s { config = config }) op u.0 u.1 in record { posts = r.posts; parts = r.parts; ends = r.ends }))
       )
       (λ t. stays s h)

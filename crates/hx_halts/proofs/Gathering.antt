@@ -16,7 +16,7 @@ use Rattle.hx_types.specs.declared.calls.Op.TheVariants.{Put, Get, Del, Cput, Se
 use Rattle.hx_types.specs.Words.{IsIn, when_some}
 use Rattle.hx_types.specs.Fitting.{IsScript, call_of, numbered}
 use Rattle.hx_model.specs.Regions.{key_region}
-use Rattle.hx_model.specs.Runs.{IsRun}
+use Rattle.hx_model.specs.Runs.{IsRun, session_of}
 use Rattle.hx_model.specs.Histories.{CallEnd, begin_of, end_of}
 use Rattle.hx_model.specs.Searching.{FinishedSearch, rows_in, search_of, terms_of, with_rows}
 use Rattle.hx_linear.proofs.Traces.{BeganAt, EndedAt, began_at, ended_at}
@@ -24,6 +24,7 @@ use Rattle.hx_searches.proofs.Histories.{end-noted}
 use Rattle.hx_epochs.specs.Headline.{AddsNothing}
 use Rattle.hx_epochs.proofs.Calls.{Calls, calls_kept}
 use Rattle.hx_epochs.proofs.Runs.{RunKept, run_kept, world_after}
+use Rattle.hx_halts.specs.Headline.{IsPartOf}
 use Rattle.hx_halts.proofs.Stays.{Stays}
 use Rattle.hx_halts.proofs.Founds.{IsFound}
 use Rattle.hx_halts.proofs.Asking.{Gathered}
@@ -36,7 +37,7 @@ pub record FoundBy (script : Script) (t : List Entry) (c : Caller) (n : ℕ) (g 
   pub early_part : (key : List ℕ) (e : key_region script.space key ≡ g) (u : Update) → IsIn u (found.keyed key e).part → (m : ℕ) × BeganAt t u.caller m × (m < n)
 
 -- what is known of rows may be said in other words
-gathered-map : (space : Space) (terms : List Term) (P Q : RegionId → List Row → Type 0) → ((g : RegionId) (rows : List Row) → P g rows → Q g rows) → (rows : List Row) → Gathered space terms P rows → Gathered space terms Q rows
+abbrev pub gathered-map : (space : Space) (terms : List Term) (P Q : RegionId → List Row → Type 0) → ((g : RegionId) (rows : List Row) → P g rows → Q g rows) → (rows : List Row) → Gathered space terms P rows → Gathered space terms Q rows
 gathered-map space terms P Q f rows h = record {
   parts = h.parts;
   parted = record {
@@ -55,7 +56,7 @@ gathered-map space terms P Q f rows h = record {
 abbrev pub EndGathered : Script → List Entry → Caller → List Term → List Row → ℕ → Type 0
 EndGathered script [] c terms rows n = ⊥
 EndGathered script (x ∷ older) c terms rows n =
-    ((n ≡ length older + 1) × Gathered script.space terms (λ g rs. IsFound script older c g rs) rows) ⊎ EndGathered script older c terms rows n
+    ((n ≡ length older + 1) × ((g : Gathered script.space terms (λ g rs. IsFound script older c g rs) rows) × (g.parted.config ≡ (session_of script c.session (x ∷ older)).config))) ⊎ EndGathered script older c terms rows n
 
 module _ (script : Script) (sound : IsScript script) (adds : AddsNothing script) where
   -- what the run keeps
@@ -103,22 +104,32 @@ module _ (script : Script) (sound : IsScript script) (adds : AddsNothing script)
     early_part = λ key e u i. begun-before older run u ((f.keyed key e).stays u i);
   }
 
+  -- a whole search, in a configuration that its session has had
+  abbrev GatheredBy : List Entry → Caller → List Term → List Row → ℕ → Type 0
+  GatheredBy t c terms rows n =
+      (g : Gathered script.space terms (FoundBy script t c n) rows) × ((older : List Entry) × IsPartOf older t × (g.parted.config ≡ (session_of script c.session older).config))
+
   -- the same of a whole search
-  gathered-by : (t : List Entry) → IsRun script t → (c : Caller) (terms : List Term) (rows : List Row) (n : ℕ) → EndGathered script t c terms rows n → Gathered script.space terms (FoundBy script t c n) rows
+  gathered-by : (t : List Entry) → IsRun script t → (c : Caller) (terms : List Term) (rows : List Row) (n : ℕ) → EndGathered script t c terms rows n → GatheredBy t c terms rows n
   gathered-by [] run c terms rows n h = absurd h
   gathered-by (x ∷ older) run c terms rows n (inl h) =
-      subst (λ k. Gathered script.space terms (FoundBy script (x ∷ older) c k) rows) (sym h.0)
-      (gathered-map script.space terms (λ g rs. IsFound script older c g rs) (FoundBy script (x ∷ older) c (length older + 1))
-      (λ g rs f. found-by-up older x run c (length older + 1) g rs (found-by-now older run.1 c g rs f)) rows h.1)
+      subst (GatheredBy (x ∷ older) c terms rows) (sym h.0) (
+        gathered-map script.space terms (λ g rs. IsFound script older c g rs) (FoundBy script (x ∷ older) c (length older + 1))
+            (λ g rs f. found-by-up older x run c (length older + 1) g rs (found-by-now older run.1 c g rs f)) rows h.1.0,
+        ((x ∷ older), inl refl, h.1.1),
+      )
   gathered-by (x ∷ older) run c terms rows n (inr h) =
-      gathered-map script.space terms (FoundBy script older c n) (FoundBy script (x ∷ older) c n) (λ g rs f. found-by-up older x run c n g rs f) rows
-      (gathered-by older run.1 c terms rows n h)
+      let r = gathered-by older run.1 c terms rows n h in (
+        gathered-map script.space terms (FoundBy script older c n) (FoundBy script (x ∷ older) c n) (λ g rs f. found-by-up older x run c n g rs f) rows r.0,
+        (r.1.0, inr r.1.1, r.1.2),
+      )
 
   -- what is known of a finished search
   pub record Finished (t : List Entry) (c : Caller) (s : FinishedSearch) : Type 0 where
     pub called : call_of script c ≡ Some (Search s.terms)
     pub begun : BeganAt t c s.begin
     pub gathered : Gathered script.space s.terms (FoundBy script t c s.end) s.rows
+    pub asked_in : (older : List Entry) × IsPartOf older t × (gathered.parted.config ≡ (session_of script c.session older).config)
 
   -- a search by its parts
   terms-are : (op : Op) (terms : List Term) → terms_of op ≡ Some terms → op ≡ Search terms
@@ -156,11 +167,7 @@ module _ (script : Script) (sound : IsScript script) (adds : AddsNothing script)
           let d = ended_at c t e (end-noted c t e f) in
           let h = subst (λ (a : Answer). EndedAt t c e.version a e.entry) (rows-are e.answer rows g) d in
           subst (Finished t c) (let r : record { terms = terms; begin = begin; end = e.entry; rows = rows } ≡ s = cc in r)
-          (record {
-            called = called;
-            begun = began_at c t begin b;
-            gathered = gathered-by t run c terms rows e.entry (ends-gathered t run c e.version rows terms e.entry h called);
-          })
+          (let g = gathered-by t run c terms rows e.entry (ends-gathered t run c e.version rows terms e.entry h called) in record { called = called; begun = began_at c t begin b; gathered = g.0; asked_in = g.1 })
 
       end-by : (terms : List Term) → call_of script c ≡ Some (Search terms) → (begin : ℕ) → begin_of c t ≡ Some begin → (o : Option CallEnd) → end_of c t ≡ o
           → when_some o None (λ (e : CallEnd). with_rows c terms begin e.entry (rows_in e.answer)) ≡ Some s → Finished t c s

@@ -3,6 +3,10 @@ use Rattle.std.proofs.Common.{ℕ, ◌∷◌, ◌≡◌, List, [], length, ap, a
 use Rattle.hx_types.specs.declared.spaces.Axis.{Axis}
 use Rattle.hx_types.specs.declared.spaces.Space.{Space}
 use Rattle.hx_types.specs.declared.values.Term.{Term}
+use Rattle.hx_types.specs.declared.calls.Caller.{Caller}
+use Rattle.hx_types.specs.declared.traces.Entry.{Entry}
+use Rattle.hx_types.specs.declared.traces.Script.{Script}
+use Rattle.hx_model.specs.Runs.{session_of}
 use Rattle.hx_types.specs.declared.updates.Update.{Update}
 use Rattle.hx_plan.proofs.Planned.{asked}
 use Rattle.hx_model.specs.Histories.{line_of}
@@ -44,12 +48,12 @@ runs_search_keys_well script sound adds trace run c s e keyed =
     (search-true script sound adds trace run c s known keyed, search-whole script sound adds trace run c s known keyed)
 
 -- in a space without subspaces each search asks regions of keys
-plain-keys : (space : Space) → space.subspaces ≡ [] → (terms : List Term) → AsksKeys space terms
-plain-keys space plain terms config subspace regions plan =
-    let l = (asked space config terms subspace regions plan).subspace in
-    let n : length space.subspaces ≡ 0 = ap (λ (x : List (List Axis)). length x) plain in
+plain-keys : (script : Script) → script.space.subspaces ≡ [] → (trace : List Entry) (c : Caller) (terms : List Term) → AsksKeys script trace c terms
+plain-keys script plain trace c terms t part subspace regions plan =
+    let l = (asked script.space (session_of script c.session t).config terms subspace regions plan).subspace in
+    let n : length script.space.subspaces ≡ 0 = ap (λ (x : List (List Axis)). length x) plain in
     omega (arith, l, n)
 
 -- there each finished search is true and whole
 pub runs_search_plain_spaces : RunsSearchPlainSpaces
-runs_search_plain_spaces script sound adds plain trace run c s e = runs_search_keys_well script sound adds trace run c s e (plain-keys script.space plain s.terms)
+runs_search_plain_spaces script sound adds plain trace run c s e = runs_search_keys_well script sound adds trace run c s e (plain-keys script plain trace c s.terms)

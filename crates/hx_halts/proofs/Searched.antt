@@ -222,14 +222,17 @@ module _ (script : Script) (sound : IsScript script) (adds : AddsNothing script)
 
     -- parts that are known stay so
     parts-up : (u : SessionId) (st : SessionState) → HasParts script.space (KnownFor script older u) st → HasParts script.space (KnownFor script (x ∷ older) u) st
-    parts-up u st h terms w e = let p = h terms w e in record {
-      config = p.config;
-      subspace = p.subspace;
-      regions = p.regions;
-      plan = p.plan;
-      regions_are = p.regions_are;
-      each = λ q i rows f. found-up (record { session = u; number = st.begun }) q.region rows (p.each q i rows f);
-    }
+    parts-up u st h terms w e = let p = (h terms w e).0 in (
+      record {
+        config = p.config;
+        subspace = p.subspace;
+        regions = p.regions;
+        plan = p.plan;
+        regions_are = p.regions_are;
+        each = λ q i rows f. found-up (record { session = u; number = st.begun }) q.region rows (p.each q i rows f);
+      },
+      (h terms w e).1,
+    )
 
     -- what an entry keeps
     keeps : ((s : ServerId) → AreBare (server_of script s (x ∷ older)).replicas) → ((key : List ℕ) (u : Update) → IsIn u (line_of key (x ∷ older)) → Honest script.space u)

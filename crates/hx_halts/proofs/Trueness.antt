@@ -17,6 +17,7 @@ use Rattle.hx_types.specs.Configs.{is_lost}
 use Rattle.hx_types.specs.Fitting.{IsScript, is_done}
 use Rattle.hx_types.specs.Subspaces.{is_key_region}
 use Rattle.hx_model.specs.Matching.{matches}
+use Rattle.hx_model.specs.Planning.{plan_of}
 use Rattle.hx_model.specs.Regions.{key_region}
 use Rattle.hx_model.specs.Runs.{IsRun}
 use Rattle.hx_model.specs.Slots.{place_in}
@@ -60,13 +61,13 @@ module _ (script : Script) (sound : IsScript script) (adds : AddsNothing script)
     pub at : is_key_region script.space region ≡ true
 
   -- a part's region is a region of keys
-  part-region : AsksKeys script.space s.terms → (p : Part) → IsIn p known.gathered.parts → is_key_region script.space p.region ≡ true
+  part-region : AsksKeys script t c s.terms → (p : Part) → IsIn p known.gathered.parts → is_key_region script.space p.region ≡ true
   part-region keyed p i =
       let parted = known.gathered.parted in
       let plan = asked script.space parted.config s.terms parted.subspace parted.regions parted.plan in
       let inside = subst (IsIn p.region) parted.regions_are (region-in known.gathered.parts i) in
       let here = (all-in (λ (g : RegionId). IsForQuery script.space s.terms parted.subspace g × (is_lost parted.config g ≡ false)) parted.regions p.region plan.each inside).0 in
-      let belongs = subst (λ k. IsRegionIn script.space k p.region) (keyed parted.config parted.subspace parted.regions parted.plan) here.belongs in
+      let belongs = subst (λ k. IsRegionIn script.space k p.region) (keyed known.asked_in.0 known.asked_in.1 parted.subspace parted.regions (ap (λ y. plan_of script.space y s.terms) (sym known.asked_in.2) ∙ parted.plan)) here.belongs in
       lt-ltb p.region.0 script.space.key_parts (let b = belongs.1 in omega (arith, b))
     where
       region-in : (parts : List Part) → IsIn p parts → IsIn p.region (map (λ (q : Part). q.region) parts)
@@ -75,7 +76,7 @@ module _ (script : Script) (sound : IsScript script) (adds : AddsNothing script)
       region-in (q ∷ rest) (inr j) = inr (region-in rest j)
 
   -- each row is found in one
-  pub key-row : AsksKeys script.space s.terms → (r : Row) → IsIn r (merged_parts known.gathered.parts) → KeyRow r
+  pub key-row : AsksKeys script t c s.terms → (r : Row) → IsIn r (merged_parts known.gathered.parts) → KeyRow r
   key-row keyed = merged-in known.gathered.parts KeyRow of
     where
       of : (p : Part) → IsIn p known.gathered.parts → (r : Row) → IsIn r (part_rows p) → KeyRow r
@@ -168,7 +169,7 @@ module _ (script : Script) (sound : IsScript script) (adds : AddsNothing script)
                 absurd (not-ended x a.0 v own write (f a.0 a.1) q.0 q.1)
 
   -- the search is true
-  pub search-true : AsksKeys script.space s.terms → IsSearchTrue script t s
+  pub search-true : AsksKeys script t c s.terms → IsSearchTrue script t s
   search-true keyed = record {
     rows = λ r i. true-row r (key-row keyed r (subst (λ (l : List Row). IsIn r l) known.gathered.rows_are i));
     in_order = ordered script sound adds t run c s known;

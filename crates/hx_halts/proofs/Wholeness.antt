@@ -17,6 +17,7 @@ use Rattle.hx_types.specs.Words.{IsIn, when_some}
 use Rattle.hx_types.specs.Effects.{is_write}
 use Rattle.hx_types.specs.Fitting.{IsScript, is_done}
 use Rattle.hx_model.specs.Matching.{matches}
+use Rattle.hx_model.specs.Planning.{plan_of}
 use Rattle.hx_model.specs.Regions.{key_region, place_of}
 use Rattle.hx_model.specs.Runs.{IsRun}
 use Rattle.hx_model.specs.SessionSteps.{Part, merged_parts}
@@ -57,7 +58,7 @@ all-pass test [] x h i = absurd i
 all-pass test (y ∷ xs) x h (inl e) = ap test e ∙ (and_parts (test y) (list_all test xs) h).0
 all-pass test (y ∷ xs) x h (inr i) = all-pass test xs x (and_parts (test y) (list_all test xs) h).1 i
 
-module _ (script : Script) (sound : IsScript script) (adds : AddsNothing script) (t : List Entry) (run : IsRun script t) (c : Caller) (s : FinishedSearch) (known : Finished script sound adds t c s) (keyed : AsksKeys script.space s.terms) where
+module _ (script : Script) (sound : IsScript script) (adds : AddsNothing script) (t : List Entry) (run : IsRun script t) (c : Caller) (s : FinishedSearch) (known : Finished script sound adds t c s) (keyed : AsksKeys script t c s.terms) where
   module _ (key : List ℕ) (cut : Cut) (last : LastChange t s.end [] (items script sound adds t run key) cut) where
     -- the items of the key
     abbrev all : List Item
@@ -135,7 +136,7 @@ module _ (script : Script) (sound : IsScript script) (adds : AddsNothing script)
           let a = all_asked script.space parted.config s.terms sound.space parted.subspace parted.regions parted.plan key o match in
           subst (IsIn (key_region script.space key)) (sym parted.regions_are)
           (contains-in parted.regions (key_region script.space key)
-          (subst (λ k. Contains parted.regions (place_of script.space k key o)) (keyed parted.config parted.subspace parted.regions parted.plan) a))
+          (subst (λ k. Contains parted.regions (place_of script.space k key o)) (keyed known.asked_in.0 known.asked_in.1 parted.subspace parted.regions (ap (λ y. plan_of script.space y s.terms) (sym known.asked_in.2) ∙ parted.plan)) a))
 
       -- the row that was found there
       row-there : (rows : List Row) → FoundBy script t c s.end (key_region script.space key) rows → IsIn (row_with u o) rows

@@ -1,9 +1,8 @@
 -- The law on searches for runs in which no replica is added.
-use Rattle.std.specs.Prelude.{◌≡◌, ℕ, ◌+◌, true, List, [], ◌∷◌, length, map, false, Some, ⊤}
+use Rattle.std.specs.Prelude.{◌≡◌, ℕ, ◌+◌, ◌⊎◌, true, List, [], ◌∷◌, length, map, false, Some, ⊤}
 use Rattle.std.specs.List.{filter}
 use Rattle.hx_types.specs.declared.calls.Caller.{Caller}
 use Rattle.hx_types.specs.declared.calls.Row.{Row}
-use Rattle.hx_types.specs.declared.configs.Config.{Config}
 use Rattle.hx_types.specs.declared.histories.Item.{Item}
 use Rattle.hx_types.specs.declared.messages.Post.{Post}
 use Rattle.hx_types.specs.declared.names.Epoch.{Epoch}
@@ -26,7 +25,7 @@ use Rattle.hx_model.specs.Places.{places_of}
 use Rattle.hx_model.specs.Regions.{key_region}
 use Rattle.hx_model.specs.Planning.{plan_of}
 use Rattle.hx_model.specs.Slots.{has_place, top_above, touches_after, upto}
-use Rattle.hx_model.specs.Runs.{IsRun, is_actor, server_of}
+use Rattle.hx_model.specs.Runs.{IsRun, is_actor, server_of, session_of}
 use Rattle.hx_model.specs.Histories.{history_of, line_of}
 use Rattle.hx_model.specs.Linear.{began_before}
 use Rattle.hx_model.specs.Searching.{FinishedSearch, IsSearchTrue, IsSearchWhole, changes_object, search_of}
@@ -100,16 +99,23 @@ RunsShowChanges =
     → (trace : List Entry) → IsRun script trace
     → (c : Caller) (s : FinishedSearch) → search_of script trace c ≡ Some s → ShowsChanges script trace s
 
--- in whatever configuration a search for these terms asks regions of keys alone
-abbrev pub AsksKeys : Space → List Term → Type 0
-AsksKeys space terms = (config : Config) (subspace : ℕ) (regions : List RegionId) → plan_of space config terms ≡ a_plan.Regions subspace regions → subspace ≡ 0
+-- the trace at some moment
+abbrev pub IsPartOf : List Entry → List Entry → Type 0
+IsPartOf t [] = t ≡ []
+IsPartOf t (x ∷ older) = (t ≡ x ∷ older) ⊎ IsPartOf t older
+
+-- in each configuration that the caller's session has had a search for these terms asks regions of keys alone
+abbrev pub AsksKeys : Script → List Entry → Caller → List Term → Type 0
+AsksKeys script trace c terms =
+    (t : List Entry) → IsPartOf t trace
+    → (subspace : ℕ) (regions : List RegionId) → plan_of script.space (session_of script c.session t).config terms ≡ a_plan.Regions subspace regions → subspace ≡ 0
 
 -- in every run of a script that adds no replica each finished search that asks regions of keys alone is true, and whole for every key
 abbrev pub RunsSearchKeysWell : Type 0
 RunsSearchKeysWell =
     (script : Script) → IsScript script → AddsNothing script
     → (trace : List Entry) → IsRun script trace
-    → (c : Caller) (s : FinishedSearch) → search_of script trace c ≡ Some s → AsksKeys script.space s.terms
+    → (c : Caller) (s : FinishedSearch) → search_of script trace c ≡ Some s → AsksKeys script trace c s.terms
     → IsSearchTrue script trace s × ((key : List ℕ) → IsSearchWhole script trace key s)
 
 -- in every run of a script that adds no replica, in a space that declares no subspace, each finished search is true, and whole for every key

@@ -23,7 +23,7 @@ pub fn searches_show_changes()
     ensures { RunsShowChanges }
 {}
 
-/// In every run in which no replica is added each finished search that asks regions of keys alone is whole and true, though servers halt or are stopped and configurations follow one another: it holds every match that was committed before it began and not changed meanwhile, and only versions that were committed or under way during it.
+/// In every run in which no replica is added each finished search whose plan, in each configuration that its session has had, is of regions of keys alone is whole and true, though servers halt or are stopped and configurations follow one another: it holds every match that was committed before it began and not changed meanwhile, and only versions that were committed or under way during it.
 pub fn searches_of_keys()
     ensures { RunsSearchKeysWell }
 {}
