@@ -10,7 +10,7 @@ stale() {
 }
 
 if stale; then
-  printf 'hx: proving and building the program; from nothing this takes about 15 minutes\n' >&2
+  printf 'hx: proving and building the program; from nothing this takes about 20 minutes\n' >&2
   log=$top/crates/hx_tool/hx-build.log
   if ! (cd "$top/crates/hx_tool" && rt run -- --version </dev/null) >"$log" 2>&1; then
     printf 'hx: the program could not be proved and built; see %s\n' "$log" >&2

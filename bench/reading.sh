@@ -4,11 +4,7 @@
 # three) and the ratio of neighbours, which stays near 4: four times the bytes take about four times
 # as long.
 set -eu
-top=$(cd "$(dirname "${BASH_SOURCE[0]}")/.." && pwd)
-work=$(mktemp -d)
-trap 'rm -rf "$work"' EXIT
-"$top/hx" --version >"$work/version"
-program=$top/crates/hx_tool/out/hx_tool
+. "$(dirname "${BASH_SOURCE[0]}")/common.sh"
 
 # script KIND BLOCKS: blocks of 1,600 bytes over four sessions, and a search in the last
 script() {
@@ -32,25 +28,15 @@ script() {
   }'
 }
 
-# seconds FILE: the best of three runs
-seconds() {
-  local best='' taken
-  for _ in 1 2 3; do
-    taken=$( { /usr/bin/env bash -c 'TIMEFORMAT=%R; time "$0" plan <"$1" >"$2"' "$program" "$1" "$work/plans"; } 2>&1 )
-    if [ -z "$best" ] || awk -v a="$taken" -v b="$best" 'BEGIN { exit !(a < b) }'; then best=$taken; fi
-  done
-  printf '%s' "$best"
-}
-
 for kind in calls comments 'empty lines' 'long lines'; do
   printf '%s:\n' "$kind"
   before=''
   for blocks in 652 2608 10432; do
     script "$kind" "$blocks" >"$work/script.hx"
     bytes=$(wc -c <"$work/script.hx")
-    now=$(seconds "$work/script.hx")
+    now=$(seconds plan "$work/script.hx")
     if [ -n "$before" ]; then
-      ratio=$(awk -v a="$now" -v b="$before" 'BEGIN { if (b > 0) printf "%.2f", a / b; else printf "-" }')
+      ratio=$(ratio "$now" "$before")
       printf '%9s bytes: %s s, %s times the one before\n' "$bytes" "$now" "$ratio"
     else
       printf '%9s bytes: %s s\n' "$bytes" "$now"

@@ -4,11 +4,7 @@
 # keys are spread: four times the calls take about four times as long at most. It prints the greatest
 # memory of the largest run too, which stays below 64 bytes for each byte of script plus 64 MiB.
 set -eu
-top=$(cd "$(dirname "${BASH_SOURCE[0]}")/.." && pwd)
-work=$(mktemp -d)
-trap 'rm -rf "$work"' EXIT
-"$top/hx" --version >"$work/version"
-program=$top/crates/hx_tool/out/hx_tool
+. "$(dirname "${BASH_SOURCE[0]}")/common.sh"
 
 # script CALLS KEYS: one session that puts and gets in turn
 script() {
@@ -22,24 +18,14 @@ script() {
   }'
 }
 
-# seconds FILE: the best of three runs
-seconds() {
-  local best='' taken
-  for _ in 1 2 3; do
-    taken=$( { /usr/bin/env bash -c 'TIMEFORMAT=%R; time "$0" replay <"$1" >"$2"' "$program" "$1" "$work/report"; } 2>&1 )
-    if [ -z "$best" ] || awk -v a="$taken" -v b="$best" 'BEGIN { exit !(a < b) }'; then best=$taken; fi
-  done
-  printf '%s' "$best"
-}
-
 for keys in 256 1; do
   [ "$keys" = 1 ] && printf 'one hot key:\n' || printf '%s keys:\n' "$keys"
   before=''
   for calls in 1024 4096 16384; do
     script "$calls" "$keys" >"$work/script.hx"
-    now=$(seconds "$work/script.hx")
+    now=$(seconds replay "$work/script.hx")
     if [ -n "$before" ]; then
-      ratio=$(awk -v a="$now" -v b="$before" 'BEGIN { if (b > 0) printf "%.2f", a / b; else printf "-" }')
+      ratio=$(ratio "$now" "$before")
       printf '%6s calls: %s s, %s times the one before\n' "$calls" "$now" "$ratio"
     else
       printf '%6s calls: %s s\n' "$calls" "$now"

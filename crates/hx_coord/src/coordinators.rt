@@ -1,4 +1,4 @@
-ghost use Rattle.std.specs.Prelude.{◌≡◌, ◌≤◌, IfOk};
+ghost use Rattle.std.specs.Prelude.{◌≡◌, IfOk};
 ghost use Rattle.hx_types.specs.Spaces.{IsSpace};
 ghost use Rattle.hx_model.specs.CoordinatorSteps.{coordinator_at_start, coordinator_step};
 ghost use Rattle.hx_coord.specs.Changes.{IsMade, IsPlanOn};
@@ -35,8 +35,7 @@ impl Coordinator {
     /// The coordinator of a space and a number of sessions at the start: in the configuration of
     /// epoch 1, with nothing to be done.
     pub fn start(alloc: Global, space: &Space, sessions: u32) -> Result<Coordinator, Memory>
-        requires space { IsSpace space.now }
-        requires sessions { sessions ≤ 16 }
+        requires { IsSpace space.now }
         ensures { IfOk result (λ coordinator. coordinator ≡ coordinator_at_start space.now sessions) }
     {
         let config = first_config(alloc, space)?;

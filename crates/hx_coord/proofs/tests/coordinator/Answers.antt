@@ -3,5 +3,5 @@ use Rattle.hx_types.specs.Spaces.{IsSpace}
 use Rattle.hx_coord.proofs.Examples.{small_is_space}
 use Rattle.hx_coord.proofs.tests.coordinator.Goals as goal
 
-pub start-requires-clause-space : goal.start-requires-clause-space
-start-requires-clause-space c = subst IsSpace (sym c.in_ok-space.ensures) small_is_space
+pub start-requires : goal.start-requires
+start-requires c = subst IsSpace (sym c.in_ok-space.ensures) small_is_space
