@@ -1,6 +1,6 @@
 //! Texts between quotes.
 
-ghost use Rattle.std.specs.Prelude.{◌≡◌, ◌<◌, ◌≤◌, ◌+◌, ◌^◌, length, take, false};
+ghost use Rattle.std.specs.Prelude.{◌≡◌, ◌<◌, ◌≤◌, ◌+◌, ◌^◌, IfOk, length, take, false};
 ghost use Rattle.std.specs.Str.{IsUtf8};
 ghost use Rattle.std.specs.Str.Lossy.{utf8_valid_len};
 ghost use Rattle.hx_lex.specs.Answers.{Gives};
@@ -8,7 +8,7 @@ ghost use Rattle.hx_lex.specs.Quotes.{inside_len, escaped, content, inside_at, t
 
 use crate::errors::LexError;
 use crate::token::{Piece, TokenKind};
-use hx_types::Text;
+use hx_types::{Memory, Text};
 use std::alloc::Global;
 use std::str;
 
@@ -89,9 +89,9 @@ pub(crate) fn valid_len(bytes: &[u8]) -> usize
 }
 
 /// The text of bytes that are UTF-8.
-fn text_of(bytes: Vec<u8>) -> Text
+fn text_of(bytes: Vec<u8>) -> Result<Text, Memory>
     requires { IsUtf8 bytes.items }
-    ensures { result ≡ bytes.items }
+    ensures { IfOk result (λ text. text ≡ bytes.items) }
 {
     match String::from_utf8(bytes) {
         Ok(text) => Text::from_string(text),
@@ -110,7 +110,7 @@ fn inside(alloc: Global, at: usize, bytes: &[u8]) -> Result<Text, LexError>
     if valid < bytes.len() {
         return Err(LexError::BadChar { place: at + valid });
     }
-    Ok(text_of(content))
+    Ok(text_of(content)?)
 }
 
 /// The text whose first quote stands at that place, before the bytes.

@@ -6,6 +6,7 @@ use Rattle.std.specs.Option.{option_map}
 use Rattle.std.proofs.lemmas.List.{map_push}
 use Rattle.std.proofs.lemmas.Grind.{flat_map-append}
 use Rattle.std.proofs.lemmas.Option.{slice_get-get_or}
+use Rattle.hx_types.specs.declared.snapshots.Kept.{Kept}
 use Rattle.hx_types.specs.declared.configs.Config.{Config}
 use Rattle.hx_types.specs.declared.messages.Post.{Post}
 use Rattle.hx_types.specs.declared.names.RegionId.{RegionId}
@@ -15,7 +16,7 @@ use Rattle.hx_types.specs.Configs.{joiner_for, lists}
 use Rattle.hx_types.specs.Spaces.{IsAscending}
 use Rattle.hx_types.specs.Subspaces.{is_key_region}
 use Rattle.hx_types.specs.Words.{provided, when_some}
-use Rattle.hx_model.specs.ServerSteps.{Replica as ReplicaState, ServerState, Spot as ModelSpot, adopted_posts, adopted_replica, adopted_state, is_active, listed_regions, ready_post, replica_of, replica_or_new, resumed, resumed_posts, snap_to}
+use Rattle.hx_model.specs.ServerSteps.{Replica as ReplicaState, ServerState, Spot as ModelSpot, adopted_posts, is_active, listed_regions, ready_post, replica_of, replica_or_new, resumed, resumed_posts, snap_to}
 use Rattle.hx_model.specs.Slots.{KeyState, with_state}
 use Rattle.hx_slot.specs.States.{SlotState}
 use Rattle.hx_store.specs.Stores.{KeysAscend, lent_states}
@@ -23,7 +24,7 @@ use Rattle.hx_store.proofs.Moves.{moved_all_parts}
 use Rattle.hx_store.proofs.Putting.{put_next}
 use Rattle.hx_store.proofs.Reading.{take_next}
 use Rattle.hx_replica.specs.declared.replicas.Replica.{Replica}
-use Rattle.hx_replica.specs.Adopting.{AreAdopted, IsAdopted, kept_posts}
+use Rattle.hx_replica.specs.Adopting.{AreAdopted, IsAdopted, kept_posts, lean_adopted, lean_replica}
 use Rattle.hx_replica.specs.Replicas.{AreReplicas, IsReplicaIn, view_of, views_of}
 use Rattle.hx_replica.specs.Ticking.{kept_here, standing}
 use Rattle.hx_replica.proofs.Changing.{below_views, replica_at, view_at}
@@ -31,20 +32,20 @@ use Rattle.hx_replica.proofs.Hearing.{found_region}
 use Rattle.hx_replica.proofs.Planning.{found_nowhere, found_there}
 use Rattle.hx_replica.proofs.Starting.{numbers_ascend, passing, passing_more, with_more, without_more}
 
-pub adopted_key : (spot : ModelSpot) (active : Bool) (s : KeyState) → (adopted_state spot active s).base.key ≡ s.base.key
-adopted_key spot true s = ap (λ k. k.key) (moved_all_parts (resumed spot s) s).0
+pub adopted_key : (spot : ModelSpot) (active : Bool) (s : KeyState) → (lean_adopted spot active s).base.key ≡ s.base.key
+adopted_key spot true s = ap (λ (k : Kept). k.key) (moved_all_parts (resumed spot s) s).0
 adopted_key spot false s = refl
 
-pub adopted_marks : (spot : ModelSpot) (active : Bool) (s : KeyState) → (adopted_state spot active s).marks ≡ s.marks
+pub adopted_marks : (spot : ModelSpot) (active : Bool) (s : KeyState) → (lean_adopted spot active s).marks ≡ s.marks
 adopted_marks spot true s = (moved_all_parts (resumed spot s) s).1
 adopted_marks spot false s = refl
 
 -- a slot more of a new store
 pub adopted_next : (spot : ModelSpot) (active : Bool) (bs : List (Bor SlotState)) (i : ℕ) (b : Bor SlotState) (old new : List KeyState) (s : KeyState) → KeysAscend (lent_states bs) → i < length bs → b ≡ get_or bs i b
-    → s ≡ adopted_state spot active b.now.state → old ≡ map (adopted_state spot active) (lent_states (take i bs)) → new ≡ with_state s old → new ≡ map (adopted_state spot active) (lent_states (take (i + 1) bs))
+    → s ≡ lean_adopted spot active b.now.state → old ≡ map (lean_adopted spot active) (lent_states (take i bs)) → new ≡ with_state s old → new ≡ map (lean_adopted spot active) (lent_states (take (i + 1) bs))
 adopted_next spot active bs i b old new s a l at is e n =
-    n ∙ ap (λ (x : KeyState). with_state x old) is ∙ ap (with_state (adopted_state spot active b.now.state)) e
-    ∙ put_next (adopted_state spot active) (adopted_key spot active) bs i b a l at
+    n ∙ ap (λ (x : KeyState). with_state x old) is ∙ ap (with_state (lean_adopted spot active b.now.state)) e
+    ∙ put_next (lean_adopted spot active) (adopted_key spot active) bs i b a l at
 
 -- what is posted of all slots
 pub provided_all : (active : Bool) (f : KeyState → List Post) (bs : List (Bor SlotState)) → flat_map (λ (b : Bor SlotState). provided active (f b.now.state)) bs ≡ provided active (flat_map f (lent_states bs))
@@ -76,24 +77,24 @@ adopted_whole space config server r =
     let s = standing config server in
     ap (λ (l : List Post). provided (is_active config r) (l ++ flat_map (resumed_posts (spot_at space config server r.region)) r.states ++ ready_post s r.region)) (snap_kept s r (joiner_for config r.region server))
 
-all_marked : (spot : ModelSpot) (active b : Bool) (states : List KeyState) → AllByRecursion (λ (t : KeyState). t.marks ≡ b) states → AllByRecursion (λ (t : KeyState). t.marks ≡ b) (map (adopted_state spot active) states)
+all_marked : (spot : ModelSpot) (active b : Bool) (states : List KeyState) → AllByRecursion (λ (t : KeyState). t.marks ≡ b) states → AllByRecursion (λ (t : KeyState). t.marks ≡ b) (map (lean_adopted spot active) states)
 all_marked spot active b [] h = tt
 all_marked spot active b (t ∷ rest) h = (adopted_marks spot active t ∙ h.0, all_marked spot active b rest h.1)
 
 module _ (space : Space) (config : Config) (server : ServerId) (g : RegionId) (y next : Replica) (active : Bool) (old new : List Post) where
   -- a replica of the region became this one
   pub adopted_is : y.region ≡ g → active ≡ is_active config (view_of y) → IsReplicaIn space y → next.region ≡ y.region → next.installed ≡ y.installed → next.store.region ≡ g → next.store.marks ≡ is_key_region space g
-      → next.store.states ≡ map (adopted_state (spot_at space config server g) active) y.store.states → new ≡ old ++ provided active (kept_posts (spot_at space config server g) y.store.states)
+      → next.store.states ≡ map (lean_adopted (spot_at space config server g) active) y.store.states → new ≡ old ++ provided active (kept_posts (spot_at space config server g) y.store.states)
       → IsAdopted space (standing config server) (view_of y) old new next
   adopted_is e a is region installed of_region marks states posts =
       let here : ModelSpot = spot_at space config server y.region in
-      let states_are : next.store.states ≡ map (adopted_state here active) y.store.states = states ∙ ap (λ (x : RegionId). map (adopted_state (spot_at space config server x) active) y.store.states) (sym e) in
+      let states_are : next.store.states ≡ map (lean_adopted here active) y.store.states = states ∙ ap (λ (x : RegionId). map (lean_adopted (spot_at space config server x) active) y.store.states) (sym e) in
       record {
         posts = posts ∙ ap (λ (x : RegionId). old ++ provided active (kept_posts (spot_at space config server x) y.store.states)) (sym e)
             ∙ ap (λ b. old ++ provided b (kept_posts here y.store.states)) a ∙ ap (λ (ps : List Post). old ++ ps) (adopted_whole space config server (view_of y));
         view = ap (λ (x : RegionId). record { region = x; installed = next.installed; states = next.store.states }) region
             ∙ ap (λ b. record { region = y.region; installed = b; states = next.store.states }) installed
-            ∙ ap (λ (l : List KeyState). record { region = y.region; installed = y.installed; states = l }) (states_are ∙ ap (λ b. map (adopted_state here b) y.store.states) a);
+            ∙ ap (λ (l : List KeyState). record { region = y.region; installed = y.installed; states = l }) (states_are ∙ ap (λ b. map (lean_adopted here b) y.store.states) a);
         is = record {
           region = of_region ∙ sym e ∙ sym region;
           marks = marks ∙ ap (is_key_region space) (sym e ∙ sym region);
@@ -129,7 +130,7 @@ new_is space config server views g next posts none view is =
     subst (λ (r : ReplicaState). IsAdopted space (standing config server) r posts posts next) (sym so) (record { posts = sym (append-nil posts); view = view; is = is })
 
 -- the region of what a server makes of a region
-adopted_region : (space : Space) (s : ServerState) (views : List ReplicaState) (g : RegionId) → (adopted_replica space s (replica_or_new views g)).region ≡ g
+adopted_region : (space : Space) (s : ServerState) (views : List ReplicaState) (g : RegionId) → (lean_replica space s (replica_or_new views g)).region ≡ g
 adopted_region space s views g = by (replica_of g views) refl
   where
     by : (o : Option ReplicaState) → replica_of g views ≡ o → (when_some o (record { region = g; installed = false; states = [] }) (λ (r : ReplicaState). r)).region ≡ g
@@ -143,7 +144,7 @@ all_push space (x ∷ rs) r h is = (h.0, all_push space rs r h.1 is)
 -- what is made of the regions below a number
 pub record AreSoFar (space : Space) (config : Config) (server : ServerId) (views : List ReplicaState) (n : ℕ) (before after : List Post) (next : List Replica) : Type 0 where
   pub posts : after ≡ before ++ flat_map (λ (g : RegionId). adopted_posts space (standing config server) (replica_or_new views g)) (passing (λ (g : RegionId). lists config g server) n)
-  pub becomes : views_of next ≡ map (λ (g : RegionId). adopted_replica space (standing config server) (replica_or_new views g)) (passing (λ (g : RegionId). lists config g server) n)
+  pub becomes : views_of next ≡ map (λ (g : RegionId). lean_replica space (standing config server) (replica_or_new views g)) (passing (λ (g : RegionId). lists config g server) n)
   pub each : AllByRecursion (IsReplicaIn space) next
 
 module _ (space : Space) (config : Config) (server : ServerId) (views : List ReplicaState) (before : List Post) where
@@ -151,7 +152,7 @@ module _ (space : Space) (config : Config) (server : ServerId) (views : List Rep
   p g = lists config g server
 
   abbrev pub made : RegionId → ReplicaState
-  made g = adopted_replica space (standing config server) (replica_or_new views g)
+  made g = lean_replica space (standing config server) (replica_or_new views g)
 
   abbrev pub said : RegionId → List Post
   said g = adopted_posts space (standing config server) (replica_or_new views g)

@@ -10,11 +10,12 @@ use Rattle.hx_types.specs.Spaces.{IsAscending}
 use Rattle.hx_types.specs.Subspaces.{is_key_region}
 use Rattle.hx_types.specs.Words.{same_region, same_text, text_below}
 use Rattle.hx_model.specs.ServerSteps.{Replica as ReplicaState, state_in, with_replica}
-use Rattle.hx_model.specs.Slots.{KeyState, Move, Take, Hold, Acknowledge, Commit, Forget, moved, moved_all, state_among, with_state}
-use Rattle.hx_store.specs.Stores.{StoreState, after_moves, state_at}
+use Rattle.hx_model.specs.Slots.{KeyState, Move, Take, Hold, Acknowledge, Commit, Forget, acknowledged, moved, moved_all, state_among, with_state}
+use Rattle.hx_store.specs.Stores.{StoreState, accepted, after_step, state_at}
 use Rattle.hx_replica.specs.declared.made.SlotChange.{SlotChange}
+use Rattle.hx_replica.specs.declared.made.SlotChange.TheVariants.{Open, Accept, Acknowledge as AckChange}
 use Rattle.hx_replica.specs.declared.replicas.Replica.{Replica}
-use Rattle.hx_replica.specs.Made.{moves_by}
+use Rattle.hx_replica.specs.Made.{stepped}
 use Rattle.hx_replica.specs.Replicas.{AreReplicas, AscendByRegion, IsReplicaIn, view_of, views_of}
 use Rattle.hx_replica.proofs.Asking.{state_marks}
 use Rattle.hx_replica.proofs.Finding.{higher}
@@ -30,6 +31,11 @@ moved_marks Forget s = refl
 pub marks_stay : (ms : List Move) (s : KeyState) → (moved_all ms s).marks ≡ s.marks
 marks_stay [] s = refl
 marks_stay (m ∷ rest) s = marks_stay rest (moved m s) ∙ moved_marks m s
+
+pub stepped_marks : (change : SlotChange) (g : RegionId) (s : KeyState) → (stepped change g s).marks ≡ s.marks
+stepped_marks Open g s = refl
+stepped_marks (Accept u place ends) g s = marks_stay (accepted g s u ends.items) s
+stepped_marks (AckChange v) g s = marks_stay (acknowledged s v.0) s
 
 pub with_marked : (b : Bool) (s : KeyState) (states : List KeyState) → s.marks ≡ b → AllByRecursion (λ (t : KeyState). t.marks ≡ b) states → AllByRecursion (λ (t : KeyState). t.marks ≡ b) (with_state s states)
 with_marked b s [] e h = (e, tt)
@@ -130,24 +136,24 @@ module _ (space : Space) (rs : List Replica) (place : ℕ) (y : Replica) (store 
   put_there f = set_there f rs place put within
 
   -- one whose slot of a key moved
-  moved_marked : (key : List ℕ) (moves : List Move) → store.states ≡ after_moves y.store key moves → AllByRecursion (λ (t : KeyState). t.marks ≡ is_key_region space y.region) store.states
-  moved_marked key moves states =
+  moved_marked : (key : List ℕ) (change : SlotChange) → store.states ≡ after_step y.store key (stepped change) → AllByRecursion (λ (t : KeyState). t.marks ≡ is_key_region space y.region) store.states
+  moved_marked key change states =
       let b : Bool = is_key_region space y.region in
       let s : KeyState = state_at y.store key in
       let kept : s.marks ≡ b = ap (λ (c : Bool). (state_among c key y.store.states).marks) held.marks ∙ state_marks b key y.store.states held.marked in
       subst (AllByRecursion (λ (t : KeyState). t.marks ≡ b)) (sym states)
-      (with_marked b (moved_all moves s) y.store.states (marks_stay moves s ∙ kept) held.marked)
+      (with_marked b (stepped change y.store.region s) y.store.states (stepped_marks change y.store.region s ∙ kept) held.marked)
 
-  pub changed : (key : List ℕ) (moves : List Move) → store.region ≡ y.store.region → store.marks ≡ y.store.marks → store.states ≡ after_moves y.store key moves → AreReplicas space (set rs place put)
-  changed key moves region marks states = stays region marks (moved_marked key moves states)
+  pub changed : (key : List ℕ) (change : SlotChange) → store.region ≡ y.store.region → store.marks ≡ y.store.marks → store.states ≡ after_step y.store key (stepped change) → AreReplicas space (set rs place put)
+  changed key change region marks states = stays region marks (moved_marked key change states)
 
   pub changed_views : (key : List ℕ) (change : SlotChange) (r : ReplicaState) → slice_get (views_of rs) place ≡ Some r
-      → store.states ≡ after_moves y.store key (moves_by y.store.region (state_at y.store key) change)
-      → views_of (set rs place put) ≡ with_replica (record r { states = with_state (moved_all (moves_by r.region (state_in space r key) change) (state_in space r key)) r.states }) (views_of rs)
+      → store.states ≡ after_step y.store key (stepped change)
+      → views_of (set rs place put) ≡ with_replica (record r { states = with_state (stepped change r.region (state_in space r key)) r.states }) (views_of rs)
   changed_views key change r e states =
       let same : view_of y ≡ r = ap view_of is ∙ view_at rs place y r e in
-      let after : Bool → RegionId → List KeyState = λ b g. let s : KeyState = state_among b key y.store.states in with_state (moved_all (moves_by g s change) s) y.store.states in
-      let moved_to : ReplicaState → ReplicaState = λ z. record z { states = with_state (moved_all (moves_by z.region (state_in space z key) change) (state_in space z key)) z.states } in
+      let after : Bool → RegionId → List KeyState = λ b g. let s : KeyState = state_among b key y.store.states in with_state (stepped change g s) y.store.states in
+      let moved_to : ReplicaState → ReplicaState = λ z. record z { states = with_state (stepped change z.region (state_in space z key)) z.states } in
       let states_are : store.states ≡ after (is_key_region space y.region) y.region = states ∙ ap (λ b. after b y.store.region) held.marks ∙ ap (after (is_key_region space y.region)) held.region in
       map-set view_of rs place put
       ∙ set_is_with rs place (view_of put) r are.ascend e (ap (λ (z : ReplicaState). z.region) same)

@@ -75,6 +75,7 @@ put_fits epoch l = record {
     },
   );
   small = small_at_start small first;
+  bare = refl;
 }
 
 -- a server that started so can take what one at the start can
@@ -104,16 +105,17 @@ ask_fits = record {
     },
   );
   small = small_at_start small first;
+  bare = refl;
 }
 
 pub can_ask : (space : Space) (s : ServerState) (input : Input) → space ≡ small → s ≡ server_at_start small first → input ≡ ask_of → CanTake space s input
 can_ask space s input e f g = at_start space s input ask_of e f g ask_fits
 
 pub can_tick : (space : Space) (s : ServerState) → space ≡ small → s ≡ server_at_start small first → CanTake space s Tick
-can_tick space s e f = at_start space s Tick Tick e f refl (record { running = refl; input_to = tt; small = small_at_start small first })
+can_tick space s e f = at_start space s Tick Tick e f refl (record { running = refl; input_to = tt; small = small_at_start small first; bare = refl })
 
 pub can_halt : (space : Space) (s : ServerState) → space ≡ small → s ≡ server_at_start small first → CanTake space s Halt
-can_halt space s e f = at_start space s Halt Halt e f refl (record { running = refl; input_to = tt; small = small_at_start small first })
+can_halt space s e f = at_start space s Halt Halt e f refl (record { running = refl; input_to = tt; small = small_at_start small first; bare = refl })
 
 -- what the coordinator sends
 sent : (m : Message) → IsHandled m → goes_between Coordinator (Server first) m ≡ true → IsSoundMessage (record { space = small; sessions = 1; most = 2 }) m → CanTake small (server_at_start small first) (from_coordinator m)
@@ -121,6 +123,7 @@ sent m h b message = record {
   running = refl;
   input_to = (h, record { sessions = 1; entry = 1; few = omega arith; sound = record { from = tt; to = (omega arith, omega arith); between = b; message = message } });
   small = small_at_start small first;
+  bare = refl;
 }
 
 pub can_seal : (space : Space) (s : ServerState) (input : Input) → space ≡ small → s ≡ server_at_start small first → input ≡ from_coordinator (a_message.Seal (record { 0 = 1 })) → CanTake space s input

@@ -13,7 +13,8 @@ use Rattle.hx_types.specs.declared.traces.Input.{Input}
 use Rattle.hx_types.specs.Subspaces.{is_key_region}
 use Rattle.hx_model.specs.ServerSteps.{Replica as ReplicaState, ServerState, replica_of, server_step, state_in}
 use Rattle.hx_model.specs.Slots.{KeyState, new_state, state_among}
-use Rattle.hx_store.specs.Stores.{HasRoom, Room, StoreState, after_moves, room_in, state_at}
+use Rattle.hx_store.specs.Stores.{HasRoom, Room, StoreState, after_step, room_in, state_at}
+use Rattle.hx_folds.specs.Folding.{folded_server}
 use Rattle.hx_replica.specs.declared.made.SlotChange.{SlotChange}
 use Rattle.hx_replica.specs.declared.made.SlotMade.{SlotMade}
 use Rattle.hx_replica.specs.declared.plans.Change.{Change}
@@ -21,7 +22,7 @@ use Rattle.hx_replica.specs.declared.plans.Change.TheVariants as a_change
 use Rattle.hx_replica.specs.declared.replicas.Replica.{Replica}
 use Rattle.hx_replica.specs.declared.servers.Server.TheInside.{Inside}
 use Rattle.hx_replica.specs.Inside.{IsServer, value_of}
-use Rattle.hx_replica.specs.Made.{IsMade, IsSlotInput, key_in, moves_by, slot_step_of}
+use Rattle.hx_replica.specs.Made.{IsMade, IsSlotInput, key_in, stepped, slot_step_of}
 use Rattle.hx_replica.specs.Plans.{CanStep, IsChange, IsChangeOn}
 use Rattle.hx_replica.specs.Replicas.{IsReplicaIn, rooms_of, view_of, views_of}
 use Rattle.hx_replica.specs.Servers.{ServerValue}
@@ -95,12 +96,12 @@ planned v input change place key slot e h = subst (IsChange v input) e h
 -- the state after it
 pub changed_state : (i : Inside) (v : ServerValue) (input : Input) (place : ℕ) (key : List ℕ) (slot : SlotChange) (y : Replica) (store : StoreState) → value_of i ≡ v → (is : IsServer i) → IsChangeOn v input place key slot
     → (l : place < length i.replicas.items) (at : y ≡ get_or i.replicas.items place y)
-    → store.states ≡ after_moves y.store key (moves_by y.store.region (state_at y.store key) slot)
-    → with_views i (views_of (set i.replicas.items place (put i.space i.replicas.items place y store is.replicas_are l at))) ≡ (server_step v.space v.state input).state
+    → store.states ≡ after_step y.store key (stepped slot)
+    → with_views i (views_of (set i.replicas.items place (put i.space i.replicas.items place y store is.replicas_are l at))) ≡ folded_server (server_step v.space v.state input).state
 changed_state i v input place key slot y store seen is h l at states =
     let on : IsChangeOn (value_of i) input place key slot = subst (λ (x : ServerValue). IsChangeOn x input place key slot) (sym seen) h in
     ap (with_views i) (changed_views i.space i.replicas.items place y store is.replicas_are l at key slot on.replica on.found states)
-    ∙ sym on.state ∙ ap (λ (x : ServerValue). (server_step x.space x.state input).state) seen
+    ∙ sym on.state ∙ ap (λ (x : ServerValue). folded_server (server_step x.space x.state input).state) seen
 
 -- the place is one of a replica
 pub change_within : (i : Inside) (v : ServerValue) (input : Input) (place : ℕ) (key : List ℕ) (slot : SlotChange) → value_of i ≡ v → IsChangeOn v input place key slot → place < length i.replicas.items

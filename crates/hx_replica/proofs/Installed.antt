@@ -1,5 +1,5 @@
 -- The plan of a server that adopts a configuration.
-use Rattle.std.proofs.Common.{◌≡◌, ◌<◌, ◌≤◌, List, [], ◌∷◌, ◌++◌, map, Vec, refl, ap, sym, ◌∙◌, subst}
+use Rattle.std.proofs.Common.{◌≡◌, ◌<◌, ◌≤◌, Bool, true, false, List, [], ◌∷◌, ◌++◌, map, Vec, refl, ap, sym, ◌∙◌, subst}
 use Rattle.std.specs.List.{flat_map}
 use Rattle.std.specs.declared.alloc.Global.{Global}
 use Rattle.std.proofs.lemmas.Bool.{cond-true, cond-false, lt-ltb, le-ltb}
@@ -12,12 +12,16 @@ use Rattle.hx_types.specs.declared.traces.Input.{Input}
 use Rattle.hx_types.specs.declared.names.Actor.TheVariants.{Server}
 use Rattle.hx_types.specs.Configs.{joiner_for}
 use Rattle.hx_types.specs.Words.{provided}
-use Rattle.hx_model.specs.ServerSteps.{Replica as ReplicaState, ServerState, ServerStep, adopted, adopted_posts, adopted_replica, install_at, is_active, listed_regions, ready_post, replica_or_new, resumed_posts, server_step, spot_of, unmoved, with_config}
+use Rattle.hx_model.specs.ServerSteps.{Replica as ReplicaState, ServerState, ServerStep, Spot, adopted, adopted_posts, adopted_replica, adopted_state, install_at, is_active, listed_regions, ready_post, replica_or_new, resumed_posts, server_step, spot_of, unmoved, with_config}
+use Rattle.hx_model.specs.Slots.{Forget, KeyState, moved}
+use Rattle.hx_folds.specs.Folding.{folded, folded_replica, folded_server}
+use Rattle.hx_folds.proofs.Folds.{folded-twice}
+use Rattle.hx_folds.proofs.Servers.{new-folded}
 use Rattle.hx_replica.specs.declared.plans.Change.{Change}
 use Rattle.hx_replica.specs.declared.plans.Plan.{Plan}
 use Rattle.hx_replica.specs.declared.plans.Change.TheVariants as a_change
 use Rattle.hx_replica.specs.declared.replicas.Replica.{Replica}
-use Rattle.hx_replica.specs.Adopting.{AreAdopted}
+use Rattle.hx_replica.specs.Adopting.{AreAdopted, lean_adopted, lean_replica}
 use Rattle.hx_replica.specs.Plans.{IsAdoptionOn, IsChange, IsPlanOn}
 use Rattle.hx_replica.specs.Servers.{ServerValue}
 use Rattle.hx_replica.specs.Ticking.{standing}
@@ -34,34 +38,52 @@ posts_of space s old (g ∷ gs) =
     ap (λ (l : List Post). l ++ flat_map (λ (x : RegionId). adopted_posts space (standing s.config s.id) (replica_or_new old x)) gs) (posts_same space s (replica_or_new old g))
     ∙ ap (λ (l : List Post). adopted_posts space s (replica_or_new old g) ++ l) (posts_of space s old gs)
 
+-- a slot, and a replica, of which nothing is folded when a configuration is adopted
+lean_slot : (spot : Spot) (active : Bool) (s : KeyState) → folded spot.region s ≡ s → lean_adopted spot active s ≡ folded spot.region (adopted_state spot active s)
+lean_slot spot true s e = refl
+lean_slot spot false s e = sym (ap (moved Forget) e)
+
+lean_slots : (spot : Spot) (active : Bool) (states : List KeyState) → map (lean_adopted spot active) (map (folded spot.region) states) ≡ map (folded spot.region) (map (adopted_state spot active) (map (folded spot.region) states))
+lean_slots spot active [] = refl
+lean_slots spot active (s ∷ rest) = let a = lean_slot spot active (folded spot.region s) (folded-twice spot.region s) in let b = lean_slots spot active rest in λ j. a j ∷ b j
+
+lean_one : (space : Space) (s : ServerState) (r : ReplicaState) → folded_replica r ≡ r → lean_replica space (standing s.config s.id) r ≡ folded_replica (adopted_replica space s r)
+lean_one space s r e =
+    let spot = spot_of space s r.region in
+    let active = is_active s.config r in
+    let states : map (folded r.region) r.states ≡ r.states = λ j. (e j).states in
+    let all : map (lean_adopted spot active) r.states ≡ map (folded r.region) (map (adopted_state spot active) r.states) = subst (λ (l : List KeyState). map (lean_adopted spot active) l ≡ map (folded r.region) (map (adopted_state spot active) l)) states (lean_slots spot active r.states) in
+    λ j. record r { states = all j }
+
 views_of_all : (space : Space) (s : ServerState) (old : List ReplicaState) (gs : List RegionId)
-    → map (λ (g : RegionId). adopted_replica space (standing s.config s.id) (replica_or_new old g)) gs ≡ map (adopted_replica space s) (map (replica_or_new old) gs)
-views_of_all space s old [] = refl
-views_of_all space s old (g ∷ gs) = ap (λ (l : List ReplicaState). adopted_replica space s (replica_or_new old g) ∷ l) (views_of_all space s old gs)
+    → ((g : RegionId) → folded_replica (replica_or_new old g) ≡ replica_or_new old g)
+    → map (λ (g : RegionId). lean_replica space (standing s.config s.id) (replica_or_new old g)) gs ≡ map folded_replica (map (adopted_replica space s) (map (replica_or_new old) gs))
+views_of_all space s old [] bare = refl
+views_of_all space s old (g ∷ gs) bare = let e = lean_one space s (replica_or_new old g) (bare g) in let rest = views_of_all space s old gs bare in λ j. e j ∷ rest j
 
 abbrev pub adopting_plan : ServerId → Input → List Post → Config → Vec Replica Global → Plan
 adopting_plan server input posts config replicas =
     record { entry = record { actor = Server server; input = input; outputs = posts; notes = [] }; change = a_change.Adopt config replicas }
 
 -- a newer configuration is adopted
-pub adoption_planned : (v : ServerValue) (input : Input) (config copy : Config) (replicas : Vec Replica Global) (before posts : List Post) (plan : Plan) → v.state.config.epoch.0 < config.epoch.0
+pub adoption_planned : (v : ServerValue) (input : Input) (config copy : Config) (replicas : Vec Replica Global) (before posts : List Post) (plan : Plan) → v.state.config.epoch.0 < config.epoch.0 → folded_server v.state ≡ v.state
     → server_step v.space v.state input ≡ install_at v.space v.state config → before ≡ []
     → AreAdopted v.space (standing config v.state.id) v.state.replicas (listed_regions config v.state.id) before posts replicas.items
     → copy ≡ config → plan ≡ adopting_plan v.state.id input posts copy replicas → IsPlanOn v plan
-adoption_planned v input config copy replicas before posts plan newer is none a same e =
+adoption_planned v input config copy replicas before posts plan newer bare is none a same e =
     let s : ServerState = v.state in
     let next : ServerState = with_config s config in
     let step : server_step v.space s input ≡ adopted v.space next = is ∙ cond-true _ (adopted v.space next) (unmoved s) (lt-ltb s.config.epoch.0 config.epoch.0 newer) in
     let gs = listed_regions config s.id in
     let said : posts ≡ (adopted v.space next).posts = a.posts ∙ ap (λ (l : List Post). l ++ flat_map (λ (g : RegionId). adopted_posts v.space (standing config s.id) (replica_or_new s.replicas g)) gs) none ∙ posts_of v.space next s.replicas gs in
-    let views = a.views ∙ views_of_all v.space next s.replicas gs in
+    let views = a.views ∙ views_of_all v.space next s.replicas gs (λ g. sym (new-folded s.replicas g) ∙ ap (λ (x : ServerState). replica_or_new x.replicas g) bare) in
     subst (IsPlanOn v) (sym (e ∙ ap (λ (c : Config). adopting_plan s.id input posts c replicas) same))
     (record {
       entry = ap (λ (ps : List Post). record { actor = Server s.id; input = input; outputs = ps; notes = [] }) said
           ∙ ap (λ (t : ServerStep). record { actor = Server s.id; input = input; outputs = t.posts; notes = t.notes }) (sym step);
       change = record {
         are = a.are;
-        state = ap (λ (t : ServerStep). t.state) step ∙ ap (λ (l : List ReplicaState). record { id = s.id; config = config; sealed = next.sealed; halted = s.halted; replicas = l }) (sym views);
+        state = ap (λ (t : ServerStep). folded_server t.state) step ∙ ap (λ (l : List ReplicaState). record { id = s.id; config = config; sealed = next.sealed; halted = s.halted; replicas = l }) (sym views);
       };
     })
 

@@ -3,6 +3,7 @@ use Rattle.std.proofs.Common.{◌≡◌, ℕ, List, [], Option, None, Some, refl
 use Rattle.std.specs.List.{slice_get}
 use Rattle.std.specs.Option.{option_map}
 use Rattle.std.proofs.lemmas.Bool.{cond-false}
+use Rattle.hx_types.specs.declared.names.RegionId.{RegionId}
 use Rattle.hx_types.specs.declared.messages.Message.{Message}
 use Rattle.hx_types.specs.declared.messages.Post.{Post}
 use Rattle.hx_types.specs.declared.messages.PostId.{PostId}
@@ -17,11 +18,15 @@ use Rattle.hx_types.specs.declared.traces.Input.TheVariants.{Deliver}
 use Rattle.hx_model.specs.Runs.{entry_of}
 use Rattle.hx_model.specs.ServerSteps.{Replica, ServerState, ServerStep, at_slot, message_step, server_step, spot_of, state_in, unmoved, with_slot}
 use Rattle.hx_model.specs.Slots.{KeyState, Move, moved_all}
+use Rattle.hx_folds.specs.Folding.{folded, folded_server}
+use Rattle.hx_folds.proofs.Servers.{found-lean, state-lean, with-slot-lean}
+use Rattle.hx_replica.specs.declared.made.SlotChange.TheVariants.{Open, Accept, Acknowledge}
+use Rattle.hx_replica.specs.declared.made.SlotChange.{SlotChange}
 use Rattle.hx_replica.specs.declared.made.SlotMade.{SlotMade}
 use Rattle.hx_replica.specs.declared.plans.Plan.{Plan}
 use Rattle.hx_replica.specs.declared.plans.Change.TheVariants as a_change
 use Rattle.hx_replica.specs.Hearing.{IsOfOneSlot, heard}
-use Rattle.hx_replica.specs.Made.{IsMade, key_in, slot_step_of}
+use Rattle.hx_replica.specs.Made.{IsMade, key_in, moves_by, slot_step_of, stepped}
 use Rattle.hx_replica.specs.Plans.{HasRoomAt, IsMadeAt, IsPlanOn}
 use Rattle.hx_replica.specs.Servers.{CanTake, ServerValue}
 use Rattle.hx_replica.proofs.Hearing.{message_heard, message_unheard}
@@ -53,12 +58,18 @@ moved_plan server input place key made = record { entry = record { actor = Serve
 abbrev entry_by : ServerValue → Input → ServerStep → Entry
 entry_by v input step = entry_of (Server v.state.id) input (record { posts = step.posts; notes = step.notes })
 
+-- a change of a slot without a past, without its past
+stepped_lean : (change : SlotChange) (g : RegionId) (s : KeyState) → folded g s ≡ s → folded g (moved_all (moves_by g s change) s) ≡ stepped change g s
+stepped_lean Open g s e = e
+stepped_lean (Accept u place ends) g s e = refl
+stepped_lean (Acknowledge v) g s e = refl
+
 -- no replica hears the message
 unmoved_planned : (v : ServerValue) (id : PostId) (from : Actor) (m : Message) (plan : Plan) → CanTake v.space v.state (Deliver id from m) → IsOfOneSlot m → heard v.space v.state m ≡ None
     → plan ≡ unmoved_plan v.state.id (Deliver id from m) → IsPlanOn v plan
 unmoved_planned v id from m plan can one none e =
     let step : server_step v.space v.state (Deliver id from m) ≡ unmoved v.state = running_step v id from m can ∙ message_unheard v.space v.state from m one none in
-    subst (IsPlanOn v) (sym e) (record { entry = ap (entry_by v (Deliver id from m)) (sym step); change = ap (λ (s : ServerStep). s.state) step })
+    subst (IsPlanOn v) (sym e) (record { entry = ap (entry_by v (Deliver id from m)) (sym step); change = ap (λ (s : ServerStep). folded_server s.state) step ∙ can.bare })
 
 -- the replica at the place hears it, and its slot makes this
 moved_planned : (v : ServerValue) (id : PostId) (from : Actor) (m : Message) (place : ℕ) (key : List ℕ) (made : SlotMade) (plan : Plan) → CanTake v.space v.state (Deliver id from m)
@@ -80,7 +91,7 @@ moved_planned v id from m place key made plan can at is room k e =
         found = at.at_place;
         room = subst (λ (x : List ℕ). HasRoomAt place x 1 v) k room;
         fits = so.fits;
-        state = ap (λ (t : ServerStep). t.state) step ∙ ap (λ (moves : List Move). with_slot v.state r (moved_all moves s)) (sym so.moves);
+        state = ap (λ (t : ServerStep). folded_server t.state) step ∙ ap (λ (moves : List Move). folded_server (with_slot v.state r (moved_all moves s))) (sym so.moves) ∙ (let here = found-lean v.state place r can.bare at.at_place in with-slot-lean v.state r (moved_all (moves_by r.region s made.change) s) (stepped made.change r.region s) can.bare here (stepped_lean made.change r.region s (state-lean v.space r (key_in m) here)));
       };
     })
 

@@ -10,6 +10,8 @@ use Rattle.hx_types.specs.declared.updates.Update.{Update}
 use Rattle.hx_types.specs.Words.{provided}
 use Rattle.hx_model.specs.ServerSteps.{Spot as ModelSpot, doubt_in, end_marks, leader_doubts, move_posts, passed_on, resumed, resumed_posts}
 use Rattle.hx_model.specs.Slots.{Forget, KeyState, Move, commits, moved, moved_all, pending_of, settled}
+use Rattle.hx_folds.specs.Folding.{folded}
+use Rattle.hx_folds.proofs.Steps.{doubts-folded}
 use Rattle.hx_store.specs.Stores.{ArePending, acknowledging}
 use Rattle.hx_replica.specs.Adopting.{IsCarriedOn, doubt_of}
 use Rattle.hx_replica.specs.Made.{end_of, seen, settled_among, told_of}
@@ -64,17 +66,18 @@ carried_on spot s next line ends old passed posts lined none ended went posted =
 
 -- the state of a slot that goes on
 pub resumed_state : (spot : ModelSpot) (s fresh next : KeyState) (ends : List Version) → fresh ≡ moved Forget s → acknowledging ends ≡ end_marks spot (pending_of s)
-    → next ≡ moved_all (acknowledging ends ++ settled (moved_all (acknowledging ends) fresh)) fresh → next ≡ moved_all (resumed spot s) s
+    → next ≡ folded spot.region (moved_all (acknowledging ends ++ settled (moved_all (acknowledging ends) fresh)) fresh) → next ≡ folded spot.region (moved_all (resumed spot s) s)
 resumed_state spot s fresh next ends f e n =
-    n ∙ ap (λ (ms : List Move). moved_all (ms ++ settled (moved_all ms fresh)) fresh) e
-    ∙ ap (λ (x : KeyState). moved_all (end_marks spot (pending_of s) ++ settled (moved_all (end_marks spot (pending_of s)) x)) x) f
+    n ∙ ap (λ (ms : List Move). folded spot.region (moved_all (ms ++ settled (moved_all ms fresh)) fresh)) e
+    ∙ ap (λ (x : KeyState). folded spot.region (moved_all (end_marks spot (pending_of s) ++ settled (moved_all (end_marks spot (pending_of s)) x)) x)) f
 
 -- and all that is posted of it
-pub resumed_whole : (spot : ModelSpot) (s next : KeyState) (old carried posts : List Post) → next ≡ moved_all (resumed spot s) s
+pub resumed_whole : (spot : ModelSpot) (s next : KeyState) (old carried posts : List Post) → next ≡ folded spot.region (moved_all (resumed spot s) s)
     → carried ≡ old ++ (flat_map (passed_on spot) (pending_of s) ++ flat_map (move_posts spot) (resumed spot s))
     → posts ≡ carried ++ leader_doubts spot next → posts ≡ old ++ resumed_posts spot s
 resumed_whole spot s next old carried posts n e p =
     p ∙ ap (λ (x : KeyState). carried ++ leader_doubts spot x) n
+    ∙ ap (λ (ps : List Post). carried ++ ps) (doubts-folded spot spot.region (moved_all (resumed spot s) s))
     ∙ ap (λ (ps : List Post). ps ++ leader_doubts spot (moved_all (resumed spot s) s)) e
     ∙ append_assoc old (flat_map (passed_on spot) (pending_of s) ++ flat_map (move_posts spot) (resumed spot s)) (leader_doubts spot (moved_all (resumed spot s) s))
 

@@ -20,7 +20,7 @@ use Rattle.hx_model.specs.ServerSteps.{SlotStep, Spot as ModelSpot, accepting, a
 use Rattle.hx_model.specs.Neighbours.{is_end}
 use Rattle.hx_model.specs.Slots.{KeyState, Move, acknowledged, moved_all, offered, taken, top_of}
 use Rattle.hx_slot.specs.States.{IsPlacedIn}
-use Rattle.hx_store.specs.Stores.{ArePending, CanBeOffered, accepted, acknowledging}
+use Rattle.hx_store.specs.Stores.{ArePending, CanBeOffered, accepted, accepted_at, acknowledged_at, acknowledging}
 use Rattle.hx_replica.specs.declared.made.SlotChange.{SlotChange}
 use Rattle.hx_replica.specs.declared.made.SlotChange.TheVariants.{Open, Accept, Acknowledge}
 use Rattle.hx_replica.specs.declared.made.SlotMade.{SlotMade}
@@ -48,6 +48,12 @@ abbrev pub moves_by : RegionId → KeyState → SlotChange → List Move
 moves_by g s Open = []
 moves_by g s (Accept u place ends) = accepted g s u ends.items
 moves_by g s (Acknowledge v) = acknowledged s v.0
+
+-- the slot after a change, without its past
+abbrev pub stepped : SlotChange → RegionId → KeyState → KeyState
+stepped Open g s = s
+stepped (Accept u place ends) g s = accepted_at u ends.items g s
+stepped (Acknowledge v) g s = acknowledged_at v.0 g s
 
 -- the slot of the key can make the change
 abbrev pub ChangeFits : RegionId → KeyState → List ℕ → SlotChange → Type 0

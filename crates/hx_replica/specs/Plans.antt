@@ -8,14 +8,14 @@ use Rattle.hx_types.specs.declared.spaces.Space.{Space}
 use Rattle.hx_types.specs.declared.traces.Input.{Input}
 use Rattle.hx_types.specs.declared.traces.Input.TheVariants.{Deliver}
 use Rattle.hx_model.specs.ServerSteps.{Replica as ReplicaState, ServerState, server_step, spot_of, state_in, with_slot}
-use Rattle.hx_model.specs.Slots.{moved_all}
+use Rattle.hx_folds.specs.Folding.{folded_server}
 use Rattle.hx_store.specs.Stores.{Room, room_in}
 use Rattle.hx_replica.specs.declared.made.SlotChange.{SlotChange}
 use Rattle.hx_replica.specs.declared.made.SlotMade.{SlotMade}
 use Rattle.hx_replica.specs.declared.plans.Change.{Change}
 use Rattle.hx_replica.specs.declared.plans.Change.TheVariants.{Nothing, Seal, Halt, Adopt, Slot}
 use Rattle.hx_replica.specs.declared.plans.Plan.{Plan}
-use Rattle.hx_replica.specs.Made.{ChangeFits, IsMade, IsSlotInput, key_in, moves_by, slot_step_of}
+use Rattle.hx_replica.specs.Made.{ChangeFits, IsMade, IsSlotInput, key_in, slot_step_of, stepped}
 use Rattle.hx_replica.specs.declared.replicas.Replica.{Replica}
 use Rattle.hx_replica.specs.Replicas.{AreReplicas, views_of}
 use Rattle.hx_replica.specs.Servers.{ServerValue, server_entry}
@@ -41,23 +41,23 @@ IsMadeAt s place from m made =
     (r : ReplicaState) → slice_get s.state.replicas place ≡ Some r
     → IsMade r.region (state_in s.space r (key_in m)) (key_in m) (slot_step_of (spot_of s.space s.state r.region) (state_in s.space r (key_in m)) from m) made
 
--- the slot of the key at the replica of the place can make the change, and that is the server's step
+-- the slot of the key at the replica of the place can make the change, and that is the server's step without its past
 pub record IsChangeOn (s : ServerValue) (input : Input) (place : ℕ) (key : List ℕ) (change : SlotChange) : Type 0 where
   pub replica : ReplicaState
   pub found : slice_get s.state.replicas place ≡ Some replica
   pub room : HasRoomAt place key 1 s
   pub fits : ChangeFits replica.region (state_in s.space replica key) key change
-  pub state : (server_step s.space s.state input).state ≡ with_slot s.state replica (moved_all (moves_by replica.region (state_in s.space replica key) change) (state_in s.space replica key))
+  pub state : folded_server (server_step s.space s.state input).state ≡ with_slot s.state replica (stepped change replica.region (state_in s.space replica key))
 
 -- these are the replicas of a server of the space that takes this configuration, and that is the server's step
 pub record IsAdoptionOn (s : ServerValue) (input : Input) (config : Config) (replicas : List Replica) : Type 0 where
   pub are : AreReplicas s.space replicas
-  pub state : (server_step s.space s.state input).state ≡ record s.state { config = config; sealed = false; replicas = views_of replicas }
+  pub state : folded_server (server_step s.space s.state input).state ≡ record s.state { config = config; sealed = false; replicas = views_of replicas }
 
 abbrev pub IsChange : ServerValue → Input → Change → Type 0
-IsChange s input Nothing = (server_step s.space s.state input).state ≡ s.state
-IsChange s input Seal = (server_step s.space s.state input).state ≡ record s.state { sealed = true }
-IsChange s input Halt = (server_step s.space s.state input).state ≡ record s.state { halted = true }
+IsChange s input Nothing = folded_server (server_step s.space s.state input).state ≡ s.state
+IsChange s input Seal = folded_server (server_step s.space s.state input).state ≡ record s.state { sealed = true }
+IsChange s input Halt = folded_server (server_step s.space s.state input).state ≡ record s.state { halted = true }
 IsChange s input (Adopt config replicas) = IsAdoptionOn s input config replicas.items
 IsChange s input (Slot place key change) = IsChangeOn s input place key change
 

@@ -15,6 +15,7 @@ use Rattle.hx_types.specs.Words.{IsIn, post}
 use Rattle.hx_model.specs.Runs.{entry_of}
 use Rattle.hx_model.specs.ServerSteps.{Replica, ServerState, server_step}
 use Rattle.hx_model.specs.Slots.{KeyState, top_of}
+use Rattle.hx_folds.specs.Folding.{folded_server}
 use Rattle.hx_store.specs.Stores.{Room}
 
 -- rooms: for how many more updates the slots of each replica have room
@@ -50,8 +51,9 @@ IsInputTo space s Tick = ⊤
 IsInputTo space s Halt = ⊤
 IsInputTo space s (Deliver id from m) = IsHandled m × IsSoundDelivery space s from m
 
--- the server can take the input
+-- the server can take the input: its slots have no past
 pub record CanTake (space : Space) (s : ServerState) (input : Input) : Type 0 where
   pub running : s.halted ≡ false
   pub input_to : IsInputTo space s.id input
   pub small : HasSmallVersions s
+  pub bare : folded_server s ≡ s

@@ -3,10 +3,10 @@ ghost use Rattle.std.specs.Borrow.{Bor};
 ghost use Rattle.std.specs.List.{All, flat_map};
 ghost use Rattle.hx_types.specs.Subspaces.{is_key_region, region_count};
 ghost use Rattle.hx_types.specs.Words.{provided};
-ghost use Rattle.hx_model.specs.ServerSteps.{adopted_state, is_active, listed_regions, replica_or_new, resumed_posts};
+ghost use Rattle.hx_model.specs.ServerSteps.{is_active, listed_regions, replica_or_new, resumed_posts};
 ghost use Rattle.hx_slot.specs.States.{SlotState};
 ghost use Rattle.hx_store.specs.Stores.{KeysAscend, lent_states};
-ghost use Rattle.hx_replica.specs.Adopting.{AreAdopted, IsAdopted, kept_posts};
+ghost use Rattle.hx_replica.specs.Adopting.{AreAdopted, IsAdopted, kept_posts, lean_adopted};
 ghost use Rattle.hx_replica.specs.Made.{spot_seen};
 ghost use Rattle.hx_replica.specs.Replicas.{AreReplicas, IsReplicaIn, view_of, views_of};
 ghost use Rattle.hx_replica.specs.Ticking.{standing};
@@ -123,7 +123,7 @@ fn adopt_kept(
     requires marks { store.now.marks ≡ is_key_region spot.now.space.now spot.now.region }
     ensures region { IfOk result (λ next. next.region ≡ spot.now.region) }
     ensures marks { IfOk result (λ next. next.marks ≡ is_key_region spot.now.space.now spot.now.region) }
-    ensures states { IfOk result (λ next. next.states ≡ map (adopted_state (spot_seen spot.now) active) store.now.states) }
+    ensures states { IfOk result (λ next. next.states ≡ map (lean_adopted (spot_seen spot.now) active) store.now.states) }
     ensures posts { OnOk result (posts.new ≡ posts.old ++ provided active (kept_posts (spot_seen spot.now) store.now.states)) }
 {
     if active {
@@ -140,7 +140,7 @@ fn go_on(alloc: Global, spot: &Spot, store: &Store, posts: &mut Posts) -> Result
     requires marks { store.now.marks ≡ is_key_region spot.now.space.now spot.now.region }
     ensures region { IfOk result (λ next. next.region ≡ spot.now.region) }
     ensures marks { IfOk result (λ next. next.marks ≡ is_key_region spot.now.space.now spot.now.region) }
-    ensures states { IfOk result (λ next. next.states ≡ map (adopted_state (spot_seen spot.now) true) store.now.states) }
+    ensures states { IfOk result (λ next. next.states ≡ map (lean_adopted (spot_seen spot.now) true) store.now.states) }
     ensures posts { OnOk result (posts.new ≡ posts.old ++ kept_posts (spot_seen spot.now) store.now.states) }
 {
     snap(alloc, spot, store, posts)?;
@@ -161,7 +161,7 @@ fn adopt_store(
     requires marks { store.now.marks ≡ is_key_region spot.now.space.now spot.now.region }
     ensures region { IfOk result (λ next. next.region ≡ spot.now.region) }
     ensures marks { IfOk result (λ next. next.marks ≡ is_key_region spot.now.space.now spot.now.region) }
-    ensures states { IfOk result (λ next. next.states ≡ map (adopted_state (spot_seen spot.now) active) store.now.states) }
+    ensures states { IfOk result (λ next. next.states ≡ map (lean_adopted (spot_seen spot.now) active) store.now.states) }
     ensures posts { OnOk result (posts.new ≡ posts.old ++ provided active (flat_map (resumed_posts (spot_seen spot.now)) store.now.states)) }
 {
     let marks = spot.region.0 < spot.space.key_parts;
@@ -186,7 +186,7 @@ fn adopt_slots(
     requires empty { next.old.states ≡ [] }
     ensures region { next.new.region ≡ next.old.region }
     ensures marks { next.new.marks ≡ next.old.marks }
-    ensures states { OnOk result (next.new.states ≡ map (adopted_state (spot_seen spot.now) active) (lent_states slots.now)) }
+    ensures states { OnOk result (next.new.states ≡ map (lean_adopted (spot_seen spot.now) active) (lent_states slots.now)) }
     ensures posts { OnOk result (posts.new ≡ posts.old ++ flat_map (λ (b : Bor SlotState). provided active (resumed_posts (spot_seen spot.now) b.now.state)) slots.now) }
 {
     for slot in slots {
@@ -205,7 +205,7 @@ fn adopt_slot(
     posts: &mut Posts,
 ) -> Result<Slot, Memory>
     requires { slot.now.region ≡ spot.now.region }
-    ensures state { IfOk result (λ next. next.state ≡ adopted_state (spot_seen spot.now) active slot.now.state) }
+    ensures state { IfOk result (λ next. next.state ≡ lean_adopted (spot_seen spot.now) active slot.now.state) }
     ensures region { IfOk result (λ next. next.region ≡ spot.now.region) }
     ensures posts { OnOk result (posts.new ≡ posts.old ++ provided active (resumed_posts (spot_seen spot.now) slot.now.state)) }
 {

@@ -2,8 +2,8 @@ ghost use Rattle.std.specs.Prelude.{◌≡◌, ◌<◌, ◌≤◌, IfOk, OnOk, S
 ghost use Rattle.std.specs.Option.{option_map};
 ghost use Rattle.hx_types.specs.Subspaces.{region_count};
 ghost use Rattle.hx_model.specs.ServerSteps.{listed_regions, replica_of};
-ghost use Rattle.hx_store.specs.Stores.{HasRoom, after_moves, state_at};
-ghost use Rattle.hx_replica.specs.Made.{ChangeFits, moves_by};
+ghost use Rattle.hx_store.specs.Stores.{HasRoom, after_step, state_at};
+ghost use Rattle.hx_replica.specs.Made.{ChangeFits, stepped};
 ghost use Rattle.hx_replica.specs.Replicas.{AscendByRegion, first_replica, views_of};
 
 use crate::made::SlotChange;
@@ -58,20 +58,20 @@ pub fn place_of(replicas: &[Replica], region: RegionId) -> Option<usize>
 }
 
 /// The slot of a key makes its part of a step. It takes no memory.
-pub fn change_slot(store: &mut Store, key: &Text, change: SlotChange)
-    requires room { HasRoom key.now 1 store.old }
-    requires fits { ChangeFits store.old.region (state_at store.old key.now) key.now change }
+pub fn change_slot(store: &mut Store, key: Text, change: SlotChange)
+    requires room { HasRoom key 1 store.old }
+    requires fits { ChangeFits store.old.region (state_at store.old key) key change }
     ensures region { store.new.region ≡ store.old.region }
     ensures marks { store.new.marks ≡ store.old.marks }
-    ensures states { store.new.states ≡ after_moves store.old key.now (moves_by store.old.region (state_at store.old key.now) change) }
+    ensures states { store.new.states ≡ after_step store.old key (stepped change) }
 {
     match change {
-        SlotChange::Open => store.open(key),
+        SlotChange::Open => store.open(&key),
         SlotChange::Accept {
             update,
             place,
             ends,
         } => store.accept(update, place, ends.as_slice()),
-        SlotChange::Acknowledge { version } => store.acknowledge(key, version),
+        SlotChange::Acknowledge { version } => store.acknowledge(&key, version),
     }
 }

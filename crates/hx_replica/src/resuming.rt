@@ -1,5 +1,6 @@
 ghost use Rattle.std.specs.Prelude.{◌≡◌, ◌++◌, [], IfOk, OnOk};
 ghost use Rattle.hx_model.specs.ServerSteps.{resumed, resumed_posts};
+ghost use Rattle.hx_folds.specs.Folding.{folded};
 ghost use Rattle.hx_model.specs.Slots.{moved_all};
 ghost use Rattle.hx_replica.specs.Adopting.{IsCarriedOn};
 ghost use Rattle.hx_replica.specs.Made.{spot_seen};
@@ -17,7 +18,7 @@ use std::alloc::Global;
 /// are forgotten, and every pending update goes to the next replica of its chain or ends here.
 pub fn resumed(alloc: Global, spot: &Spot, slot: &Slot, posts: &mut Posts) -> Result<Slot, Memory>
     requires { slot.now.region ≡ spot.now.region }
-    ensures state { IfOk result (λ next. next.state ≡ moved_all (resumed (spot_seen spot.now) slot.now.state) slot.now.state) }
+    ensures state { IfOk result (λ next. next.state ≡ folded spot.now.region (moved_all (resumed (spot_seen spot.now) slot.now.state) slot.now.state)) }
     ensures region { IfOk result (λ next. next.region ≡ spot.now.region) }
     ensures posts { OnOk result (posts.new ≡ posts.old ++ resumed_posts (spot_seen spot.now) slot.now.state) }
 {

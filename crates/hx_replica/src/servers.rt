@@ -4,6 +4,7 @@ ghost use Rattle.hx_types.specs.Effects.{key_of};
 ghost use Rattle.hx_types.specs.Spaces.{IsConfigOf, IsServerOf, IsSpace};
 ghost use Rattle.hx_types.specs.Subspaces.{is_key_region};
 ghost use Rattle.hx_types.specs.Words.{when_some};
+ghost use Rattle.hx_folds.specs.Folding.{folded_server};
 ghost use Rattle.hx_model.specs.ServerSteps.{Replica as ReplicaState, asked, halting, hearing, if_installed, install_at, replica_of, seal_at, server_at_start, server_step, state_in, tick_step};
 ghost use Rattle.hx_model.specs.Slots.{new_state};
 ghost use Rattle.hx_replica.specs.Hearing.{IsOfOneSlot, heard, leading};
@@ -108,7 +109,7 @@ impl Server {
         requires { IsPlanOn self.old plan }
         ensures entry { result ≡ plan.entry }
         ensures space { self.new.space ≡ self.old.space }
-        ensures state { self.new.state ≡ (server_step self.old.space self.old.state plan.entry.input).state }
+        ensures state { self.new.state ≡ folded_server (server_step self.old.space self.old.state plan.entry.input).state }
     {
         let Plan { entry, change } = plan;
         match change {
@@ -126,7 +127,7 @@ impl Server {
                 change,
             } => {
                 let replica = &mut self.replicas[replica];
-                change_slot(&mut replica.store, &key, change);
+                change_slot(&mut replica.store, key, change);
             }
         }
         entry
@@ -152,7 +153,8 @@ impl Server {
 
     /// What is pending is sent again; where the server is sealed, it says that instead.
     fn tick(&self, alloc: Global, input: &Input) -> Result<Plan, Memory>
-        requires { server_step self.now.space self.now.state input.now ≡ tick_step self.now.space self.now.state }
+        requires step { server_step self.now.space self.now.state input.now ≡ tick_step self.now.space self.now.state }
+        requires bare { folded_server self.now.state ≡ self.now.state }
         ensures plan { IfOk result (IsPlanOn self.now) }
         ensures input { IfOk result (λ plan. plan.entry.input ≡ input.now) }
     {
@@ -180,7 +182,8 @@ impl Server {
 
     /// The server stops for good, and says so.
     fn halt(&self, alloc: Global, input: &Input) -> Result<Plan, Memory>
-        requires { server_step self.now.space self.now.state input.now ≡ halting self.now.state }
+        requires step { server_step self.now.space self.now.state input.now ≡ halting self.now.state }
+        requires bare { folded_server self.now.state ≡ self.now.state }
         ensures plan { IfOk result (IsPlanOn self.now) }
         ensures input { IfOk result (λ plan. plan.entry.input ≡ input.now) }
     {
@@ -191,7 +194,8 @@ impl Server {
     /// The server takes part in its epoch no longer, and says so. Another epoch's seal is nothing
     /// to it.
     fn seal(&self, alloc: Global, input: &Input, epoch: Epoch) -> Result<Plan, Memory>
-        requires { server_step self.now.space self.now.state input.now ≡ seal_at self.now.state epoch }
+        requires step { server_step self.now.space self.now.state input.now ≡ seal_at self.now.state epoch }
+        requires bare { folded_server self.now.state ≡ self.now.state }
         ensures plan { IfOk result (IsPlanOn self.now) }
         ensures input { IfOk result (λ plan. plan.entry.input ≡ input.now) }
     {
@@ -207,6 +211,7 @@ impl Server {
     fn install(&self, alloc: Global, input: &Input, config: &Config) -> Result<Plan, Memory>
         requires step { server_step self.now.space self.now.state input.now ≡ install_at self.now.space self.now.state config.now }
         requires config { IsConfigOf self.now.space config.now }
+        requires bare { folded_server self.now.state ≡ self.now.state }
         ensures plan { IfOk result (IsPlanOn self.now) }
         ensures input { IfOk result (λ plan. plan.entry.input ≡ input.now) }
     {

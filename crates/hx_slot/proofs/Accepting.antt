@@ -14,7 +14,7 @@ use Rattle.hx_slot.specs.declared.slots.Slot.TheInside.{Inside}
 use Rattle.hx_slot.specs.declared.tables.Tables.{Tables}
 use Rattle.hx_slot.specs.Entries.{Ascends, IsHeld, IsPlaced, last_version, newest_first}
 use Rattle.hx_slot.specs.Acks.{AreAcked, count_unacked, is_of_version}
-use Rattle.hx_slot.specs.Invariant.{IsLine, IsSlot, coming, pending_in, seen, updates_of, versions_of}
+use Rattle.hx_slot.specs.Invariant.{IsLine, IsSlot, coming, pending_in, whole, updates_of, versions_of}
 use Rattle.hx_slot.specs.Tabled.{AreTables, IsNoted}
 use Rattle.hx_slot.proofs.Newest.{last_version-above, newest_first-append, pending-ascends, top-pending}
 
@@ -145,7 +145,7 @@ updates_of-filter v (p ∷ rest) =
 -- what contracts see of it
 pub accepted-state : (a : Inside) (t : Taken) (accepted : Vec Taken Global) (early : Vec Placed Global) (tables : Tables) (spare : ℕ)
     → accepted.items ≡ a.accepted.items ++ t ∷ [] → early.items ≡ filter (λ (p : Placed). not (eqb p.update.version.0 t.update.version.0)) a.early.items
-    → (seen (record a { accepted = accepted; early = early; tables = tables; spare = spare })).state ≡ moved (Take t.update) (seen a).state
+    → (whole (record a { accepted = accepted; early = early; tables = tables; spare = spare })).state ≡ moved (Take t.update) (whole a).state
 accepted-state a t accepted early tables spare items kept =
     let line = ap (newest_first []) items ∙ newest_first-append [] a.accepted.items (t ∷ []) in
     let waiting = ap updates_of kept ∙ updates_of-filter t.update.version.0 a.early.items in
@@ -176,7 +176,7 @@ held-slot a early spare h held fewer capacity =
     }
 
 pub held-state : (a : Inside) (p : Placed) (early : Vec Placed Global) (spare : ℕ) → early.items ≡ filter (λ (q : Placed). not (eqb q.update.version.0 p.update.version.0)) a.early.items ++ p ∷ []
-    → (seen (record a { early = early; spare = spare })).state ≡ moved (Hold p.update) (seen a).state
+    → (whole (record a { early = early; spare = spare })).state ≡ moved (Hold p.update) (whole a).state
 held-state a p early spare items =
     let waiting = ap updates_of items ∙ map_push (λ (q : Placed). q.update) _ p ∙ ap (λ (us : List Update). us ++ p.update ∷ []) (updates_of-filter p.update.version.0 a.early.items) in
     λ j. record { marks = a.marks; base = a.base; accepted = newest_first [] a.accepted.items; floor = a.floor.0; acked = versions_of a.acked.items; early = waiting j }
@@ -196,7 +196,7 @@ filter-removed v (x ∷ rest) (suc i) p l e q =
     ap (λ (us : List Update). cond (other_version v x.update) (x.update ∷ us) us) (filter-removed v rest i p (omega arith) e q)
 
 pub removed-state : (a : Inside) (i : ℕ) (p : Placed) (early : Vec Placed Global) (spare : ℕ) → i < length a.early.items → p ≡ get_or a.early.items i p → early.items ≡ remove a.early.items i
-    → moved (Take p.update) (seen (record a { early = early; spare = spare })).state ≡ moved (Take p.update) (seen a).state
+    → moved (Take p.update) (whole (record a { early = early; spare = spare })).state ≡ moved (Take p.update) (whole a).state
 removed-state a i p early spare l e items =
     let waiting = ap (λ (ps : List Placed). filter (other_version p.update.version.0) (updates_of ps)) items ∙ filter-removed p.update.version.0 a.early.items i p l e refl in
     λ j. record { marks = a.marks; base = a.base; accepted = p.update ∷ newest_first [] a.accepted.items; floor = a.floor.0; acked = versions_of a.acked.items; early = waiting j }

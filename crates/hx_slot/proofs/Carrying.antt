@@ -16,7 +16,7 @@ use Rattle.hx_model.specs.Slots.{KeyState, kept_of, marks_after, row_of, touches
 use Rattle.hx_slot.specs.declared.entries.Taken.{Taken}
 use Rattle.hx_slot.specs.declared.slots.Slot.TheInside.{Inside}
 use Rattle.hx_slot.specs.Entries.{Ascends, last_version, newest_first, row_by, row_over}
-use Rattle.hx_slot.specs.Invariant.{IsSlot, seen}
+use Rattle.hx_slot.specs.Invariant.{IsSlot, whole}
 use Rattle.hx_slot.specs.States.{IsOrderly, IsRowUpTo, committed_state}
 use Rattle.hx_slot.specs.Tabled.{AscendByRegion, marks_over, touches_over}
 use Rattle.hx_slot.proofs.Acking.{ascends-take}
@@ -57,10 +57,10 @@ touches_after-over base o [] = refl
 touches_after-over base o (t ∷ rest) = touches_after-over base (t.update ∷ o) rest
 
 -- the parts of the committed state
-pub marks-seen : (a : Inside) → IsSlot a → provided a.marks (marks_over a.base.marks (take a.committed a.accepted.items)) ≡ (kept_of a.region (seen a).state).marks
+pub marks-seen : (a : Inside) → IsSlot a → provided a.marks (marks_over a.base.marks (take a.committed a.accepted.items)) ≡ (kept_of a.region (whole a).state).marks
 marks-seen a h = ap (provided a.marks) (sym (ap (marks_after a.base.marks) (upto-line h.line) ∙ marks_after-over a.base.marks [] (take a.committed a.accepted.items)))
 
-pub touches-seen : (a : Inside) → IsSlot a → provided a.marks (touches_over a.base.touches (take a.committed a.accepted.items)) ≡ (kept_of a.region (seen a).state).touches
+pub touches-seen : (a : Inside) → IsSlot a → provided a.marks (touches_over a.base.touches (take a.committed a.accepted.items)) ≡ (kept_of a.region (whole a).state).touches
 touches-seen a h = ap (provided a.marks) (sym (ap (touches_after a.base.touches) (upto-line h.line) ∙ touches_after-over a.base.touches [] (take a.committed a.accepted.items)))
 
 -- a row of a version up to a higher floor
@@ -93,7 +93,7 @@ provided-all P true xs n h = h
 provided-all P false xs n h = n
 
 -- the committed state is in order
-pub kept-orderly : (a : Inside) → IsSlot a → IsOrderly (kept_of a.region (seen a).state)
+pub kept-orderly : (a : Inside) → IsSlot a → IsOrderly (kept_of a.region (whole a).state)
 kept-orderly a h =
     let line = take a.committed a.accepted.items in
     let up = ascends-take a.base.floor.0 a.committed a.accepted.items h.line.ascends in

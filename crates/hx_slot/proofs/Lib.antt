@@ -15,3 +15,4 @@ pub mod Offering
 pub mod Carrying
 pub mod Orderly
 pub mod Renewed
+pub mod Lean

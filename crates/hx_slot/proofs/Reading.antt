@@ -16,20 +16,20 @@ use Rattle.hx_model.specs.Slots.{kept_row, latest_of, mark_among, mark_of, objec
 use Rattle.hx_slot.specs.declared.slots.Slot.TheInside.{Inside}
 use Rattle.hx_slot.specs.Entries.{IsPlaced, last_version, newest_first, row_over}
 use Rattle.hx_slot.specs.declared.entries.Taken.{Taken}
-use Rattle.hx_slot.specs.Invariant.{IsSlot, pending_in, seen}
+use Rattle.hx_slot.specs.Invariant.{IsSlot, pending_in, whole}
 use Rattle.hx_slot.specs.States.{HasFewPlaces, IsPlacedIn, call_at}
 use Rattle.hx_slot.specs.Tabled.{mark_found, newer_of, touch_among}
 use Rattle.hx_slot.proofs.Newer.{found-among, mark-over, mark_among-upto, marks_after-upto}
 use Rattle.hx_slot.proofs.Newest.{by_recursion-drop, by_recursion-take, few-placed, kept_row-newest_first, last_version-above, newest_first-upto, pending-ascends, pending-between, pending-line, placed-within, top-pending, top_above-newest_first, update_of, upto-line}
 use Rattle.hx_slot.proofs.Regions.{UpdatesUpTo, touched-over, touched-upto, touches_after-upto}
 
-pub top-seen : (a : Inside) → last_version a.base.floor.0 a.accepted.items ≡ top_of (seen a).state
+pub top-seen : (a : Inside) → last_version a.base.floor.0 a.accepted.items ≡ top_of (whole a).state
 top-seen a = sym (top_above-newest_first a.base.floor.0 [] a.accepted.items)
 
-pub latest-seen : (a : Inside) → IsSlot a → object_in (row_over a.base.object a.accepted.items) ≡ latest_of a.region (seen a).state
+pub latest-seen : (a : Inside) → IsSlot a → object_in (row_over a.base.object a.accepted.items) ≡ latest_of a.region (whole a).state
 latest-seen a h = ap object_in (sym (kept_row-newest_first a.region a.base.object [] a.accepted.items h.line.placed))
 
-pub object-seen : (a : Inside) → IsSlot a → row_over a.base.object (take a.committed a.accepted.items) ≡ object_of a.region (seen a).state
+pub object-seen : (a : Inside) → IsSlot a → row_over a.base.object (take a.committed a.accepted.items) ≡ object_of a.region (whole a).state
 object-seen a h =
     sym
     (
@@ -37,18 +37,18 @@ object-seen a h =
     ∙ kept_row-newest_first a.region a.base.object [] (take a.committed a.accepted.items) (by_recursion-take (λ (t : Taken). IsPlaced a.region t.update t.place) a.committed a.accepted.items h.line.placed)
     )
 
-pub pending-seen : (a : Inside) → IsSlot a → map update_of (pending_in a) ≡ pending_of (seen a).state
+pub pending-seen : (a : Inside) → IsSlot a → map update_of (pending_in a) ≡ pending_of (whole a).state
 pending-seen a h = sym (pending-line h.line)
 
-pub count-seen : (a : Inside) → IsSlot a → length a.accepted.items - a.committed ≡ length (pending_of (seen a).state)
+pub count-seen : (a : Inside) → IsSlot a → length a.accepted.items - a.committed ≡ length (pending_of (whole a).state)
 count-seen a h = sym (ap length (pending-line h.line) ∙ length-map (pending_in a) update_of ∙ length-drop a.committed a.accepted.items)
 
 -- the versions of what is pending, and its places
-pub versions-seen : (a : Inside) → IsSlot a → AllByRecursion (λ (u : Update). (a.floor.0 < u.version.0) × (u.version.0 ≤ top_of (seen a).state)) (map update_of (pending_in a))
+pub versions-seen : (a : Inside) → IsSlot a → AllByRecursion (λ (u : Update). (a.floor.0 < u.version.0) × (u.version.0 ≤ top_of (whole a).state)) (map update_of (pending_in a))
 versions-seen a h =
     let e = top-seen a in
     let q = top-pending h.line in
-    pending-between a.floor.0 (top_of (seen a).state) a.floor.0 (pending_in a) (omega arith) (pending-ascends h.line) (omega (arith, e, q))
+    pending-between a.floor.0 (top_of (whole a).state) a.floor.0 (pending_in a) (omega arith) (pending-ascends h.line) (omega (arith, e, q))
 
 pub places-seen : (a : Inside) → IsSlot a → AllByRecursion (IsPlacedIn a.region) (map update_of (pending_in a))
 places-seen a h = placed-within a.region (pending_in a) (by_recursion-drop (λ (t : Taken). IsPlaced a.region t.update t.place) a.committed a.accepted.items h.line.placed)
@@ -57,49 +57,49 @@ pub few-seen : (a : Inside) → IsSlot a → AllByRecursion HasFewPlaces (map up
 few-seen a h = few-placed a.region (pending_in a) (by_recursion-drop (λ (t : Taken). IsPlaced a.region t.update t.place) a.committed a.accepted.items h.line.placed)
 
 -- nothing of the slot is above its top
-updates-upto : (a : Inside) → IsSlot a → UpdatesUpTo (top_of (seen a).state) (newest_first [] a.accepted.items)
+pub updates-upto : (a : Inside) → IsSlot a → UpdatesUpTo (top_of (whole a).state) (newest_first [] a.accepted.items)
 updates-upto a h =
-    let e = top-seen a in newest_first-upto (top_of (seen a).state) [] a.accepted.items a.base.floor.0 tt h.line.ascends (omega (arith, e))
+    let e = top-seen a in newest_first-upto (top_of (whole a).state) [] a.accepted.items a.base.floor.0 tt h.line.ascends (omega (arith, e))
 
-base-upto : (a : Inside) → IsSlot a → a.base.floor.0 ≤ top_of (seen a).state
+base-upto : (a : Inside) → IsSlot a → a.base.floor.0 ≤ top_of (whole a).state
 base-upto a h = let e = top-seen a in let b = last_version-above a.base.floor.0 a.accepted.items h.line.ascends in omega (arith, e, b)
 
-pub touched-seen : (a : Inside) → IsSlot a → a.marks ≡ true → (g : RegionId) → unwrap_or (touch_among g a.tables.touches.items) (touched_in g a.base.touches) ≡ touched_in g (touches_of (seen a).state)
+pub touched-seen : (a : Inside) → IsSlot a → a.marks ≡ true → (g : RegionId) → unwrap_or (touch_among g a.tables.touches.items) (touched_in g a.base.touches) ≡ touched_in g (touches_of (whole a).state)
 touched-seen a h m g =
     ap (λ (ts : List Touch). unwrap_or (touch_among g ts) (touched_in g a.base.touches)) (h.tables m).touches ∙ touched-over g a.base.touches (newest_first [] a.accepted.items)
 
 -- no touch is above the top
-touches-upto : (a : Inside) → IsSlot a → AllByRecursion (λ (t : Touch). t.version.0 ≤ top_of (seen a).state) (touches_of (seen a).state)
+touches-upto : (a : Inside) → IsSlot a → AllByRecursion (λ (t : Touch). t.version.0 ≤ top_of (whole a).state) (touches_of (whole a).state)
 touches-upto a h =
     let b = base-upto a h in
-    touches_after-upto (top_of (seen a).state) a.base.touches (newest_first [] a.accepted.items)
-    (recursion_from_All (λ (t : Touch). t.version.0 ≤ top_of (seen a).state) a.base.touches (All-weaker (λ (t : Touch). t.version.0 ≤ a.base.floor.0) (λ (t : Touch). t.version.0 ≤ top_of (seen a).state) (λ t l. omega (arith, b)) a.base.touches h.base.touches))
+    touches_after-upto (top_of (whole a).state) a.base.touches (newest_first [] a.accepted.items)
+    (recursion_from_All (λ (t : Touch). t.version.0 ≤ top_of (whole a).state) a.base.touches (All-weaker (λ (t : Touch). t.version.0 ≤ a.base.floor.0) (λ (t : Touch). t.version.0 ≤ top_of (whole a).state) (λ t l. omega (arith, b)) a.base.touches h.base.touches))
     (updates-upto a h)
 
-pub touches-below : (a : Inside) → IsSlot a → All (λ (t : Touch). t.version.0 ≤ top_of (seen a).state) (touches_of (seen a).state)
-touches-below a h = All-from_recursion (λ (t : Touch). t.version.0 ≤ top_of (seen a).state) (touches_of (seen a).state) (touches-upto a h)
+pub touches-below : (a : Inside) → IsSlot a → All (λ (t : Touch). t.version.0 ≤ top_of (whole a).state) (touches_of (whole a).state)
+touches-below a h = All-from_recursion (λ (t : Touch). t.version.0 ≤ top_of (whole a).state) (touches_of (whole a).state) (touches-upto a h)
 
-pub touched-below : (a : Inside) → IsSlot a → (g : RegionId) → touched_in g (touches_of (seen a).state) ≤ top_of (seen a).state
-touched-below a h g = touched-upto (top_of (seen a).state) g (touches_of (seen a).state) (touches-upto a h)
+pub touched-below : (a : Inside) → IsSlot a → (g : RegionId) → touched_in g (touches_of (whole a).state) ≤ top_of (whole a).state
+touched-below a h g = touched-upto (top_of (whole a).state) g (touches_of (whole a).state) (touches-upto a h)
 
-pub mark-seen : (a : Inside) → IsSlot a → a.marks ≡ true → (session : SessionId) → newer_of (mark_found session a.accepted.items a.tables.newest.items) (mark_among session a.base.marks) ≡ mark_of session (seen a).state
+pub mark-seen : (a : Inside) → IsSlot a → a.marks ≡ true → (session : SessionId) → newer_of (mark_found session a.accepted.items a.tables.newest.items) (mark_among session a.base.marks) ≡ mark_of session (whole a).state
 mark-seen a h m session =
     ap (λ (o : Option Mark). newer_of o (mark_among session a.base.marks)) (found-among session a.accepted.items a.tables.newest.items _ (h.tables m).marks)
     ∙ mark-over session a.base.marks (newest_first [] a.accepted.items) h.base.sessions_ascend
 
-if_call : (v : ℕ) (o : Option Mark) → IfSome o (λ (m : Mark). m.version.0 ≤ v) → IfSome (call_at o) (λ (c : ℕ × Version × Answer). c.1.0 ≤ v)
+pub if_call : (v : ℕ) (o : Option Mark) → IfSome o (λ (m : Mark). m.version.0 ≤ v) → IfSome (call_at o) (λ (c : ℕ × Version × Answer). c.1.0 ≤ v)
 if_call v None h = tt
 if_call v (Some m) h = h
 
-pub mark-below : (a : Inside) → IsSlot a → (session : SessionId) → IfSome (call_at (mark_of session (seen a).state)) (λ (c : ℕ × Version × Answer). c.1.0 ≤ top_of (seen a).state)
+pub mark-below : (a : Inside) → IsSlot a → (session : SessionId) → IfSome (call_at (mark_of session (whole a).state)) (λ (c : ℕ × Version × Answer). c.1.0 ≤ top_of (whole a).state)
 mark-below a h session =
     let b = base-upto a h in
-    if_call (top_of (seen a).state) (mark_of session (seen a).state)
+    if_call (top_of (whole a).state) (mark_of session (whole a).state)
     (
-    mark_among-upto (top_of (seen a).state) session _
+    mark_among-upto (top_of (whole a).state) session _
     (
-    marks_after-upto (top_of (seen a).state) a.base.marks (newest_first [] a.accepted.items)
-    (recursion_from_All (λ (m : Mark). m.version.0 ≤ top_of (seen a).state) a.base.marks (All-weaker (λ (m : Mark). m.version.0 ≤ a.base.floor.0) (λ (m : Mark). m.version.0 ≤ top_of (seen a).state) (λ m l. omega (arith, b)) a.base.marks h.base.marks))
+    marks_after-upto (top_of (whole a).state) a.base.marks (newest_first [] a.accepted.items)
+    (recursion_from_All (λ (m : Mark). m.version.0 ≤ top_of (whole a).state) a.base.marks (All-weaker (λ (m : Mark). m.version.0 ≤ a.base.floor.0) (λ (m : Mark). m.version.0 ≤ top_of (whole a).state) (λ m l. omega (arith, b)) a.base.marks h.base.marks))
     (updates-upto a h)
     )
     )

@@ -12,7 +12,7 @@ use Rattle.hx_slot.specs.declared.slots.Slot.TheInside.{Inside}
 use Rattle.hx_slot.specs.declared.tables.Tables.{Tables}
 use Rattle.hx_slot.specs.Acks.{AreAcked, AreSameEntries}
 use Rattle.hx_slot.specs.Entries.{IsHeld, newest_first}
-use Rattle.hx_slot.specs.Invariant.{IsSlot, seen, updates_of, versions_of}
+use Rattle.hx_slot.specs.Invariant.{IsSlot, whole, updates_of, versions_of}
 use Rattle.hx_slot.specs.Tabled.{AreMarks, AreTables}
 use Rattle.hx_slot.proofs.Acking.{acked-none}
 use Rattle.hx_slot.proofs.Newest.{by_recursion-drop}
@@ -79,7 +79,7 @@ renewed-slot a base accepted acked early tables h same_base same unmarked none_a
 
 pub renewed-state : (a : Inside) (base : Kept) (accepted : Vec Taken Global) (acked : Vec Version Global) (early : Vec Placed Global) (tables : Tables) → base ≡ a.base
     → AreSameEntries a.accepted.items accepted.items → acked.items ≡ [] → early.items ≡ []
-    → (seen (record a { base = base; accepted = accepted; acked = acked; early = early; tables = tables; spare = 0 })).state ≡ moved Forget (seen a).state
+    → (whole (record a { base = base; accepted = accepted; acked = acked; early = early; tables = tables; spare = 0 })).state ≡ moved Forget (whole a).state
 renewed-state a base accepted acked early tables same_base same none_acked none_early =
     let line = same-newest_first [] a.accepted.items accepted.items same in
     λ j. record { marks = a.marks; base = same_base j; accepted = line j; floor = a.floor.0; acked = versions_of (none_acked j); early = updates_of (none_early j) }

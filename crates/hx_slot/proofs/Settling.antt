@@ -16,7 +16,7 @@ use Rattle.hx_slot.specs.declared.entries.Taken.{Taken}
 use Rattle.hx_slot.specs.declared.slots.Slot.TheInside.{Inside}
 use Rattle.hx_slot.specs.Acks.{AreAcked, AreSameEntries, count_unacked, front_acked, front_with, is_of_version}
 use Rattle.hx_slot.specs.Entries.{IsHeld, last_version, newest_first}
-use Rattle.hx_slot.specs.Invariant.{IsSlot, coming, pending_in, seen, updates_of, versions_of}
+use Rattle.hx_slot.specs.Invariant.{IsSlot, coming, pending_in, whole, updates_of, versions_of}
 use Rattle.hx_slot.specs.States.{committed_count}
 use Rattle.hx_slot.proofs.Acking.{acked-none, acked-settled, acked-set, commits-count, commits-front, commits-state, commits-with, commits_of, count-drop, count-set, dropped, dropped-upto, length-dropped, marked-at, pending-any, versions-filter, with_ack}
 use Rattle.hx_slot.proofs.Newest.{last_version-append, pending-ascends}
@@ -59,15 +59,15 @@ settled-slot a n floor acked h w f items len capacity =
 
 pub settled-state : (a : Inside) (n : ℕ) (floor : Version) (acked : Vec Version Global) → IsSlot a → n ≡ front_acked (pending_in a) → floor.0 ≡ last_version a.floor.0 (take n (pending_in a))
     → acked.items ≡ filter (λ (v : Version). ltb floor.0 v.0) a.acked.items
-    → (seen (record a { committed = a.committed + n; floor = floor; acked = acked })).state ≡ moved_all (settled (seen a).state) (seen a).state
+    → (whole (record a { committed = a.committed + n; floor = floor; acked = acked })).state ≡ moved_all (settled (whole a).state) (whole a).state
 settled-state a n floor acked h e f items =
     let moves = ap (commits (versions_of a.acked.items)) (sym (pending-seen a h)) ∙ commits-front (versions_of a.acked.items) (pending_in a) h.acked.marked ∙ ap (λ k. commits_of (take k (pending_in a))) (sym e) in
     let acks = ap versions_of items ∙ versions-filter (ltb floor.0) a.acked.items ∙ ap (λ v. filter (ltb v) (versions_of a.acked.items)) f ∙ sym (dropped-upto a.floor.0 n (pending_in a) (versions_of a.acked.items) (pending-ascends h.line) h.acked.known) in
-    let state : (seen (record a { committed = a.committed + n; floor = floor; acked = acked })).state ≡ record (seen a).state { floor = last_version a.floor.0 (take n (pending_in a)); acked = dropped (take n (pending_in a)) (versions_of a.acked.items) } =
+    let state : (whole (record a { committed = a.committed + n; floor = floor; acked = acked })).state ≡ record (whole a).state { floor = last_version a.floor.0 (take n (pending_in a)); acked = dropped (take n (pending_in a)) (versions_of a.acked.items) } =
     λ j. record { marks = a.marks; base = a.base; accepted = newest_first [] a.accepted.items; floor = f j; acked = acks j; early = updates_of a.early.items } in
-    state ∙ sym (commits-state (take n (pending_in a)) (seen a).state) ∙ sym (ap (λ (ms : List Move). moved_all ms (seen a).state) moves)
+    state ∙ sym (commits-state (take n (pending_in a)) (whole a).state) ∙ sym (ap (λ (ms : List Move). moved_all ms (whole a).state) moves)
 
-pub settled-count : (a : Inside) → IsSlot a → length (settled (seen a).state) ≡ front_acked (pending_in a)
+pub settled-count : (a : Inside) → IsSlot a → length (settled (whole a).state) ≡ front_acked (pending_in a)
 settled-count a h = ap (λ (us : List Update). length (commits (versions_of a.acked.items) us)) (sym (pending-seen a h)) ∙ commits-count (versions_of a.acked.items) (pending_in a) h.acked.marked
 
 one_of : (b : Bool) → cond b 1 0 + cond b 0 1 ≡ 1
@@ -75,11 +75,11 @@ one_of true = refl
 one_of false = refl
 
 -- how many an acknowledgement would commit
-pub would-count : (a : Inside) → IsSlot a → (v : ℕ) → length (settled (moved (Acknowledge v) (seen a).state)) ≡ front_with v (pending_in a)
+pub would-count : (a : Inside) → IsSlot a → (v : ℕ) → length (settled (moved (Acknowledge v) (whole a).state)) ≡ front_with v (pending_in a)
 would-count a h v = ap (λ (us : List Update). length (commits (with_ack v (versions_of a.acked.items)) us)) (sym (pending-seen a h)) ∙ commits-with v (versions_of a.acked.items) (pending_in a) h.acked.marked
 
 -- whether a version is pending
-pub pending-version : (a : Inside) → IsSlot a → (v : ℕ) → list_any (is_of_version v) (pending_in a) ≡ is_pending v (seen a).state
+pub pending-version : (a : Inside) → IsSlot a → (v : ℕ) → list_any (is_of_version v) (pending_in a) ≡ is_pending v (whole a).state
 pending-version a h v = sym (pending-any v (pending_in a)) ∙ ap (list_any (λ (u : Update). eqb u.version.0 v)) (pending-seen a h)
 
 -- the place of a pending update in the line
@@ -132,7 +132,7 @@ acknowledged-slot a i t accepted acked h l e items len capacity acks more grown 
 
 pub acknowledged-state : (a : Inside) (i : ℕ) (t : Taken) (accepted : Vec Taken Global) (acked : Vec Version Global) → i < length (pending_in a) → t ≡ get_or (pending_in a) i t
     → accepted.items ≡ set a.accepted.items (a.committed + i) (record t { acknowledged = true }) → versions_of acked.items ≡ with_ack t.update.version.0 (versions_of a.acked.items)
-    → (seen (record a { accepted = accepted; acked = acked })).state ≡ moved (Acknowledge t.update.version.0) (seen a).state
+    → (whole (record a { accepted = accepted; acked = acked })).state ≡ moved (Acknowledge t.update.version.0) (whole a).state
 acknowledged-state a i t accepted acked l e items acks =
     let size = length-drop a.committed a.accepted.items in
     let same = subst (λ (ts : List Taken). AreSameEntries a.accepted.items ts) (sym items) (same-set a.accepted.items (a.committed + i) t true (omega (arith, size, l)) (e ∙ get_or-drop a.committed a.accepted.items i t)) in
@@ -177,7 +177,7 @@ forgotten-slot a accepted acked early h same forgotten len capacity none_acked n
     }
 
 pub forgotten-state : (a : Inside) (accepted : Vec Taken Global) (acked : Vec Version Global) (early : Vec Placed Global) → AreSameEntries a.accepted.items accepted.items → acked.items ≡ [] → early.items ≡ []
-    → (seen (record a { accepted = accepted; acked = acked; early = early })).state ≡ moved Forget (seen a).state
+    → (whole (record a { accepted = accepted; acked = acked; early = early })).state ≡ moved Forget (whole a).state
 forgotten-state a accepted acked early same none_acked none_early =
     let line = same-newest_first [] a.accepted.items accepted.items same in
     λ j. record { marks = a.marks; base = a.base; accepted = line j; floor = a.floor.0; acked = versions_of (none_acked j); early = updates_of (none_early j) }

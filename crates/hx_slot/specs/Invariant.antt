@@ -4,6 +4,7 @@ use Rattle.std.specs.List.{AllByRecursion}
 use Rattle.hx_types.specs.declared.names.RegionId.{RegionId}
 use Rattle.hx_types.specs.declared.names.Version.{Version}
 use Rattle.hx_types.specs.declared.updates.Update.{Update}
+use Rattle.hx_folds.specs.Folding.{folded}
 use Rattle.hx_slot.specs.declared.entries.Placed.{Placed}
 use Rattle.hx_slot.specs.declared.entries.Taken.{Taken}
 use Rattle.hx_slot.specs.declared.slots.Slot.TheInside.{Inside}
@@ -18,9 +19,9 @@ versions_of versions = map (λ (v : Version). v.0) versions
 abbrev pub updates_of : List Placed → List Update
 updates_of early = map (λ (p : Placed). p.update) early
 
--- the slot as contracts see it
-abbrev pub seen : Inside → SlotState
-seen a =
+-- the slot with its whole past
+abbrev pub whole : Inside → SlotState
+whole a =
     record {
       region = a.region;
       state = record {
@@ -33,6 +34,10 @@ seen a =
       };
       spare = a.spare;
     }
+
+-- the slot as contracts see it: without its past
+abbrev pub seen : Inside → SlotState
+seen a = record { region = a.region; state = folded a.region (whole a).state; spare = a.spare }
 
 -- versions ascend from that of the base, each update has its place, and the first ones are committed
 pub record IsLine (g : RegionId) (base : ℕ) (accepted : List Taken) (committed floor : ℕ) : Type 0 where

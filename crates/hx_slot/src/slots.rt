@@ -1,6 +1,7 @@
 ghost use Rattle.std.specs.Prelude.{◌≡◌, ℕ, ◌+◌, ◌^◌, ◌<◌, ◌≤◌, ◌==◌, [], IfOk, IfSome, IsTrue, OnOk, is_some, length, true, slice_get, vec_capacity, vec_len};
 ghost use Rattle.std.specs.List.{All, AllByRecursion, find, list_any};
 ghost use Rattle.std.specs.Option.{option_copied};
+ghost use Rattle.hx_folds.specs.Folding.{IsBare, folded};
 ghost use Rattle.hx_model.specs.Places.{touched_in};
 ghost use Rattle.hx_model.specs.Neighbours.{place_number};
 ghost use Rattle.hx_model.specs.ServerSteps.{state_from};
@@ -103,7 +104,8 @@ impl Slot {
     }
 
     fn over(alloc: Global, region: RegionId, base: Kept, marks: bool) -> Slot
-        requires { IsOrderly base }
+        requires orderly { IsOrderly base }
+        requires bare { IsBare region (state_of_kept marks base) }
         ensures region { result.region ≡ region }
         ensures state { result.state ≡ state_of_kept marks base }
     {
@@ -409,11 +411,12 @@ impl Slot {
     /// That a replica commits when the acknowledgement comes back is chain replication's.
     pub fn ack(&mut self, version: Version) -> Acked
         ensures answer { result ≡ ack_answer self.old.state version.0 }
-        ensures state { self.new.state ≡ moved_all (acknowledged self.old.state version.0) self.old.state }
+        ensures state { self.new.state ≡ folded self.old.region (moved_all (acknowledged self.old.state version.0) self.old.state) }
         ensures region { self.new.region ≡ self.old.region }
         ensures spare { self.old.spare ≤ self.new.spare }
     {
-        if !self.is_pending(version) {
+        let pending = rest_of(self.accepted.as_slice(), self.committed);
+        if !has_update(pending, version) {
             return Acked::Unknown;
         }
         self.acknowledge(version);
@@ -453,7 +456,7 @@ impl Slot {
     /// Commits the lowest pending updates, as far as they are acknowledged, and gives how many.
     pub fn settle(&mut self) -> u32
         ensures count { result ≡ length (settled self.old.state) }
-        ensures state { self.new.state ≡ moved_all (settled self.old.state) self.old.state }
+        ensures state { self.new.state ≡ folded self.old.region (moved_all (settled self.old.state) self.old.state) }
         ensures region { self.new.region ≡ self.old.region }
         ensures spare { self.old.spare ≤ self.new.spare }
     {

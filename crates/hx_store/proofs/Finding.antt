@@ -13,13 +13,11 @@ use Rattle.std.specs.declared.alloc.Global.{Global}
 use Rattle.std.proofs.lemmas.Bool.{cond_both, cond-true, cond-false, false≢true}
 use Rattle.std.proofs.lemmas.Map.Keys.{sorted_head, sorted_tail}
 use Rattle.hx_types.specs.declared.names.RegionId.{RegionId}
-use Rattle.hx_types.specs.declared.snapshots.Kept.{Kept}
 use Rattle.hx_types.specs.Words.{same_text, text_below, when_some}
-use Rattle.hx_model.specs.Slots.{KeyState, Move, moved_all, new_state, state_among, with_state}
+use Rattle.hx_model.specs.Slots.{KeyState, new_state, state_among, with_state}
 use Rattle.hx_store.specs.declared.slots.Held.{Held}
 use Rattle.hx_store.specs.Held.{AreHeld, Entry, HasMoved, IsHeldAs, held_at, rooms_of, set_at, states_of}
 use Rattle.hx_store.specs.Stores.{room_in}
-use Rattle.hx_store.proofs.Moves.{moved_all_parts}
 use Rattle.hx_store.proofs.Texts.{equal_from, equal_is, higher_differs, higher_not_below, lower_below, lower_differs, order, same_self, same_turned}
 
 abbrev pub key_of : Entry → List ℕ
@@ -174,12 +172,15 @@ found_is g marks key (x ∷ es) each h =
     (λ t e. found_is g marks key es each.1 h e)
 
 -- what a move of a key's slot makes of the slots
-pub moved_states : (g : RegionId) (marks : Bool) (key : List ℕ) (moves : RegionId → KeyState → List Move) (old new : List Entry) → AreHeld g marks old → HasMoved key moves old new
-    → AreHeld g marks new × (states_of new ≡ with_state (moved_all (moves g (state_among marks key (states_of old))) (state_among marks key (states_of old))) (states_of old))
-moved_states g marks key moves old new held m =
+abbrev pub StepKeeps : (RegionId → KeyState → KeyState) → Type 0
+StepKeeps step = (g : RegionId) (s : KeyState) → ((step g s).base.key ≡ s.base.key) × ((step g s).marks ≡ s.marks)
+
+pub moved_states : (g : RegionId) (marks : Bool) (key : List ℕ) (step : RegionId → KeyState → KeyState) → StepKeeps step → (old new : List Entry) → AreHeld g marks old → HasMoved key step old new
+    → AreHeld g marks new × (states_of new ≡ with_state (step g (state_among marks key (states_of old))) (states_of old))
+moved_states g marks key step keeps old new held m =
     let was = found_is g marks key old held.each m.before m.found in
-    let parts = moved_all_parts (moves m.before.slot.region m.before.slot.state) m.before.slot.state in
-    let key_is : m.after.slot.state.base.key ≡ key = ap (λ (s : KeyState). s.base.key) m.state ∙ ap (λ (b : Kept). b.key) parts.0 ∙ was.key_is in
+    let parts = keeps m.before.slot.region m.before.slot.state in
+    let key_is : m.after.slot.state.base.key ≡ key = ap (λ (s : KeyState). s.base.key) m.state ∙ parts.0 ∙ was.key_is in
     let same : IsHeldAs g marks key m.after = record {
       key_is = key_is;
       region = m.region ∙ was.region;
@@ -187,8 +188,8 @@ moved_states g marks key moves old new held m =
       closed = λ c. absurd (false≢true (sym c ∙ m.opened));
     } in
     let now : m.before.slot.state ≡ state_among marks key (states_of old) = sym (found g marks key old held.each held.ordered ∙ ap (λ o. when_some o (new_state marks key) state_in) m.found) in
-    let state : m.after.slot.state ≡ moved_all (moves g (state_among marks key (states_of old))) (state_among marks key (states_of old)) =
-    m.state ∙ ap (λ (r : RegionId). moved_all (moves r m.before.slot.state) m.before.slot.state) was.region ∙ ap (λ (s : KeyState). moved_all (moves g s) s) now in
+    let state : m.after.slot.state ≡ step g (state_among marks key (states_of old)) =
+    m.state ∙ ap (λ (r : RegionId). step r m.before.slot.state) was.region ∙ ap (step g) now in
     let there : IsSome (held_at m.after.slot.state.base.key old) = subst (λ (k : List ℕ). IsSome (held_at k old)) (sym key_is) (subst (λ (o : Option Held). IsSome o) (sym m.found) refl) in (
       record { each = subst (Each g marks) (sym m.set) (set_each g marks key m.after same old held.each); ordered = m.ordered },
       ap states_of m.set

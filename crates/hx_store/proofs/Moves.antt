@@ -1,5 +1,7 @@
 -- Moves of a slot leave its key and kind; acknowledgements leave what is pending.
 use Rattle.std.proofs.Common.{◌≡◌, ℕ, List, [], ◌∷◌, ◌++◌, refl, ap, sym, ◌∙◌}
+use Rattle.hx_types.specs.declared.snapshots.Kept.{Kept}
+use Rattle.hx_folds.specs.Folding.{folded}
 use Rattle.hx_types.specs.declared.names.RegionId.{RegionId}
 use Rattle.hx_types.specs.declared.names.Version.{Version}
 use Rattle.hx_types.specs.declared.updates.Update.{Update}
@@ -23,12 +25,19 @@ pub moved_all_append : (ms ns : List Move) (s : KeyState) → moved_all (ms ++ n
 moved_all_append [] ns s = refl
 moved_all_append (m ∷ ms) ns s = moved_all_append ms ns (moved m s)
 
+-- the steps of a slot leave its key and kind
+pub keeps_nothing : (g : RegionId) (s : KeyState) → (s.base.key ≡ s.base.key) × (s.marks ≡ s.marks)
+keeps_nothing g s = (refl, refl)
+
+pub keeps_folded : (moves : RegionId → KeyState → List Move) (g : RegionId) (s : KeyState) → ((folded g (moved_all (moves g s) s)).base.key ≡ s.base.key) × ((folded g (moved_all (moves g s) s)).marks ≡ s.marks)
+keeps_folded moves g s = let parts = moved_all_parts (moves g s) s in (ap (λ (k : Kept). k.key) parts.0, parts.1)
+
 pub still_pending : (v w : ℕ) (s : KeyState) → is_pending v (moved (Acknowledge w) s) ≡ is_pending v s
 still_pending v w s = refl
 
 -- an offer, acknowledgements and commits one after another
-pub accepted_moves : (g : RegionId) (s : KeyState) (u : Update) (ends : List Version) (a b c : KeyState) → a ≡ moved_all (offered g s u) s → b ≡ moved_all (acknowledging ends) a → c ≡ moved_all (settled b) b → c ≡ moved_all (accepted g s u ends) s
-accepted_moves g s u ends a b c first second third =
+pub accepted_moves : (g h : RegionId) (s : KeyState) (u : Update) (ends : List Version) (a b c : KeyState) → a ≡ moved_all (offered g s u) s → b ≡ moved_all (acknowledging ends) a → c ≡ folded h (moved_all (settled b) b) → h ≡ g → c ≡ folded g (moved_all (accepted g s u ends) s)
+accepted_moves g h s u ends a b c first second third same =
     let moves = offered g s u ++ acknowledging ends in
     let before : b ≡ moved_all moves s = second ∙ ap (moved_all (acknowledging ends)) first ∙ sym (moved_all_append (offered g s u) (acknowledging ends) s) in
-    third ∙ ap (λ (x : KeyState). moved_all (settled x) x) before ∙ sym (moved_all_append moves (settled (moved_all moves s)) s)
+    third ∙ ap (λ (r : RegionId). folded r (moved_all (settled b) b)) same ∙ ap (λ (x : KeyState). folded g (moved_all (settled x) x)) before ∙ ap (folded g) (sym (moved_all_append moves (settled (moved_all moves s)) s))

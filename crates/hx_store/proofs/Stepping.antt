@@ -4,11 +4,11 @@ use Rattle.std.specs.Option.{option_map, IsSome, IsSomeAnd}
 use Rattle.std.proofs.lemmas.Bool.{false≢true}
 use Rattle.hx_types.specs.declared.names.RegionId.{RegionId}
 use Rattle.hx_types.specs.Words.{when_some}
-use Rattle.hx_model.specs.Slots.{KeyState, Move, new_state}
+use Rattle.hx_model.specs.Slots.{KeyState, new_state}
 use Rattle.hx_store.specs.declared.slots.Held.{Held}
 use Rattle.hx_store.specs.Held.{AreHeld, Entry, HasMoved, IsHeldAs, held_at, rooms_of, set_at, states_of}
-use Rattle.hx_store.specs.Stores.{HasRoom, StoreState, after_moves, room_in, state_at}
-use Rattle.hx_store.proofs.Finding.{Ascend, Each, found, found_is, moved_states, room_found, same_states, set_each, set_keeps, state_in}
+use Rattle.hx_store.specs.Stores.{HasRoom, StoreState, after_step, room_in, state_at}
+use Rattle.hx_store.proofs.Finding.{StepKeeps, Ascend, Each, found, found_is, moved_states, room_found, same_states, set_each, set_keeps, state_in}
 
 -- what is held is found by the same text
 pub asked : (bs key : List ℕ) (es : List Entry) (h : Held) → bs ≡ key → held_at bs es ≡ Some h → held_at key es ≡ Some h
@@ -76,11 +76,11 @@ module _ (g : RegionId) (marks : Bool) (es : List Entry) (self : StoreState) (vi
       to_some (λ (h : Held). P h.slot.region h.slot.state) (held_at key es) there
       (λ h e. subst (λ (r : RegionId). P r h.slot.state) (sym (slot_region key h e)) (subst (P self.region) (sym (slot_state key h e)) p))
 
-  pub moved_held : (key : List ℕ) (moves : RegionId → KeyState → List Move) (new : List Entry) → HasMoved key moves es new → AreHeld g marks new
-  moved_held key moves new m = (moved_states g marks key moves es new held m).0
+  pub moved_held : (key : List ℕ) (step : RegionId → KeyState → KeyState) → StepKeeps step → (new : List Entry) → HasMoved key step es new → AreHeld g marks new
+  moved_held key step keeps new m = (moved_states g marks key step keeps es new held m).0
 
-  pub moved_to : (key : List ℕ) (moves : RegionId → KeyState → List Move) (new : List Entry) → HasMoved key moves es new → states_of new ≡ after_moves self key (moves self.region (state_at self key))
-  moved_to key moves new m = (moved_states g marks key moves es new held m).1 ∙ ap (λ (s : StoreState). after_moves s key (moves s.region (state_at s key))) view
+  pub moved_to : (key : List ℕ) (step : RegionId → KeyState → KeyState) → StepKeeps step → (new : List Entry) → HasMoved key step es new → states_of new ≡ after_step self key step
+  moved_to key step keeps new m = (moved_states g marks key step keeps es new held m).1 ∙ ap (λ (s : StoreState). after_step s key step) view
 
 -- room was made in what is held
 pub widened_held : (g : RegionId) (marks : Bool) (key : List ℕ) (es new : List Entry) (h w : Held) → AreHeld g marks es → held_at key es ≡ Some h → w.opened ≡ h.opened → w.slot.state ≡ h.slot.state → w.slot.region ≡ h.slot.region

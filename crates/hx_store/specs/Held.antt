@@ -10,7 +10,7 @@ use Rattle.std.specs.declared.cmp.Ordering.{Ordering}
 use Rattle.std.specs.declared.alloc.Global.{Global}
 use Rattle.hx_types.specs.declared.names.RegionId.{RegionId}
 use Rattle.hx_slot.specs.States.{SlotState}
-use Rattle.hx_model.specs.Slots.{KeyState, Move, moved_all, new_state}
+use Rattle.hx_model.specs.Slots.{KeyState, new_state}
 use Rattle.hx_store.specs.declared.slots.Held.{Held}
 use Rattle.hx_store.specs.Stores.{Room}
 
@@ -53,13 +53,13 @@ pub record AreHeld (g : RegionId) (marks : Bool) (es : List Entry) : Type 0 wher
   pub each : AllByRecursion (λ (e : Entry). IsHeldAs g marks (string_bytes e.0) e.1) es
   pub ordered : IsStrictlySortedBy string_cmp (map (λ (e : Entry). e.0) es)
 
--- the slot of a key made these moves, which opened it
-pub record HasMoved (key : List ℕ) (moves : RegionId → KeyState → List Move) (old new : List Entry) : Type 0 where
+-- the slot of a key made this step, which opened it
+pub record HasMoved (key : List ℕ) (step : RegionId → KeyState → KeyState) (old new : List Entry) : Type 0 where
   pub before : Held
   pub after : Held
   pub found : held_at key old ≡ Some before
   pub set : new ≡ set_at key old after
   pub ordered : IsStrictlySortedBy string_cmp (map (λ (e : Entry). e.0) new)
   pub opened : after.opened ≡ true
-  pub state : after.slot.state ≡ moved_all (moves before.slot.region before.slot.state) before.slot.state
+  pub state : after.slot.state ≡ step before.slot.region before.slot.state
   pub region : after.slot.region ≡ before.slot.region

@@ -8,6 +8,7 @@ use Rattle.hx_types.specs.declared.updates.Place.{Place}
 use Rattle.hx_types.specs.declared.updates.Update.{Update}
 use Rattle.hx_types.specs.Words.{same_text, text_below}
 use Rattle.hx_model.specs.Neighbours.{place_number}
+use Rattle.hx_folds.specs.Folding.{folded}
 use Rattle.hx_slot.specs.States.{SlotState}
 use Rattle.hx_model.specs.Slots.{Acknowledge, KeyState, acknowledged, Move, is_pending, moved_all, offered, settled, state_among, with_state}
 
@@ -35,9 +36,9 @@ HasRoom key n s = IsSomeAnd (room_in key s.rooms) (λ spare. n ≤ spare)
 abbrev pub state_at : StoreState → List ℕ → KeyState
 state_at s key = state_among s.marks key s.states
 
--- the slots after moves of a key's
-abbrev pub after_moves : StoreState → List ℕ → List Move → List KeyState
-after_moves s key moves = with_state (moved_all moves (state_at s key)) s.states
+-- the slots after a step of a key's
+abbrev pub after_step : StoreState → List ℕ → (RegionId → KeyState → KeyState) → List KeyState
+after_step s key step = with_state (step s.region (state_at s key)) s.states
 
 -- the keys of slots ascend
 abbrev pub KeysAscend : List KeyState → Type 0
@@ -74,12 +75,12 @@ abbrev pub accepted : RegionId → KeyState → Update → List Version → List
 accepted g s u ends =
     let moves = offered g s u ++ acknowledging ends in moves ++ settled (moved_all moves s)
 
--- the moves of a slot in its region
-abbrev pub no_moves : RegionId → KeyState → List Move
-no_moves g s = []
+-- a slot of a region after a step of it
+abbrev pub no_moves : RegionId → KeyState → KeyState
+no_moves g s = s
 
-abbrev pub accepted_at : Update → List Version → RegionId → KeyState → List Move
-accepted_at u ends g s = accepted g s u ends
+abbrev pub accepted_at : Update → List Version → RegionId → KeyState → KeyState
+accepted_at u ends g s = folded g (moved_all (accepted g s u ends) s)
 
-abbrev pub acknowledged_at : ℕ → RegionId → KeyState → List Move
-acknowledged_at v g s = acknowledged s v
+abbrev pub acknowledged_at : ℕ → RegionId → KeyState → KeyState
+acknowledged_at v g s = folded g (moved_all (acknowledged s v) s)

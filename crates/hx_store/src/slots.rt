@@ -1,4 +1,5 @@
 ghost use Rattle.std.specs.Prelude.{◌≡◌, ◌<◌, ◌≤◌, ◌+◌, ◌++◌, true, length};
+ghost use Rattle.hx_folds.specs.Folding.{folded};
 ghost use Rattle.hx_model.specs.Slots.{acknowledged, moved_all, offered, settled};
 ghost use Rattle.hx_store.specs.Stores.{accepted, acknowledging, ArePending, CanBeOffered};
 
@@ -27,7 +28,7 @@ pub fn accept(held: &mut Held, update: Update, place: u32, ends: &[Version])
     requires offer { CanBeOffered held.old.slot.region update place }
     requires pending { ArePending (moved_all (offered held.old.slot.region held.old.slot.state update) held.old.slot.state) ends.now }
     ensures opened { held.new.opened ≡ true }
-    ensures state { held.new.slot.state ≡ moved_all (accepted held.old.slot.region held.old.slot.state update ends.now) held.old.slot.state }
+    ensures state { held.new.slot.state ≡ folded held.old.slot.region (moved_all (accepted held.old.slot.region held.old.slot.state update ends.now) held.old.slot.state) }
     ensures region { held.new.slot.region ≡ held.old.slot.region }
     ensures spare { held.old.slot.spare ≤ held.new.slot.spare + 1 }
 {
@@ -40,7 +41,7 @@ pub fn accept(held: &mut Held, update: Update, place: u32, ends: &[Version])
 /// Pending versions of a slot are acknowledged, and what can be committed is.
 pub fn settle_all(slot: &mut Slot, versions: &[Version])
     requires { ArePending slot.old.state versions.now }
-    ensures state { slot.new.state ≡ moved_all (acknowledging versions.now ++ settled (moved_all (acknowledging versions.now) slot.old.state)) slot.old.state }
+    ensures state { slot.new.state ≡ folded slot.old.region (moved_all (acknowledging versions.now ++ settled (moved_all (acknowledging versions.now) slot.old.state)) slot.old.state) }
     ensures region { slot.new.region ≡ slot.old.region }
 {
     acknowledge_all(slot, versions);
@@ -61,7 +62,7 @@ fn acknowledge_all(slot: &mut Slot, versions: &[Version])
 /// A version is acknowledged, and what can be committed is.
 pub fn acknowledge(held: &mut Held, version: Version)
     ensures opened { held.new.opened ≡ true }
-    ensures state { held.new.slot.state ≡ moved_all (acknowledged held.old.slot.state version.0) held.old.slot.state }
+    ensures state { held.new.slot.state ≡ folded held.old.slot.region (moved_all (acknowledged held.old.slot.state version.0) held.old.slot.state) }
     ensures region { held.new.slot.region ≡ held.old.slot.region }
     ensures spare { held.old.slot.spare ≤ held.new.slot.spare }
 {

@@ -1,9 +1,9 @@
 ghost use Rattle.std.specs.Prelude.{◌≡◌, ◌<◌, ◌≤◌, true, [], OnErr, OnOk, IfNone, IfOk, IfSome, IsSome};
 ghost use Rattle.std.specs.Borrow.{Bor};
 ghost use Rattle.std.specs.List.{All};
-ghost use Rattle.hx_model.specs.Slots.{acknowledged, found_in, moved_all, new_state, offered, pending_of_all, snapshot_of, state_among, with_state};
+ghost use Rattle.hx_model.specs.Slots.{found_in, moved_all, new_state, offered, pending_of_all, snapshot_of, state_among, with_state};
 ghost use Rattle.hx_slot.specs.States.{SlotState};
-ghost use Rattle.hx_store.specs.Stores.{ArePending, CanBeOffered, HasRoom, KeysAscend, accepted, after_moves, lent_states, state_at};
+ghost use Rattle.hx_store.specs.Stores.{ArePending, CanBeOffered, HasRoom, KeysAscend, accepted_at, acknowledged_at, after_step, lent_states, no_moves, state_at};
 
 use crate::copying::{kept_of, pending_of};
 use crate::maps::{
@@ -126,7 +126,7 @@ impl Store {
         requires { HasRoom key.now 0 self.old }
         ensures region { self.new.region ≡ self.old.region }
         ensures marks { self.new.marks ≡ self.old.marks }
-        ensures states { self.new.states ≡ after_moves self.old key.now [] }
+        ensures states { self.new.states ≡ after_step self.old key.now no_moves }
     {
         open_at(&mut self.slots, key);
     }
@@ -139,7 +139,7 @@ impl Store {
         requires pending { ArePending (moved_all (offered self.old.region (state_at self.old update.key) update) (state_at self.old update.key)) ends.now }
         ensures region { self.new.region ≡ self.old.region }
         ensures marks { self.new.marks ≡ self.old.marks }
-        ensures states { self.new.states ≡ after_moves self.old update.key (accepted self.old.region (state_at self.old update.key) update ends.now) }
+        ensures states { self.new.states ≡ after_step self.old update.key (accepted_at update ends.now) }
     {
         accept_at(&mut self.slots, update, place, ends);
     }
@@ -149,7 +149,7 @@ impl Store {
         requires { HasRoom key.now 0 self.old }
         ensures region { self.new.region ≡ self.old.region }
         ensures marks { self.new.marks ≡ self.old.marks }
-        ensures states { self.new.states ≡ after_moves self.old key.now (acknowledged (state_at self.old key.now) version.0) }
+        ensures states { self.new.states ≡ after_step self.old key.now (acknowledged_at version.0) }
     {
         acknowledge_at(&mut self.slots, key, version);
     }

@@ -3,6 +3,7 @@ use crate::top::hyperstore;
 use hx_io::{Sink, Source, StdSink, StdSource, write_all};
 use std::alloc::Global;
 use std::io::{Read, Write};
+use std::mem::ManuallyDrop;
 use std::rt::Env;
 use std::{env, io};
 
@@ -57,7 +58,10 @@ fn command<S: Source, K: Sink>(
     match words {
         [word] if word.as_str() == "--help" => show(sink, HELP),
         [word] if word.as_str() == "--version" => show(sink, VERSION),
-        _ => hyperstore(alloc, words, source, sink).outcome,
+        _ => {
+            let answer = ManuallyDrop::new(hyperstore(alloc, words, source, sink));
+            answer.outcome
+        }
     }
 }
 

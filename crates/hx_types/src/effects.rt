@@ -140,18 +140,19 @@ fn write_over(alloc: Global, object: &mut Object, sets: &[Assign]) -> Result<(),
     for set in sets {
         let place = (set.attribute as usize).saturating_sub(1);
         let value = set.value.copy(alloc)?;
-        put_at(object, place, value);
+        put_at(object, place, value)?;
     }
     Ok(())
 }
 
 #[tactic(auto, using(crate::proofs::Writing::nothing_set))]
-fn put_at(object: &mut Object, place: usize, value: Value)
-    ensures { object.new ≡ slice_set object.old place value }
+fn put_at(object: &mut Object, place: usize, value: Value) -> Result<(), Memory>
+    ensures { OnOk result (object.new ≡ slice_set object.old place value) }
 {
     if place < object.len() {
-        object.set(place, value);
+        object.set(place, value)?;
     }
+    Ok(())
 }
 
 /// Whether each tested attribute has the tested value.

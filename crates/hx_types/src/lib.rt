@@ -20,6 +20,7 @@ mod lists;
 mod messages;
 mod names;
 mod results;
+mod shared_lists;
 mod snapshots;
 mod spaces;
 mod starting;
@@ -42,6 +43,7 @@ pub use names::{
     Actor, Epoch, RegionId, RegionList, ServerId, ServerList, SessionId, Stamp, Version,
 };
 pub use results::{Acked, Decision, Effect, Hop, Offer, Planned};
+pub use shared_lists::SharedList;
 pub use snapshots::{Kept, Mark, Marks, Snapshot, Touch, Touches};
 pub use spaces::{Attribute, Attributes, Axes, Axis, Kind, Space, Subspaces};
 pub use starting::first_config;

@@ -14,12 +14,15 @@ use Rattle.hx_types.specs.Words.{same_actor, same_server, same_session}
 use Rattle.hx_model.specs.CoordinatorSteps.{CoordinatorStep}
 use Rattle.hx_model.specs.Runs.{MayTake, entry_of, is_actor, made_of, makes_enough, server_of, session_of}
 use Rattle.hx_model.specs.Schedule.{Next, entries_of, entry_by, undelivered}
-use Rattle.hx_model.specs.ServerSteps.{server_step}
+use Rattle.hx_model.specs.ServerSteps.{ServerStep, server_step}
 use Rattle.hx_model.specs.SessionSteps.{session_step}
 use Rattle.hx_model.specs.Steady.{is_halt}
 use Rattle.hx_model.proofs.Replays.{entry_by_step}
 use Rattle.hx_replica.specs.Servers.{server_entry}
 use Rattle.hx_session.specs.Sessions.{session_entry}
+use Rattle.hx_folds.specs.Folding.{InputFits, IsServerOf as AreInOrder, folded_server}
+use Rattle.hx_folds.proofs.Servers.{server-folds}
+use Rattle.hx_folds.proofs.Staying.{server-stays}
 use Rattle.hx_world.specs.declared.hosts.Host.{Host}
 use Rattle.hx_world.specs.declared.seats.Seat.{Seat}
 use Rattle.hx_world.specs.Hosts as host
@@ -28,7 +31,7 @@ use Rattle.hx_world.specs.Invariant.{IsCalm, IsHost, IsSeat, IsWorldOf, server_a
 use Rattle.hx_world.specs.Turns.{resting_entry}
 use Rattle.hx_world.specs.Worlds.{HasFewEntries}
 use Rattle.hx_world.proofs.Seating.{at_set}
-use Rattle.hx_world.proofs.Taking.{rests, running_here, server_id, session_id}
+use Rattle.hx_world.proofs.Taking.{fits_here, rests, running_here, server_id, session_id}
 
 abbrev pub given : Actor → Input → Next
 given a input = record { actor = a; input = input }
@@ -81,21 +84,24 @@ host_stays script t s input place h differ at =
     let other = other_server s place differ in
     record {
       space = at.space;
-      state = at.state ∙ sym (cond-false (same_server s (server_at place)) (server_step script.space (server_of script (server_at place) t) input).state (server_of script (server_at place) t) other);
+      state = at.state ∙ ap folded_server (sym (cond-false (same_server s (server_at place)) (server_step script.space (server_of script (server_at place) t) input).state (server_of script (server_at place) t) other));
+      in_order = subst (AreInOrder script.space) (sym (cond-false (same_server s (server_at place)) (server_step script.space (server_of script (server_at place) t) input).state (server_of script (server_at place) t) other)) at.in_order;
       entries = at.entries ∙ sym (cond-false (same_server s (server_at place)) (entries_of (Server (server_at place)) t + 1) (entries_of (Server (server_at place)) t) other);
     }
 
 -- and the one that took the input has the next
-host_takes : (script : Script) (t : List Entry) (place : ℕ) (input : Input) (old new : Host) → IsHost script t place old → host.HasTaken old new input
+host_takes : (script : Script) (t : List Entry) (place : ℕ) (input : Input) (old new : Host) → IsHost script t place old → host.HasTaken old new input → InputFits input
     → IsHost script (entry_by script t (given (Server (server_at place)) input) ∷ t) place new
-host_takes script t place input old new at takes =
+host_takes script t place input old new at takes fits =
     let self : same_server (server_at place) (server_at place) ≡ true = eq-eqb (place + 1) (place + 1) refl in
     record {
       space = takes.space ∙ at.space;
       state =
           takes.state
-          ∙ (λ i. (server_step (at.space i) (at.state i) input).state)
-          ∙ sym (cond-true (same_server (server_at place) (server_at place)) (server_step script.space (server_of script (server_at place) t) input).state (server_of script (server_at place) t) self);
+          ∙ (λ i. folded_server (server_step (at.space i) (at.state i) input).state)
+          ∙ ap (λ (x : ServerStep). x.state) (server-folds script.space (server_of script (server_at place) t) at.in_order input fits)
+          ∙ ap folded_server (sym (cond-true (same_server (server_at place) (server_at place)) (server_step script.space (server_of script (server_at place) t) input).state (server_of script (server_at place) t) self));
+      in_order = subst (AreInOrder script.space) (sym (cond-true (same_server (server_at place) (server_at place)) (server_step script.space (server_of script (server_at place) t) input).state (server_of script (server_at place) t) self)) (server-stays script.space (server_of script (server_at place) t) at.in_order input fits);
       entries =
           takes.entries ∙ ap (λ n. n + 1) at.entries
           ∙ sym (cond-true (same_server (server_at place) (server_at place)) (entries_of (Server (server_at place)) t + 1) (entries_of (Server (server_at place)) t) self);
@@ -140,7 +146,7 @@ module _ (script : Script) (t : List Entry) (hosts : List Host) (seats : List Se
         calm = calm_after script t (Server (server_at place)) input w.calm g;
         hosts_are =
             at_set script.space.servers (IsHost script t) (IsHost script (x ∷ t)) hosts hosts_after place new w.hosts_are hosts_are
-            (host_takes script t place input old new at takes)
+            (host_takes script t place input old new at takes (fits_here script t w.calm (server_at place) input g.may))
             (λ j h differ k. host_stays script t (server_at place) input j h (λ e. differ (omega (arith, e))) k);
         seats_are = record {
           count = w.seats_are.count;
@@ -161,7 +167,7 @@ module _ (script : Script) (t : List Entry) (hosts : List Host) (seats : List Se
         calm = calm_after script t (Session (session_at place)) input w.calm g;
         hosts_are = record {
           count = w.hosts_are.count;
-          each = λ j h e. (let k = w.hosts_are.each j h e in record { space = k.space; state = k.state; entries = k.entries });
+          each = λ j h e. (let k = w.hosts_are.each j h e in record { space = k.space; state = k.state; in_order = k.in_order; entries = k.entries });
         };
         seats_are =
             at_set (length script.sessions) (IsSeat script t) (IsSeat script (x ∷ t)) seats seats_after place new w.seats_are seats_are
@@ -179,7 +185,7 @@ module _ (script : Script) (t : List Entry) (hosts : List Host) (seats : List Se
     calm = calm_after script t Coordinator input w.calm g;
     hosts_are = record {
       count = w.hosts_are.count;
-      each = λ j h e. (let k = w.hosts_are.each j h e in record { space = k.space; state = k.state; entries = k.entries });
+      each = λ j h e. (let k = w.hosts_are.each j h e in record { space = k.space; state = k.state; in_order = k.in_order; entries = k.entries });
     };
     seats_are = record {
       count = w.seats_are.count;
@@ -190,9 +196,10 @@ module _ (script : Script) (t : List Entry) (hosts : List Host) (seats : List Se
   }
 
   -- what each makes is the entry of its actor
-  pub served_entry : (place : ℕ) (h : Host) (input : Input) → IsHost script t place h → server_entry h.server.space h.server.state input ≡ entry_by script t (given (Server (server_at place)) input)
-  served_entry place h input at =
+  pub served_entry : (place : ℕ) (h : Host) (input : Input) → IsHost script t place h → MayTake t (Server (server_at place)) input → server_entry h.server.space h.server.state input ≡ entry_by script t (given (Server (server_at place)) input)
+  served_entry place h input at may =
       (λ i. server_entry (at.space i) (at.state i) input)
+      ∙ ap (λ (x : ServerStep). entry_of (Server (server_of script (server_at place) t).id) input (record { posts = x.posts; notes = x.notes })) (server-folds script.space (server_of script (server_at place) t) at.in_order input (fits_here script t w.calm (server_at place) input may))
       ∙ ap (λ (x : ServerId). entry_of (Server x) input (made_of script t (Server (server_at place)) input)) (server_id script t w.calm (server_at place))
 
   pub attended_entry : (place : ℕ) (s : Seat) (input : Input) → IsSessionOf (length script.sessions) (session_at place) → IsSeat script t place s

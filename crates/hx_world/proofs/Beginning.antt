@@ -11,9 +11,10 @@ use Rattle.hx_types.specs.Words.{IsIn, when_some}
 use Rattle.hx_model.specs.Steady.{IsFixed}
 use Rattle.hx_sound.specs.Sound.{PostsAreSound, ServersRun, VersionsAreSmall}
 use Rattle.hx_steady.proofs.Lists.{all-in, in-slice_get}
+use Rattle.hx_folds.proofs.Runs.{lean-of, server-of}
 use Rattle.hx_world.specs.declared.actors.Actors.{Actors}
 use Rattle.hx_world.specs.declared.logs.Log.{Log}
-use Rattle.hx_world.specs.Invariant.{IsHost, IsSeat, IsWorld, IsWorldOf, session_at}
+use Rattle.hx_world.specs.Invariant.{IsHost, IsSeat, IsWorld, IsWorldOf, server_at, session_at}
 use Rattle.hx_world.specs.Runnable.{IsRunnable}
 use Rattle.hx_world.specs.Starting.{HaveStarted, IsNewHost, IsNewSeat}
 use Rattle.hx_world.specs.declared.seats.Seat.{Seat}
@@ -70,7 +71,7 @@ world_starts script copy actors log runnable posts versions running started same
           };
       hosts_are =
           at_each script.space.servers (IsNewHost script.space) (IsHost script []) actors.hosts.items started.hosts
-          (λ place h within new. record { space = new.space_is; state = new.state; entries = new.entries });
+          (λ place h within new. record { space = new.space_is; state = new.state ∙ lean-of script (server_at place) [] tt; in_order = server-of script (server_at place) [] tt; entries = new.entries });
       seats_are =
           at_each (length script.sessions) (IsNewSeat script) (IsSeat script []) actors.seats.items started.seats
           (λ place s within new. record { space = new.space_is; state = new.state; entries = new.entries });

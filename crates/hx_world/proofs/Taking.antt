@@ -1,6 +1,9 @@
 -- What an actor of a world is given it can take.
-use Rattle.std.proofs.Common.{◌≡◌, ℕ, ◌+◌, ◌<◌, true, false, List, length, Some, refl, sym, ap, ◌∙◌, subst, arith, ltb, leb}
+use Rattle.std.proofs.Common.{◌≡◌, ℕ, ◌+◌, ◌<◌, ◌≤◌, inl, inr, true, false, List, [], ◌∷◌, length, Some, refl, sym, ap, ◌∙◌, subst, arith, ltb, leb}
 use Rattle.std.proofs.lemmas.Bool.{and_from, and_parts, false≢true, lt-ltb, le-leb, ltb-true, leb-true}
+use Rattle.std.specs.Prelude.{IsTrue}
+use Rattle.std.specs.List.{AllByRecursion}
+use Rattle.std.proofs.lemmas.List.Elements.{All-weaker, recursion_from_All}
 use Rattle.hx_types.specs.declared.messages.Message.{Message}
 use Rattle.hx_types.specs.declared.messages.Post.{Post}
 use Rattle.hx_types.specs.declared.messages.PostId.{PostId}
@@ -14,12 +17,12 @@ use Rattle.hx_types.specs.declared.updates.Update.{Update}
 use Rattle.hx_types.specs.declared.messages.Message.TheVariants as a_message
 use Rattle.hx_types.specs.declared.names.Actor.TheVariants.{Coordinator, Server, Session}
 use Rattle.hx_types.specs.declared.traces.Input.TheVariants.{Tick, Halt, Deliver}
-use Rattle.hx_types.specs.Posts.{ActorExists, IsSessionOf, IsSoundPost}
+use Rattle.hx_types.specs.Posts.{ActorExists, Bounds, IsSessionOf, IsSoundMessage, IsSoundPost, IsSoundUpdate, has_place_in}
 use Rattle.hx_types.specs.Spaces.{IsServerOf}
-use Rattle.hx_types.specs.Words.{post}
+use Rattle.hx_types.specs.Words.{IsIn, post}
 use Rattle.hx_model.specs.CoordinatorSteps.{CoordinatorState, coordinator_at_start, coordinator_step, resting}
 use Rattle.hx_model.specs.Runs.{MayTake, coordinator_of, has_halted, is_actor, post_named, server_of, session_of}
-use Rattle.hx_model.specs.ServerSteps.{ServerState}
+use Rattle.hx_model.specs.ServerSteps.{Replica, ServerState}
 use Rattle.hx_model.specs.SessionSteps.{SessionState}
 use Rattle.hx_model.specs.Steady.{is_halt}
 use Rattle.hx_replica.specs.Servers as server
@@ -28,6 +31,13 @@ use Rattle.hx_steady.proofs.Entries.{served_lemma, still-run}
 use Rattle.hx_steady.proofs.Kept.{Still, delivered-sent, lines, named-in}
 use Rattle.hx_steady.proofs.Posts.{Sent}
 use Rattle.hx_steady.proofs.Sessions.{coordinator-rests}
+use Rattle.hx_types.specs.declared.spaces.Space.{Space}
+use Rattle.hx_types.specs.Subspaces.{is_key_region}
+use Rattle.hx_model.specs.Slots.{top_of}
+use Rattle.hx_folds.specs.Folding.{InputFits, IsAfter, IsReplicaOf, IsServerOf as AreInOrder, IsSlotIn, MessageFits, folded, folded_replica, folded_server}
+use Rattle.hx_folds.proofs.Folds.{top-folded}
+use Rattle.hx_folds.proofs.Servers.{folded-server-twice}
+use Rattle.hx_steady.proofs.Lists.{in-map}
 use Rattle.hx_world.specs.Invariant.{IsCalm}
 use Rattle.hx_world.proofs.Keyed.{IsOnKey, keyed_run}
 use Rattle.hx_world.proofs.Naming.{named_within}
@@ -53,6 +63,40 @@ handled L (a_message.Outcome number answer) h k = tt
 handled L (a_message.Snap epoch g snapshot pending) h k = absurd h
 handled L (a_message.Ready epoch g) h k = tt
 handled L (a_message.Poll epoch) h k = tt
+
+-- a sound message's updates come after lower versions
+sound_fits : (b : Bounds) (m : Message) → IsSoundMessage b m → MessageFits m
+sound_fits b (a_message.Call epoch number op) h = tt
+sound_fits b (a_message.Reply number version answer) h = tt
+sound_fits b (a_message.Update epoch g u) h = h.2.of_space.after
+sound_fits b (a_message.Ack epoch g key version) h = tt
+sound_fits b (a_message.Ask epoch number g terms) h = tt
+sound_fits b (a_message.Found epoch number g rows) h = tt
+sound_fits b (a_message.Seal epoch) h = tt
+sound_fits b (a_message.Sealed epoch) h = tt
+sound_fits b (a_message.Install config) h = tt
+sound_fits b a_message.Die h = tt
+sound_fits b a_message.Gone h = tt
+sound_fits b (a_message.StopServer number s) h = tt
+sound_fits b (a_message.AddReplica number s g) h = tt
+sound_fits b (a_message.Outcome number answer) h = tt
+sound_fits b (a_message.Snap epoch g snapshot pending) h =
+    recursion_from_All IsAfter pending (All-weaker (λ (u : Update). IsSoundUpdate b u × IsTrue (has_place_in g u.places)) IsAfter (λ u k. k.0.of_space.after) pending h.4)
+sound_fits b (a_message.Ready epoch g) h = tt
+sound_fits b (a_message.Poll epoch) h = tt
+
+-- the slots of a server without their past have no higher versions
+all_in : {A : Type 0} (P : A → Type 0) (xs : List A) (x : A) → AllByRecursion P xs → IsIn x xs → P x
+all_in P [] x h i = absurd i
+all_in P (y ∷ ys) x h (inl e) = subst P (sym e) h.0
+all_in P (y ∷ ys) x h (inr i) = all_in P ys x h.1 i
+
+small_folded : (space : Space) (s : ServerState) → AreInOrder space s → server.HasSmallVersions s → server.HasSmallVersions (folded_server s)
+small_folded space s order small r i k j =
+    let from = in-map folded_replica s.replicas r i in
+    let state = in-map (folded from.0.region) from.0.states k (subst (λ (x : Replica). IsIn k x.states) from.2 j) in
+    let slot = all_in (IsSlotIn (is_key_region space from.0.region) from.0.region) from.0.states state.0 (all_in (IsReplicaOf space) s.replicas from.0 order from.1) state.1 in
+    subst (λ n. n ≤ 4611686018427387904) (sym (ap top_of state.2 ∙ top-folded from.0.region state.0 slot.slot.floor)) (small from.0 from.1 state.0 state.1)
 
 module _ (script : Script) (t : List Entry) (w : IsCalm script t) where
   -- what every run in one configuration keeps
@@ -114,12 +158,19 @@ module _ (script : Script) (t : List Entry) (w : IsCalm script t) where
   )
 
   -- a server can take what it is given
-  pub serves : (s : ServerId) (input : Input) → MayTake t (Server s) input → is_halt input ≡ false → server.CanTake script.space (server_of script s t) input
-  serves s input may calm = record {
+  pub serves : (s : ServerId) (input : Input) → AreInOrder script.space (server_of script s t) → MayTake t (Server s) input → is_halt input ≡ false → server.CanTake script.space (folded_server (server_of script s t)) input
+  serves s input order may calm = record {
     running = running_here (Server s);
     input_to = subst (λ (x : ServerId). server.IsInputTo script.space x input) (sym (server_id s)) (input_to_server s input may calm);
-    small = small_here s;
+    small = small_folded script.space (server_of script s t) order (small_here s);
+    bare = folded-server-twice (server_of script s t);
   }
+
+  -- what it is given comes after lower versions
+  pub fits_here : (s : ServerId) (input : Input) → MayTake t (Server s) input → InputFits input
+  fits_here s Tick may = tt
+  fits_here s Halt may = tt
+  fits_here s (Deliver id from m) may = sound_fits _ m (sound_here id (post from (Server s) m) may).message
 
   input_to_session : (st : SessionState) (u : SessionId) → st.id ≡ u → (input : Input) → MayTake t (Session u) input → is_halt input ≡ false → session.CanTake script.space st input
   input_to_session st u same Tick may calm = tt

@@ -21,6 +21,7 @@ use Rattle.hx_model.specs.SessionSteps.{SessionState}
 use Rattle.hx_model.specs.Steady.{is_halt}
 use Rattle.hx_replica.specs.Servers as server
 use Rattle.hx_session.specs.Sessions as session
+use Rattle.hx_folds.specs.Folding.{IsServerOf as AreInOrder, folded_server}
 use Rattle.hx_world.specs.declared.actors.Actors.{Actors}
 use Rattle.hx_world.specs.declared.ends.StepError.{StepError}
 use Rattle.hx_world.specs.declared.ends.StepError.TheVariants.{Memory, Unsent, Halted, NotServer, Idle, Worn}
@@ -161,13 +162,13 @@ module _ (script : Script) (actors : Actors) (log : Log) (w : IsWorld script act
         let at = host_here h e in
         subst (λ (x : Space). server.CanTake x h.server.state input) (sym at.space)
         (
-        subst (λ (x : ServerState). server.CanTake script.space x input) (sym (at.state ∙ ap (λ (x : ServerId). server_of script x t) place_is))
-        (serves script t w.calm s input may calm)
+        subst (λ (x : ServerState). server.CanTake script.space x input) (sym (at.state ∙ ap (λ (x : ServerId). folded_server (server_of script x t)) place_is))
+        (serves script t w.calm s input (subst (λ (x : ServerId). AreInOrder script.space (server_of script x t)) place_is at.in_order) may calm)
         )
 
-    module _ (h : Host) (read : h ≡ get_or actors.hosts.items (s.0 - 1) h) (input : Input) where
+    module _ (h : Host) (read : h ≡ get_or actors.hosts.items (s.0 - 1) h) (input : Input) (may_take : MayTake t (Server s) input) where
       served_is : server.server_entry h.server.space h.server.state input ≡ entry_by script t (given (Server (server_at (s.0 - 1))) input)
-      served_is = served_entry script t actors.hosts.items actors.seats.items actors.coordinator.entries log.waiting.items w (s.0 - 1) h input (host_here h read)
+      served_is = served_entry script t actors.hosts.items actors.seats.items actors.coordinator.entries log.waiting.items w (s.0 - 1) h input (host_here h read) (subst (λ (x : ServerId). MayTake t (Server x) input) (sym place_is) may_take)
 
       served_at : (after_host : Host) (actors_after : Actors) (after : Log) → MayTake t (Server (server_at (s.0 - 1))) input → is_halt input ≡ false → is_actor script (Server (server_at (s.0 - 1))) ≡ true
           → Files log after (server.server_entry h.server.space h.server.state input) → host.HasTaken h after_host input → IsAdmitted (server.server_entry h.server.space h.server.state input) h.entries
@@ -214,7 +215,7 @@ module _ (script : Script) (actors : Actors) (log : Log) (w : IsWorld script act
           world_with script actors actors_after log same w logs
           (
           at_set script.space.servers (IsHost script t) (IsHost script t) actors.hosts.items actors_after.hosts.items (s.0 - 1) after_host w.hosts_are hosts
-          (record { space = kept.space ∙ at.space; state = kept.state ∙ at.state; entries = kept.entries ∙ at.entries })
+          (record { space = kept.space ∙ at.space; state = kept.state ∙ at.state; in_order = at.in_order; entries = kept.entries ∙ at.entries })
           (λ j x differ k. k)
           )
           (subst (λ (l : List Seat). AreAt (length script.sessions) (IsSeat script t) l) (sym seats) w.seats_are)

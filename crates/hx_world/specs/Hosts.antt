@@ -2,12 +2,13 @@
 use Rattle.std.specs.Prelude.{◌≡◌, ◌+◌}
 use Rattle.hx_types.specs.declared.traces.Input.{Input}
 use Rattle.hx_model.specs.ServerSteps.{server_step}
+use Rattle.hx_folds.specs.Folding.{folded_server}
 use Rattle.hx_world.specs.declared.hosts.Host.{Host}
 
--- the server has taken the input
+-- the server has taken the input, and its slots have no past
 pub record HasTaken (old new : Host) (input : Input) : Type 0 where
   pub space : new.server.space ≡ old.server.space
-  pub state : new.server.state ≡ (server_step old.server.space old.server.state input).state
+  pub state : new.server.state ≡ folded_server (server_step old.server.space old.server.state input).state
   pub entries : new.entries ≡ old.entries + 1
 
 -- the server is as it was, its room for updates aside

@@ -10,6 +10,7 @@ use Rattle.hx_model.specs.Runs.{IsRun, server_of, session_of}
 use Rattle.hx_model.specs.Schedule.{entries_of, undelivered}
 use Rattle.hx_model.specs.Steady.{HasNoHalts}
 use Rattle.hx_sound.specs.Sound.{PostsAreSound, ServersRun, VersionsAreSmall}
+use Rattle.hx_folds.specs.Folding.{IsServerOf as AreInOrder, folded_server}
 use Rattle.hx_world.specs.declared.actors.Actors.{Actors}
 use Rattle.hx_world.specs.declared.hosts.Host.{Host}
 use Rattle.hx_world.specs.declared.logs.Log.{Log}
@@ -35,10 +36,11 @@ server_at place = record { 0 = place + 1 }
 abbrev pub session_at : ℕ → SessionId
 session_at place = record { 0 = place + 1 }
 
--- the server of this place after the trace
+-- the server of this place after the trace, without the past of its slots
 pub record IsHost (script : Script) (trace : List Entry) (place : ℕ) (h : Host) : Type 0 where
   pub space : h.server.space ≡ script.space
-  pub state : h.server.state ≡ server_of script (server_at place) trace
+  pub state : h.server.state ≡ folded_server (server_of script (server_at place) trace)
+  pub in_order : AreInOrder script.space (server_of script (server_at place) trace)
   pub entries : h.entries ≡ entries_of (Server (server_at place)) trace
 
 -- the session of this place after the trace

@@ -2,7 +2,8 @@ use Rattle.std.proofs.Common.{◌≡◌, ◌++◌, map, take}
 use Rattle.std.specs.Borrow.{Bor}
 use Rattle.std.specs.List.{flat_map}
 use Rattle.hx_types.specs.Words.{provided}
-use Rattle.hx_model.specs.ServerSteps.{adopted_state, resumed_posts}
+use Rattle.hx_model.specs.ServerSteps.{resumed_posts}
+use Rattle.hx_replica.specs.Adopting.{lean_adopted}
 use Rattle.hx_slot.specs.States.{SlotState}
 use Rattle.hx_store.specs.Stores.{lent_states}
 use Rattle.hx_replica.specs.Made.{spot_seen}
@@ -12,6 +13,6 @@ abbrev pub invariant-loop-slot : goal.invariant-loop-slot
 invariant-loop-slot l = record {
   region : l.next.region ≡ l.fn.next.region;
   marks : l.next.marks ≡ l.fn.next.marks;
-  states : l.next.states ≡ map (adopted_state (spot_seen l.spot) l.active) (lent_states (take l.slot-index l.slots));
+  states : l.next.states ≡ map (lean_adopted (spot_seen l.spot) l.active) (lent_states (take l.slot-index l.slots));
   posts : l.posts ≡ l.fn.posts ++ flat_map (λ (b : Bor SlotState). provided l.active (resumed_posts (spot_seen l.spot) b.now.state)) (take l.slot-index l.slots);
 }

@@ -26,13 +26,13 @@ returns-in_err-serve-clause-world c =
     let after : Actors =
     record { coordinator = c.args.actors.now.coordinator; hosts = with_item c.args.actors.now.hosts (c.args.server.0 - 1) c.serve.new.host; seats = c.args.actors.now.seats } in
     unserved c.args.script.now c.args.actors.now c.args.log.now c.requires.world c.args.server c.requires.actor
-    c.index_mut-host.result.now c.index_mut-host.ensures.value c.args.input.now c.serve.new.host after c.serve.new.log c.in_err-serve.ensures.same_host c.in_err-serve.ensures.same_log refl refl refl
+    c.index_mut-host.result.now c.index_mut-host.ensures.value c.args.input.now c.requires.may c.serve.new.host after c.serve.new.log c.in_err-serve.ensures.same_host c.in_err-serve.ensures.same_log refl refl refl
 
 pub returns-in_err-serve-clause-err : goal.returns-in_err-serve-clause-err
 returns-in_err-serve-clause-err c =
     let why =
     not_served c.args.script.now c.args.actors.now c.args.log.now c.requires.world c.args.server c.requires.actor
-    c.index_mut-host.result.now c.index_mut-host.ensures.value c.args.input.now c.in_err-serve.field-0.0 c.in_err-serve.ensures.barred in
+    c.index_mut-host.result.now c.index_mut-host.ensures.value c.args.input.now c.requires.may c.in_err-serve.field-0.0 c.in_err-serve.ensures.barred in
     search (rules, why)
 
 pub returns-clause-world : goal.returns-clause-world
@@ -40,7 +40,7 @@ returns-clause-world c =
     let after : Actors =
     record { coordinator = c.args.actors.now.coordinator; hosts = with_item c.args.actors.now.hosts (c.args.server.0 - 1) c.serve.new.host; seats = c.args.actors.now.seats } in
     (served c.args.script.now c.args.actors.now c.args.log.now c.requires.world c.args.server c.requires.actor
-    c.index_mut-host.result.now c.index_mut-host.ensures.value c.args.input.now c.serve.new.host after c.serve.new.log c.requires.may c.requires.still
+    c.index_mut-host.result.now c.index_mut-host.ensures.value c.args.input.now c.requires.may c.serve.new.host after c.serve.new.log c.requires.may c.requires.still
     c.in_ok-serve.ensures.log c.in_ok-serve.ensures.host c.in_ok-serve.ensures.admitted refl refl refl).world
 
 pub returns-clause-ok : goal.returns-clause-ok
@@ -48,5 +48,5 @@ returns-clause-ok c =
     let after : Actors =
     record { coordinator = c.args.actors.now.coordinator; hosts = with_item c.args.actors.now.hosts (c.args.server.0 - 1) c.serve.new.host; seats = c.args.actors.now.seats } in
     (served c.args.script.now c.args.actors.now c.args.log.now c.requires.world c.args.server c.requires.actor
-    c.index_mut-host.result.now c.index_mut-host.ensures.value c.args.input.now c.serve.new.host after c.serve.new.log c.requires.may c.requires.still
+    c.index_mut-host.result.now c.index_mut-host.ensures.value c.args.input.now c.requires.may c.serve.new.host after c.serve.new.log c.requires.may c.requires.still
     c.in_ok-serve.ensures.log c.in_ok-serve.ensures.host c.in_ok-serve.ensures.admitted refl refl refl).turn

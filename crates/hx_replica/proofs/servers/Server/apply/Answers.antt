@@ -1,8 +1,6 @@
 use Rattle.hx_replica.proofs.Changing.{changed}
 use Rattle.hx_replica.proofs.Inside.{change_within, changed_state, planned}
-use Rattle.hx_replica.specs.Made.{moves_by}
 use Rattle.hx_replica.specs.Plans.{IsChangeOn}
-use Rattle.hx_store.specs.Stores.{state_at}
 use Rattle.hx_replica.proofs.servers.Server.apply.Goals as goal
 
 pub invariant_of-self-in-Slot : goal.invariant_of-self-in-Slot
@@ -13,7 +11,7 @@ invariant_of-self-in-Slot c =
       valid = c.self.invariant.valid;
       map_is = c.self.invariant.map_is;
       replicas_are = changed c.self.inside.space c.self.inside.replicas.items c.in-Slot.replica c.index_mut-replica.result.now c.change_slot.new.store c.self.invariant.replicas_are (change_within c.self.inside c.args.self.now c.args.plan.entry.input c.in-Slot.replica c.in-Slot.key c.in-Slot.change c.self.view_is h) c.index_mut-replica.ensures.value
-          c.in-Slot.key (moves_by c.index_mut-replica.result.now.store.region (state_at c.index_mut-replica.result.now.store c.in-Slot.key) c.in-Slot.change)
+          c.in-Slot.key c.in-Slot.change
           c.change_slot.ensures.region c.change_slot.ensures.marks c.change_slot.ensures.states;
     }
 

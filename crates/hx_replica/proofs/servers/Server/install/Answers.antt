@@ -1,6 +1,7 @@
 use Rattle.std.proofs.Common.{◌≡◌, List, arith, subst, sym}
 use Rattle.std.proofs.lemmas.Result.{IfOk-weaker}
 use Rattle.hx_model.specs.ServerSteps.{install_at, listed_regions, server_step}
+use Rattle.hx_folds.specs.Folding.{folded_server}
 use Rattle.hx_replica.specs.declared.replicas.Replica.{Replica}
 use Rattle.hx_replica.specs.Adopting.{AreAdopted}
 use Rattle.hx_replica.specs.Inside.{value_of}
@@ -20,6 +21,7 @@ returns-clause-plan c =
     λ plan e. subst (λ (v : ServerValue). IsPlanOn v plan) c.self.view_is
     (
     adoption_planned (value_of i) c.args.input.now config c.in_ok-config.config c.in_ok-replicas.replicas c.new-posts.result c.adopt_all.new.posts plan (omega (arith, c.if-config-self.false))
+    (subst (λ (v : ServerValue). folded_server v.state ≡ v.state) (sym c.self.view_is) c.requires.bare)
     (subst (λ (v : ServerValue). server_step v.space v.state c.args.input.now ≡ install_at v.space v.state config) (sym c.self.view_is) c.requires.step)
     c.new-posts.ensures
     (subst (λ (rs : List Replica). AreAdopted i.space (standing config i.id) (views_of rs) (listed_regions config i.id) c.new-posts.result c.adopt_all.new.posts c.in_ok-replicas.replicas.items) c.as_slice.ensures.value c.in_ok-replicas.ensures)

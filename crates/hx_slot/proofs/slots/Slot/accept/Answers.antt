@@ -7,8 +7,8 @@ use Rattle.hx_slot.specs.declared.entries.Taken.{Taken}
 use Rattle.hx_slot.specs.Entries.{IsHeld, IsPlaced, last_version}
 use Rattle.hx_slot.specs.States.{SlotState}
 use Rattle.hx_slot.specs.Tabled.{AreTables}
-use Rattle.hx_slot.proofs.Accepting.{accepted-slot, accepted-state, by_recursion-filter}
-use Rattle.hx_slot.proofs.Reading.{top-seen}
+use Rattle.hx_slot.proofs.Lean.{accepted-state, floor-seen, top-seen}
+use Rattle.hx_slot.proofs.Accepting.{accepted-slot, by_recursion-filter}
 use Rattle.hx_slot.proofs.slots.Slot.accept.Goals as goal
 
 pub invariant_of-self : goal.invariant_of-self
@@ -17,7 +17,7 @@ invariant_of-self c =
     let t : Taken = record { update = c.args.placed.update; place = c.args.placed.place; acknowledged = false } in
     let placed = subst (λ (s : SlotState). IsPlaced s.region t.update t.place) (sym c.self.view_is) c.requires.held.placed in
     let top = subst (λ (s : SlotState). top_of s.state < t.update.version.0) (sym c.self.view_is) c.requires.above in
-    let is = top-seen a in
+    let is = top-seen a c.self.invariant in
     let above : last_version a.base.floor.0 a.accepted.items < t.update.version.0 = omega (arith, is, top) in
     let held = by_recursion-filter (IsHeld a.region) (λ (p : Placed). not (eqb p.update.version.0 t.update.version.0)) a.early.items c.self.invariant.early in
     let spare = subst (λ (s : SlotState). 0 < s.spare) (sym c.self.view_is) c.requires.spare in
@@ -31,5 +31,7 @@ invariant_of-self c =
 pub returns-clause-state : goal.returns-clause-state
 returns-clause-state c =
     let t : Taken = record { update = c.args.placed.update; place = c.args.placed.place; acknowledged = false } in
-    accepted-state c.self.inside t c.push_reserved.new.self c.drop_version.new.early c.note.new.self (c.self.inside.spare - 1) c.push_reserved.ensures.items c.drop_version.ensures.items
+    let top = subst (λ (s : SlotState). top_of s.state < t.update.version.0) (sym c.self.view_is) c.requires.above in
+    let floor = floor-seen c.self.inside c.self.invariant in
+    accepted-state c.self.inside t c.push_reserved.new.self c.drop_version.new.early c.note.new.self (c.self.inside.spare - 1) (omega (arith, top, floor)) c.push_reserved.ensures.items c.drop_version.ensures.items
     ∙ ap (λ (s : SlotState). moved (Take c.args.placed.update) s.state) c.self.view_is

@@ -8,8 +8,9 @@ use Rattle.hx_model.specs.Slots.{Acknowledge, is_pending, moved}
 use Rattle.hx_slot.specs.Acks.{is_of_version}
 use Rattle.hx_slot.specs.Invariant.{seen}
 use Rattle.hx_slot.specs.States.{SlotState}
+use Rattle.hx_slot.proofs.Lean.{acknowledged-state, pending-version}
 use Rattle.hx_slot.proofs.Acking.{none-pending}
-use Rattle.hx_slot.proofs.Settling.{ack-room, acknowledged-slot, acknowledged-state, acks-with, pending-version, read-at}
+use Rattle.hx_slot.proofs.Settling.{ack-room, acknowledged-slot, acks-with, read-at}
 use Rattle.hx_slot.proofs.slots.Slot.acknowledge.Goals as goal
 
 pub unreachable-requires : goal.unreachable-requires

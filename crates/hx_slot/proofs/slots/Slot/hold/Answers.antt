@@ -5,7 +5,8 @@ use Rattle.hx_model.specs.Slots.{Hold, moved}
 use Rattle.hx_slot.specs.declared.entries.Placed.{Placed}
 use Rattle.hx_slot.specs.Entries.{IsHeld}
 use Rattle.hx_slot.specs.States.{SlotState}
-use Rattle.hx_slot.proofs.Accepting.{by_recursion-filter, by_recursion-push, held-slot, held-state}
+use Rattle.hx_slot.proofs.Lean.{held-state}
+use Rattle.hx_slot.proofs.Accepting.{by_recursion-filter, by_recursion-push, held-slot}
 use Rattle.hx_slot.proofs.slots.Slot.hold.Goals as goal
 
 pub invariant_of-self : goal.invariant_of-self

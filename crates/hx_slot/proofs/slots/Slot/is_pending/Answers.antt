@@ -4,7 +4,7 @@ use Rattle.hx_model.specs.Slots.{is_pending}
 use Rattle.hx_slot.specs.declared.entries.Taken.{Taken}
 use Rattle.hx_slot.specs.Acks.{is_of_version}
 use Rattle.hx_slot.specs.States.{SlotState}
-use Rattle.hx_slot.proofs.Settling.{pending-version}
+use Rattle.hx_slot.proofs.Lean.{pending-version}
 use Rattle.hx_slot.proofs.slots.Slot.is_pending.Goals as goal
 
 pub returns : goal.returns

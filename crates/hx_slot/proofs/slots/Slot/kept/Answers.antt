@@ -9,8 +9,8 @@ use Rattle.hx_slot.specs.Entries.{row_over}
 use Rattle.hx_slot.specs.Invariant.{seen}
 use Rattle.hx_slot.specs.States.{IsOrderly, SlotState, committed_state}
 use Rattle.hx_slot.specs.Tabled.{marks_over, touches_over}
-use Rattle.hx_slot.proofs.Carrying.{committed-state, kept-orderly, marks-seen, touches-seen}
-use Rattle.hx_slot.proofs.Reading.{object-seen}
+use Rattle.hx_slot.proofs.Lean.{kept-orderly, marks-seen, object-seen, touches-seen}
+use Rattle.hx_slot.proofs.Carrying.{committed-state}
 use Rattle.hx_slot.proofs.slots.Slot.kept.Goals as goal
 
 made : (c : goal.In_ok-touches_over) → record { key = c.in_ok-copy.field-0; floor = c.self.inside.floor; object = c.in_ok-copy_row.field-0; marks = c.in_ok-marks_over.field-0; touches = c.in_ok-touches_over.field-0 } ≡ kept_of c.self.inside.region (seen c.self.inside).state

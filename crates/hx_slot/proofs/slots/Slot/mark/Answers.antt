@@ -9,8 +9,8 @@ use Rattle.hx_model.specs.Slots.{mark_among, mark_of, top_of}
 use Rattle.hx_slot.specs.declared.entries.Taken.{Taken}
 use Rattle.hx_slot.specs.States.{SlotState, call_at, call_seen}
 use Rattle.hx_slot.specs.Tabled.{mark_found, newer_of}
+use Rattle.hx_slot.proofs.Lean.{mark-below, mark-seen}
 use Rattle.hx_slot.proofs.Newer.{numbers-known}
-use Rattle.hx_slot.proofs.Reading.{mark-below, mark-seen}
 use Rattle.hx_slot.proofs.slots.Slot.mark.Goals as goal
 
 pub newest_of-newest-requires : goal.newest_of-newest-requires

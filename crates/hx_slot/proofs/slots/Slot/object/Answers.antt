@@ -4,7 +4,7 @@ use Rattle.hx_model.specs.Slots.{object_of}
 use Rattle.hx_slot.specs.declared.entries.Taken.{Taken}
 use Rattle.hx_slot.specs.Entries.{row_over}
 use Rattle.hx_slot.specs.States.{SlotState, object_at, object_seen}
-use Rattle.hx_slot.proofs.Reading.{object-seen}
+use Rattle.hx_slot.proofs.Lean.{object-seen}
 use Rattle.hx_slot.proofs.slots.Slot.object.Goals as goal
 
 pub returns : goal.returns

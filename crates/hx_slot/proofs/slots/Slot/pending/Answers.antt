@@ -6,8 +6,9 @@ use Rattle.hx_model.specs.Slots.{pending_of, top_of}
 use Rattle.hx_slot.specs.declared.entries.Taken.{Taken}
 use Rattle.hx_slot.specs.Invariant.{seen}
 use Rattle.hx_slot.specs.States.{HasFewPlaces, IsPlacedIn, SlotState}
+use Rattle.hx_slot.proofs.Lean.{pending-seen, versions-seen}
 use Rattle.hx_slot.proofs.Newest.{if_at, update_of}
-use Rattle.hx_slot.proofs.Reading.{few-seen, pending-seen, places-seen, versions-seen}
+use Rattle.hx_slot.proofs.Reading.{few-seen, places-seen}
 use Rattle.hx_slot.proofs.slots.Slot.pending.Goals as goal
 
 pub returns-clause-pending : goal.returns-clause-pending

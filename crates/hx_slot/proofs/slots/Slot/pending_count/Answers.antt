@@ -1,7 +1,7 @@
 use Rattle.std.proofs.Common.{◌≡◌, ◌-◌, arith, length, subst}
 use Rattle.hx_model.specs.Slots.{pending_of}
 use Rattle.hx_slot.specs.States.{SlotState}
-use Rattle.hx_slot.proofs.Reading.{count-seen}
+use Rattle.hx_slot.proofs.Lean.{count-seen}
 use Rattle.hx_slot.proofs.slots.Slot.pending_count.Goals as goal
 
 pub returns : goal.returns

@@ -3,7 +3,8 @@ use Rattle.hx_model.specs.Slots.{Forget, moved}
 use Rattle.hx_slot.specs.declared.entries.Taken.{Taken}
 use Rattle.hx_slot.specs.Acks.{AreSameEntries}
 use Rattle.hx_slot.specs.States.{SlotState}
-use Rattle.hx_slot.proofs.Renewed.{renewed-slot, renewed-state}
+use Rattle.hx_slot.proofs.Lean.{renewed-state}
+use Rattle.hx_slot.proofs.Renewed.{renewed-slot}
 use Rattle.hx_slot.proofs.slots.Slot.renewed.Goals as goal
 
 pub invariant_of-result : goal.invariant_of-result

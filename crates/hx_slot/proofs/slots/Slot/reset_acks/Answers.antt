@@ -1,7 +1,8 @@
 use Rattle.std.proofs.Common.{◌∙◌, ap}
 use Rattle.hx_model.specs.Slots.{Forget, moved}
 use Rattle.hx_slot.specs.States.{SlotState}
-use Rattle.hx_slot.proofs.Settling.{forgotten-slot, forgotten-state}
+use Rattle.hx_slot.proofs.Lean.{forgotten-state}
+use Rattle.hx_slot.proofs.Settling.{forgotten-slot}
 use Rattle.hx_slot.proofs.slots.Slot.reset_acks.Goals as goal
 
 pub invariant_of-self : goal.invariant_of-self

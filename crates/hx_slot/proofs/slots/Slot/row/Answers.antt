@@ -4,7 +4,7 @@ use Rattle.hx_model.specs.Slots.{object_of}
 use Rattle.hx_slot.specs.declared.entries.Taken.{Taken}
 use Rattle.hx_slot.specs.Entries.{row_over, row_seen}
 use Rattle.hx_slot.specs.States.{SlotState}
-use Rattle.hx_slot.proofs.Reading.{object-seen}
+use Rattle.hx_slot.proofs.Lean.{object-seen}
 use Rattle.hx_slot.proofs.slots.Slot.row.Goals as goal
 
 pub returns : goal.returns

@@ -1,11 +1,13 @@
 -- The lowest acknowledged updates are committed.
 use Rattle.std.proofs.Common.{◌≤◌, List, ◌∙◌, ap, drop, length, subst, sym, take}
 use Rattle.hx_model.specs.Slots.{moved_all, settled}
+use Rattle.hx_folds.specs.Folding.{folded}
 use Rattle.hx_slot.specs.declared.entries.Taken.{Taken}
 use Rattle.hx_slot.specs.Acks.{front_acked}
 use Rattle.hx_slot.specs.Entries.{last_version}
 use Rattle.hx_slot.specs.States.{SlotState}
-use Rattle.hx_slot.proofs.Settling.{settled-count, settled-slot, settled-state}
+use Rattle.hx_slot.proofs.Lean.{settled-count, settled-state}
+use Rattle.hx_slot.proofs.Settling.{settled-slot}
 use Rattle.hx_slot.proofs.slots.Slot.settle.Goals as goal
 
 pub invariant_of-self : goal.invariant_of-self
@@ -33,4 +35,4 @@ returns-clause-state c =
     (c.acknowledged_front-count.ensures.front ∙ ap front_acked rest)
     (c.last_version-self-inside.ensures ∙ ap (λ (ts : List Taken). last_version a.floor.0 (take n ts)) rest)
     c.drop_acks_upto.ensures.items
-    ∙ ap (λ (s : SlotState). moved_all (settled s.state) s.state) c.self.view_is
+    ∙ ap (λ (s : SlotState). folded s.region (moved_all (settled s.state) s.state)) c.self.view_is

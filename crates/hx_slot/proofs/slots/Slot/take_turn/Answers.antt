@@ -6,7 +6,8 @@ use Rattle.hx_types.specs.Words.{when_some}
 use Rattle.hx_model.specs.Slots.{Take, follows, moved, moved_all, top_of}
 use Rattle.hx_slot.specs.Entries.{IsHeld}
 use Rattle.hx_slot.specs.States.{IsLater, SlotState}
-use Rattle.hx_slot.proofs.Accepting.{by_recursion-remove, held-slot, removed-state}
+use Rattle.hx_slot.proofs.Lean.{removed-state}
+use Rattle.hx_slot.proofs.Accepting.{by_recursion-remove, held-slot}
 use Rattle.hx_slot.proofs.Turns.{comes_after, later-held, turn-found, turn-none}
 use Rattle.hx_slot.proofs.slots.Slot.take_turn.Goals as goal
 

@@ -6,8 +6,8 @@ use Rattle.hx_model.specs.Places.{touched_in}
 use Rattle.hx_model.specs.Slots.{top_of, touches_of}
 use Rattle.hx_slot.specs.States.{SlotState}
 use Rattle.hx_slot.specs.Tabled.{AscendByRegion, touch_among}
+use Rattle.hx_slot.proofs.Lean.{touched-below, touched-seen}
 use Rattle.hx_slot.proofs.Noting.{touches-ascend}
-use Rattle.hx_slot.proofs.Reading.{touched-below, touched-seen}
 use Rattle.hx_slot.proofs.slots.Slot.touched.Goals as goal
 
 pub last_touch-requires : goal.last_touch-requires

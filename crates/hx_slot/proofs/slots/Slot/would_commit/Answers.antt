@@ -5,7 +5,8 @@ use Rattle.hx_slot.specs.declared.entries.Taken.{Taken}
 use Rattle.hx_slot.specs.Acks.{front_with, is_of_version}
 use Rattle.hx_slot.specs.Invariant.{seen}
 use Rattle.hx_slot.specs.States.{SlotState, committed_count}
-use Rattle.hx_slot.proofs.Settling.{ack-count, ack-unknown, pending-version, would-count}
+use Rattle.hx_slot.proofs.Lean.{pending-version, would-count}
+use Rattle.hx_slot.proofs.Settling.{ack-count, ack-unknown}
 use Rattle.hx_slot.proofs.slots.Slot.would_commit.Goals as goal
 
 pub returns-then-not-has_update : goal.returns-then-not-has_update

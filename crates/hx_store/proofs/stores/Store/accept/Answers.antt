@@ -1,6 +1,7 @@
 use Rattle.hx_types.specs.declared.names.RegionId.{RegionId}
 use Rattle.hx_model.specs.Slots.{KeyState, moved_all, offered}
-use Rattle.hx_store.specs.Stores.{ArePending, CanBeOffered, accepted_at}
+use Rattle.hx_store.specs.Stores.{ArePending, CanBeOffered, accepted, accepted_at}
+use Rattle.hx_store.proofs.Moves.{keeps_folded}
 use Rattle.hx_store.proofs.Stepping.{each_found, has_room, is_there, moved_held, moved_to}
 use Rattle.hx_store.proofs.stores.Store.accept.Goals as goal
 
@@ -21,8 +22,8 @@ accept_at-requires-clause-pending c =
 
 pub invariant_of-self : goal.invariant_of-self
 invariant_of-self c =
-    moved_held c.self.inside.region c.self.inside.marks c.self.inside.slots.entries c.args.self.now c.self.view_is c.self.invariant c.args.update.key (accepted_at c.args.update c.args.ends.now) c.accept_at.new.slots.entries c.accept_at.ensures
+    moved_held c.self.inside.region c.self.inside.marks c.self.inside.slots.entries c.args.self.now c.self.view_is c.self.invariant c.args.update.key (accepted_at c.args.update c.args.ends.now) (keeps_folded (λ (g : RegionId) (s : KeyState). accepted g s c.args.update c.args.ends.now)) c.accept_at.new.slots.entries c.accept_at.ensures
 
 pub returns-clause-states : goal.returns-clause-states
 returns-clause-states c =
-    moved_to c.self.inside.region c.self.inside.marks c.self.inside.slots.entries c.args.self.now c.self.view_is c.self.invariant c.args.update.key (accepted_at c.args.update c.args.ends.now) c.accept_at.new.slots.entries c.accept_at.ensures
+    moved_to c.self.inside.region c.self.inside.marks c.self.inside.slots.entries c.args.self.now c.self.view_is c.self.invariant c.args.update.key (accepted_at c.args.update c.args.ends.now) (keeps_folded (λ (g : RegionId) (s : KeyState). accepted g s c.args.update c.args.ends.now)) c.accept_at.new.slots.entries c.accept_at.ensures

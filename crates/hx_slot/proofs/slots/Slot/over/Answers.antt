@@ -1,0 +1,18 @@
+use Rattle.std.proofs.Common.{[], ◌∙◌}
+use Rattle.hx_folds.proofs.Bare.{bare-folded}
+use Rattle.hx_folds.specs.Folding.{folded}
+use Rattle.hx_slot.specs.Entries.{newest_first}
+use Rattle.hx_slot.specs.Invariant.{updates_of, versions_of}
+use Rattle.hx_slot.proofs.slots.Slot.over.Goals as goal
+
+pub returns-clause-state : goal.returns-clause-state
+returns-clause-state c =
+    (λ j. folded c.args.region (record {
+      marks = c.args.marks;
+      base = c.args.base;
+      accepted = newest_first [] (c.new.ensures.items j);
+      floor = c.args.base.floor.0;
+      acked = versions_of (c.new-2.ensures.items j);
+      early = updates_of (c.new-3.ensures.items j);
+    }))
+    ∙ bare-folded c.args.region _ c.requires.bare
