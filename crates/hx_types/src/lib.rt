@@ -16,10 +16,10 @@ mod effects;
 mod errors;
 mod fitting;
 mod histories;
+mod ids;
 mod lists;
 mod messages;
-mod names;
-mod results;
+mod outcomes;
 mod shared_lists;
 mod snapshots;
 mod spaces;
@@ -37,12 +37,12 @@ pub use effects::effect;
 pub use errors::Memory;
 pub use fitting::fits;
 pub use histories::{Item, Items, Record, Records, Searched, Searches};
-pub use lists::Sequence;
-pub use messages::{Message, Post, PostId, Posts};
-pub use names::{
+pub use ids::{
     Actor, Epoch, RegionId, RegionList, ServerId, ServerList, SessionId, Stamp, Version,
 };
-pub use results::{Acked, Decision, Effect, Hop, Offer, Planned};
+pub use lists::Sequence;
+pub use messages::{Message, Post, PostId, Posts};
+pub use outcomes::{Acked, Decision, Effect, Hop, Offer, Planned};
 pub use shared_lists::SharedList;
 pub use snapshots::{Kept, Mark, Marks, Snapshot, Touch, Touches};
 pub use spaces::{Attribute, Attributes, Axes, Axis, Kind, Space, Subspaces};
