@@ -25,10 +25,10 @@ use Rattle.hx_types.specs.Subspaces.{is_key_region}
 use Rattle.hx_types.specs.Configs.{first_config, is_lost, lists, members_of}
 use Rattle.hx_types.specs.Fitting.{call_of, is_refused}
 use Rattle.hx_model.specs.Places.{places_of}
-use Rattle.hx_model.specs.Slots.{KeyState, has_place, kept_row, marks_after, no_kept, top_of, touches_after, upto}
+use Rattle.hx_model.specs.Slots.{KeyState, has_place, kept_row, marks_after, no_kept, top_of, touches_after}
 use Rattle.hx_model.specs.ServerSteps.{Replica, if_installed, replica_of, state_from, state_in}
 use Rattle.hx_model.specs.Runs.{server_of}
-use Rattle.hx_model.specs.Histories.{line_object}
+use Rattle.hx_model.specs.Lines.{line_object, upto}
 
 -- the last configuration that an entry issued
 abbrev pub config_in_notes : List Note → Option Config
