@@ -1,4 +1,4 @@
--- What holds the updates of a key: the live replicas of the newest configuration and the snapshots under way to joiners; and what each of them holds of the key's line.
+-- What holds the updates of a key, this project's words on chain replication: the live replicas of the newest configuration and the snapshots under way to joiners, and what each holds of the key's line.
 use Rattle.std.specs.Prelude.{◌≡◌, ℕ, ◌+◌, ◌≤◌, true, false, not, ◌||◌, ◌⊎◌, List, [], ◌∷◌, ◌++◌, map, reverse, length, if◌then◌else◌, ⊤, ◌≢◌, Option, None, Some}
 use Rattle.std.specs.List.{filter, flat_map, All}
 use Rattle.std.specs.Option.{option_map}
@@ -46,6 +46,7 @@ pub record Position : Type 0 where
   pub region : RegionId
   pub server : ServerId
 
+-- the replicas of a region in the order of its members
 abbrev pub positions_in : Config → RegionId → List Position
 positions_in config g = map (λ (m : Member). record { region = g; server = m.server }) (members_of config g)
 
@@ -73,6 +74,7 @@ abbrev pub IsPosted : List Entry → Post → Type 0
 IsPosted [] p = ⊥
 IsPosted (x ∷ older) p = IsIn p x.outputs ⊎ IsPosted older p
 
+-- the committed state of a key in a snapshot
 abbrev pub kept_among : List ℕ → List Kept → Kept
 kept_among key [] = no_kept key
 kept_among key (k ∷ rest) = if same_text k.key key then k else kept_among key rest

@@ -17,9 +17,11 @@ pub record QueryRegions : Type 0 where
   pub subspace : ℕ
   pub regions : List RegionId
 
+-- the regions of a subspace that meet the terms
 abbrev pub query_regions : Space → List Term → ℕ → QueryRegions
 query_regions space terms s = record { subspace = s; regions = filter (λ (g : RegionId). meets space g terms) (regions_of space s) }
 
+-- one of the regions is lost
 abbrev pub any_lost : Config → List RegionId → Bool
 any_lost config regions = list_any (is_lost config) regions
 
@@ -28,6 +30,7 @@ abbrev pub fewer_of : Config → QueryRegions → Option QueryRegions → Option
 fewer_of config q None = if any_lost config q.regions then None else Some q
 fewer_of config q (Some best) = if any_lost config q.regions || nat_lt (length best.regions) (length q.regions) then Some best else Some q
 
+-- the best of several subspaces
 abbrev pub chosen : Config → Option QueryRegions → List QueryRegions → Option QueryRegions
 chosen config best [] = best
 chosen config best (q ∷ rest) = chosen config (fewer_of config q best) rest

@@ -44,6 +44,7 @@ row_meets space terms [] n = true
 row_meets space terms (a ∷ axes) n =
     list_all (allows space a (n / size_of axes)) terms && row_meets space terms axes (n % size_of axes)
 
+-- the region of this number, counted through the subspaces, meets the terms
 abbrev pub meets_among : Space → List Term → List (List Axis) → ℕ → Bool
 meets_among space terms [] n = false
 meets_among space terms (axes ∷ rest) n =

@@ -15,6 +15,7 @@ reconfigures (Stop server) = true
 reconfigures (Add server region) = true
 reconfigures other = false
 
+-- a server is halted
 abbrev pub is_halt : Input → Bool
 is_halt Halt = true
 is_halt other = false
