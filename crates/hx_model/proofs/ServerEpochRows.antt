@@ -167,12 +167,21 @@ pending_tick :
 pending_tick = refl
 
 -- where the chain ends nothing is sent
-idle_tick : step (running 3 whole (replica 1 (other_slot (first_update ∷ []) 0 [] [] ∷ []) ∷ replica 2 [] ∷ [])) Tick ≡ ignoring (running 3 whole (replica 1 (other_slot (first_update ∷ []) 0 [] [] ∷ []) ∷ replica 2 [] ∷ []))
+abbrev last_of_chain : ServerState
+last_of_chain = running 3 whole (replica 1 (other_slot (first_update ∷ []) 0 [] [] ∷ []) ∷ replica 2 [] ∷ [])
+
+idle_tick : step last_of_chain Tick ≡ ignoring last_of_chain
 idle_tick = refl
 
 -- the sender posts what is committed and what is pending to the joiner, and the pending updates to the next replica, which is the joiner's
 abbrev sender : ServerState
-sender = running 2 (joins_key_region 2) (replica 0 (key_slot (second_update ∷ first_update ∷ []) 1 [] [] ∷ slot_of (codes "b") true (of_key (codes "b") first_update ∷ []) 0 [] [] ∷ []) ∷ replica 1 [] ∷ [])
+sender =
+    running 2 (joins_key_region 2)
+    (
+    replica 0 (key_slot (second_update ∷ first_update ∷ []) 1 [] [] ∷ slot_of (codes "b") true (of_key (codes "b") first_update ∷ []) 0 [] [] ∷ [])
+    ∷ replica 1 []
+    ∷ []
+    )
 
 sender_tick :
     step sender Tick
