@@ -7,7 +7,7 @@ use Rattle.hx_types.specs.declared.traces.Step.{Step}
 use Rattle.hx_types.specs.declared.traces.Step.TheVariants.{Deliver, Tick, Halt}
 use Rattle.hx_types.specs.Fitting.{IsScript}
 use Rattle.hx_model.specs.Runs.{is_actor}
-use Rattle.hx_model.specs.Steady.{reconfigures}
+use Rattle.hx_steady.specs.Calm.{reconfigures}
 
 -- no call of the session asks for another configuration: puts, gets, dels, conditional puts and searches
 abbrev pub AreSteadyCalls : List Op → Type 0
