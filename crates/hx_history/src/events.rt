@@ -1,11 +1,8 @@
 ghost use Rattle.std.specs.Prelude.{◌≡◌, ◌++◌, map, OnOk, IfOk};
-ghost use Rattle.std.specs.Option.{option_copied, option_map};
-ghost use Rattle.hx_types.specs.Fitting.{call_of as call_in, is_refused as refuses, numbered as number_in};
+ghost use Rattle.std.specs.Option.{option_map};
 ghost use Rattle.hx_history.specs.Events.{End, event_of as event_by, event_view, events_in, events_of, key_of, read_of as read_at_end};
 
-use hx_types::{
-    Actor, Answer, Caller, Memory, Note, Op, Script, Sequence, Text, Trace, Update, Version,
-};
+use hx_types::{Actor, Answer, Caller, Memory, Note, Op, Script, Text, Trace, Update, Version};
 use std::alloc::Global;
 
 /// A get that ended without being refused.
@@ -37,29 +34,6 @@ impl<'a> Event<'a> {
     }
 }
 
-/// The item of this number, counted from 1.
-fn numbered<T>(items: &Sequence<T>, number: u32) -> Option<&T>
-    ensures { option_copied result ≡ number_in items.now number }
-{
-    let place = number.checked_sub(1)?;
-    items.get(place as usize)
-}
-
-/// The operation of a caller.
-pub fn call_of(script: &Script, caller: Caller) -> Option<&Op>
-    ensures { option_copied result ≡ call_in script.now caller }
-{
-    let calls = numbered(&script.sessions, caller.session.0)?;
-    numbered(calls, caller.number)
-}
-
-/// Whether the answer says that the call was refused.
-pub fn is_refused(answer: &Answer) -> bool
-    ensures { result ≡ refuses answer.now }
-{
-    matches!(answer, Answer::Refused { .. })
-}
-
 /// The get that ended with this answer, unless it was refused.
 fn read_of<'a>(
     script: &'a Script,
@@ -69,9 +43,9 @@ fn read_of<'a>(
 ) -> Option<Event<'a>>
     ensures { option_map event_view result ≡ option_map End (read_at_end script.now caller version answer.now) }
 {
-    let op = call_of(script, caller)?;
+    let op = script.call(caller)?;
     match op {
-        Op::Get { key } if !is_refused(answer) => Some(Event::Read(Read {
+        Op::Get { key } if !answer.is_refused() => Some(Event::Read(Read {
             key,
             caller,
             version,

@@ -1,6 +1,6 @@
 use Rattle.std.proofs.Common.{◌≡◌, ◌++◌, map, drop}
 use Rattle.hx_history.specs.Events.{event_view, events_of}
-use Rattle.hx_history.proofs.noted.events.Given as goal
+use Rattle.hx_history.proofs.events.events.Given as goal
 
 abbrev pub invariant-loop-entry : goal.invariant-loop-entry
 invariant-loop-entry l =

@@ -1,7 +1,7 @@
 use Rattle.std.proofs.Common.{◌≡◌, ◌++◌, drop}
 use Rattle.std.specs.List.{flat_map}
 use Rattle.hx_history.specs.Calls.{records_in}
-use Rattle.hx_history.proofs.tables.records.Given as goal
+use Rattle.hx_history.proofs.recorded.records.Given as goal
 
 abbrev pub invariant-loop-row : goal.invariant-loop-row
 invariant-loop-row l =

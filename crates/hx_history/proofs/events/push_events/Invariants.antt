@@ -1,6 +1,6 @@
 use Rattle.std.proofs.Common.{◌≡◌, ◌++◌, map, drop}
 use Rattle.hx_history.specs.Events.{event_view, events_in}
-use Rattle.hx_history.proofs.noted.push_events.Given as goal
+use Rattle.hx_history.proofs.events.push_events.Given as goal
 
 abbrev pub invariant-loop-note : goal.invariant-loop-note
 invariant-loop-note l =
