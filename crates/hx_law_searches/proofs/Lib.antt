@@ -4,3 +4,6 @@ pub mod Calls
 pub mod CallsElsewhere
 pub mod CallsOfSessions
 pub mod CallsKept
+pub mod Times
+pub mod Writes
+pub mod Histories
