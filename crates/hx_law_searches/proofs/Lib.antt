@@ -7,3 +7,5 @@ pub mod CallsKept
 pub mod Times
 pub mod Writes
 pub mod Histories
+pub mod Moments
+pub mod Searched
