@@ -9,3 +9,6 @@ pub mod Writes
 pub mod Histories
 pub mod Moments
 pub mod Searched
+pub mod Items
+pub mod Orders
+pub mod Gathering

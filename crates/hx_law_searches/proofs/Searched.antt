@@ -68,7 +68,7 @@ pub record Searched (script : Script) (t : List Entry) : Type 0 where
   pub tells : (p : Post) → IsIn p (posts_of t) → TellsOf script t p.from p.to p.message
 
 -- what was shown stays so
-pub shown-up : (script : Script) (older : List Entry) (x : Entry) (c : Caller) (g : RegionId) (rows : List Row) → WasShown script older c g rows → WasShown script (x ∷ older) c g rows
+abbrev pub shown-up : (script : Script) (older : List Entry) (x : Entry) (c : Caller) (g : RegionId) (rows : List Row) → WasShown script older c g rows → WasShown script (x ∷ older) c g rows
 shown-up script older x c g rows w = record { entry = w.entry; older = w.older; part = inr w.part; epoch = w.epoch; shows = w.shows; called = w.called; begin = w.begin; begun = w.begun }
 
 -- so do posts
