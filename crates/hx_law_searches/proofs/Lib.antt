@@ -12,3 +12,4 @@ pub mod Searched
 pub mod Items
 pub mod Orders
 pub mod Gathering
+pub mod Shown
