@@ -1,44 +1,28 @@
 -- An entry of the coordinator or of a server keeps what a run says of calls.
-use Rattle.std.proofs.Common.{◌≡◌, ℕ, ◌+◌, ◌-◌, ◌<◌, ◌≤◌, ◌⊎◌, inl, inr, Bool, true, false, List, [], ◌∷◌, length, Some, None, refl, sym, ap, ◌∙◌, subst, arith, eqb}
-use Rattle.std.proofs.lemmas.Bool.{cases_eq, cond-true, cond-false, eq-eqb, ne_eqb, true≢false, false≢true}
+use Rattle.std.proofs.Common.{◌≡◌, ℕ, ◌<◌, ◌≤◌, ◌⊎◌, inl, inr, true, false, List, [], ◌∷◌, Some, sym, ap, ◌∙◌, subst, arith}
 use Rattle.hx_types.specs.declared.calls.Answer.{Answer}
 use Rattle.hx_types.specs.declared.calls.Caller.{Caller}
 use Rattle.hx_types.specs.declared.calls.Op.{Op}
-use Rattle.hx_types.specs.declared.messages.Post.{Post}
-use Rattle.hx_types.specs.declared.messages.PostId.{PostId}
 use Rattle.hx_types.specs.declared.names.Actor.{Actor}
 use Rattle.hx_types.specs.declared.names.Epoch.{Epoch}
-use Rattle.hx_types.specs.declared.names.ServerId.{ServerId}
 use Rattle.hx_types.specs.declared.names.SessionId.{SessionId}
 use Rattle.hx_types.specs.declared.names.Version.{Version}
 use Rattle.hx_types.specs.declared.traces.Entry.{Entry}
-use Rattle.hx_types.specs.declared.traces.Input.{Input}
 use Rattle.hx_types.specs.declared.traces.Script.{Script}
 use Rattle.hx_types.specs.declared.updates.Update.{Update}
 use Rattle.hx_types.specs.declared.calls.Op.TheVariants.{Get}
 use Rattle.hx_types.specs.declared.messages.Message.TheVariants as a_message
-use Rattle.hx_types.specs.declared.names.Actor.TheVariants.{Coordinator, Server, Session}
-use Rattle.hx_types.specs.declared.traces.Input.TheVariants.{Deliver}
-use Rattle.hx_types.specs.declared.traces.Note.TheVariants as a_note
+use Rattle.hx_types.specs.declared.names.Actor.TheVariants.{Session}
 use Rattle.hx_types.specs.Words.{IsIn, post}
-use Rattle.hx_types.specs.Effects.{is_write, key_of}
-use Rattle.hx_types.specs.Fitting.{IsScript, call_of, calls_of, is_doubt, is_refused, numbered}
-use Rattle.hx_model.specs.SessionSteps.{SessionState, no_version, session_step}
-use Rattle.hx_model.specs.ServerSteps.{server_step}
-use Rattle.hx_model.specs.Runs.{IsRun, IsStep, MayTake, coordinator_of, has_halted, is_actor, made_of, server_of, session_after, session_of}
-use Rattle.hx_model.specs.Histories.{line_notes, line_of}
-use Rattle.hx_model.specs.Slots.{upto}
+use Rattle.hx_types.specs.Effects.{key_of}
+use Rattle.hx_types.specs.Fitting.{call_of, is_doubt}
+use Rattle.hx_model.specs.SessionSteps.{SessionState}
+use Rattle.hx_model.specs.Runs.{session_of}
+use Rattle.hx_model.specs.Histories.{line_of}
 use Rattle.hx_steady.specs.Served.{posts_of}
 use Rattle.hx_steady.proofs.Lists.{in-append, in_right}
-use Rattle.hx_steady.proofs.Turns.{noted}
-use Rattle.hx_linear.proofs.SessionMessages.{started}
-use Rattle.hx_linear.proofs.SessionNotes.{EndsNow, started_same, was_running}
-use Rattle.hx_linear.proofs.SessionTurns.{CallStop, goes_on}
-use Rattle.hx_linear.proofs.Traces.{BeganAt, EndedAt, arrived}
-use Rattle.hx_searches.proofs.Lines.{in-upto}
-use Rattle.hx_epochs.proofs.SessionMessages.{SessionTurn, session_turn}
-use Rattle.hx_epochs.proofs.SessionNotes.{begins_now, ends_now, keeps_lines, may_start}
-use Rattle.hx_law_searches.proofs.Calls.{CallSent, Calls, EndedFirst, IsKnown, LaterThan, NoCall, WasPosted, ended-known}
+use Rattle.hx_linear.proofs.Traces.{BeganAt, EndedAt}
+use Rattle.hx_law_searches.proofs.Calls.{Calls, EndedFirst, IsKnown, WasPosted, ended-known}
 
 -- ---- an entry of no session
 module _ (script : Script) (older : List Entry) (calls : Calls script older) (x : Entry)

@@ -9,13 +9,12 @@ use Rattle.hx_types.specs.declared.names.Version.{Version}
 use Rattle.hx_types.specs.declared.spaces.Space.{Space}
 use Rattle.hx_types.specs.declared.traces.Entry.{Entry}
 use Rattle.hx_types.specs.declared.traces.Script.{Script}
-use Rattle.hx_types.specs.declared.updates.Update.{Update}
 use Rattle.hx_types.specs.declared.values.Term.{Term}
 use Rattle.hx_types.specs.declared.calls.Answer.TheVariants as an_answer
 use Rattle.hx_types.specs.declared.calls.Op.TheVariants.{Put, Get, Del, Cput, Search, Stop, Add}
-use Rattle.hx_types.specs.Words.{IsIn, when_some}
+use Rattle.hx_types.specs.Words.{when_some}
 use Rattle.hx_types.specs.Fitting.{call_of, numbered}
-use Rattle.hx_model.specs.Runs.{IsRun, session_of}
+use Rattle.hx_model.specs.Runs.{IsRun}
 use Rattle.hx_model.specs.Histories.{CallEnd, begin_of, end_of}
 use Rattle.hx_model.specs.Searching.{FinishedSearch, rows_in, search_of, terms_of, with_rows}
 use Rattle.hx_linear.proofs.Traces.{BeganAt, EndedAt, began_at, ended_at}

@@ -15,12 +15,11 @@ use Rattle.hx_types.specs.declared.traces.Script.{Script}
 use Rattle.hx_types.specs.declared.updates.Update.{Update}
 use Rattle.hx_types.specs.declared.values.Value.{Value}
 use Rattle.hx_types.specs.declared.calls.Op.TheVariants.{Get}
-use Rattle.hx_types.specs.declared.messages.Message.TheVariants as a_message
 use Rattle.hx_types.specs.declared.names.Actor.TheVariants.{Coordinator, Server, Session}
 use Rattle.hx_types.specs.declared.traces.Note.TheVariants as a_note
-use Rattle.hx_types.specs.Words.{IsBefore, IsIn, post, provided, when_some}
+use Rattle.hx_types.specs.Words.{IsBefore, IsIn, provided, when_some}
 use Rattle.hx_types.specs.Effects.{effect_of, is_write, key_of}
-use Rattle.hx_types.specs.Fitting.{IsScript, call_of, is_doubt, is_refused}
+use Rattle.hx_types.specs.Fitting.{call_of, is_doubt, is_refused}
 use Rattle.hx_model.specs.Runs.{IsRun}
 use Rattle.hx_model.specs.Slots.{top_above, upto}
 use Rattle.hx_model.specs.ServerSteps.{get_answer}

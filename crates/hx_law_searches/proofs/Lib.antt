@@ -13,3 +13,6 @@ pub mod Items
 pub mod Orders
 pub mod Gathering
 pub mod Shown
+pub mod Changes
+pub mod Trueness
+pub mod Wholeness

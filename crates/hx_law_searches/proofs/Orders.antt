@@ -19,7 +19,7 @@ use Rattle.hx_model.specs.Histories.{CallEnd, end_of, gets_of, history_of, histo
 use Rattle.hx_model.specs.Linear.{EachOnce, ended_before}
 use Rattle.hx_steady.proofs.Lists.{in-append}
 use Rattle.hx_linear.proofs.Gets.{gets-in}
-use Rattle.hx_linear.proofs.Traces.{BeganAt, EndedAt, ended_at}
+use Rattle.hx_linear.proofs.Traces.{EndedAt, ended_at}
 use Rattle.hx_searches.proofs.Histories.{end-noted}
 use Rattle.hx_searches.proofs.Lines.{Sorted, numbered-sorted}
 use Rattle.hx_law_facts.specs.Facts.{Facts, IsLine}

@@ -1,5 +1,5 @@
 -- What every run keeps for searches: who asks is a session's search that has begun, and each part that a session has was shown to it.
-use Rattle.std.proofs.Common.{◌≡◌, ℕ, ◌⊎◌, inl, inr, true, false, List, [], ◌∷◌, Some, refl, sym, ap, ◌∙◌, subst}
+use Rattle.std.proofs.Common.{◌≡◌, ℕ, inl, inr, true, List, [], ◌∷◌, Some, refl, sym, ap, ◌∙◌, subst}
 use Rattle.std.specs.Prelude.{⊤}
 use Rattle.std.proofs.lemmas.Bool.{cond-false, cases_eq, ne_eqb, false≢true}
 use Rattle.hx_types.specs.declared.calls.Caller.{Caller}
@@ -27,7 +27,7 @@ use Rattle.hx_steady.proofs.Lists.{in-append}
 use Rattle.hx_linear.proofs.Traces.{BeganAt, arrived}
 use Rattle.hx_halts.proofs.Asking.{Asks, HasParts, SearchTurn, search-turn}
 use Rattle.hx_law_facts.specs.Facts.{Facts, IsPartOf, ShowsRows}
-use Rattle.hx_law_searches.proofs.Calls.{AreNamed, Calls}
+use Rattle.hx_law_searches.proofs.Calls.{Calls}
 use Rattle.hx_law_searches.proofs.CallsKept.{calls_kept, named, step_is}
 use Rattle.hx_law_searches.proofs.CoordinatorSteps.{OfCoordinator, coordinator-plain}
 use Rattle.hx_law_searches.proofs.ServerSteps.{OfServer, server-plain}

@@ -1,5 +1,5 @@
 -- What a server's step posts and notes: no calls and no asks, and at most one assigned update.
-use Rattle.std.proofs.Common.{◌≡◌, ℕ, ◌⊎◌, inl, inr, Bool, true, false, List, [], ◌∷◌, ◌++◌, map, Option, Some, None, refl, sym, subst, cond, eqb, ltb, leb}
+use Rattle.std.proofs.Common.{◌≡◌, ℕ, ◌⊎◌, inl, inr, Bool, List, [], ◌∷◌, ◌++◌, map, Option, Some, None, refl, sym, subst, eqb, ltb, leb}
 use Rattle.std.specs.Prelude.{⊤}
 use Rattle.std.specs.List.{filter, flat_map}
 use Rattle.std.proofs.lemmas.Bool.{cond_both}
@@ -12,7 +12,6 @@ use Rattle.hx_types.specs.declared.names.Actor.{Actor}
 use Rattle.hx_types.specs.declared.names.Epoch.{Epoch}
 use Rattle.hx_types.specs.declared.names.RegionId.{RegionId}
 use Rattle.hx_types.specs.declared.names.ServerId.{ServerId}
-use Rattle.hx_types.specs.declared.names.Version.{Version}
 use Rattle.hx_types.specs.declared.results.Decision.{Decision}
 use Rattle.hx_types.specs.declared.results.Hop.{Hop}
 use Rattle.hx_types.specs.declared.snapshots.Kept.{Kept}
@@ -35,7 +34,7 @@ use Rattle.hx_model.specs.Regions.{key_region}
 use Rattle.hx_model.specs.Leading.{StuckAt, decide, stuck_of}
 use Rattle.hx_model.specs.Neighbours.{region_at}
 use Rattle.hx_model.specs.Slots.{Acknowledge, Commit, Forget, Hold, KeyState, Move, Take, acknowledged, found_in, moved_all, offered, pending_of, state_among, top_of}
-use Rattle.hx_model.specs.ServerSteps.{Replica, ServerState, ServerStep, SlotStep, Slots, Spot, accepting, ack_step, ack_to, acked, adopted, adopted_posts, asked, at_slot, by_moves, by_posts, call_at, call_step, called, called_by, decided, doubt_in, doubts_from, halting, hearing, if_installed, input_step, install_at, installed_slots, is_active, join_keys, join_slot, joined_slot, keys_of, known_to, leader_doubts, message_step, move_posts, next_at, offered_all, passed_on, pending_posts, ready_post, replica_tick, reply, resumed, resumed_posts, saying, seal_at, server_step, snap_posts, snap_to, snapped, spot_of, state_from, state_in, tick_step, told_to, unmoved, update_step, update_to, updated, waiting_doubt, with_config, with_slots, write_step}
+use Rattle.hx_model.specs.ServerSteps.{Replica, ServerState, ServerStep, SlotStep, Slots, Spot, accepting, ack_step, ack_to, acked, adopted, adopted_posts, asked, at_slot, by_moves, by_posts, call_at, call_step, called, called_by, decided, doubt_in, doubts_from, halting, hearing, if_installed, input_step, install_at, installed_slots, is_active, join_keys, join_slot, keys_of, known_to, leader_doubts, message_step, move_posts, next_at, offered_all, passed_on, pending_posts, ready_post, replica_tick, reply, resumed, resumed_posts, saying, seal_at, server_step, snap_posts, snap_to, snapped, spot_of, state_from, state_in, tick_step, told_to, unmoved, update_step, update_to, updated, waiting_doubt, with_config, with_slots, write_step}
 use Rattle.hx_steady.proofs.Lists.{in-append, in-flat_map, in-map, in-provided, when_some_both}
 
 -- what servers post
