@@ -16,7 +16,7 @@ use Rattle.hx_model.specs.Linear.{began_before}
 use Rattle.hx_steady.proofs.Lists.{in_left, in_right}
 use Rattle.hx_linear.proofs.Traces.{BeganAt, began_at, begin_is}
 use Rattle.hx_types.specs.declared.traces.Note.TheVariants as a_note
-use Rattle.hx_types.specs.declared.names.Actor.TheVariants.{Session}
+use Rattle.hx_types.specs.declared.ids.Actor.TheVariants.{Session}
 use Rattle.hx_epochs.proofs.SessionNotes.{begins_now}
 use Rattle.hx_law_facts.specs.Facts.{Facts}
 use Rattle.hx_law_searches.proofs.CallsKept.{calls_kept, turn_is}

@@ -5,13 +5,13 @@ use Rattle.hx_types.specs.declared.calls.Answer.{Answer}
 use Rattle.hx_types.specs.declared.calls.Caller.{Caller}
 use Rattle.hx_types.specs.declared.calls.Op.{Op}
 use Rattle.hx_types.specs.declared.calls.Row.{Row}
-use Rattle.hx_types.specs.declared.names.RegionId.{RegionId}
-use Rattle.hx_types.specs.declared.names.Version.{Version}
+use Rattle.hx_types.specs.declared.ids.RegionId.{RegionId}
+use Rattle.hx_types.specs.declared.ids.Version.{Version}
 use Rattle.hx_types.specs.declared.traces.Entry.{Entry}
 use Rattle.hx_types.specs.declared.traces.Script.{Script}
 use Rattle.hx_types.specs.declared.updates.Update.{Update}
 use Rattle.hx_types.specs.declared.values.Term.{Term}
-use Rattle.hx_types.specs.declared.names.Actor.TheVariants.{Session}
+use Rattle.hx_types.specs.declared.ids.Actor.TheVariants.{Session}
 use Rattle.hx_types.specs.Words.{IsIn}
 use Rattle.hx_types.specs.Effects.{key_of}
 use Rattle.hx_types.specs.Fitting.{call_of, is_doubt}
