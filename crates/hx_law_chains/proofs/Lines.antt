@@ -4,8 +4,9 @@ use Rattle.std.proofs.lemmas.Bool.{cond_both, cond-false, leb-true}
 use Rattle.hx_types.specs.declared.names.RegionId.{RegionId}
 use Rattle.hx_types.specs.declared.updates.Update.{Update}
 use Rattle.hx_types.specs.Words.{IsIn}
-use Rattle.hx_model.specs.Slots.{has_place, upto}
+use Rattle.hx_model.specs.Slots.{has_place, top_above, upto}
 use Rattle.hx_steady.proofs.Lists.{in-append, in_left}
+use Rattle.hx_folds.specs.Folding.{Descends}
 use Rattle.hx_searches.proofs.Lines.{Sorted, in-only, only, only-in, only-sorted, top-least, upto_all, upto_next}
 
 -- up to a version a part is the part of the line up to it
@@ -38,3 +39,12 @@ sorted-front (u ∷ us) vs h = ((λ w i. h.0 w (in_left us vs w i)), h.1, sorted
 -- a version of a joined list that is above the second stands in the first
 pub front-above : (us vs : List Update) (v : ℕ) (w : Update) → IsIn w (us ++ vs) → ((x : Update) → IsIn x vs → x.version.0 ≤ v) → v < w.version.0 → IsIn w us
 front-above us vs v w i f l = elim (in-append us vs w i) [ inl j ↦ j | inr j ↦ absurd (let b = f w j in omega (arith, b, l)) ]
+
+-- versions of a sorted list descend
+pub sorted-descends : (us : List Update) → Sorted us → Descends 0 us
+sorted-descends [] h = tt
+sorted-descends (u ∷ us) h = (first us h.0, sorted-descends us h.2)
+  where
+    first : (us : List Update) → ((w : Update) → IsIn w us → w.version.0 < u.version.0) → top_above 0 us < u.version.0
+    first [] f = h.1
+    first (x ∷ rest) f = f x (inl refl)

@@ -46,6 +46,7 @@ pub record Own (line : List Update) (g : RegionId) (around : Around) (t : KeySta
   pub content : IsPrefix g line t
   pub low : t.base.floor.0 ≤ t.floor
   pub top_line : top_of t ≤ length line
+  pub top_is : (top_of t ≡ 0) ⊎ ((u : Update) × IsIn u line × (has_place g u ≡ true) × (u.version.0 ≡ top_of t))
   pub taken : (u : Update) → IsIn u line → has_place g u ≡ true → u.version.0 ≤ top_of t → around.before u
   pub freed : (u : Update) → IsIn u line → has_place g u ≡ true → u.version.0 ≤ t.floor → around.after u
   pub early : (u : Update) → IsIn u t.early → Waiting line g around u
@@ -82,6 +83,7 @@ own_rely g n line longer a b t more l early kept own = record {
   content = prefix_more g n line longer t more l (let x = own.low in let y = own.content.floor in omega (arith, x, y)) own.content;
   low = own.low;
   top_line = omega (arith, l, more.reach);
+  top_is = elim own.top_is [ inl e ↦ inl e | inr k ↦ inr (k.0, more.keeps k.0 k.1 (let e = k.3 in omega (arith, e, l)), k.2, k.3) ];
   taken = λ u i p q. kept.before u (own.taken u (more.back u i (omega (arith, q, l))) p q);
   freed = λ u i p q. (let f = own.content.floor in kept.after u (own.freed u (more.back u i (omega (arith, q, f, l))) p q));
   early = λ u i. (let w = own.early u i in record { stands = more.keeps u w.stands (early u w); placed = w.placed; before = kept.before u w.before; waits = kept.waits u w.waits });
@@ -103,6 +105,7 @@ own_forget line g a b t before after own = record {
   content = record { list = own.content.list; object = own.content.object; marks = own.content.marks; touches = own.content.touches; floor = own.content.floor };
   low = own.low;
   top_line = own.top_line;
+  top_is = own.top_is;
   taken = λ u i p l. before u (own.taken u i p l);
   freed = λ u i p l. after u (own.freed u i p l);
   early = λ u i. absurd i;
@@ -239,6 +242,7 @@ module _ (line : List Update) (g : RegionId) (a : Around) (line_sorted : Sorted 
         };
         low = own.low;
         top_line = low u k.0;
+        top_is = inr (u, k.0, f.placed, refl);
         taken = λ w i p l. elim (cases_lt (top_of t) w.version.0) [
           | inl h ↦ subst a.before (sym (same_version line w u line_sorted i k.0 (next w i p l h f))) k.2
           | inr h ↦ own.taken w i p h
@@ -271,6 +275,7 @@ module _ (line : List Update) (g : RegionId) (a : Around) (line_sorted : Sorted 
       content = record { list = own.content.list; object = own.content.object; marks = own.content.marks; touches = own.content.touches; floor = own.content.floor };
       low = own.low;
       top_line = own.top_line;
+      top_is = own.top_is;
       taken = own.taken;
       freed = own.freed;
       early = λ w i. elim (in-append (filter (other_version u.version.0) t.early) (u ∷ []) w i) [
@@ -288,6 +293,7 @@ module _ (line : List Update) (g : RegionId) (a : Around) (line_sorted : Sorted 
       content = record { list = own.content.list; object = own.content.object; marks = own.content.marks; touches = own.content.touches; floor = own.content.floor };
       low = own.low;
       top_line = own.top_line;
+      top_is = own.top_is;
       taken = own.taken;
       freed = own.freed;
       early = own.early;
@@ -304,6 +310,7 @@ module _ (line : List Update) (g : RegionId) (a : Around) (line_sorted : Sorted 
       content = record { list = own.content.list; object = own.content.object; marks = own.content.marks; touches = own.content.touches; floor = (accepted-in t u own k.0).2 };
       low = (let b = own.low in let c = k.1 in omega (arith, b, c));
       top_line = own.top_line;
+      top_is = own.top_is;
       taken = own.taken;
       freed = λ w i p l. elim (cases_lt t.floor w.version.0) [
         | inl h ↦ (let b = own.low in let c = (accepted-in t u own k.0).2 in

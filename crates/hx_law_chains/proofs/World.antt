@@ -1,5 +1,5 @@
 -- Where all stand: the lines, what holds updates at each position of a region, and what is said of a key's holders and of posts.
-use Rattle.std.proofs.Common.{◌≡◌, ℕ, ◌<◌, ◌≤◌, ◌⊎◌, inl, inr, true, false, List, [], ◌∷◌, length, Some, refl, sym, ap, ◌∙◌, subst, is_some}
+use Rattle.std.proofs.Common.{◌≡◌, ℕ, ◌<◌, ◌≤◌, ◌⊎◌, inl, inr, true, false, List, [], ◌∷◌, length, Some, sym, subst}
 use Rattle.std.specs.Prelude.{⊤}
 use Rattle.std.proofs.lemmas.Bool.{cond_both}
 use Rattle.hx_types.specs.declared.calls.Answer.{Answer}
@@ -21,9 +21,9 @@ use Rattle.hx_types.specs.declared.calls.Answer.TheVariants as an_answer
 use Rattle.hx_types.specs.declared.messages.Message.TheVariants as a_message
 use Rattle.hx_types.specs.declared.results.Hop.{Hop}
 use Rattle.hx_types.specs.declared.results.Hop.TheVariants.{At, End, Blocked}
-use Rattle.hx_types.specs.Words.{IsIn, same_text}
+use Rattle.hx_types.specs.Words.{IsIn}
 use Rattle.hx_types.specs.Effects.{effect_of, is_write, key_of}
-use Rattle.hx_types.specs.Configs.{head_of, members_of}
+use Rattle.hx_types.specs.Configs.{head_of}
 use Rattle.hx_types.specs.Fitting.{call_of, is_doubt}
 use Rattle.hx_model.specs.Regions.{key_region}
 use Rattle.hx_model.specs.Places.{places_of}
