@@ -5,3 +5,7 @@ pub mod Places
 pub mod Keys
 pub mod Joining
 pub mod Issuing
+pub mod ServerPosts
+pub mod CoordinatorPosts
+pub mod Snapshots
+pub mod SnapshotsTaken

@@ -29,8 +29,8 @@ use Rattle.hx_linear.proofs.Lines.{in-below}
 use Rattle.hx_law_searches.proofs.Calls.{AreNamed, Calls, IsKnown, WasPosted}
 use Rattle.hx_law_searches.proofs.CallsElsewhere.{other_calls}
 use Rattle.hx_law_searches.proofs.CallsOfSessions.{session_calls}
-use Rattle.hx_law_searches.proofs.CoordinatorSteps.{Issues, OfCoordinator, coordinator-plain}
-use Rattle.hx_law_searches.proofs.ServerSteps.{OfServer, server-plain}
+use Rattle.hx_law_chains.proofs.CoordinatorPosts.{Issues, OfCoordinator, coordinator-plain}
+use Rattle.hx_law_chains.proofs.ServerPosts.{AnySnapshot, OfServer, server-plain}
 
 -- a session's state after its entry, with what it posts and notes, is that of its step
 pub step_is : (script : Script) (older : List Entry) (x : Entry) (u : SessionId) → IsStep script older x → x.actor ≡ Session u
@@ -101,8 +101,8 @@ module _ (script : Script) (facts : Facts script) (older : List Entry) (calls : 
   of-server i acts =
       let made : made_of script older (Server i) x.input ≡ record { posts = x.outputs; notes = x.notes } = subst (λ (a : Actor). made_of script older a x.input ≡ record { posts = x.outputs; notes = x.notes }) acts run.0.made in
       let may : MayTake older (Server i) x.input = subst (λ (a : Actor). MayTake older a x.input) acts run.0.input in
-      let plain = server-plain script.space (server_of script i older) x.input in
-      let says : (p : Post) → IsIn p x.outputs → OfServer p.message = λ p j. plain.posts p (subst (λ (ps : List Post). IsIn p ps) (sym (ap (λ (m : Made). m.posts) made)) j) in
+      let plain = server-plain AnySnapshot script.space (server_of script i older) x.input (λ r j. tt) (λ g. tt) in
+      let says : (p : Post) → IsIn p x.outputs → OfServer AnySnapshot p.message = λ p j. plain.posts p (subst (λ (ps : List Post). IsIn p ps) (sym (ap (λ (m : Made). m.posts) made)) j) in
       let posted : (c : Caller) → DeliversCall x c → WasPosted older c =
       λ c d. (Server i, d.epoch, d.op, arrived d.id older (post (Session c.session) (Server i) (a_message.Call d.epoch c.number d.op)) (subst (MayTake older (Server i)) d.input may)) in
       other_calls script older calls x

@@ -1,5 +1,3 @@
-pub mod ServerSteps
-pub mod CoordinatorSteps
 pub mod Calls
 pub mod CallsElsewhere
 pub mod CallsOfSessions

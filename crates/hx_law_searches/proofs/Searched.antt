@@ -29,8 +29,8 @@ use Rattle.hx_halts.proofs.Asking.{Asks, HasParts, SearchTurn, search-turn}
 use Rattle.hx_law_facts.specs.Facts.{Facts, IsPartOf, ShowsRows}
 use Rattle.hx_law_searches.proofs.Calls.{Calls}
 use Rattle.hx_law_searches.proofs.CallsKept.{calls_kept, named, step_is}
-use Rattle.hx_law_searches.proofs.CoordinatorSteps.{OfCoordinator, coordinator-plain}
-use Rattle.hx_law_searches.proofs.ServerSteps.{OfServer, server-plain}
+use Rattle.hx_law_chains.proofs.CoordinatorPosts.{OfCoordinator, coordinator-plain}
+use Rattle.hx_law_chains.proofs.ServerPosts.{AnySnapshot, OfServer, server-plain}
 
 -- who asks is a session whose search has begun
 abbrev pub AskedBy : Script → List Entry → Actor → ℕ → List Term → Type 0
@@ -163,7 +163,7 @@ module _ (script : Script) (facts : Facts script) (older : List Entry) (x : Entr
   of-server : (i : ServerId) → x.actor ≡ Server i → Searched script (x ∷ older)
   of-server i acts =
       let made : made_of script older (Server i) x.input ≡ record { posts = x.outputs; notes = x.notes } = subst (λ (a : Actor). made_of script older a x.input ≡ record { posts = x.outputs; notes = x.notes }) acts run.0.made in
-      let plain = server-plain script.space (server_of script i older) x.input in
+      let plain = server-plain AnySnapshot script.space (server_of script i older) x.input (λ r j. tt) (λ g. tt) in
       keeps (keeps-parts (Server i) acts (λ u. refl))
       (λ p j. says p.from p.to p.message j (plain.posts p (subst (λ (ps : List Post). IsIn p ps) (sym (ap (λ (m : Made). m.posts) made)) j)))
     where
@@ -175,7 +175,7 @@ module _ (script : Script) (facts : Facts script) (older : List Entry) (x : Entr
       shown (Server v) epoch number g rows s a = tt
       shown (Session u) epoch number g rows s a = record { entry = x; older = older; part = inl refl; epoch = epoch; shows = s; called = a.0; begin = a.1.0; begun = a.1.1 }
 
-      says : (from to : Actor) (m : Message) → IsIn (post from to m) x.outputs → OfServer m → TellsOf script (x ∷ older) from to m
+      says : (from to : Actor) (m : Message) → IsIn (post from to m) x.outputs → OfServer AnySnapshot m → TellsOf script (x ∷ older) from to m
       says from to (a_message.Found epoch number g rows) j h =
           let s = facts.founds x older run i acts from to epoch number g rows j in
           shown to epoch number g rows s (had.tells (post to (Server i) (a_message.Ask epoch number g s.terms)) (arrived s.id older (post to (Server i) (a_message.Ask epoch number g s.terms)) (subst (MayTake older (Server i)) s.input may)))

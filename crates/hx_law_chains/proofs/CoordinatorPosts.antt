@@ -1,4 +1,4 @@
--- What the coordinator's step posts and notes: it replies to nobody, finds and asks nothing, and notes configurations alone.
+-- What the coordinator posts and notes: it replies to nobody, finds and asks nothing, and notes configurations alone.
 use Rattle.std.proofs.Common.{◌≡◌, ◌+◌, ◌⊎◌, inl, inr, Bool, true, List, [], ◌∷◌, ◌++◌, map, Option, Some, None, refl, sym, subst, cond, eqb, ltb}
 use Rattle.std.specs.Prelude.{⊤, not, ◌&&◌}
 use Rattle.std.proofs.lemmas.Bool.{cond_both}
