@@ -1,8 +1,8 @@
 -- What is kept of a key when snapshots are sent: each is a holder right after its sender, with what the sender has.
 use Rattle.std.proofs.Common.{◌≡◌, ℕ, ◌≤◌, ◌⊎◌, inl, inr, true, List, Some, refl, sym, ap, ◌∙◌, subst, arith}
-use Rattle.hx_types.specs.declared.names.RegionId.{RegionId}
-use Rattle.hx_types.specs.declared.names.ServerId.{ServerId}
-use Rattle.hx_types.specs.declared.results.Hop.TheVariants.{At}
+use Rattle.hx_types.specs.declared.ids.RegionId.{RegionId}
+use Rattle.hx_types.specs.declared.ids.ServerId.{ServerId}
+use Rattle.hx_types.specs.declared.outcomes.Hop.TheVariants.{At}
 use Rattle.hx_types.specs.declared.traces.Script.{Script}
 use Rattle.hx_types.specs.declared.updates.Place.{Place}
 use Rattle.hx_types.specs.declared.updates.Update.{Update}
@@ -10,7 +10,7 @@ use Rattle.hx_types.specs.declared.configs.Config.{Config}
 use Rattle.hx_types.specs.Words.{IsIn}
 use Rattle.hx_types.specs.Configs.{members_of}
 use Rattle.hx_types.specs.Spaces.{IsSpace}
-use Rattle.hx_model.specs.Chained.{IsPrefix}
+use Rattle.hx_model.specs.Holders.{IsPrefix}
 use Rattle.hx_model.specs.Neighbours.{member_after, place_number}
 use Rattle.hx_model.specs.Regions.{key_region}
 use Rattle.hx_model.specs.Slots.{Forget, KeyState, has_place, moved, top_of}

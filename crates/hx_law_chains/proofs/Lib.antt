@@ -5,3 +5,8 @@ pub mod Places
 pub mod Keys
 pub mod Joining
 pub mod Issuing
+pub mod Posts
+pub mod Shown
+pub mod Leader
+pub mod Holders
+pub mod Serving
