@@ -5,9 +5,9 @@ use Rattle.std.proofs.lemmas.Bool.{and_from, and_parts, cases_Bool, cond_both, e
 use Rattle.std.proofs.lemmas.List.{map-append}
 use Rattle.hx_types.specs.declared.configs.Config.{Config}
 use Rattle.hx_types.specs.declared.configs.Member.{Member}
-use Rattle.hx_types.specs.declared.names.Epoch.{Epoch}
-use Rattle.hx_types.specs.declared.names.RegionId.{RegionId}
-use Rattle.hx_types.specs.declared.names.ServerId.{ServerId}
+use Rattle.hx_types.specs.declared.ids.Epoch.{Epoch}
+use Rattle.hx_types.specs.declared.ids.RegionId.{RegionId}
+use Rattle.hx_types.specs.declared.ids.ServerId.{ServerId}
 use Rattle.hx_types.specs.Words.{IsBefore, IsIn, same_server, when_some}
 use Rattle.hx_types.specs.Configs.{any_ready, is_lost, lists, lists_joining, lists_ready, members_of}
 use Rattle.hx_model.specs.CoordinatorSteps.{CoordinatorState, Joined, config_without, is_joined, is_out, issuing, lists_without, made_ready}

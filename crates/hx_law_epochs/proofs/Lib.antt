@@ -3,3 +3,5 @@ pub mod Positions
 pub mod Neighbours
 pub mod Next
 pub mod Follows
+pub mod Facts
+pub mod Coordinator

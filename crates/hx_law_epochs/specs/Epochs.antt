@@ -2,9 +2,9 @@
 use Rattle.std.specs.Prelude.{◌≡◌, ◌+◌, ◌≤◌, ◌⊎◌, true, false, List, ◌∷◌, map, Some}
 use Rattle.hx_types.specs.declared.configs.Config.{Config}
 use Rattle.hx_types.specs.declared.configs.Member.{Member}
-use Rattle.hx_types.specs.declared.names.Epoch.{Epoch}
-use Rattle.hx_types.specs.declared.names.RegionId.{RegionId}
-use Rattle.hx_types.specs.declared.names.ServerId.{ServerId}
+use Rattle.hx_types.specs.declared.ids.Epoch.{Epoch}
+use Rattle.hx_types.specs.declared.ids.RegionId.{RegionId}
+use Rattle.hx_types.specs.declared.ids.ServerId.{ServerId}
 use Rattle.hx_types.specs.declared.traces.Entry.{Entry}
 use Rattle.hx_types.specs.declared.traces.Note.TheVariants as a_note
 use Rattle.hx_types.specs.declared.traces.Script.{Script}
@@ -13,7 +13,7 @@ use Rattle.hx_types.specs.Configs.{is_lost, lists, lists_joining, lists_ready, m
 use Rattle.hx_types.specs.Fitting.{IsScript}
 use Rattle.hx_model.specs.Runs.{IsRun, coordinator_of, server_of}
 use Rattle.hx_model.specs.Causes.{config_of}
-use Rattle.hx_model.specs.Chained.{IsSealedOrHalted}
+use Rattle.hx_model.specs.ServerSteps.{ServerState}
 
 -- the servers of a region's members, in order
 abbrev pub order : Config → RegionId → List ServerId
@@ -29,6 +29,10 @@ pub record FollowsOn (c next : Config) : Type 0 where
   pub joins : (g : RegionId) (s : ServerId) → lists next g s ≡ true → (lists c g s ≡ true) ⊎ (lists_joining next g s ≡ true) × (is_lost c g ≡ false) × ((x : ServerId) → IsBefore s x (order next g) → ⊥)
   pub ready : (g : RegionId) (s : ServerId) → IsIn s next.servers → lists_ready c g s ≡ true → lists_ready next g s ≡ true
   pub lost : (g : RegionId) → is_lost c g ≡ true → is_lost next g ≡ true
+
+-- the server has halted, or is sealed in the epoch
+abbrev pub IsSealedOrHalted : ServerState → Epoch → Type 0
+IsSealedOrHalted s epoch = (s.halted ≡ true) ⊎ ((s.sealed ≡ true) × (s.config.epoch ≡ epoch))
 
 -- a configuration was issued where each server of the one before, on which it follows, was sealed in its epoch or had halted
 pub record WasIssued (script : Script) (older : List Entry) (next : Config) : Type 0 where
