@@ -10,7 +10,7 @@ use Rattle.hx_types.specs.declared.configs.Config.{Config}
 use Rattle.hx_types.specs.Words.{IsIn}
 use Rattle.hx_types.specs.Configs.{members_of}
 use Rattle.hx_types.specs.Spaces.{IsSpace}
-use Rattle.hx_model.specs.Chained.{IsPrefix}
+use Rattle.hx_model.specs.Holders.{IsPrefix}
 use Rattle.hx_model.specs.Neighbours.{member_after, place_number}
 use Rattle.hx_model.specs.Regions.{key_region}
 use Rattle.hx_model.specs.Slots.{Forget, KeyState, has_place, moved, top_of}

@@ -9,3 +9,8 @@ pub mod ServerPosts
 pub mod CoordinatorPosts
 pub mod Snapshots
 pub mod SnapshotsTaken
+pub mod Posts
+pub mod Shown
+pub mod Leader
+pub mod Holders
+pub mod Serving

@@ -6,9 +6,9 @@ use Rattle.std.proofs.lemmas.Bool.{cond_both, eqb-true, leb-true, leb-false, fal
 use Rattle.hx_types.specs.declared.ids.RegionId.{RegionId}
 use Rattle.hx_types.specs.declared.updates.Update.{Update}
 use Rattle.hx_types.specs.Words.{IsIn, provided, when_some}
-use Rattle.hx_model.specs.Chained.{IsPrefix, only_in}
+use Rattle.hx_model.specs.Holders.{IsPrefix, only_in}
 use Rattle.hx_model.specs.Neighbours.{is_end}
-use Rattle.hx_model.specs.Slots.{Acknowledge, Commit, Forget, Hold, KeyState, Move, Take, acknowledged, after_at, commits, follows, has_place, is_pending, marks_after, moved, moved_all, offered, other_version, pending_above, pending_of, settled, taken, top_of, touches_after, turns, upto, kept_row}
+use Rattle.hx_model.specs.Slots.{Acknowledge, Commit, Forget, Hold, KeyState, Move, Take, acknowledged, after_at, commits, follows, has_place, is_pending, marks_after, moved, moved_all, offered, other_version, pending_above, pending_of, settled, taken, top_of, touches_after, turns, upto, kept_row, waits_below}
 use Rattle.hx_model.specs.ServerSteps.{Spot, accepting, end_marks, next_at, resumed, with_commits}
 use Rattle.hx_steady.proofs.Lists.{any-in, in-append, in-filter, in-find, in_left, in_right, when_some_both}
 use Rattle.hx_searches.proofs.Lines.{Sorted, in-only, in-upto, in-upto_from, only-in, only-sorted, same_version, upto-low, upto-sorted}
@@ -463,11 +463,12 @@ module _ (line : List Update) (g : RegionId) (a : Around) (line_sorted : Sorted 
 
   -- what an acknowledgement brings is allowed
   pub acknowledged-allowed : (t : KeyState) (v : ℕ) → Own line g a t → Acked line g a (top_of t) v → AllAllowed line g a t (acknowledged t v)
-  acknowledged-allowed t v own k = by (is_pending v t)
+  acknowledged-allowed t v own k = by (is_pending v t) (not (waits_below t.acked v (pending_of t)))
     where
-      by : (b : Bool) → AllAllowed line g a t (provided b (Acknowledge v ∷ settled (moved (Acknowledge v) t)))
-      by false = tt
-      by true = (k, settled-allowed (moved (Acknowledge v) t) (later-one t (Acknowledge v) own k).own)
+      by : (b c : Bool) → AllAllowed line g a t (provided b (Acknowledge v ∷ provided c (settled (moved (Acknowledge v) t))))
+      by false c = tt
+      by true false = (k, tt)
+      by true true = (k, settled-allowed (moved (Acknowledge v) t) (later-one t (Acknowledge v) own k).own)
 
   -- what a slot does when its server adopts a configuration is allowed
   pub resumed-allowed : (spot : Spot) (t : KeyState) → Ends spot → Own line g a t → AllAllowed line g a t (resumed spot t)
