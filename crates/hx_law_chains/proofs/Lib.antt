@@ -10,3 +10,5 @@ pub mod Shown
 pub mod Leader
 pub mod Holders
 pub mod Serving
+pub mod Late
+pub mod Slotted
