@@ -23,7 +23,7 @@ use Rattle.hx_types.specs.Configs.{members_of}
 use Rattle.hx_types.specs.Effects.{is_write}
 use Rattle.hx_types.specs.Fitting.{call_of}
 use Rattle.hx_types.specs.Spaces.{IsSpace}
-use Rattle.hx_model.specs.ServerSteps.{ack_to, doubt_in, move_posts, next_at, passed_on, prev_at, reply, told_to, update_to}
+use Rattle.hx_model.specs.ServerSteps.{Spot, ack_to, doubt_in, move_posts, next_at, passed_on, prev_at, reply, told_to, update_to}
 use Rattle.hx_model.specs.Slots.{Acknowledge, Commit, Forget, Hold, Move, Take}
 use Rattle.hx_steady.proofs.Lists.{in-flat_map}
 use Rattle.hx_searches.proofs.Chains.{Differ}
@@ -35,6 +35,30 @@ use Rattle.hx_law_chains.proofs.World.{KeyOk, Told, Valid, World, law-of, spot}
 abbrev pub NoSnap : Message → Type 0
 NoSnap (a_message.Snap epoch g snapshot pending) = ⊥
 NoSnap other = ⊤
+
+-- no move sends one
+pub moves-nosnap : (at : Spot) (ms : List Move) (p : Post) → IsIn p (flat_map (move_posts at) ms) → NoSnap p.message
+moves-nosnap at ms p j = (let r = in-flat_map (move_posts at) ms p j in by r.0 r.2)
+  where
+    update : (u : Update) (y : Hop) → IsIn p (update_to at u y) → NoSnap p.message
+    update u End j = absurd j
+    update u (Blocked r) j = absurd j
+    update u (At y n) (inr j) = absurd j
+    update u (At y n) (inl q) = subst (λ (x : Post). NoSnap x.message) (sym q) tt
+
+    told : (u : Update) (y : Hop) → IsIn p (told_to at u y) → NoSnap p.message
+    told u End (inl q) = subst (λ (x : Post). NoSnap x.message) (sym q) tt
+    told u End (inr j) = absurd j
+    told u (Blocked r) j = absurd j
+    told u (At y n) (inr j) = absurd j
+    told u (At y n) (inl q) = subst (λ (x : Post). NoSnap x.message) (sym q) tt
+
+    by : (m : Move) → IsIn p (move_posts at m) → NoSnap p.message
+    by (Take u) x = update u (next_at at u) x
+    by (Hold u) x = absurd x
+    by (Acknowledge v) x = absurd x
+    by (Commit u) x = told u (prev_at at u) x
+    by Forget x = absurd x
 
 -- a post of a slot
 abbrev pub SlotLate : Scene → Asked → ServerId → Post → Type 0

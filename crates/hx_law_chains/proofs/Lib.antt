@@ -12,3 +12,5 @@ pub mod Holders
 pub mod Serving
 pub mod Late
 pub mod Slotted
+pub mod Rows
+pub mod Messages

@@ -132,7 +132,7 @@ module _ (e : Scene) (valid : IsSpace e.script.space) (ok : (key : List ℕ) →
     change = record { line = noted e.line notes; holds = (world (after e i q notes new)).holds; installed = λ g s. Installed (N s) g }
 
     -- an installed replica stays so
-    kept : (g : RegionId) (s : ServerId) → Installed (e.servers s) g → Installed (N s) g
+    pub kept : (g : RegionId) (s : ServerId) → Installed (e.servers s) g → Installed (N s) g
     kept g s h = elim (which-server s i) [
       | inl z ↦ subst (λ (x : ServerId). Installed (N x) g) (sym z) (subst (λ (st : ServerState). Installed st g) (sym (state-here e.servers i q)) (acts.grows g (subst (λ (x : ServerId). Installed (e.servers x) g) z h)))
       | inr n ↦ subst (λ (st : ServerState). Installed st g) (sym (state-off e.servers i q s n)) h

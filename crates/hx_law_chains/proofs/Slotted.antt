@@ -215,3 +215,11 @@ module _ (e : Scene) (valid : IsSpace e.script.space) (ok : (key : List ℕ) →
         | inr f ↦ other-key j f
       ];
     }
+
+    -- the replica after
+    abbrev pub at-after : Installed q r.region
+    at-after = record { replica = with_slot_at r (moved_all ms t); found = replica-here r.region (with_slot_at r (moved_all ms t)) rs r refl found; installed = installed }
+
+    -- its slot
+    pub slot-after : view e.config q (state_in e.script.space (with_slot_at r (moved_all ms t)) key) ≡ moved_all ms t
+    slot-after = view-now e.config i q.replicas (state_in e.script.space (with_slot_at r (moved_all ms t)) key) ∙ slot-as q key r.region at-after ∙ slot-here e.script.space r.region key st r (moved_all ms t) found key-kept
