@@ -5,6 +5,10 @@ pub mod Places
 pub mod Keys
 pub mod Joining
 pub mod Issuing
+pub mod ServerPosts
+pub mod CoordinatorPosts
+pub mod Snapshots
+pub mod SnapshotsTaken
 pub mod Posts
 pub mod Shown
 pub mod Leader

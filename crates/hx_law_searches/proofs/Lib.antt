@@ -1,0 +1,16 @@
+pub mod Calls
+pub mod CallsElsewhere
+pub mod CallsOfSessions
+pub mod CallsKept
+pub mod Times
+pub mod Writes
+pub mod Histories
+pub mod Moments
+pub mod Searched
+pub mod Items
+pub mod Orders
+pub mod Gathering
+pub mod Shown
+pub mod Changes
+pub mod Trueness
+pub mod Wholeness
