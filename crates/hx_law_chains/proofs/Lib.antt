@@ -14,3 +14,7 @@ pub mod Shown
 pub mod Leader
 pub mod Holders
 pub mod Serving
+pub mod Late
+pub mod Slotted
+pub mod Rows
+pub mod Messages

@@ -61,7 +61,7 @@ module _ (script : Script) (valid : IsSpace script.space) (w : World) (ok : (key
 
   module _ (u : Update) (k : Known u) where
     -- the law of the update
-    abbrev law : (older : List Update) × Law script w.known u.key older u
+    abbrev pub law : (older : List Update) × Law script w.known u.key older u
     law = law-of script w.known u.key (w.line u.key) u (ok u.key).lawful k.stands
 
     -- no region stands twice among its places

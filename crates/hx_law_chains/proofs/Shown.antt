@@ -51,7 +51,7 @@ module _ (space : Space) (key : List ℕ) (line : List Update) (made : AllMade s
       sym (top-numbered us (made-numbered space key us (made-upto space key (top_of t) line made)) ∙ length-upto (top_of t) line n own.top_line)
 
   -- up to the floor it is the line up to the floor
-  floor-part : upto t.floor us ≡ upto t.floor line
+  pub floor-part : upto t.floor us ≡ upto t.floor line
   floor-part = upto_upto t.floor (top_of t) line own.content.floor
 
   -- the same is pending
@@ -62,7 +62,7 @@ module _ (space : Space) (key : List ℕ) (line : List Update) (made : AllMade s
       ∙ ap (pending_above t.floor) (sym own.content.list ∙ all-in (top_of t))
 
   -- a fold over the part in the region is that over the line
-  object-same : object_of g t ≡ kept_row g None (upto t.floor us)
+  pub object-same : object_of g t ≡ kept_row g None (upto t.floor us)
   object-same = object-line g line (sorted-descends line (made-sorted space key line made)) t slot own.content ∙ ap (kept_row g None) (all-in t.floor ∙ sym floor-part)
 
   latest-same : latest_of g t ≡ object_in (kept_row g None us)
