@@ -18,3 +18,4 @@ pub mod Late
 pub mod Slotted
 pub mod Rows
 pub mod Messages
+pub mod Snapped
