@@ -8,3 +8,5 @@ pub mod Coordinator
 pub mod SlotPosts
 pub mod Replicas
 pub mod Servers
+pub mod Serving
+pub mod Sessions
