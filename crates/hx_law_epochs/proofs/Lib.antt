@@ -10,3 +10,4 @@ pub mod Replicas
 pub mod Servers
 pub mod Serving
 pub mod Sessions
+pub mod Runs

@@ -57,12 +57,12 @@ ready-listed c g s t = let m = ready-member c g s t in member-listed c g s m.0 m
 pub joining-listed : (c : Config) (g : RegionId) (s : ServerId) → lists_joining c g s ≡ true → lists c g s ≡ true
 joining-listed c g s t = let m = joining-member c g s t in member-listed c g s m.0 m.1 m.2
 
+-- what may be adopted: no later configuration than the newest, and of its epoch that alone
+abbrev pub May : Config → Config → Type 0
+May c config = (config.epoch.0 ≤ c.epoch.0) × (config.epoch.0 ≡ c.epoch.0 → config ≡ c)
+
 module _ (Real : ServerId → Type 0) (S : ServerId → ServerState) (c : Config) (gone : List ServerId) (phase : Phase) (joined : List Joined) (posts : List Post)
     (kept : EpochsKept Real S c gone phase joined posts) (i : ServerId) (real : Real i) (up : (S i).halted ≡ false) where
-  -- what may be adopted: no later configuration than the newest, and of its epoch that alone
-  abbrev pub May : Config → Type 0
-  May config = (config.epoch.0 ≤ c.epoch.0) × (config.epoch.0 ≡ c.epoch.0 → config ≡ c)
-
   -- a server that isn't sealed has the newest configuration
   pub open-newest : (S i).sealed ≡ false → (S i).config ≡ c
   open-newest t = elim (kept.near i real up) [ inl e ↦ e | inr f ↦ absurd (false≢true (sym t ∙ f.1)) ]
@@ -85,13 +85,13 @@ module _ (Real : ServerId → Type 0) (S : ServerId → ServerState) (c : Config
       named (Some x) t = ap Some (sym (let q = eqb-true (S i).id.0 x.0 t in λ j. record { 0 = q j }) ∙ id)
 
   -- what it adopts is the newest configuration
-  pub adopts-newest : (config : Config) → May config → (S i).config.epoch.0 < config.epoch.0 → (config ≡ c) × ((S i).config.epoch.0 + 1 ≡ c.epoch.0)
+  pub adopts-newest : (config : Config) → May c config → (S i).config.epoch.0 < config.epoch.0 → (config ≡ c) × ((S i).config.epoch.0 + 1 ≡ c.epoch.0)
   adopts-newest config may higher = elim (kept.near i real up) [
     | inl e ↦ absurd (let q = ap (λ (x : Config). x.epoch.0) e in let l = may.0 in omega (arith, q, l, higher))
     | inr f ↦ (let q = f.0.epoch in let l = may.0 in (may.1 (omega (arith, q, l, higher)), sym q))
   ]
 
-  module _ (step : ServerStep) (does : Does i (S i) May step) (S' : ServerId → ServerState) (here : S' i ≡ step.state) (others : (j : ServerId) → (j ≡ i → ⊥) → S' j ≡ S j) where
+  module _ (step : ServerStep) (does : Does i (S i) (May c) step) (S' : ServerId → ServerState) (here : S' i ≡ step.state) (others : (j : ServerId) → (j ≡ i → ⊥) → S' j ≡ S j) where
     -- this server or another
     which : (j : ServerId) → (j ≡ i) ⊎ (j ≡ i → ⊥)
     which j = elim (cases_eq j.0 i.0) [ inl q ↦ inl (λ k. record { 0 = q k }) | inr n ↦ inr (λ e. n (ap (λ (x : ServerId). x.0) e)) ]
