@@ -19,3 +19,5 @@ pub mod Slotted
 pub mod Rows
 pub mod Messages
 pub mod Snapped
+pub mod Named
+pub mod Elsewhere
