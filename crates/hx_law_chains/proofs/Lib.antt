@@ -18,3 +18,6 @@ pub mod Late
 pub mod Slotted
 pub mod Rows
 pub mod Messages
+pub mod Sending
+pub mod Ticks
+pub mod Adopting
