@@ -21,3 +21,4 @@ pub mod Messages
 pub mod Sending
 pub mod Ticks
 pub mod Adopting
+pub mod Snapped

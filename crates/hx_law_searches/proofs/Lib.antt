@@ -14,3 +14,5 @@ pub mod Shown
 pub mod Changes
 pub mod Trueness
 pub mod Wholeness
+pub mod Fronts
+pub mod FromChains
