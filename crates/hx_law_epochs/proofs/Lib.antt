@@ -5,3 +5,9 @@ pub mod Next
 pub mod Follows
 pub mod Facts
 pub mod Coordinator
+pub mod SlotPosts
+pub mod Replicas
+pub mod Servers
+pub mod Serving
+pub mod Sessions
+pub mod Runs

@@ -1,2 +1,14 @@
-//! Laws of all runs on configurations: positions in chains, and what the coordinator and the servers keep of epochs.
+//! The laws on configurations over all runs: whatever is delivered, lost, repeated, halted, stopped or added.
 #![tactic(auto)]
+
+ghost use Rattle.hx_law_epochs.specs.Epochs.{RunsNumberEpochs, RunsSealEpochs};
+
+/// In every run of a valid script a configuration is issued only where each server of the one before is sealed in its epoch or has halted; and it follows on that one: servers only leave it, each region's list is the one before without the departed, with at most one joiner more at its end, who is ready stays so, and what is lost stays lost.
+pub fn epochs_are_sealed()
+    ensures { RunsSealEpochs }
+{}
+
+/// In every run of a valid script the epochs run 1, 2, 3 and so on up to the coordinator's, each with one configuration.
+pub fn epochs_are_numbered()
+    ensures { RunsNumberEpochs }
+{}
