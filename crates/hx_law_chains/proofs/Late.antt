@@ -36,6 +36,16 @@ abbrev pub NoSnap : Message → Type 0
 NoSnap (a_message.Snap epoch g snapshot pending) = ⊥
 NoSnap other = ⊤
 
+-- an update to the next replica is none
+pub passed-nosnap : (at : Spot) (u : Update) (p : Post) → IsIn p (passed_on at u) → NoSnap p.message
+passed-nosnap at u p = by (next_at at u)
+  where
+    by : (y : Hop) → IsIn p (update_to at u y) → NoSnap p.message
+    by End j = absurd j
+    by (Blocked r) j = absurd j
+    by (At y n) (inr j) = absurd j
+    by (At y n) (inl q) = subst (λ (x : Post). NoSnap x.message) (sym q) tt
+
 -- no move sends one
 pub moves-nosnap : (at : Spot) (ms : List Move) (p : Post) → IsIn p (flat_map (move_posts at) ms) → NoSnap p.message
 moves-nosnap at ms p j = (let r = in-flat_map (move_posts at) ms p j in by r.0 r.2)

@@ -18,6 +18,9 @@ pub mod Late
 pub mod Slotted
 pub mod Rows
 pub mod Messages
+pub mod Sending
+pub mod Ticks
+pub mod Adopting
 pub mod Snapped
 pub mod Named
 pub mod Elsewhere
