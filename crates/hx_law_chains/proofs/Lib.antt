@@ -24,3 +24,4 @@ pub mod Adopting
 pub mod Snapped
 pub mod Named
 pub mod Elsewhere
+pub mod Runs
