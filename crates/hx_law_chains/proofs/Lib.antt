@@ -22,3 +22,4 @@ pub mod Sending
 pub mod Ticks
 pub mod Adopting
 pub mod Snapped
+pub mod Entries
