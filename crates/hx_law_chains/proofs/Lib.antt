@@ -23,3 +23,5 @@ pub mod Ticks
 pub mod Adopting
 pub mod Snapped
 pub mod Entries
+pub mod Named
+pub mod Elsewhere
