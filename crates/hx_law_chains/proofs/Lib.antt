@@ -1,0 +1,16 @@
+pub mod Lines
+pub mod Moves
+pub mod World
+pub mod Places
+pub mod Keys
+pub mod Joining
+pub mod Issuing
+pub mod ServerPosts
+pub mod CoordinatorPosts
+pub mod Snapshots
+pub mod SnapshotsTaken
+pub mod Posts
+pub mod Shown
+pub mod Leader
+pub mod Holders
+pub mod Serving

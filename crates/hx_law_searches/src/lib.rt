@@ -1,0 +1,2 @@
+//! Laws on histories and searches over all runs.
+#![tactic(auto)]
