@@ -1,12 +1,9 @@
 -- A server adopts the newest configuration: it forgets acknowledgements and early updates, sends snapshots, and goes on with what is pending.
-use Rattle.std.proofs.Common.{◌≡◌, ℕ, ◌+◌, ◌<◌, ◌≤◌, ◌⊎◌, inl, inr, Bool, true, false, not, ◌&&◌, List, [], ◌∷◌, ◌++◌, map, length, Option, Some, None, refl, sym, ap, ◌∙◌, subst, arith, cond, eqb, leb}
+use Rattle.std.proofs.Common.{◌≡◌, ℕ, ◌<◌, ◌⊎◌, inl, inr, Bool, true, false, not, List, [], ◌∷◌, ◌++◌, map, length, Option, Some, None, refl, sym, ap, ◌∙◌, subst, arith, cond, eqb, leb}
 use Rattle.std.specs.List.{filter, flat_map}
-use Rattle.std.proofs.lemmas.Bool.{cond_both, cond-true, cond-false, and_parts, cases_Bool, ne_eqb, false≢true}
+use Rattle.std.proofs.lemmas.Bool.{cond_both, cond-true, cond-false, and_parts, ne_eqb, false≢true}
 use Rattle.hx_types.specs.declared.configs.Config.{Config}
-use Rattle.hx_types.specs.declared.configs.Member.{Member}
-use Rattle.hx_types.specs.declared.ids.Actor.{Actor}
 use Rattle.hx_types.specs.declared.ids.Actor.TheVariants.{Coordinator, Server}
-use Rattle.hx_types.specs.declared.ids.Epoch.{Epoch}
 use Rattle.hx_types.specs.declared.ids.RegionId.{RegionId}
 use Rattle.hx_types.specs.declared.ids.ServerId.{ServerId}
 use Rattle.hx_types.specs.declared.messages.Message.TheVariants as a_message
@@ -20,7 +17,7 @@ use Rattle.hx_types.specs.Subspaces.{is_key_region}
 use Rattle.hx_model.specs.Holders.{snap_state}
 use Rattle.hx_model.specs.Leading.{StuckAt, stuck_of}
 use Rattle.hx_model.specs.ServerSteps.{Replica, ServerState, Spot, adopted, adopted_posts, adopted_replica, adopted_state, doubt_in, doubts_from, is_active, leader_doubts, listed_regions, move_posts, passed_on, ready_post, replica_of, replica_or_new, resumed, resumed_posts, snap_posts, state_in, with_config}
-use Rattle.hx_model.specs.Slots.{Acknowledge, Commit, Forget, Hold, KeyState, Move, Take, moved, moved_all, new_state, pending_of, pending_of_all, snapshot_of, state_among}
+use Rattle.hx_model.specs.Slots.{Forget, KeyState, Move, moved, moved_all, new_state, pending_of, pending_of_all, snapshot_of, state_among}
 use Rattle.hx_model.proofs.Laws.{base-moved_all}
 use Rattle.hx_steady.proofs.Lines.{pending-in}
 use Rattle.hx_steady.proofs.Lists.{in-append, in-filter, in-flat_map, in-map, in-provided, when_some_both}
@@ -31,20 +28,20 @@ use Rattle.hx_epochs.proofs.Entries.{view}
 use Rattle.hx_epochs.proofs.Lines.{more_same}
 use Rattle.hx_epochs.proofs.Moved.{which-server}
 use Rattle.hx_epochs.proofs.Serving.{standing}
-use Rattle.hx_epochs.proofs.Shapes.{listed-only, listed-there, made-found, made-in, mapped-found, mapped-from}
+use Rattle.hx_epochs.proofs.Shapes.{listed-there, made-found, made-in, mapped-found, mapped-from}
 use Rattle.hx_folds.specs.Folding.{IsJoinableServer}
 use Rattle.hx_law_epochs.proofs.Facts.{Installed}
-use Rattle.hx_law_chains.proofs.Holders.{Live, Up, live-of, live-only, one-replica, seat-of, state-here, state-off, with_state_of}
+use Rattle.hx_law_chains.proofs.Holders.{Live, Up, live-of, seat-of, state-here, state-off, with_state_of}
 use Rattle.hx_law_chains.proofs.Joining.{Twin, key_joined}
 use Rattle.hx_law_chains.proofs.Keys.{Moved, below-all, following, low-in, turn_promise}
-use Rattle.hx_law_chains.proofs.Late.{NoSnap, SlotLate, doubt-fine, moves-late, moves-nosnap, passed-late, passed-nosnap}
+use Rattle.hx_law_chains.proofs.Late.{NoSnap, doubt-fine, moves-late, moves-nosnap, passed-late, passed-nosnap}
 use Rattle.hx_law_chains.proofs.Moves.{AllAllowed, resumed-allowed}
 use Rattle.hx_law_chains.proofs.Posts.{MoveOk, Seat, law, moves-fine, passed-fine, promise-ok}
 use Rattle.hx_law_chains.proofs.Sending.{IsSnap, snap-is, twin-of}
 use Rattle.hx_law_chains.proofs.Serving.{Acts, Asked, KeyActs, Late, Scene, Sent, Served, after, change, fixed-after, kept, keys-after, mid, mid-ok, still-after, turn, world}
 use Rattle.hx_law_chains.proofs.Slotted.{ends-here, view-now}
 use Rattle.hx_law_chains.proofs.Snapshots.{replica-ascends}
-use Rattle.hx_law_chains.proofs.Ticks.{known-in, passed-snap, ready-snap}
+use Rattle.hx_law_chains.proofs.Ticks.{known-in, ready-snap}
 use Rattle.hx_law_chains.proofs.World.{KeyOk, Valid, World, around, lawful-sorted, spot}
 
 -- what keeps the bases of slots keeps which one is found

@@ -1,5 +1,5 @@
 -- What holds updates of a key after a trace: replicas of servers that are up, and snapshots under way to replicas that aren't installed.
-use Rattle.std.proofs.Common.{◌≡◌, ℕ, ◌⊎◌, inl, inr, true, false, List, [], ◌∷◌, ◌++◌, Option, Some, None, refl, sym, ap, ◌∙◌, subst, cond}
+use Rattle.std.proofs.Common.{◌≡◌, ℕ, ◌⊎◌, inl, inr, false, List, Some, refl, sym, ap, ◌∙◌, subst, cond}
 use Rattle.std.proofs.lemmas.Bool.{cond-true, cond-false, eq-eqb, ne_eqb}
 use Rattle.hx_types.specs.declared.configs.Config.{Config}
 use Rattle.hx_types.specs.declared.ids.Actor.{Actor}
@@ -15,7 +15,7 @@ use Rattle.hx_types.specs.declared.updates.Update.{Update}
 use Rattle.hx_types.specs.Words.{IsIn, post, same_server}
 use Rattle.hx_types.specs.Configs.{is_lost}
 use Rattle.hx_model.specs.Holders.{snap_state}
-use Rattle.hx_model.specs.ServerSteps.{Replica, ServerState, replica_of, state_in}
+use Rattle.hx_model.specs.ServerSteps.{Replica, ServerState, state_in}
 use Rattle.hx_model.specs.Slots.{KeyState}
 use Rattle.hx_epochs.proofs.Entries.{view}
 use Rattle.hx_law_epochs.proofs.Facts.{Installed}

@@ -1,12 +1,11 @@
 -- What the posts of a slot say of calls: a reply to a write answers no get, nobody is called, and no snapshot is sent.
-use Rattle.std.proofs.Common.{◌≡◌, inl, inr, true, false, List, [], ◌∷◌, Some, refl, sym, ap, ◌∙◌, subst}
+use Rattle.std.proofs.Common.{◌≡◌, inl, inr, true, List, Some, refl, sym, ap, ◌∙◌, subst}
 use Rattle.std.specs.Prelude.{⊤}
 use Rattle.std.specs.List.{flat_map}
 use Rattle.std.proofs.lemmas.Bool.{false≢true}
 use Rattle.hx_types.specs.declared.calls.Caller.{Caller}
 use Rattle.hx_types.specs.declared.calls.Op.{Op}
 use Rattle.hx_types.specs.declared.calls.Op.TheVariants.{Get}
-use Rattle.hx_types.specs.declared.configs.Member.{Member}
 use Rattle.hx_types.specs.declared.ids.RegionId.{RegionId}
 use Rattle.hx_types.specs.declared.ids.ServerId.{ServerId}
 use Rattle.hx_types.specs.declared.ids.Version.{Version}
@@ -28,8 +27,8 @@ use Rattle.hx_model.specs.Slots.{Acknowledge, Commit, Forget, Hold, Move, Take}
 use Rattle.hx_steady.proofs.Lists.{in-flat_map}
 use Rattle.hx_searches.proofs.Chains.{Differ}
 use Rattle.hx_law_chains.proofs.Posts.{Committed, MoveOk, Seat, law}
-use Rattle.hx_law_chains.proofs.Serving.{Asked, Late, Scene, world}
-use Rattle.hx_law_chains.proofs.World.{KeyOk, Told, Valid, World, law-of, spot}
+use Rattle.hx_law_chains.proofs.Serving.{Asked, Late, Scene}
+use Rattle.hx_law_chains.proofs.World.{KeyOk, Valid, World, spot}
 
 -- the message is no snapshot
 abbrev pub NoSnap : Message → Type 0

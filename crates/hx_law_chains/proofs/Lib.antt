@@ -22,6 +22,7 @@ pub mod Sending
 pub mod Ticks
 pub mod Adopting
 pub mod Snapped
+pub mod Entries
 pub mod Named
 pub mod Elsewhere
 pub mod Runs

@@ -1,12 +1,10 @@
 -- Updates and acknowledgements that a server of the newest epoch hears, and calls that its leader hears.
-use Rattle.std.proofs.Common.{◌≡◌, ℕ, ◌+◌, ◌-◌, ◌<◌, ◌≤◌, ◌⊎◌, inl, inr, true, false, List, [], ◌∷◌, ◌++◌, length, Option, Some, None, refl, sym, ap, ◌∙◌, subst, arith, leb}
+use Rattle.std.proofs.Common.{◌≡◌, ℕ, ◌+◌, ◌-◌, ◌≤◌, inl, inr, true, false, List, [], ◌∷◌, length, Option, Some, None, refl, sym, ap, ◌∙◌, subst, arith, leb}
 use Rattle.std.specs.List.{flat_map}
-use Rattle.std.proofs.lemmas.Bool.{cond_both, cond-true, cond-false, cases_Bool, cases_eq, leb-true, false≢true}
+use Rattle.std.proofs.lemmas.Bool.{cond_both, cond-true, cond-false, cases_Bool, cases_eq, leb-true}
 use Rattle.hx_types.specs.declared.calls.Caller.{Caller}
 use Rattle.hx_types.specs.declared.calls.Op.{Op}
 use Rattle.hx_types.specs.declared.calls.Op.TheVariants.{Get}
-use Rattle.hx_types.specs.declared.configs.Config.{Config}
-use Rattle.hx_types.specs.declared.configs.Member.{Member}
 use Rattle.hx_types.specs.declared.ids.RegionId.{RegionId}
 use Rattle.hx_types.specs.declared.ids.ServerId.{ServerId}
 use Rattle.hx_types.specs.declared.ids.Version.{Version}
@@ -25,16 +23,16 @@ use Rattle.hx_types.specs.Subspaces.{is_key_region}
 use Rattle.hx_model.specs.Leading.{StuckAt, decide, stuck_of}
 use Rattle.hx_model.specs.Neighbours.{place_number}
 use Rattle.hx_model.specs.Regions.{key_region}
-use Rattle.hx_model.specs.ServerSteps.{Replica, ServerState, ServerStep, SlotStep, Spot, accepting, ack_step, ack_to, at_slot, by_moves, by_posts, call_step, decided, doubt_in, get_answer, get_step, known_to, move_posts, prev_at, replica_of, reply, state_in, update_step, waiting_doubt, write_step}
-use Rattle.hx_model.specs.Slots.{KeyState, Move, acknowledged, follows, has_place, moved_all, object_in, object_of, offered, top_of, upto}
-use Rattle.hx_model.proofs.States.{eq_of_same_text, same_text_self}
+use Rattle.hx_model.specs.ServerSteps.{Replica, ServerState, SlotStep, Spot, accepting, ack_step, ack_to, at_slot, by_moves, by_posts, call_step, decided, doubt_in, get_answer, get_step, known_to, move_posts, prev_at, replica_of, reply, state_in, update_step, waiting_doubt, write_step}
+use Rattle.hx_model.specs.Slots.{KeyState, Move, acknowledged, follows, has_place, object_in, object_of, offered, top_of, upto}
+use Rattle.hx_model.proofs.States.{same_text_self}
 use Rattle.hx_steady.specs.Served.{line_object}
 use Rattle.hx_steady.proofs.Lines as steady
 use Rattle.hx_steady.proofs.Lists.{in-provided}
 use Rattle.hx_steady.proofs.Replicas.{state-key}
 use Rattle.hx_steady.proofs.Turns.{noted}
 use Rattle.hx_searches.proofs.Chains.{Differ}
-use Rattle.hx_searches.proofs.Lines.{in-upto, upto-low}
+use Rattle.hx_searches.proofs.Lines.{in-upto}
 use Rattle.hx_searches.proofs.Passing.{passes-key}
 use Rattle.hx_searches.proofs.Slots.{places-apart}
 use Rattle.hx_epochs.proofs.Lines.{More, length-upto, more_cut, version-there}
@@ -53,12 +51,12 @@ use Rattle.hx_law_chains.proofs.Late.{SlotLate, ack-late, doubt-fine, moves-nosn
 use Rattle.hx_law_chains.proofs.Leader.{Decided, decided-is, steady-lawful}
 use Rattle.hx_law_chains.proofs.Moves.{AllAllowed, Around, Own, accepting-allowed, acknowledged-allowed, kept_same, offered-allowed, own_rely}
 use Rattle.hx_law_chains.proofs.Places.{key-first}
-use Rattle.hx_law_chains.proofs.Posts.{Committed, Known, Seat, ack-fine, lead-along, reply-fine}
+use Rattle.hx_law_chains.proofs.Posts.{Committed, Seat, ack-fine, lead-along, reply-fine}
 use Rattle.hx_law_chains.proofs.Rows.{middle, moving-served, posts-served, quiet-served}
-use Rattle.hx_law_chains.proofs.Serving.{Asked, Assigns, Scene, Sent, Served, world}
+use Rattle.hx_law_chains.proofs.Serving.{Asked, Scene, Sent, Served, world}
 use Rattle.hx_law_chains.proofs.Shown.{object-same, shows-line, floor-part}
 use Rattle.hx_law_chains.proofs.Slotted.{between-ok, ends-here, held-between, only-between, seat-now, this-key, twins}
-use Rattle.hx_law_chains.proofs.World.{Acking, Along, Fixed, KeyOk, Law, Lawful, Sending, Told, Valid, World, around, law-of, lawful-made, lawful-numbered, lawful-sorted, lawful-upto, spot}
+use Rattle.hx_law_chains.proofs.World.{Acking, Along, KeyOk, Law, Lawful, Sending, Told, Valid, World, around, law-of, lawful-made, lawful-numbered, lawful-sorted, lawful-upto, spot}
 
 module _ (e : Scene) (asked : Asked) (valid : IsSpace e.script.space) (ok : (key : List ℕ) → KeyOk e.script (world e) key) (differ : (g : RegionId) → Differ (members_of e.config g)) (i : ServerId) (here : Up e.Real e.servers i)
     (rs : List Replica) (same : e.servers i ≡ standing e.config i rs) (r : Replica) (found : replica_of r.region rs ≡ Some r) (installed : r.installed ≡ true) (alive : is_lost e.config r.region ≡ false) where

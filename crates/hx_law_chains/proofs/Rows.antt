@@ -1,26 +1,23 @@
 -- Rows of a server's table that move one slot: what the step keeps.
-use Rattle.std.proofs.Common.{◌≡◌, ℕ, ◌≤◌, ◌⊎◌, inl, inr, true, false, List, [], ◌∷◌, ◌++◌, length, Option, Some, None, refl, sym, ap, ◌∙◌, subst, arith}
+use Rattle.std.proofs.Common.{◌≡◌, ℕ, ◌⊎◌, inl, inr, true, false, List, [], ◌++◌, length, Some, refl, ap, subst}
 use Rattle.std.specs.List.{flat_map}
 use Rattle.std.proofs.lemmas.Bool.{cases_Bool}
-use Rattle.hx_types.specs.declared.configs.Member.{Member}
 use Rattle.hx_types.specs.declared.ids.RegionId.{RegionId}
 use Rattle.hx_types.specs.declared.ids.ServerId.{ServerId}
 use Rattle.hx_types.specs.declared.messages.Post.{Post}
 use Rattle.hx_types.specs.declared.traces.Note.{Note}
-use Rattle.hx_types.specs.declared.updates.Update.{Update}
 use Rattle.hx_types.specs.Words.{IsIn, same_text}
 use Rattle.hx_types.specs.Configs.{is_lost, members_of}
 use Rattle.hx_types.specs.Spaces.{IsSpace}
 use Rattle.hx_model.specs.ServerSteps.{Replica, ServerState, Spot, move_posts, replica_of, state_in, with_slot}
 use Rattle.hx_model.specs.Slots.{KeyState, Move, moved_all}
 use Rattle.hx_model.proofs.States.{eq_of_same_text}
-use Rattle.hx_steady.proofs.Replicas.{with_slot_at}
 use Rattle.hx_steady.proofs.Turns.{noted}
 use Rattle.hx_searches.proofs.Chains.{Differ}
-use Rattle.hx_epochs.proofs.Lines.{More, more_same}
+use Rattle.hx_epochs.proofs.Lines.{more_same}
 use Rattle.hx_epochs.proofs.Serving.{standing}
 use Rattle.hx_law_chains.proofs.Holders.{Up, seat-of, state-here, with_state_of}
-use Rattle.hx_law_chains.proofs.Keys.{Moved, below-all, turn_promise}
+use Rattle.hx_law_chains.proofs.Keys.{below-all, turn_promise}
 use Rattle.hx_law_chains.proofs.Late.{NoSnap, SlotLate, moves-late, moves-nosnap}
 use Rattle.hx_law_chains.proofs.Moves.{AllAllowed}
 use Rattle.hx_law_chains.proofs.Posts.{MoveOk, Seat, moves-fine, promise-ok}

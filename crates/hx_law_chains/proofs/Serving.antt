@@ -1,11 +1,9 @@
 -- A step of a server: what it keeps of all keys, from how its replicas' slots move and which snapshots it sends.
-use Rattle.std.proofs.Common.{◌≡◌, ℕ, ◌-◌, ◌<◌, ◌≤◌, ◌⊎◌, inl, inr, true, false, List, [], ◌∷◌, ◌++◌, length, Option, Some, None, refl, sym, ap, ◌∙◌, subst, arith}
+use Rattle.std.proofs.Common.{◌≡◌, ℕ, ◌-◌, ◌<◌, ◌≤◌, ◌⊎◌, inl, inr, false, List, [], ◌∷◌, ◌++◌, length, Some, refl, sym, ap, ◌∙◌, subst, arith}
 use Rattle.std.specs.Prelude.{⊤}
 use Rattle.hx_types.specs.declared.calls.Caller.{Caller}
 use Rattle.hx_types.specs.declared.calls.Op.TheVariants.{Get}
-use Rattle.hx_types.specs.declared.calls.Row.{Row}
 use Rattle.hx_types.specs.declared.configs.Config.{Config}
-use Rattle.hx_types.specs.declared.configs.Member.{Member}
 use Rattle.hx_types.specs.declared.ids.Actor.{Actor}
 use Rattle.hx_types.specs.declared.ids.Actor.TheVariants.{Server}
 use Rattle.hx_types.specs.declared.ids.Epoch.{Epoch}
@@ -24,21 +22,20 @@ use Rattle.hx_types.specs.Configs.{members_of}
 use Rattle.hx_types.specs.Fitting.{call_of}
 use Rattle.hx_types.specs.Spaces.{IsSpace}
 use Rattle.hx_model.specs.Holders.{snap_state}
-use Rattle.hx_model.specs.Regions.{key_region}
-use Rattle.hx_model.specs.ServerSteps.{Replica, ServerState, ServerStep, hearing, if_installed, state_in}
+use Rattle.hx_model.specs.ServerSteps.{Replica, ServerState, hearing, if_installed, state_in}
 use Rattle.hx_model.specs.Slots.{KeyState, found_in, upto}
 use Rattle.hx_steady.proofs.Lists.{in-append}
 use Rattle.hx_steady.proofs.Turns.{noted}
 use Rattle.hx_searches.proofs.Chains.{Differ}
 use Rattle.hx_epochs.proofs.Entries.{view}
-use Rattle.hx_epochs.proofs.Lines.{More, more_same}
+use Rattle.hx_epochs.proofs.Lines.{More}
 use Rattle.hx_epochs.proofs.Moved.{which-server}
 use Rattle.hx_epochs.proofs.World.{at_session}
 use Rattle.hx_law_epochs.proofs.Facts.{Installed}
-use Rattle.hx_law_chains.proofs.Holders.{Live, UnderWay, Up, state-here, state-off, with_state_of, world_of}
+use Rattle.hx_law_chains.proofs.Holders.{Live, Up, state-here, state-off, with_state_of, world_of}
 use Rattle.hx_law_chains.proofs.Joining.{Twin, acking_joined, along_joined, fixed_joined, joined, key_joined, sending_joined}
-use Rattle.hx_law_chains.proofs.Keys.{Below, Change, Moved, Turn, acking_up, along_up, below-all, changed, fixed_up, key_after, sending_up, told_up, valid_up}
-use Rattle.hx_law_chains.proofs.World.{Acking, Along, Fixed, KeyOk, Lawful, Sending, Told, Valid, World}
+use Rattle.hx_law_chains.proofs.Keys.{Below, Change, Moved, Turn, acking_up, along_up, changed, fixed_up, key_after, sending_up, told_up, valid_up}
+use Rattle.hx_law_chains.proofs.World.{Along, Fixed, KeyOk, Lawful, Valid, World}
 
 -- where all stand before a server's step
 pub record Scene : Type 1 where

@@ -1,12 +1,10 @@
 -- A step of a server of the newest epoch that moves one slot.
-use Rattle.std.proofs.Common.{◌≡◌, ℕ, ◌+◌, ◌≤◌, ◌⊎◌, inl, inr, true, false, List, [], ◌∷◌, ◌++◌, length, Option, Some, None, refl, sym, ap, ◌∙◌, subst, arith, eqb}
+use Rattle.std.proofs.Common.{◌≡◌, ℕ, ◌⊎◌, inl, inr, true, false, List, [], length, Some, refl, sym, ap, ◌∙◌, subst, eqb}
 use Rattle.std.proofs.lemmas.Bool.{cond-true, cases_Bool, eq-eqb, false≢true}
 use Rattle.hx_types.specs.declared.configs.Config.{Config}
-use Rattle.hx_types.specs.declared.configs.Member.{Member}
 use Rattle.hx_types.specs.declared.ids.RegionId.{RegionId}
 use Rattle.hx_types.specs.declared.ids.ServerId.{ServerId}
 use Rattle.hx_types.specs.declared.messages.Post.{Post}
-use Rattle.hx_types.specs.declared.messages.Message.TheVariants as a_message
 use Rattle.hx_types.specs.declared.outcomes.Hop.{Hop}
 use Rattle.hx_types.specs.declared.outcomes.Hop.TheVariants.{At, End, Blocked}
 use Rattle.hx_types.specs.declared.traces.Note.{Note}
@@ -16,14 +14,14 @@ use Rattle.hx_types.specs.Subspaces.{is_key_region}
 use Rattle.hx_types.specs.Configs.{is_lost, members_of}
 use Rattle.hx_types.specs.Spaces.{IsSpace}
 use Rattle.hx_model.specs.Neighbours.{is_end}
-use Rattle.hx_model.specs.ServerSteps.{Replica, ServerState, next_at, replica_of, state_in, with_replica, with_slot}
+use Rattle.hx_model.specs.ServerSteps.{Replica, ServerState, next_at, replica_of, state_in, with_slot}
 use Rattle.hx_model.specs.Slots.{Forget, KeyState, Move, has_place, moved, moved_all}
 use Rattle.hx_model.proofs.Laws.{base-moved_all}
 use Rattle.hx_model.proofs.States.{eq_of_same_text}
 use Rattle.hx_steady.specs.Served.{slot_in}
-use Rattle.hx_steady.proofs.Replicas.{replica-found, replica-here, replica-other, slot-found, slot-here, slot-other_key, slot-other_region, state-key, with_slot_at}
+use Rattle.hx_steady.proofs.Replicas.{replica-here, replica-other, slot-found, slot-here, slot-other_key, slot-other_region, state-key, with_slot_at}
 use Rattle.hx_steady.proofs.Turns.{noted}
-use Rattle.hx_searches.proofs.Chains.{Apart, Differ}
+use Rattle.hx_searches.proofs.Chains.{Differ}
 use Rattle.hx_searches.proofs.Slots.{places-apart}
 use Rattle.hx_epochs.proofs.Entries.{view}
 use Rattle.hx_epochs.proofs.Lines.{More, more_same}
@@ -35,11 +33,11 @@ use Rattle.hx_law_epochs.proofs.Positions.{placed-number}
 use Rattle.hx_law_chains.proofs.Holders.{Live, Up, live-of, live-only}
 use Rattle.hx_law_chains.proofs.Joining.{Twin, key_joined}
 use Rattle.hx_law_chains.proofs.Keys.{Below, Moved, below-all}
-use Rattle.hx_law_chains.proofs.Moves.{AllAllowed, Around, Ends}
+use Rattle.hx_law_chains.proofs.Moves.{AllAllowed}
 use Rattle.hx_law_chains.proofs.Posts.{Seat}
 use Rattle.hx_law_chains.proofs.Late.{NoSnap}
 use Rattle.hx_law_chains.proofs.Serving.{Acts, KeyActs, Scene, Sent, mid, world}
-use Rattle.hx_law_chains.proofs.World.{Closed, Filled, KeyOk, Lawful, World, around, lawful-made, spot}
+use Rattle.hx_law_chains.proofs.World.{Filled, KeyOk, Lawful, World, around, lawful-made, spot}
 
 -- where an update's chain ends nobody stands after it, and none can come
 pub ends-here : (e : Scene) → IsSpace e.script.space → (w : World) → (differ : (g : RegionId) → Differ (members_of w.config g)) → (key : List ℕ) (line : List Update) → Lawful e.script w.known key line → (g : RegionId) (i : ServerId)

@@ -1,8 +1,7 @@
 -- A tick of a server of the newest epoch: what is pending is sent again, and snapshots to joiners.
-use Rattle.std.proofs.Common.{◌≡◌, ℕ, ◌≤◌, ◌⊎◌, inl, inr, true, false, not, List, [], ◌∷◌, ◌++◌, Option, Some, None, refl, sym, ap, ◌∙◌, subst, arith}
+use Rattle.std.proofs.Common.{◌≡◌, ℕ, ◌≤◌, ◌⊎◌, inl, inr, true, false, not, List, [], ◌∷◌, ◌++◌, Some, refl, sym, ap, ◌∙◌, subst}
 use Rattle.std.specs.List.{flat_map}
-use Rattle.std.proofs.lemmas.Bool.{and_parts, cases_Bool, false≢true}
-use Rattle.hx_types.specs.declared.configs.Member.{Member}
+use Rattle.std.proofs.lemmas.Bool.{and_parts, false≢true}
 use Rattle.hx_types.specs.declared.ids.Actor.{Actor}
 use Rattle.hx_types.specs.declared.ids.Actor.TheVariants.{Coordinator, Server}
 use Rattle.hx_types.specs.declared.ids.Epoch.{Epoch}
@@ -18,12 +17,11 @@ use Rattle.hx_types.specs.Words.{IsIn, post}
 use Rattle.hx_types.specs.Configs.{is_lost, lists_joining, members_of}
 use Rattle.hx_types.specs.Spaces.{IsSpace}
 use Rattle.hx_types.specs.Subspaces.{is_key_region}
-use Rattle.hx_model.specs.ServerSteps.{Replica, ServerState, Spot, is_active, next_at, passed_on, pending_posts, ready_post, replica_of, replica_tick, snap_posts, state_in, update_to}
+use Rattle.hx_model.specs.ServerSteps.{Replica, ServerState, Spot, is_active, next_at, passed_on, pending_posts, ready_post, replica_tick, snap_posts, state_in, update_to}
 use Rattle.hx_model.specs.Holders.{snap_state}
 use Rattle.hx_model.specs.Slots.{KeyState, pending_of, pending_of_all, snapshot_of, top_of}
 use Rattle.hx_steady.proofs.Lines.{pending-in}
 use Rattle.hx_steady.proofs.Lists.{in-append, in-flat_map, in-provided}
-use Rattle.hx_steady.proofs.Replicas.{replica-found}
 use Rattle.hx_searches.proofs.Chains.{Differ}
 use Rattle.hx_searches.proofs.Texts.{state-there}
 use Rattle.hx_epochs.proofs.Moved.{which-server}
@@ -34,7 +32,7 @@ use Rattle.hx_law_epochs.proofs.Facts.{Installed}
 use Rattle.hx_law_chains.proofs.Holders.{Up, state-here, state-off, with_state_of}
 use Rattle.hx_law_chains.proofs.Joining.{Twin}
 use Rattle.hx_law_chains.proofs.Keys.{following, low-in}
-use Rattle.hx_law_chains.proofs.Late.{SlotLate, passed-late}
+use Rattle.hx_law_chains.proofs.Late.{passed-late}
 use Rattle.hx_law_chains.proofs.Moves.{accepted-in}
 use Rattle.hx_law_chains.proofs.Posts.{Known, Seat, passed-fine}
 use Rattle.hx_law_chains.proofs.Rows.{served-by}

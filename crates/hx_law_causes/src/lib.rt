@@ -1,0 +1,2 @@
+//! The law on causes over all runs: why each call was answered as it was.
+#![tactic(auto)]
