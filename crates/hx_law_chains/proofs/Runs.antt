@@ -1,4 +1,5 @@
 -- Every run keeps all keys: by the entries of servers, and those of the coordinator and of sessions.
+use Rattle.hx_model.specs.Lines.{upto}
 use Rattle.std.proofs.Common.{◌≡◌, ℕ, ◌≤◌, ◌⊎◌, inl, inr, Bool, true, false, List, [], ◌∷◌, ◌++◌, length, Option, Some, None, refl, sym, ap, ◌∙◌, subst, arith, eqb, cond}
 use Rattle.std.specs.Prelude.{map}
 use Rattle.std.proofs.lemmas.Bool.{cond_both, cond-true, cond-false, eqb-true}
@@ -18,14 +19,14 @@ use Rattle.hx_types.specs.declared.updates.Update.{Update}
 use Rattle.hx_types.specs.declared.ids.Actor.TheVariants.{Coordinator, Server, Session}
 use Rattle.hx_types.specs.declared.messages.Message.TheVariants as a_message
 use Rattle.hx_types.specs.declared.traces.Input.TheVariants.{Deliver}
-use Rattle.hx_types.specs.Words.{IsIn, provided, same_server}
+use Rattle.hx_types.specs.Words.{IsIn, post, provided, same_server}
 use Rattle.hx_types.specs.Configs.{first_config, members_of}
 use Rattle.hx_types.specs.Fitting.{IsScript}
 use Rattle.hx_types.specs.Subspaces.{is_key_region}
 use Rattle.hx_model.specs.Histories.{line_notes, line_of}
-use Rattle.hx_model.specs.Runs.{IsRun, IsStep, Made, coordinator_of, made_of, server_after, server_of}
+use Rattle.hx_model.specs.Runs.{IsRun, IsStep, Made, MayTake, coordinator_of, has_halted, is_actor, made_of, server_after, server_of}
 use Rattle.hx_model.specs.ServerSteps.{Replica, ServerState, ServerStep, listed_regions, server_at_start, server_step, state_in}
-use Rattle.hx_model.specs.Slots.{Forget, KeyState, moved, new_state, state_among, upto}
+use Rattle.hx_model.specs.Slots.{Forget, KeyState, moved, new_state, state_among}
 use Rattle.hx_steady.specs.Served.{posts_of}
 use Rattle.hx_steady.proofs.Lists.{in-append, in-map}
 use Rattle.hx_steady.proofs.Replicas.{replica-found}
@@ -37,6 +38,9 @@ use Rattle.hx_law_facts.specs.Facts.{DeliversCall}
 use Rattle.hx_law_epochs.proofs.Facts.{Near}
 use Rattle.hx_law_epochs.proofs.Members.{order}
 use Rattle.hx_law_epochs.proofs.Runs.{EpochsRun, IsKnown, Real, epochs-run, known-still}
+use Rattle.hx_linear.proofs.Traces.{arrived}
+use Rattle.hx_law_chains.proofs.Entries.{input-served}
+use Rattle.hx_law_chains.proofs.Snapshots.{snapshots-kept}
 use Rattle.hx_law_chains.proofs.Elsewhere.{KeptAfter, calm-key, calm-valid, elsewhere-kept}
 use Rattle.hx_law_chains.proofs.Holders.{Live, with_state_of, world_of}
 use Rattle.hx_law_chains.proofs.Moves.{Around, Own}
@@ -147,14 +151,22 @@ module _ (script : Script) (valid : IsScript script) (older : List Entry) (epoch
 
 -- ---- all runs
 
--- what is said of each entry of a server: it keeps all keys
-abbrev pub ServersServe : Script → Type 0
-ServersServe script =
-    (x : Entry) (older : List Entry) → IsRun script (x ∷ older) → Chained script (world (scene script older)) (posts_of older)
-    → (i : ServerId) → x.actor ≡ Server i
+-- an entry of a server keeps all keys
+serves : (script : Script) → IsScript script → (x : Entry) (older : List Entry) → IsRun script (x ∷ older) → Chained script (world (scene script older)) (posts_of older) → (i : ServerId) → x.actor ≡ Server i
     → let step = server_step script.space (server_of script i older) x.input in Served (scene script older) (delivered x) i step.state step.notes step.posts
+serves script valid x older run had i acts =
+    let epochs = epochs-run script valid older run.1 in
+    let d = coordinator_of script older in
+    let snapshots = snapshots-kept script valid older run.1 in
+    let may = subst (λ (a : Actor). MayTake older a x.input) acts run.0.input in
+    input-served (scene script older) (delivered x) valid.space d.gone d.phase d.joined had.keyed epochs.epochs (epochs.known.newest) i
+    (subst (λ (a : Actor). is_actor script a ≡ true) acts run.0.actor, subst (λ (a : Actor). has_halted script older a ≡ false) acts run.0.running)
+    (epochs.shaped i) (snapshots.joinable i) x.input (λ p j. (had.valid p j, snapshots.carried p j))
+    (λ id from m e. arrived id older (post from (Server i) m) (subst (MayTake older (Server i)) e may))
+    (λ id u epoch number op e. record { id = id; epoch = epoch; op = op; input = e })
+    (λ id from epoch number g terms e. (id, e))
 
-module _ (script : Script) (valid : IsScript script) (serves : ServersServe script) where
+module _ (script : Script) (valid : IsScript script) where
   -- what an entry keeps
   entry-kept : (x : Entry) (older : List Entry) (run : IsRun script (x ∷ older)) (had : Chained script (world (scene script older)) (posts_of older)) (epochs : EpochsRun script older)
       → KeptAfter script valid older epochs (IsKnown script (x ∷ older)) (known-still script valid older epochs x run.0) had x.actor x.input x.outputs x.notes
@@ -167,7 +179,7 @@ module _ (script : Script) (valid : IsScript script) (serves : ServersServe scri
           let made : made_of script older (Server i) x.input ≡ record { posts = x.outputs; notes = x.notes } = subst (λ (a : Actor). made_of script older a x.input ≡ record { posts = x.outputs; notes = x.notes }) e run.0.made in
           subst (λ (a : Actor). KeptAfter script valid older epochs (IsKnown script (x ∷ older)) (known-still script valid older epochs x run.0) had a x.input x.outputs x.notes) (sym e)
           (subst (λ (m : Made). KeptAfter script valid older epochs (IsKnown script (x ∷ older)) (known-still script valid older epochs x run.0) had (Server i) x.input m.posts m.notes) made
-          (server-kept script valid older epochs (IsKnown script (x ∷ older)) (known-still script valid older epochs x run.0) had i x.input (delivered x) (serves x older run had i e)))
+          (server-kept script valid older epochs (IsKnown script (x ∷ older)) (known-still script valid older epochs x run.0) had i x.input (delivered x) (serves script valid x older run had i e)))
 
   -- every run keeps all keys and posts
   pub chained-run : (t : List Entry) → IsRun script t → Chained script (world (scene script t)) (posts_of t)
@@ -184,10 +196,10 @@ module _ (script : Script) (valid : IsScript script) (serves : ServersServe scri
       → (key : List ℕ) → (line_of key (x ∷ older) ≡ line_of key older) ⊎ Assigns (scene script older) (delivered x) key (line_of key (x ∷ older))
   lines-run x older run i e key =
       let made : made_of script older (Server i) x.input ≡ record { posts = x.outputs; notes = x.notes } = subst (λ (a : Actor). made_of script older a x.input ≡ record { posts = x.outputs; notes = x.notes }) e run.0.made in
-      subst (λ (m : Made). (line_notes key (line_of key older) m.notes ≡ line_of key older) ⊎ Assigns (scene script older) (delivered x) key (line_notes key (line_of key older) m.notes)) made ((serves x older run (chained-run older run.1) i e).lines key)
+      subst (λ (m : Made). (line_notes key (line_of key older) m.notes ≡ line_of key older) ⊎ Assigns (scene script older) (delivered x) key (line_notes key (line_of key older) m.notes)) made ((serves script valid x older run (chained-run older run.1) i e).lines key)
 
   -- what its posts say
   pub late-run : (x : Entry) (older : List Entry) → IsRun script (x ∷ older) → (i : ServerId) → x.actor ≡ Server i → (p : Post) → IsIn p x.outputs → Late (scene script older) (delivered x) i p.to p.message
   late-run x older run i e p j =
       let made : made_of script older (Server i) x.input ≡ record { posts = x.outputs; notes = x.notes } = subst (λ (a : Actor). made_of script older a x.input ≡ record { posts = x.outputs; notes = x.notes }) e run.0.made in
-      (serves x older run (chained-run older run.1) i e).late p (subst (λ (ps : List Post). IsIn p ps) (sym (ap (λ (m : Made). m.posts) made)) j)
+      (serves script valid x older run (chained-run older run.1) i e).late p (subst (λ (ps : List Post). IsIn p ps) (sym (ap (λ (m : Made). m.posts) made)) j)
