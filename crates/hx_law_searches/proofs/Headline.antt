@@ -1,5 +1,6 @@
 -- The laws on histories and searches, from what every run keeps.
-use Rattle.hx_law_searches.specs.Headline.{RunsAreLinear, RunsSearchWell}
+use Rattle.hx_law_searches.specs.Headline.{RunsAreLinear, RunsFit, RunsSearchWell}
+use Rattle.hx_law_searches.proofs.Fitting.{run-fits}
 use Rattle.hx_law_searches.proofs.FromChains.{facts}
 use Rattle.hx_law_searches.proofs.Gathering.{finished}
 use Rattle.hx_law_searches.proofs.Histories.{linear}
@@ -15,3 +16,7 @@ pub runs_search_well : RunsSearchWell
 runs_search_well script valid trace run c s e =
     let known = finished script (facts script valid) trace run c s e in
     (search-true script valid (facts script valid) trace run c s known, search-whole script valid (facts script valid) trace run c s known)
+
+-- each run fits its script
+pub runs_fit : RunsFit
+runs_fit script valid trace run = run-fits script (facts script valid) trace run

@@ -55,7 +55,7 @@ item-there script key whole u op i well e = write-there script key whole None (n
 
 module _ (script : Script) (facts : Facts script) where
   -- a call that has begun doesn't begin again
-  not-again : (older : List Entry) (x : Entry) → IsRun script (x ∷ older) → (c : Caller) (n : ℕ) → BeganAt older c n → x.actor ≡ Session c.session → IsIn (a_note.Began c.number) x.notes → ⊥
+  pub not-again : (older : List Entry) (x : Entry) → IsRun script (x ∷ older) → (c : Caller) (n : ℕ) → BeganAt older c n → x.actor ≡ Session c.session → IsIn (a_note.Began c.number) x.notes → ⊥
   not-again older x run c n b acts i =
       let now = begins_now _ _ _ (turn_is script older x c.session run.0 acts) c.number i in
       let low = (calls_kept script facts older run.1).began_low c n b in

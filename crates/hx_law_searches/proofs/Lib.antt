@@ -17,3 +17,5 @@ pub mod Wholeness
 pub mod Fronts
 pub mod FromChains
 pub mod Headline
+pub mod SessionEnds
+pub mod Fitting
