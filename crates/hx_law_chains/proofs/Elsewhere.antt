@@ -1,4 +1,5 @@
 -- An entry of the coordinator or of a session keeps all keys: sessions ask, and the coordinator may issue the next configuration.
+use Rattle.hx_model.specs.Lines.{upto}
 use Rattle.std.proofs.Common.{◌≡◌, ℕ, ◌+◌, ◌<◌, ◌≤◌, ◌⊎◌, inl, inr, true, false, List, [], ◌∷◌, ◌++◌, length, Option, Some, None, refl, sym, ap, ◌∙◌, subst, arith, eqb}
 use Rattle.std.specs.Prelude.{⊤}
 use Rattle.std.proofs.lemmas.Bool.{cond_both, cond-false, ne_eqb}
@@ -26,7 +27,7 @@ use Rattle.hx_model.specs.Runs.{IsRun, IsStep, Made, MayTake, coordinator_after,
 use Rattle.hx_model.specs.CoordinatorSteps.{CoordinatorState, coordinator_step}
 use Rattle.hx_model.specs.ServerSteps.{ServerState, state_in}
 use Rattle.hx_model.specs.SessionSteps.{SessionState, session_step}
-use Rattle.hx_model.specs.Slots.{Forget, KeyState, moved, upto}
+use Rattle.hx_model.specs.Slots.{Forget, KeyState, moved}
 use Rattle.hx_steady.specs.Served.{posts_of}
 use Rattle.hx_steady.proofs.Lists.{in-append}
 use Rattle.hx_steady.proofs.Turns.{noted}

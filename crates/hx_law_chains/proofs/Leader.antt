@@ -1,4 +1,5 @@
 -- What a leader decides on a write: nothing, a doubt, the answer of an update that is committed, or the next update after what it has accepted, perhaps refused.
+use Rattle.hx_model.specs.Lines.{line_object}
 use Rattle.std.proofs.Common.{◌≡◌, ℕ, ◌+◌, ◌≤◌, ◌⊎◌, inl, inr, Bool, true, false, List, [], ◌∷◌, map, length, Option, Some, None, refl, sym, ap, ◌∙◌, subst, leb, ltb, eqb}
 use Rattle.std.proofs.lemmas.Bool.{cond_both}
 use Rattle.hx_types.specs.declared.calls.Caller.{Caller}
@@ -23,7 +24,6 @@ use Rattle.hx_model.specs.Regions.{key_region}
 use Rattle.hx_model.specs.Places.{places_of}
 use Rattle.hx_model.specs.Slots.{KeyState, latest_of, mark_of, top_of, touches_after, touches_of}
 use Rattle.hx_model.specs.Leading.{StuckAt, assigned, by_mark, decide, first_lost, fresh, granted, refusal, stuck_of, with_places}
-use Rattle.hx_steady.specs.Served.{line_object}
 use Rattle.hx_steady.proofs.Leader.{effect-same}
 use Rattle.hx_steady.proofs.Lines as steady
 use Rattle.hx_steady.proofs.Lists.{all-in, when_some_both}

@@ -1,4 +1,5 @@
 -- Updates and acknowledgements that a server of the newest epoch hears, and calls that its leader hears.
+use Rattle.hx_model.specs.Lines.{line_object, upto}
 use Rattle.std.proofs.Common.{◌≡◌, ℕ, ◌+◌, ◌-◌, ◌≤◌, inl, inr, true, false, List, [], ◌∷◌, length, Option, Some, None, refl, sym, ap, ◌∙◌, subst, arith, leb}
 use Rattle.std.specs.List.{flat_map}
 use Rattle.std.proofs.lemmas.Bool.{cond_both, cond-true, cond-false, cases_Bool, cases_eq, leb-true}
@@ -24,9 +25,8 @@ use Rattle.hx_model.specs.Leading.{StuckAt, decide, stuck_of}
 use Rattle.hx_model.specs.Neighbours.{place_number}
 use Rattle.hx_model.specs.Regions.{key_region}
 use Rattle.hx_model.specs.ServerSteps.{Replica, ServerState, SlotStep, Spot, accepting, ack_step, ack_to, at_slot, by_moves, by_posts, call_step, decided, doubt_in, get_answer, get_step, known_to, move_posts, prev_at, replica_of, reply, state_in, update_step, waiting_doubt, write_step}
-use Rattle.hx_model.specs.Slots.{KeyState, Move, acknowledged, follows, has_place, object_in, object_of, offered, top_of, upto}
+use Rattle.hx_model.specs.Slots.{KeyState, Move, acknowledged, follows, has_place, object_in, object_of, offered, top_of}
 use Rattle.hx_model.proofs.States.{same_text_self}
-use Rattle.hx_steady.specs.Served.{line_object}
 use Rattle.hx_steady.proofs.Lines as steady
 use Rattle.hx_steady.proofs.Lists.{in-provided}
 use Rattle.hx_steady.proofs.Replicas.{state-key}

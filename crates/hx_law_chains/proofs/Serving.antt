@@ -1,4 +1,5 @@
 -- A step of a server: what it keeps of all keys, from how its replicas' slots move and which snapshots it sends.
+use Rattle.hx_model.specs.Lines.{upto}
 use Rattle.std.proofs.Common.{◌≡◌, ℕ, ◌-◌, ◌<◌, ◌≤◌, ◌⊎◌, inl, inr, false, List, [], ◌∷◌, ◌++◌, length, Some, refl, sym, ap, ◌∙◌, subst, arith}
 use Rattle.std.specs.Prelude.{⊤}
 use Rattle.hx_types.specs.declared.calls.Caller.{Caller}
@@ -23,7 +24,7 @@ use Rattle.hx_types.specs.Fitting.{call_of}
 use Rattle.hx_types.specs.Spaces.{IsSpace}
 use Rattle.hx_model.specs.Holders.{snap_state}
 use Rattle.hx_model.specs.ServerSteps.{Replica, ServerState, hearing, if_installed, state_in}
-use Rattle.hx_model.specs.Slots.{KeyState, found_in, upto}
+use Rattle.hx_model.specs.Slots.{KeyState, found_in}
 use Rattle.hx_steady.proofs.Lists.{in-append}
 use Rattle.hx_steady.proofs.Turns.{noted}
 use Rattle.hx_searches.proofs.Chains.{Differ}

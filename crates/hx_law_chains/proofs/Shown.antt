@@ -1,4 +1,5 @@
 -- What a slot at a key's own region shows is what the line up to its top shows, whether it began from a snapshot or not.
+use Rattle.hx_model.specs.Lines.{upto}
 use Rattle.std.proofs.Common.{◌≡◌, ℕ, ◌≤◌, true, List, [], ◌∷◌, ◌++◌, None, refl, sym, ap, ◌∙◌, arith, cond, leb, inl}
 use Rattle.std.proofs.lemmas.Bool.{cond-true, le-leb}
 use Rattle.hx_types.specs.declared.ids.RegionId.{RegionId}
@@ -7,7 +8,7 @@ use Rattle.hx_types.specs.declared.updates.Update.{Update}
 use Rattle.hx_types.specs.Words.{IsIn, provided}
 use Rattle.hx_model.specs.Holders.{only_in}
 use Rattle.hx_model.specs.Regions.{key_region}
-use Rattle.hx_model.specs.Slots.{KeyState, kept_of, kept_row, latest_of, mark_among, marks_after, object_in, object_of, pending_above, top_above, top_of, touches_after, upto}
+use Rattle.hx_model.specs.Slots.{KeyState, kept_of, kept_row, latest_of, mark_among, marks_after, object_in, object_of, pending_above, top_above, top_of, touches_after}
 use Rattle.hx_searches.proofs.Lines.{only-in, top-numbered, upto-low, upto_upto}
 use Rattle.hx_searches.proofs.Passing.{only-key}
 use Rattle.hx_searches.proofs.Placed.{AllMade, made-numbered, made-sorted}

@@ -1,4 +1,5 @@
 -- What a run says of the begins and ends of calls, of replies and of the callers of updates.
+use Rattle.hx_model.specs.Lines.{no_version}
 use Rattle.std.proofs.Common.{◌≡◌, ℕ, ◌<◌, ◌≤◌, ◌⊎◌, inl, inr, true, false, List, [], ◌∷◌, length, Some, refl, ap}
 use Rattle.hx_types.specs.declared.calls.Answer.{Answer}
 use Rattle.hx_types.specs.declared.calls.Caller.{Caller}
@@ -17,7 +18,6 @@ use Rattle.hx_types.specs.declared.traces.Note.TheVariants as a_note
 use Rattle.hx_types.specs.Words.{IsIn, post}
 use Rattle.hx_types.specs.Effects.{is_write, key_of}
 use Rattle.hx_types.specs.Fitting.{call_of, calls_of, is_doubt, is_refused}
-use Rattle.hx_model.specs.SessionSteps.{no_version}
 use Rattle.hx_model.specs.Runs.{session_of}
 use Rattle.hx_model.specs.Histories.{line_of}
 use Rattle.hx_steady.specs.Served.{posts_of}

@@ -1,4 +1,5 @@
 -- Every run keeps what is said of calls.
+use Rattle.hx_model.specs.Lines.{upto}
 use Rattle.std.proofs.Common.{◌≡◌, ℕ, ◌-◌, ◌<◌, ◌⊎◌, inl, inr, List, [], ◌∷◌, refl, sym, ap, ◌∙◌, subst, arith, eqb}
 use Rattle.std.proofs.lemmas.Bool.{cond_both, cond-true, eq-eqb, true≢false}
 use Rattle.hx_types.specs.declared.calls.Caller.{Caller}
@@ -17,7 +18,6 @@ use Rattle.hx_types.specs.Fitting.{calls_of}
 use Rattle.hx_model.specs.SessionSteps.{SessionState, session_step}
 use Rattle.hx_model.specs.Runs.{IsRun, IsStep, Made, MayTake, coordinator_of, made_of, server_of, session_after, session_of}
 use Rattle.hx_model.specs.Histories.{line_notes, line_of}
-use Rattle.hx_model.specs.Slots.{upto}
 use Rattle.hx_linear.proofs.SessionNotes.{started_same}
 use Rattle.hx_linear.proofs.Traces.{arrived}
 use Rattle.hx_searches.proofs.Lines.{in-upto}

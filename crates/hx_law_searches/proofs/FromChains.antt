@@ -1,4 +1,5 @@
 -- What histories and searches need of runs, from what every run keeps of chains.
+use Rattle.hx_model.specs.Lines.{upto}
 use Rattle.std.specs.Prelude.{◌||◌, if◌then◌else◌}
 use Rattle.std.proofs.Common.{◌≡◌, ℕ, ◌≤◌, ◌⊎◌, inl, inr, true, false, List, [], ◌∷◌, length, Option, Some, None, refl, sym, ap, ◌∙◌, subst, arith, eqb}
 use Rattle.std.proofs.lemmas.Bool.{cond-true, cond_both, eq-eqb, false≢true}
@@ -29,7 +30,7 @@ use Rattle.hx_types.specs.Subspaces.{is_key_region}
 use Rattle.hx_types.specs.Fitting.{IsScript, call_of, is_refused}
 use Rattle.hx_model.specs.Runs.{IsRun, coordinator_of, has_halted, is_actor, server_of}
 use Rattle.hx_model.specs.ServerSteps.{Replica, ServerState, hearing, if_installed, replica_of, state_in}
-use Rattle.hx_model.specs.Slots.{KeyState, found_in, kept_row, object_of, upto}
+use Rattle.hx_model.specs.Slots.{KeyState, found_in, kept_row, object_of}
 use Rattle.hx_model.specs.Histories.{line_of}
 use Rattle.hx_steady.specs.Served.{posts_of}
 use Rattle.hx_steady.proofs.Replicas.{replica-found}
