@@ -25,3 +25,5 @@ pub mod Snapped
 pub mod Entries
 pub mod Named
 pub mod Elsewhere
+pub mod Runs
+pub mod Headline
