@@ -1,5 +1,5 @@
 -- What holds updates of a key after a trace: replicas of servers that are up, and snapshots under way to replicas that aren't installed.
-use Rattle.std.proofs.Common.{◌≡◌, ℕ, ◌⊎◌, inl, inr, true, false, List, [], ◌∷◌, ◌++◌, Option, Some, None, refl, sym, ap, ◌∙◌, subst, cond}
+use Rattle.std.proofs.Common.{◌≡◌, ℕ, ◌⊎◌, inl, inr, false, List, Some, refl, sym, ap, ◌∙◌, subst, cond}
 use Rattle.std.proofs.lemmas.Bool.{cond-true, cond-false, eq-eqb, ne_eqb}
 use Rattle.hx_types.specs.declared.configs.Config.{Config}
 use Rattle.hx_types.specs.declared.ids.Actor.{Actor}
@@ -15,7 +15,7 @@ use Rattle.hx_types.specs.declared.updates.Update.{Update}
 use Rattle.hx_types.specs.Words.{IsIn, post, same_server}
 use Rattle.hx_types.specs.Configs.{is_lost}
 use Rattle.hx_model.specs.Holders.{snap_state}
-use Rattle.hx_model.specs.ServerSteps.{Replica, ServerState, replica_of, state_in}
+use Rattle.hx_model.specs.ServerSteps.{Replica, ServerState, state_in}
 use Rattle.hx_model.specs.Slots.{KeyState}
 use Rattle.hx_epochs.proofs.Entries.{view}
 use Rattle.hx_law_epochs.proofs.Facts.{Installed}
@@ -69,17 +69,28 @@ state-here N i q = cond-true (same_server i i) q (N i) (eq-eqb i.0 i.0 refl)
 pub state-off : (N : ServerId → ServerState) (i : ServerId) (q : ServerState) (j : ServerId) → (j ≡ i → ⊥) → with_state_of N i q j ≡ N j
 state-off N i q j n = cond-false (same_server i j) q (N j) (ne_eqb i.0 j.0 (λ e. n (λ k. record { 0 = sym e k })))
 
--- an installed replica of a server that has the newest configuration, in a region that isn't lost, is a seat
-pub seat-of : (script : Script) (Real : ServerId → Type 0) (N : ServerId → ServerState) (c : Config) (L : List ℕ → List Update) (posts : List Post) (known : Config → Type 0) (g : RegionId) (i : ServerId) (q : ServerState)
+-- an installed replica of a server that is up is live
+pub live-of : (space : Space) (Real : ServerId → Type 0) (N : ServerId → ServerState) (c : Config) (key : List ℕ) (g : RegionId) (i : ServerId) (q : ServerState) → N i ≡ q → Up Real N i → (at : Installed q g)
+    → Live space Real N c key g i (view c q (state_in space at.replica key))
+live-of space Real N c key g i q e up at =
+    subst (λ (st : ServerState). (at : Installed st g) → Live space Real N c key g i (view c st (state_in space at.replica key))) e (λ at. record { up = up; at = at; is = refl }) at
+
+-- nothing else is held where it is installed
+pub live-only : (space : Space) (Real : ServerId → Type 0) (N : ServerId → ServerState) (c : Config) (posts : List Post) (key : List ℕ) (g : RegionId) (i : ServerId) (q : ServerState) → N i ≡ q → (at : Installed q g)
+    → (t : KeyState) → Live space Real N c key g i t ⊎ UnderWay space Real N c posts key g i t → t ≡ view c q (state_in space at.replica key)
+live-only space Real N c posts key g i q e at t h =
+    subst (λ (st : ServerState). (at : Installed st g) → t ≡ view c st (state_in space at.replica key)) e (λ at. elim h [
+      | inl l ↦ l.is ∙ ap (λ (r : Replica). view c (N i) (state_in space r key)) (one-replica (N i) g l.at at)
+      | inr w ↦ absurd (w.empty at)
+    ]) at
+
+-- an installed replica in a region that isn't lost is a seat
+abbrev pub seat-of : (script : Script) (Real : ServerId → Type 0) (N : ServerId → ServerState) (c : Config) (L : List ℕ → List Update) (posts : List Post) (known : Config → Type 0) (g : RegionId) (i : ServerId) (q : ServerState)
     → N i ≡ q → Up Real N i → (at : Installed q g) → is_lost c g ≡ false → Seat script (world_of script Real N c L posts known) g i
-seat-of script Real N c L posts known g i q e up at alive =
-    subst (λ (st : ServerState). Installed st g → Seat script (world_of script Real N c L posts known) g i) e (λ at. record {
-      slot = λ key. view c (N i) (state_in script.space at.replica key);
-      held = λ key. inl (record { up = up; at = at; is = refl });
-      only = λ key t h. elim h [
-        | inl l ↦ l.is ∙ ap (λ (r : Replica). view c (N i) (state_in script.space r key)) (one-replica (N i) g l.at at)
-        | inr w ↦ absurd (w.empty at)
-      ];
-      installed = at;
-      alive = alive;
-    }) at
+seat-of script Real N c L posts known g i q e up at alive = record {
+  slot = λ key. view c q (state_in script.space at.replica key);
+  held = λ key. inl (live-of script.space Real N c key g i q e up at);
+  only = λ key t h. live-only script.space Real N c posts key g i q e at t h;
+  installed = subst (λ (st : ServerState). Installed st g) (sym e) at;
+  alive = alive;
+}

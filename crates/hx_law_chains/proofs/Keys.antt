@@ -1,4 +1,5 @@
 -- What is kept of a key when its holders move.
+use Rattle.hx_model.specs.Lines.{line_object}
 use Rattle.std.proofs.Common.{◌≡◌, ℕ, ◌≤◌, ◌⊎◌, inl, inr, true, List, length, Some, sym, ap, ◌∙◌, subst, arith}
 use Rattle.std.proofs.lemmas.Bool.{cases_eq}
 use Rattle.hx_types.specs.declared.calls.Answer.{Answer}
@@ -20,7 +21,6 @@ use Rattle.hx_types.specs.Spaces.{IsSpace}
 use Rattle.hx_model.specs.Regions.{key_region}
 use Rattle.hx_model.specs.ServerSteps.{get_answer}
 use Rattle.hx_model.specs.Slots.{Acknowledge, Commit, Forget, Hold, KeyState, Move, Take, after_at, has_place, moved_all, top_of}
-use Rattle.hx_steady.specs.Served.{line_object}
 use Rattle.hx_linear.proofs.Lines.{in-below}
 use Rattle.hx_searches.proofs.Chains.{Differ}
 use Rattle.hx_searches.proofs.Slots.{places-apart}

@@ -14,3 +14,15 @@ pub mod Shown
 pub mod Leader
 pub mod Holders
 pub mod Serving
+pub mod Late
+pub mod Slotted
+pub mod Rows
+pub mod Messages
+pub mod Sending
+pub mod Ticks
+pub mod Adopting
+pub mod Snapped
+pub mod Entries
+pub mod Named
+pub mod Elsewhere
+pub mod Runs

@@ -1,10 +1,11 @@
 -- The part of a line with a place in a region, up to a version.
+use Rattle.hx_model.specs.Lines.{upto}
 use Rattle.std.proofs.Common.{◌≡◌, ℕ, ◌<◌, ◌≤◌, inl, inr, true, List, [], ◌∷◌, ◌++◌, refl, sym, ap, ◌∙◌, arith, leb}
 use Rattle.std.proofs.lemmas.Bool.{cond_both, cond-false, leb-true}
 use Rattle.hx_types.specs.declared.ids.RegionId.{RegionId}
 use Rattle.hx_types.specs.declared.updates.Update.{Update}
 use Rattle.hx_types.specs.Words.{IsIn}
-use Rattle.hx_model.specs.Slots.{has_place, top_above, upto}
+use Rattle.hx_model.specs.Slots.{has_place, top_above}
 use Rattle.hx_steady.proofs.Lists.{in-append, in_left}
 use Rattle.hx_folds.specs.Folding.{Descends}
 use Rattle.hx_searches.proofs.Lines.{Sorted, in-only, only, only-in, only-sorted, top-least, upto_all, upto_next}

@@ -1,9 +1,7 @@
 -- What an installed replica posts of an update that it has accepted or committed: to the next one, to the previous one, or to the caller.
-use Rattle.std.proofs.Common.{◌≡◌, ℕ, ◌≤◌, ◌⊎◌, inl, inr, true, false, List, [], ◌∷◌, length, Option, Some, None, refl, sym, ap, ◌∙◌, subst, arith}
+use Rattle.std.proofs.Common.{◌≡◌, ℕ, ◌≤◌, inl, inr, true, false, List, Some, refl, sym, ap, ◌∙◌, subst, arith}
 use Rattle.std.specs.Prelude.{⊤}
 use Rattle.std.specs.List.{flat_map}
-use Rattle.hx_types.specs.declared.calls.Op.{Op}
-use Rattle.hx_types.specs.declared.configs.Member.{Member}
 use Rattle.hx_types.specs.declared.ids.RegionId.{RegionId}
 use Rattle.hx_types.specs.declared.ids.ServerId.{ServerId}
 use Rattle.hx_types.specs.declared.messages.Post.{Post}
@@ -13,7 +11,7 @@ use Rattle.hx_types.specs.declared.traces.Script.{Script}
 use Rattle.hx_types.specs.declared.updates.Update.{Update}
 use Rattle.hx_types.specs.Words.{IsIn}
 use Rattle.hx_types.specs.Configs.{head_of, is_lost, members_of}
-use Rattle.hx_types.specs.Effects.{is_write, key_of}
+use Rattle.hx_types.specs.Effects.{is_write}
 use Rattle.hx_types.specs.Spaces.{IsSpace}
 use Rattle.hx_model.specs.Neighbours.{next_of, place_number, region_at}
 use Rattle.hx_model.specs.Regions.{key_region}
@@ -25,11 +23,11 @@ use Rattle.hx_searches.proofs.Passing.{passes-key}
 use Rattle.hx_searches.proofs.Slots.{places-apart}
 use Rattle.hx_epochs.proofs.Posts.{same-key}
 use Rattle.hx_law_epochs.proofs.Members.{order}
-use Rattle.hx_law_epochs.proofs.Neighbours.{IsNext, IsPrevious, leader-first, leader-stands, next-is, previous-is, previous-none}
+use Rattle.hx_law_epochs.proofs.Neighbours.{leader-first, leader-stands, next-is, previous-is, previous-none}
 use Rattle.hx_law_epochs.proofs.Positions.{HasPlace, number-placed, number-region, place-at, placed-number, stands-trans}
 use Rattle.hx_law_chains.proofs.Moves.{Promise}
 use Rattle.hx_law_chains.proofs.Places.{key-first}
-use Rattle.hx_law_chains.proofs.World.{Acking, After, Ahead, Along, Before, Closed, Filled, Here, KeyOk, Law, Sending, Told, Valid, World, around, law-of, lawful-made, spot}
+use Rattle.hx_law_chains.proofs.World.{Acking, After, Along, Before, Closed, Filled, Here, KeyOk, Law, Sending, Told, Valid, World, around, law-of, lawful-made, spot}
 
 -- an installed replica in a region that isn't lost, with its slots
 pub record Seat (script : Script) (w : World) (g : RegionId) (i : ServerId) : Type 0 where
@@ -61,7 +59,7 @@ module _ (script : Script) (valid : IsSpace script.space) (w : World) (ok : (key
 
   module _ (u : Update) (k : Known u) where
     -- the law of the update
-    abbrev law : (older : List Update) × Law script w.known u.key older u
+    abbrev pub law : (older : List Update) × Law script w.known u.key older u
     law = law-of script w.known u.key (w.line u.key) u (ok u.key).lawful k.stands
 
     -- no region stands twice among its places

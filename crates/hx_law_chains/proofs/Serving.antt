@@ -1,11 +1,10 @@
 -- A step of a server: what it keeps of all keys, from how its replicas' slots move and which snapshots it sends.
-use Rattle.std.proofs.Common.{◌≡◌, ℕ, ◌-◌, ◌<◌, ◌≤◌, ◌⊎◌, inl, inr, true, false, List, [], ◌∷◌, ◌++◌, length, Option, Some, None, refl, sym, ap, ◌∙◌, subst, arith}
+use Rattle.hx_model.specs.Lines.{upto}
+use Rattle.std.proofs.Common.{◌≡◌, ℕ, ◌-◌, ◌<◌, ◌≤◌, ◌⊎◌, inl, inr, false, List, [], ◌∷◌, ◌++◌, length, Some, refl, sym, ap, ◌∙◌, subst, arith}
 use Rattle.std.specs.Prelude.{⊤}
 use Rattle.hx_types.specs.declared.calls.Caller.{Caller}
 use Rattle.hx_types.specs.declared.calls.Op.TheVariants.{Get}
-use Rattle.hx_types.specs.declared.calls.Row.{Row}
 use Rattle.hx_types.specs.declared.configs.Config.{Config}
-use Rattle.hx_types.specs.declared.configs.Member.{Member}
 use Rattle.hx_types.specs.declared.ids.Actor.{Actor}
 use Rattle.hx_types.specs.declared.ids.Actor.TheVariants.{Server}
 use Rattle.hx_types.specs.declared.ids.Epoch.{Epoch}
@@ -24,21 +23,20 @@ use Rattle.hx_types.specs.Configs.{members_of}
 use Rattle.hx_types.specs.Fitting.{call_of}
 use Rattle.hx_types.specs.Spaces.{IsSpace}
 use Rattle.hx_model.specs.Holders.{snap_state}
-use Rattle.hx_model.specs.Regions.{key_region}
-use Rattle.hx_model.specs.ServerSteps.{Replica, ServerState, ServerStep, hearing, if_installed, state_in}
-use Rattle.hx_model.specs.Slots.{KeyState, found_in, upto}
+use Rattle.hx_model.specs.ServerSteps.{Replica, ServerState, hearing, if_installed, state_in}
+use Rattle.hx_model.specs.Slots.{KeyState, found_in}
 use Rattle.hx_steady.proofs.Lists.{in-append}
 use Rattle.hx_steady.proofs.Turns.{noted}
 use Rattle.hx_searches.proofs.Chains.{Differ}
 use Rattle.hx_epochs.proofs.Entries.{view}
-use Rattle.hx_epochs.proofs.Lines.{More, more_same}
+use Rattle.hx_epochs.proofs.Lines.{More}
 use Rattle.hx_epochs.proofs.Moved.{which-server}
 use Rattle.hx_epochs.proofs.World.{at_session}
 use Rattle.hx_law_epochs.proofs.Facts.{Installed}
-use Rattle.hx_law_chains.proofs.Holders.{Live, UnderWay, Up, state-here, state-off, with_state_of, world_of}
+use Rattle.hx_law_chains.proofs.Holders.{Live, Up, state-here, state-off, with_state_of, world_of}
 use Rattle.hx_law_chains.proofs.Joining.{Twin, acking_joined, along_joined, fixed_joined, joined, key_joined, sending_joined}
-use Rattle.hx_law_chains.proofs.Keys.{Below, Change, Moved, Turn, acking_up, along_up, below-all, changed, fixed_up, key_after, sending_up, told_up, valid_up}
-use Rattle.hx_law_chains.proofs.World.{Acking, Along, Fixed, KeyOk, Lawful, Sending, Told, Valid, World}
+use Rattle.hx_law_chains.proofs.Keys.{Below, Change, Moved, Turn, acking_up, along_up, changed, fixed_up, key_after, sending_up, told_up, valid_up}
+use Rattle.hx_law_chains.proofs.World.{Along, Fixed, KeyOk, Lawful, Valid, World}
 
 -- where all stand before a server's step
 pub record Scene : Type 1 where
@@ -108,15 +106,19 @@ module _ (e : Scene) (valid : IsSpace e.script.space) (ok : (key : List ℕ) →
   abbrev pub mid : World
   mid = changed (world e) (joined (world e) Sent)
 
-  -- how each slot of the server comes to be after the step, and each snapshot is its sender's twin
+  -- how each slot of a key comes to be after the step
+  pub record KeyActs (key : List ℕ) : Type 0 where
+    pub number : ℕ
+    pub more : More number (e.line key) (noted e.line notes key)
+    pub lawful : Lawful e.script e.known key (noted e.line notes key)
+    pub below : Below e.script mid key number
+    pub mine : (g : RegionId) (at : Installed q g) → q.halted ≡ false → Moved e.script mid key (noted e.line notes key) g i (view e.config q (state_in e.script.space at.replica key))
+
+  -- and each snapshot is its sender's twin
   pub record Acts : Type 0 where
     pub grows : (g : RegionId) → Installed (e.servers i) g → Installed q g
     pub twins : (key : List ℕ) (g : RegionId) (s : ServerId) (t : KeyState) → Sent key g s t → Twin e.script (world e) key g s t
-    pub upto_is : List ℕ → ℕ
-    pub more : (key : List ℕ) → More (upto_is key) (e.line key) (noted e.line notes key)
-    pub lawful : (key : List ℕ) → Lawful e.script e.known key (noted e.line notes key)
-    pub below : (key : List ℕ) → Below e.script mid key (upto_is key)
-    pub mine : (key : List ℕ) (g : RegionId) (at : Installed q g) → q.halted ≡ false → Moved e.script mid key (noted e.line notes key) g i (view e.config q (state_in e.script.space at.replica key))
+    pub keyed : (key : List ℕ) → KeyActs key
 
   module _ (acts : Acts) where
     -- what holds of each key once they are sent
@@ -128,7 +130,7 @@ module _ (e : Scene) (valid : IsSpace e.script.space) (ok : (key : List ℕ) →
     change = record { line = noted e.line notes; holds = (world (after e i q notes new)).holds; installed = λ g s. Installed (N s) g }
 
     -- an installed replica stays so
-    kept : (g : RegionId) (s : ServerId) → Installed (e.servers s) g → Installed (N s) g
+    pub kept : (g : RegionId) (s : ServerId) → Installed (e.servers s) g → Installed (N s) g
     kept g s h = elim (which-server s i) [
       | inl z ↦ subst (λ (x : ServerId). Installed (N x) g) (sym z) (subst (λ (st : ServerState). Installed st g) (sym (state-here e.servers i q)) (acts.grows g (subst (λ (x : ServerId). Installed (e.servers x) g) z h)))
       | inr n ↦ subst (λ (st : ServerState). Installed st g) (sym (state-off e.servers i q s n)) h
@@ -170,29 +172,29 @@ module _ (e : Scene) (valid : IsSpace e.script.space) (ok : (key : List ℕ) →
           where
             by : (st : ServerState) → st ≡ q → (at : Installed st g) → st.halted ≡ false → t ≡ view e.config st (state_in e.script.space at.replica key) → Moved e.script mid key (noted e.line notes key) g i t
             by st z = subst (λ (x : ServerState). (at : Installed x g) → x.halted ≡ false → t ≡ view e.config x (state_in e.script.space at.replica key) → Moved e.script mid key (noted e.line notes key) g i t) (sym z)
-                (λ at h is. subst (Moved e.script mid key (noted e.line notes key) g i) (sym is) (acts.mine key g at h))
+                (λ at h is. subst (Moved e.script mid key (noted e.line notes key) g i) (sym is) ((acts.keyed key).mine g at h))
 
     -- the turn of each key
-    pub turn : (key : List ℕ) → Turn e.script mid change key (acts.upto_is key)
-    turn key = record { more = acts.more key; lawful = acts.lawful key; below = acts.below key; moved = moved key }
+    pub turn : (key : List ℕ) → Turn e.script mid change key ((acts.keyed key).number)
+    turn key = record { more = (acts.keyed key).more; lawful = (acts.keyed key).lawful; below = (acts.keyed key).below; moved = moved key }
 
     -- what holds of each key after
     pub keys-after : (key : List ℕ) → KeyOk e.script (world (after e i q notes new)) key
-    keys-after key = key_after e.script mid change kept key (acts.upto_is key) (mid-ok key) (turn key)
+    keys-after key = key_after e.script mid change kept key ((acts.keyed key).number) (mid-ok key) (turn key)
 
     -- each post stays true
     pub still-after : (from to : Actor) (m : Message) → Valid e.script (world e) from to m → Valid e.script (world (after e i q notes new)) from to m
     still-after = valid_up e.script (world e) (world (after e i q notes new)) (omega arith)
-        (λ key g s u z h. sending_up e.script mid change kept key (acts.upto_is key) (mid-ok key) (turn key) g s u (sending_joined e.script valid (world e) differ Sent acts.twins key (ok key) g s u h))
-        (λ key g s v z h. acking_up e.script mid change kept key (acts.upto_is key) (mid-ok key) (turn key) g s v (acking_joined e.script valid (world e) differ Sent acts.twins key (ok key) g s v h))
-        (λ key. told_up e.script (world e) (world (after e i q notes new)) key (acts.upto_is key) (ok key) (acts.more key)
-        (λ v f. (acts.below key).fixed v (fixed_joined e.script valid (world e) differ Sent acts.twins key (ok key) v f))
-        (λ v l a. along_up e.script mid change kept key (acts.upto_is key) (mid-ok key) (turn key) v l (along_joined e.script valid (world e) differ Sent acts.twins key (ok key) v a)))
+        (λ key g s u z h. sending_up e.script mid change kept key ((acts.keyed key).number) (mid-ok key) (turn key) g s u (sending_joined e.script valid (world e) differ Sent acts.twins key (ok key) g s u h))
+        (λ key g s v z h. acking_up e.script mid change kept key ((acts.keyed key).number) (mid-ok key) (turn key) g s v (acking_joined e.script valid (world e) differ Sent acts.twins key (ok key) g s v h))
+        (λ key. told_up e.script (world e) (world (after e i q notes new)) key ((acts.keyed key).number) (ok key) (acts.keyed key).more
+        (λ v f. (acts.keyed key).below.fixed v (fixed_joined e.script valid (world e) differ Sent acts.twins key (ok key) v f))
+        (λ v l a. along_up e.script mid change kept key ((acts.keyed key).number) (mid-ok key) (turn key) v l (along_joined e.script valid (world e) differ Sent acts.twins key (ok key) v a)))
 
     -- what is fixed stays so
     pub fixed-after : (key : List ℕ) (v : ℕ) → Fixed e.script (world e) key v → Fixed e.script (world (after e i q notes new)) key v × (upto v (noted e.line notes key) ≡ upto v (e.line key))
     fixed-after key v f =
         let m = fixed_joined e.script valid (world e) differ Sent acts.twins key (ok key) v f in (
-          fixed_up e.script mid change kept key (acts.upto_is key) (mid-ok key) (turn key) v m,
-          (acts.more key).same v ((acts.below key).fixed v m),
+          fixed_up e.script mid change kept key ((acts.keyed key).number) (mid-ok key) (turn key) v m,
+          (acts.keyed key).more.same v ((acts.keyed key).below.fixed v m),
         )

@@ -1,20 +1,15 @@
 -- What a slot at a key's own region shows is what the line up to its top shows, whether it began from a snapshot or not.
-use Rattle.std.proofs.Common.{◌≡◌, ℕ, ◌≤◌, Bool, true, List, [], ◌∷◌, ◌++◌, length, Option, None, refl, sym, ap, ◌∙◌, subst, arith, cond, leb, inl}
-use Rattle.std.proofs.lemmas.Bool.{cond_both, cond-true, le-leb}
-use Rattle.hx_types.specs.declared.calls.Row.{Row}
+use Rattle.hx_model.specs.Lines.{upto}
+use Rattle.std.proofs.Common.{◌≡◌, ℕ, ◌≤◌, true, List, [], ◌∷◌, ◌++◌, None, refl, sym, ap, ◌∙◌, arith, cond, leb, inl}
+use Rattle.std.proofs.lemmas.Bool.{cond-true, le-leb}
 use Rattle.hx_types.specs.declared.ids.RegionId.{RegionId}
-use Rattle.hx_types.specs.declared.ids.SessionId.{SessionId}
-use Rattle.hx_types.specs.declared.snapshots.Kept.{Kept}
-use Rattle.hx_types.specs.declared.snapshots.Mark.{Mark}
-use Rattle.hx_types.specs.declared.snapshots.Touch.{Touch}
 use Rattle.hx_types.specs.declared.spaces.Space.{Space}
 use Rattle.hx_types.specs.declared.updates.Update.{Update}
 use Rattle.hx_types.specs.Words.{IsIn, provided}
 use Rattle.hx_model.specs.Holders.{only_in}
 use Rattle.hx_model.specs.Regions.{key_region}
-use Rattle.hx_model.specs.Slots.{KeyState, kept_of, kept_row, latest_of, mark_among, marks_after, object_in, object_of, pending_above, top_above, top_of, touches_after, upto}
-use Rattle.hx_linear.proofs.Lines.{Numbered}
-use Rattle.hx_searches.proofs.Lines.{only, only-in, top-numbered, upto-low, upto_upto}
+use Rattle.hx_model.specs.Slots.{KeyState, kept_of, kept_row, latest_of, mark_among, marks_after, object_in, object_of, pending_above, top_above, top_of, touches_after}
+use Rattle.hx_searches.proofs.Lines.{only-in, top-numbered, upto-low, upto_upto}
 use Rattle.hx_searches.proofs.Passing.{only-key}
 use Rattle.hx_searches.proofs.Placed.{AllMade, made-numbered, made-sorted}
 use Rattle.hx_halts.proofs.Made.{made-upto}
@@ -51,7 +46,7 @@ module _ (space : Space) (key : List ℕ) (line : List Update) (made : AllMade s
       sym (top-numbered us (made-numbered space key us (made-upto space key (top_of t) line made)) ∙ length-upto (top_of t) line n own.top_line)
 
   -- up to the floor it is the line up to the floor
-  floor-part : upto t.floor us ≡ upto t.floor line
+  pub floor-part : upto t.floor us ≡ upto t.floor line
   floor-part = upto_upto t.floor (top_of t) line own.content.floor
 
   -- the same is pending
@@ -62,7 +57,7 @@ module _ (space : Space) (key : List ℕ) (line : List Update) (made : AllMade s
       ∙ ap (pending_above t.floor) (sym own.content.list ∙ all-in (top_of t))
 
   -- a fold over the part in the region is that over the line
-  object-same : object_of g t ≡ kept_row g None (upto t.floor us)
+  pub object-same : object_of g t ≡ kept_row g None (upto t.floor us)
   object-same = object-line g line (sorted-descends line (made-sorted space key line made)) t slot own.content ∙ ap (kept_row g None) (all-in t.floor ∙ sym floor-part)
 
   latest-same : latest_of g t ≡ object_in (kept_row g None us)

@@ -1,4 +1,5 @@
 -- Where all stand: the lines, what holds updates at each position of a region, and what is said of a key's holders and of posts.
+use Rattle.hx_model.specs.Lines.{line_object, upto}
 use Rattle.std.proofs.Common.{◌≡◌, ℕ, ◌<◌, ◌≤◌, ◌⊎◌, inl, inr, true, false, List, [], ◌∷◌, length, Some, sym, subst}
 use Rattle.std.specs.Prelude.{⊤}
 use Rattle.std.proofs.lemmas.Bool.{cond_both}
@@ -29,9 +30,8 @@ use Rattle.hx_model.specs.Regions.{key_region}
 use Rattle.hx_model.specs.Places.{places_of}
 use Rattle.hx_model.specs.Leading.{first_lost}
 use Rattle.hx_model.specs.Neighbours.{region_at}
-use Rattle.hx_model.specs.Slots.{KeyState, has_place, top_of, touches_after, upto}
+use Rattle.hx_model.specs.Slots.{KeyState, has_place, top_of, touches_after}
 use Rattle.hx_model.specs.ServerSteps.{Spot, get_answer, next_at}
-use Rattle.hx_steady.specs.Served.{line_object}
 use Rattle.hx_linear.proofs.Lines.{Numbered}
 use Rattle.hx_searches.proofs.Lines.{Sorted, numbered-sorted}
 use Rattle.hx_searches.proofs.Placed.{AllMade, Made}

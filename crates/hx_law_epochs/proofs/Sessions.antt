@@ -1,4 +1,5 @@
 -- What sessions post and note says nothing of epochs, and they adopt only what is delivered to them.
+use Rattle.hx_model.specs.Lines.{no_version}
 use Rattle.std.proofs.Common.{◌≡◌, ℕ, ◌+◌, ◌<◌, ◌⊎◌, inl, inr, Bool, true, false, if◌then◌else◌, List, [], ◌++◌, Option, Some, None, refl, ap, ◌∙◌, map, eqb, ltb}
 use Rattle.std.proofs.lemmas.Bool.{cond_both, ltb-true}
 use Rattle.std.specs.Prelude.{◌&&◌}
@@ -26,7 +27,7 @@ use Rattle.hx_types.specs.Fitting.{numbered}
 use Rattle.hx_model.specs.Causes.{config_noted}
 use Rattle.hx_model.specs.Planning.{plan_of}
 use Rattle.hx_model.specs.Regions.{key_region}
-use Rattle.hx_model.specs.SessionSteps.{SessionState, SessionStep, all_parts, ask_regions, awaits, begin, call_under_way, end_with_parts, ending, found_step, is_administrative, is_key_call, is_search, lacks_part, merged_parts, no_version, send, send_to, session_message, session_step, staying, with_part, with_poll}
+use Rattle.hx_model.specs.SessionSteps.{SessionState, SessionStep, all_parts, ask_regions, awaits, begin, call_under_way, end_with_parts, ending, found_step, is_administrative, is_key_call, is_search, lacks_part, merged_parts, send, send_to, session_message, session_step, staying, with_part, with_poll}
 use Rattle.hx_linear.proofs.SessionMessages.{began_notes, started}
 use Rattle.hx_linear.proofs.SessionTurns.{CallStop, end_notes}
 use Rattle.hx_epochs.proofs.SessionMessages.{session_turn}

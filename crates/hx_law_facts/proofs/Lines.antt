@@ -1,4 +1,5 @@
 -- What follows of a key's line: it is numbered, each update passes its places, and no caller stands twice.
+use Rattle.hx_model.specs.Lines.{line_object, upto}
 use Rattle.std.proofs.Common.{◌≡◌, ℕ, inl, inr, false, List, [], ◌∷◌, sym, ap, ◌∙◌, subst, arith, leb}
 use Rattle.std.proofs.lemmas.Bool.{cond_both}
 use Rattle.hx_types.specs.declared.calls.Caller.{Caller}
@@ -6,8 +7,6 @@ use Rattle.hx_types.specs.declared.traces.Script.{Script}
 use Rattle.hx_types.specs.declared.updates.Update.{Update}
 use Rattle.hx_types.specs.Words.{IsIn}
 use Rattle.hx_types.specs.Fitting.{is_done}
-use Rattle.hx_model.specs.Slots.{upto}
-use Rattle.hx_steady.specs.Served.{line_object}
 use Rattle.hx_steady.proofs.Leader.{effect-same}
 use Rattle.hx_searches.proofs.Lines.{Numbered, Sorted, numbered-sorted}
 use Rattle.hx_searches.proofs.Placed.{AllMade, Made}

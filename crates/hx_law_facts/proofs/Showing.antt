@@ -1,4 +1,5 @@
 -- The rows that a replica finds, where each of its slots keeps what its region keeps of the key's line up to a front.
+use Rattle.hx_model.specs.Lines.{upto}
 use Rattle.std.proofs.Common.{◌≡◌, ℕ, inl, inr, true, List, Some, None, sym, ap, ◌∙◌, subst}
 use Rattle.hx_types.specs.declared.calls.Row.{Row}
 use Rattle.hx_types.specs.declared.ids.RegionId.{RegionId}
@@ -8,7 +9,7 @@ use Rattle.hx_types.specs.declared.values.Term.{Term}
 use Rattle.hx_types.specs.Words.{IsIn}
 use Rattle.hx_types.specs.Subspaces.{is_key_region}
 use Rattle.hx_model.specs.Matching.{matches}
-use Rattle.hx_model.specs.Slots.{KeyState, found_in, kept_row, object_of, rows_of, upto}
+use Rattle.hx_model.specs.Slots.{KeyState, found_in, kept_row, object_of, rows_of}
 use Rattle.hx_model.specs.ServerSteps.{Replica, state_in}
 use Rattle.hx_steady.proofs.Lists.{in-filter}
 use Rattle.hx_steady.proofs.Replicas.{state-from}

@@ -1,4 +1,5 @@
 -- What histories and searches need of the runs of a script, in words of traces, lines and posts alone.
+use Rattle.hx_model.specs.Lines.{line_object, upto}
 use Rattle.std.specs.Prelude.{◌≡◌, ℕ, ◌+◌, ◌-◌, ◌<◌, ◌≤◌, ◌⊎◌, true, false, List, [], ◌∷◌, length, ⊤, None, Some}
 use Rattle.std.specs.List.{filter}
 use Rattle.hx_types.specs.declared.calls.Answer.{Answer}
@@ -24,11 +25,11 @@ use Rattle.hx_types.specs.Effects.{effect_of, is_write, key_of}
 use Rattle.hx_types.specs.Fitting.{call_of, is_done, is_doubt, is_refused}
 use Rattle.hx_model.specs.Matching.{matches}
 use Rattle.hx_model.specs.Places.{places_of}
-use Rattle.hx_model.specs.Slots.{has_place, kept_row, touches_after, upto}
+use Rattle.hx_model.specs.Slots.{has_place, kept_row, touches_after}
 use Rattle.hx_model.specs.ServerSteps.{get_answer}
 use Rattle.hx_model.specs.Runs.{IsRun}
 use Rattle.hx_model.specs.Histories.{line_of}
-use Rattle.hx_steady.specs.Served.{line_object, posts_of}
+use Rattle.hx_steady.specs.Served.{posts_of}
 
 -- ---- lines
 

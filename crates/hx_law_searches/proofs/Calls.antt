@@ -1,4 +1,5 @@
 -- What a run says of the begins and ends of calls, of replies and of the callers of updates.
+use Rattle.hx_model.specs.Lines.{no_version}
 use Rattle.std.proofs.Common.{◌≡◌, ℕ, ◌<◌, ◌≤◌, ◌⊎◌, inl, inr, true, false, List, [], ◌∷◌, length, Some, refl, ap}
 use Rattle.hx_types.specs.declared.calls.Answer.{Answer}
 use Rattle.hx_types.specs.declared.calls.Caller.{Caller}
@@ -16,8 +17,7 @@ use Rattle.hx_types.specs.declared.ids.Actor.TheVariants.{Session}
 use Rattle.hx_types.specs.declared.traces.Note.TheVariants as a_note
 use Rattle.hx_types.specs.Words.{IsIn, post}
 use Rattle.hx_types.specs.Effects.{is_write, key_of}
-use Rattle.hx_types.specs.Fitting.{call_of, calls_of, is_doubt, is_refused}
-use Rattle.hx_model.specs.SessionSteps.{no_version}
+use Rattle.hx_types.specs.Fitting.{call_of, is_doubt, is_refused}
 use Rattle.hx_model.specs.Runs.{session_of}
 use Rattle.hx_model.specs.Histories.{line_of}
 use Rattle.hx_steady.specs.Served.{posts_of}
@@ -77,10 +77,6 @@ pub record Calls (script : Script) (t : List Entry) : Type 0 where
   pub lined : (key : List ℕ) (u : Update) → IsIn u (line_of key t) → WasPosted t u.caller
   pub ordered : (a : Caller) (v : Version) (answer : Answer) (b : Caller) → EndedFirst t a v answer b → (op : Op) (key : List ℕ) → call_of script a ≡ Some op
       → key_of op ≡ Some key → is_doubt answer ≡ false → LaterThan script t v.0 b key
-
--- the names and calls of sessions are the script's
-abbrev pub AreNamed : Script → List Entry → Type 0
-AreNamed script t = (u : SessionId) → ((session_of script u t).id ≡ u) × ((session_of script u t).calls ≡ calls_of script u)
 
 -- who ended without a doubt was told, or has version 0
 pub ended-known : (script : Script) (t : List Entry) (c : Caller) (v : Version) (a : Answer) → Ends script t c v a → (op : Op) (key : List ℕ) → call_of script c ≡ Some op → key_of op ≡ Some key

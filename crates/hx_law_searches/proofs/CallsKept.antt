@@ -1,24 +1,21 @@
 -- Every run keeps what is said of calls.
+use Rattle.hx_model.specs.Lines.{upto}
 use Rattle.std.proofs.Common.{◌≡◌, ℕ, ◌-◌, ◌<◌, ◌⊎◌, inl, inr, List, [], ◌∷◌, refl, sym, ap, ◌∙◌, subst, arith, eqb}
-use Rattle.std.proofs.lemmas.Bool.{cond_both, cond-true, eq-eqb, true≢false}
+use Rattle.std.proofs.lemmas.Bool.{cond-true, eq-eqb, true≢false}
 use Rattle.hx_types.specs.declared.calls.Caller.{Caller}
 use Rattle.hx_types.specs.declared.messages.Post.{Post}
 use Rattle.hx_types.specs.declared.ids.Actor.{Actor}
 use Rattle.hx_types.specs.declared.ids.ServerId.{ServerId}
 use Rattle.hx_types.specs.declared.ids.SessionId.{SessionId}
 use Rattle.hx_types.specs.declared.traces.Entry.{Entry}
-use Rattle.hx_types.specs.declared.traces.Note.{Note}
 use Rattle.hx_types.specs.declared.traces.Script.{Script}
 use Rattle.hx_types.specs.declared.updates.Update.{Update}
 use Rattle.hx_types.specs.declared.messages.Message.TheVariants as a_message
 use Rattle.hx_types.specs.declared.ids.Actor.TheVariants.{Coordinator, Server, Session}
 use Rattle.hx_types.specs.Words.{IsIn, post}
-use Rattle.hx_types.specs.Fitting.{calls_of}
-use Rattle.hx_model.specs.SessionSteps.{SessionState, session_step}
+use Rattle.hx_model.specs.SessionSteps.{session_step}
 use Rattle.hx_model.specs.Runs.{IsRun, IsStep, Made, MayTake, coordinator_of, made_of, server_of, session_after, session_of}
 use Rattle.hx_model.specs.Histories.{line_notes, line_of}
-use Rattle.hx_model.specs.Slots.{upto}
-use Rattle.hx_linear.proofs.SessionNotes.{started_same}
 use Rattle.hx_linear.proofs.Traces.{arrived}
 use Rattle.hx_searches.proofs.Lines.{in-upto}
 use Rattle.hx_epochs.proofs.SessionMessages.{SessionTurn, session_turn}
@@ -26,10 +23,12 @@ use Rattle.hx_model.specs.CoordinatorSteps.{coordinator_step}
 use Rattle.hx_law_facts.specs.Facts.{DeliversCall, Facts}
 use Rattle.hx_law_facts.proofs.Lines.{line-numbered}
 use Rattle.hx_linear.proofs.Lines.{in-below}
-use Rattle.hx_law_searches.proofs.Calls.{AreNamed, Calls, IsKnown, WasPosted}
+use Rattle.hx_law_chains.proofs.Elsewhere.{issued-line}
+use Rattle.hx_law_chains.proofs.Named.{named}
+use Rattle.hx_law_searches.proofs.Calls.{Calls, IsKnown, WasPosted}
 use Rattle.hx_law_searches.proofs.CallsElsewhere.{other_calls}
 use Rattle.hx_law_searches.proofs.CallsOfSessions.{session_calls}
-use Rattle.hx_law_chains.proofs.CoordinatorPosts.{Issues, OfCoordinator, coordinator-plain}
+use Rattle.hx_law_chains.proofs.CoordinatorPosts.{OfCoordinator, coordinator-plain}
 use Rattle.hx_law_chains.proofs.ServerPosts.{AnySnapshot, OfServer, server-plain}
 
 -- a session's state after its entry, with what it posts and notes, is that of its step
@@ -60,26 +59,6 @@ calls_start script = record {
   lined = λ key u h. absurd h;
   ordered = λ a v answer b h. absurd h;
 }
-
--- sessions keep their names and calls
-pub named : (script : Script) (t : List Entry) → IsRun script t → AreNamed script t
-named script [] run u = (refl, refl)
-named script (x ∷ older) run u = by (named script older run.1 u) x.actor
-  where
-    by : ((session_of script u older).id ≡ u) × ((session_of script u older).calls ≡ calls_of script u) → (a : Actor)
-        → ((session_after script.space u a x.input (session_of script u older)).id ≡ u) × ((session_after script.space u a x.input (session_of script u older)).calls ≡ calls_of script u)
-    by before Coordinator = before
-    by before (Server i) = before
-    by before (Session w) =
-        cond_both (eqb w.0 u.0) (session_step script.space (session_of script u older) x.input).state (session_of script u older) (λ (s : SessionState). (s.id ≡ u) × (s.calls ≡ calls_of script u))
-        (λ t. let turn = session_turn script.space x.input (session_of script u older) in let same = started_same turn.start (session_of script u older) in
-        (turn.turn.id ∙ same.0 ∙ before.0, turn.turn.calls ∙ same.1 ∙ before.1))
-        (λ t. before)
-
--- where configurations alone are noted each line stays
-pub issued-line : (key : List ℕ) (line : List Update) (notes : List Note) → Issues notes → line_notes key line notes ≡ line
-issued-line key line notes (inl e) = ap (line_notes key line) e
-issued-line key line notes (inr r) = ap (line_notes key line) r.1
 
 module _ (script : Script) (facts : Facts script) (older : List Entry) (calls : Calls script older) (x : Entry) (run : IsRun script (x ∷ older)) where
   -- an entry of the coordinator
@@ -129,7 +108,7 @@ module _ (script : Script) (facts : Facts script) (older : List Entry) (calls : 
       by : (a : Actor) → x.actor ≡ a → Calls script (x ∷ older)
       by Coordinator e = of-coordinator e
       by (Server i) e = of-server i e
-      by (Session u) e = session_calls script older (named script older run.1) calls x u e (subst (λ (a : Actor). MayTake older a x.input) e run.0.input) (turn_is script older x u run.0 e)
+      by (Session u) e = session_calls script older (named script older) calls x u e (subst (λ (a : Actor). MayTake older a x.input) e run.0.input) (turn_is script older x u run.0 e)
 
 -- every run keeps what is said of calls
 pub calls_kept : (script : Script) → Facts script → (t : List Entry) → IsRun script t → Calls script t

@@ -32,7 +32,8 @@ use Rattle.hx_linear.proofs.SessionTurns.{CallStop, goes_on}
 use Rattle.hx_linear.proofs.Traces.{BeganAt, EndedAt, arrived}
 use Rattle.hx_epochs.proofs.SessionMessages.{SessionTurn}
 use Rattle.hx_epochs.proofs.SessionNotes.{begins_now, ends_now, keeps_lines, may_start}
-use Rattle.hx_law_searches.proofs.Calls.{AreNamed, CallSent, Calls, EndedFirst, Ends, LaterThan, NoCall, WasPosted}
+use Rattle.hx_law_chains.proofs.Named.{AreNamed}
+use Rattle.hx_law_searches.proofs.Calls.{CallSent, Calls, EndedFirst, Ends, LaterThan, NoCall, WasPosted}
 
 -- ---- an entry of a session
 module _ (script : Script) (older : List Entry) (named : AreNamed script older) (calls : Calls script older) (x : Entry) (u : SessionId) (acts : x.actor ≡ Session u)

@@ -1,4 +1,5 @@
 -- How far an installed replica's slot shows its key's line: up to a front that is fixed, and that reaches all that is committed along its chain.
+use Rattle.hx_model.specs.Lines.{upto}
 use Rattle.std.proofs.Common.{◌≡◌, ℕ, ◌<◌, ◌≤◌, ◌⊎◌, inl, inr, true, List, [], ◌∷◌, length, None, refl, sym, ap, ◌∙◌, subst, arith, leb}
 use Rattle.std.proofs.lemmas.Bool.{cond_both}
 use Rattle.hx_types.specs.declared.ids.RegionId.{RegionId}
@@ -9,7 +10,7 @@ use Rattle.hx_types.specs.Words.{IsIn}
 use Rattle.hx_types.specs.Configs.{members_of}
 use Rattle.hx_types.specs.Spaces.{IsSpace}
 use Rattle.hx_model.specs.Regions.{key_region}
-use Rattle.hx_model.specs.Slots.{KeyState, has_place, kept_row, object_of, top_above, top_of, upto}
+use Rattle.hx_model.specs.Slots.{KeyState, has_place, kept_row, object_of, top_above, top_of}
 use Rattle.hx_linear.proofs.Lines.{upto_here, upto_past}
 use Rattle.hx_searches.proofs.Chains.{Differ}
 use Rattle.hx_searches.proofs.Lines.{Sorted, in-only, in-top, in-upto, in-upto_from, only, only-in, only-sorted, top-least, upto-low, upto-sorted}

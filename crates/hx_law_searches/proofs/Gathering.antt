@@ -21,7 +21,7 @@ use Rattle.hx_linear.proofs.Traces.{BeganAt, EndedAt, began_at, ended_at}
 use Rattle.hx_searches.proofs.Histories.{end-noted}
 use Rattle.hx_halts.proofs.Asking.{Gathered}
 use Rattle.hx_law_facts.specs.Facts.{Facts}
-use Rattle.hx_law_searches.proofs.CallsKept.{named}
+use Rattle.hx_law_chains.proofs.Named.{named}
 use Rattle.hx_law_searches.proofs.Moments.{part-length}
 use Rattle.hx_law_searches.proofs.Searched.{WasShown, searched-run, shown-up, turn-of}
 
@@ -62,7 +62,7 @@ module _ (script : Script) (facts : Facts script) where
       inl (
         h.2,
         ((turn-of script facts older x run (searched-run script facts older run.1) c.session h.0).ends c.number ver rows terms h.1
-            (ap (λ (l : List Op). numbered l c.number) (named script older run.1 c.session).1 ∙ called)).0,
+            (ap (λ (l : List Op). numbered l c.number) (named script older c.session).1 ∙ called)).0,
       )
 
   -- what was shown before an entry stays so

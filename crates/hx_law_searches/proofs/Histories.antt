@@ -1,4 +1,5 @@
 -- The history of every key is linear.
+use Rattle.hx_model.specs.Lines.{line_object, no_version, upto}
 use Rattle.std.proofs.Common.{◌≡◌, ℕ, ◌+◌, ◌<◌, ◌≤◌, ◌⊎◌, inl, inr, Bool, true, false, not, ◌&&◌, List, [], ◌∷◌, ◌++◌, length, Option, Some, None, refl, sym, ap, ◌∙◌, subst, arith, cond, leb, ltb, append-nil, append_assoc}
 use Rattle.std.specs.Prelude.{reverse}
 use Rattle.std.proofs.lemmas.Bool.{cond_both, and_parts, and_from, leb-true, le-leb, ltb-true, lt-ltb, false≢true, true≢false, cases_lt}
@@ -21,13 +22,11 @@ use Rattle.hx_types.specs.Words.{IsBefore, IsIn, provided, when_some}
 use Rattle.hx_types.specs.Effects.{effect_of, is_write, key_of}
 use Rattle.hx_types.specs.Fitting.{call_of, is_doubt, is_refused}
 use Rattle.hx_model.specs.Runs.{IsRun}
-use Rattle.hx_model.specs.Slots.{top_above, upto}
+use Rattle.hx_model.specs.Slots.{top_above}
 use Rattle.hx_model.specs.ServerSteps.{get_answer}
-use Rattle.hx_model.specs.SessionSteps.{no_version}
 use Rattle.hx_model.specs.Histories.{CallEnd, begin_of, end_of, get_item, get_items, gets_of, history_of, history_on, in_place, is_get_of, line_of, not_refused, note_of_end}
 use Rattle.hx_model.specs.Legal.{IsEffect, IsLegal, object_now}
 use Rattle.hx_model.specs.Linear.{EachOnce, IsCall, IsLinear, ended_before, was_refused}
-use Rattle.hx_steady.specs.Served.{line_object}
 use Rattle.hx_steady.proofs.Calls.{get-of}
 use Rattle.hx_steady.proofs.Lists.{in-append, in-flat_map, in-provided, in_left, in_right}
 use Rattle.hx_linear.proofs.Lines.{in-below, upto_past}

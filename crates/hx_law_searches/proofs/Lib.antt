@@ -16,3 +16,4 @@ pub mod Trueness
 pub mod Wholeness
 pub mod Fronts
 pub mod FromChains
+pub mod Headline

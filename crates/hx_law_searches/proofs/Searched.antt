@@ -28,7 +28,8 @@ use Rattle.hx_linear.proofs.Traces.{BeganAt, arrived}
 use Rattle.hx_halts.proofs.Asking.{Asks, HasParts, SearchTurn, search-turn}
 use Rattle.hx_law_facts.specs.Facts.{Facts, IsPartOf, ShowsRows}
 use Rattle.hx_law_searches.proofs.Calls.{Calls}
-use Rattle.hx_law_searches.proofs.CallsKept.{calls_kept, named, step_is}
+use Rattle.hx_law_searches.proofs.CallsKept.{calls_kept, step_is}
+use Rattle.hx_law_chains.proofs.Named.{named}
 use Rattle.hx_law_chains.proofs.CoordinatorPosts.{OfCoordinator, coordinator-plain}
 use Rattle.hx_law_chains.proofs.ServerPosts.{AnySnapshot, OfServer, server-plain}
 
@@ -231,12 +232,12 @@ module _ (script : Script) (facts : Facts script) (older : List Entry) (x : Entr
       asked-now : (number : ℕ) (terms : List Term) → number ≡ (session_of script v (x ∷ older)).begun → (session_of script v (x ∷ older)).under_way ≡ true → numbered (session_of script v (x ∷ older)).calls (session_of script v (x ∷ older)).begun ≡ Some (Search terms) → AskedBy script (x ∷ older) (Session v) number terms
       asked-now number terms e w q =
           let b = now.running v w in (
-            ap (λ (l : List Op). numbered l number) (sym (named script (x ∷ older) run v).1) ∙ ap (numbered (session_of script v (x ∷ older)).calls) e ∙ q,
+            ap (λ (l : List Op). numbered l number) (sym (named script (x ∷ older) v).1) ∙ ap (numbered (session_of script v (x ∷ older)).calls) e ∙ q,
             (b.0, subst (λ k. BeganAt (x ∷ older) (record { session = v; number = k }) b.0) (sym e) b.1),
           )
 
       asks : (from to : Actor) (m : Message) → from ≡ Session (session_of script v older).id → Asks (session_of script v (x ∷ older)) m → TellsOf script (x ∷ older) from to m
-      asks from to (a_message.Ask epoch number g terms) f h = subst (λ (a : Actor). AskedBy script (x ∷ older) a number terms) (sym (f ∙ ap Session (named script older run.1 v).0)) (asked-now number terms h.0 h.1 h.2)
+      asks from to (a_message.Ask epoch number g terms) f h = subst (λ (a : Actor). AskedBy script (x ∷ older) a number terms) (sym (f ∙ ap Session (named script older v).0)) (asked-now number terms h.0 h.1 h.2)
       asks from to (a_message.Found epoch number g rows) f h = absurd h
       asks from to (a_message.Call epoch number op) f h = tt
       asks from to (a_message.Reply number version answer) f h = tt

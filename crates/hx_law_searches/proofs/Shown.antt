@@ -1,4 +1,5 @@
 -- What is known at the end of a run of rows that were shown to a search: they are what the region keeps of each line up to a front that reaches as far as any call that ended before the search began.
+use Rattle.hx_model.specs.Lines.{upto}
 use Rattle.std.proofs.Common.{◌≡◌, ℕ, ◌<◌, ◌≤◌, inl, inr, true, false, List, [], ◌∷◌, length, Some, None, refl, sym, ap, ◌∙◌, subst, arith, leb}
 use Rattle.std.proofs.lemmas.Bool.{cond_both, leb-true, leb-false}
 use Rattle.hx_types.specs.declared.calls.Answer.{Answer}
@@ -16,7 +17,7 @@ use Rattle.hx_types.specs.Words.{IsIn}
 use Rattle.hx_types.specs.Effects.{key_of}
 use Rattle.hx_types.specs.Fitting.{call_of, is_doubt}
 use Rattle.hx_model.specs.Matching.{matches}
-use Rattle.hx_model.specs.Slots.{has_place, kept_row, upto}
+use Rattle.hx_model.specs.Slots.{has_place, kept_row}
 use Rattle.hx_model.specs.Runs.{IsRun}
 use Rattle.hx_model.specs.Histories.{line_of}
 use Rattle.hx_linear.proofs.Lines.{in-below, upto_past}

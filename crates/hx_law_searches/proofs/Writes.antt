@@ -1,4 +1,5 @@
 -- A key's line without what was refused: each update is the effect of its write on the object after those before it, and objects after versions stay.
+use Rattle.hx_model.specs.Lines.{line_object, upto}
 use Rattle.std.proofs.Common.{◌≡◌, ℕ, ◌<◌, ◌≤◌, inl, inr, Bool, true, false, not, List, [], ◌∷◌, Some, refl, sym, ap, ◌∙◌, arith, leb}
 use Rattle.std.proofs.lemmas.Bool.{cond_both, leb-true, leb-false, false≢true}
 use Rattle.hx_types.specs.declared.calls.Op.{Op}
@@ -8,8 +9,6 @@ use Rattle.hx_types.specs.Words.{IsIn}
 use Rattle.hx_types.specs.Effects.{effect_of, is_write, key_of}
 use Rattle.hx_types.specs.Fitting.{call_of, is_refused}
 use Rattle.hx_model.specs.Histories.{not_refused}
-use Rattle.hx_model.specs.Slots.{upto}
-use Rattle.hx_steady.specs.Served.{line_object}
 use Rattle.hx_steady.proofs.Lists.{in-filter}
 use Rattle.hx_linear.proofs.EffectLaws.{effect_well}
 use Rattle.hx_linear.proofs.Lines.{in-below, upto_past}
