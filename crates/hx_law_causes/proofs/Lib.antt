@@ -1,1 +1,4 @@
 pub mod Sessions
+pub mod Outcomes
+pub mod Coordinating
+pub mod Administered

@@ -26,3 +26,4 @@ pub mod Entries
 pub mod Named
 pub mod Elsewhere
 pub mod Runs
+pub mod Headline

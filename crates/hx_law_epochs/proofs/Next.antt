@@ -77,7 +77,7 @@ set-other (a ∷ xs) (suc k) zero y n = refl
 set-other (a ∷ xs) (suc k) (suc j) y n = set-other xs k j y (λ e. n (ap (λ i. suc i) e))
 
 -- the members of a region to which a server is appended, where there are some
-appended-here : (c : Config) (s : ServerId) (g : RegionId) → is_lost c g ≡ false → members_of (appended c s g) g ≡ members_of c g ++ joiner s ∷ []
+pub appended-here : (c : Config) (s : ServerId) (g : RegionId) → is_lost c g ≡ false → members_of (appended c s g) g ≡ members_of c g ++ joiner s ∷ []
 appended-here c s g l = by (slice_get c.regions g.0) refl l
   where
     by : (o : Option (List Member)) → slice_get c.regions g.0 ≡ o → not (any_ready (when_some o [] (λ (ms : List Member). ms))) ≡ false → members_of (appended c s g) g ≡ members_of c g ++ joiner s ∷ []
@@ -93,7 +93,7 @@ joins-there : (ms : List Member) (s : ServerId) → any_joining (ms ++ joiner s 
 joins-there ms s = any-of (λ (m : Member). not m.ready) (ms ++ joiner s ∷ []) (joiner s) (in_right ms (joiner s ∷ []) (joiner s) (inl refl)) refl
 
 -- where nothing speaks against it, the server may join
-judged-may : (c : Config) (s : ServerId) (g : RegionId) → judged c s g ≡ None → MayJoin c s g
+pub judged-may : (c : Config) (s : ServerId) (g : RegionId) → judged c s g ≡ None → MayJoin c s g
 judged-may c s g = by (server_in s c.servers) refl (is_lost c g) refl (lists_ready c g s) refl (any_joining (members_of c g)) refl
   where
     by : (a : Bool) → server_in s c.servers ≡ a → (b : Bool) → is_lost c g ≡ b → (x : Bool) → lists_ready c g s ≡ x → (d : Bool) → any_joining (members_of c g) ≡ d
@@ -116,7 +116,7 @@ judged-may c s g = by (server_in s c.servers) refl (is_lost c g) refl (lists_rea
         ]
 
 -- one more server is appended
-grown-more : (c d : Config) → Grown c d → (s : ServerId) (g : RegionId) → MayJoin d s g → Grown c (appended d s g)
+pub grown-more : (c d : Config) → Grown c d → (s : ServerId) (g : RegionId) → MayJoin d s g → Grown c (appended d s g)
 grown-more c d h s g may = record {
   epoch = h.epoch;
   servers = h.servers;
