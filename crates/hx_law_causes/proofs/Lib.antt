@@ -2,3 +2,4 @@ pub mod Sessions
 pub mod Outcomes
 pub mod Coordinating
 pub mod Administered
+pub mod Refusals

@@ -25,10 +25,24 @@ use Rattle.hx_types.specs.declared.traces.Input.TheVariants.{Tick, Halt, Deliver
 use Rattle.hx_types.specs.declared.traces.Note.TheVariants as a_note
 use Rattle.hx_types.specs.Words.{IsIn, below, post, provided, same_server, same_session, server_in, when_some, without_server}
 use Rattle.hx_types.specs.Configs.{any_ready, is_lost, lists_joining, lists_ready, members_of}
-use Rattle.hx_model.specs.Causes.{administers_to, is_fulfilled, not_listed}
+use Rattle.hx_model.specs.Causes.{is_fulfilled}
 use Rattle.hx_model.specs.CoordinatorSteps.{Answered, CoordinatorState, CoordinatorStep, Issuing, Newest, Phase, Sealing, Steady, Task, add_step, adds, adds_by, adds_steady, again, any_joining, answers_with, appended, by_number, config_without, coordinator_message, coordinator_step, coordinator_tick, die_for, die_posts, does, does_all, gone_step, goes, is_newest_call, is_out, issue, issued, issuing, judged, leaves, newest_answered, newest_of, outcome, ready_now, ready_step, remaining, resting, seal, sealed_now, sealed_step, sealing_or_issue, session_posts, still_sealing, stop_step, stops, telling, to_server, waits_less, with_answer, with_newest, with_number, with_server, with_task}
 use Rattle.hx_steady.proofs.Lists.{any-in, in-append, in-flat_map, in-map, in-provided, in_left, in_right}
 use Rattle.hx_law_epochs.proofs.Next.{Grown, MayJoin, any-of, appended-here, grown-more, joiner, judged-may}
+
+-- a test of the server and the region that an administrative call names
+abbrev pub administers_to : (ServerId → RegionId → Bool) → (ServerId → Bool) → Op → Bool
+administers_to add stop (Put key sets) = false
+administers_to add stop (Get key) = false
+administers_to add stop (Del key) = false
+administers_to add stop (Cput key tests sets) = false
+administers_to add stop (Search terms) = false
+administers_to add stop (Stop s) = stop s
+administers_to add stop (Add s g) = add s g
+
+-- the server that it names is none of the configuration
+abbrev pub not_listed : Op → Config → Bool
+not_listed op config = administers_to (λ s g. not (server_in s config.servers)) (λ s. not (server_in s config.servers)) op
 
 -- the answer is judged on the configuration, of its epoch; Issued only here
 abbrev pub Judged : Type 0 → Config → Op → Answer → Type 0
