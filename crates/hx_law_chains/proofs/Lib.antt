@@ -26,4 +26,6 @@ pub mod Entries
 pub mod Named
 pub mod Elsewhere
 pub mod Runs
+pub mod Doubts
+pub mod Telling
 pub mod Headline
