@@ -28,4 +28,5 @@ pub mod Elsewhere
 pub mod Runs
 pub mod Doubts
 pub mod Telling
+pub mod TellingRows
 pub mod Headline
