@@ -3,3 +3,5 @@ pub mod Outcomes
 pub mod Coordinating
 pub mod Administered
 pub mod Refusals
+pub mod Answered
+pub mod Causes
