@@ -42,7 +42,7 @@ module _ (script : Script) (valid : IsScript script) (trace : List Entry) (run :
   of-epoch older config epoch k e = subst (λ (y : Epoch). config_of script y older ≡ Some config) (sym e) k
 
   -- operations of one call are one
-  same-op : (c : Caller) (a b : Op) → call_of script c ≡ Some a → call_of script c ≡ Some b → a ≡ b
+  pub same-op : (c : Caller) (a b : Op) → call_of script c ≡ Some a → call_of script c ≡ Some b → a ≡ b
   same-op c a b p q = let e : Some a ≡ Some b = sym p ∙ q in cc
 
   -- the server that is named is none of them
@@ -95,7 +95,7 @@ module _ (script : Script) (valid : IsScript script) (trace : List Entry) (run :
       fulfilled = subst (λ (o : Op). is_fulfilled o h.passes.config ≡ true) (same-op c h.passes.op op h.passes.called called) h.passes.holds;
     }
 
-    outcome-has : (a : Answer) → OutcomeCause script older c a → ((m : ℕ) → BeganAt older c m → m ≡ n) → HasCause call a
+    pub outcome-has : (a : Answer) → OutcomeCause script older c a → ((m : ℕ) → BeganAt older c m → m ≡ n) → HasCause call a
     outcome-has (an_answer.Issued epoch) h same = issued epoch h same
     outcome-has (an_answer.Stopped epoch) h same = stopped epoch h
     outcome-has (an_answer.Member epoch) h same = add-refused epoch (λ config s g. lists_ready config g s) h
@@ -132,7 +132,7 @@ module _ (script : Script) (valid : IsScript script) (trace : List Entry) (run :
     lost-in : (config : Config) (g : RegionId) → IsKnown script older config → is_lost config g ≡ true → IsLostIn call config g config.epoch
     lost-in config g k l = record { of_epoch = k; lost = l }
 
-    key-lost : (s : SessionState) (o : Op) (key : List ℕ) → o ≡ op → key_of op ≡ Some key → IsKnown script older s.config → is_lost s.config (key_region script.space key) ≡ true → v ≡ no_version
+    pub key-lost : (s : SessionState) (o : Op) (key : List ℕ) → o ≡ op → key_of op ≡ Some key → IsKnown script older s.config → is_lost s.config (key_region script.space key) ≡ true → v ≡ no_version
         → (is_write op ≡ true → s.sent ≡ true → was_sent c older ≡ true) → (is_write op ≡ true → s.sent ≡ false → was_sent c older ≡ false) → HasCause call (lost_answer s o (key_region script.space key))
     key-lost s o key e on_key k l ver was never =
         subst (λ (x : Op). HasCause call (lost_answer s x (key_region script.space key))) (sym e)
@@ -157,7 +157,7 @@ module _ (script : Script) (valid : IsScript script) (trace : List Entry) (run :
         unsent b e = e
 
   -- a plan that is lost names a lost region
-  plan-lost : (older : List Entry) (c : Caller) (terms : List Term) (n : ℕ) (v : Version) (config : Config) (g : RegionId) → IsKnown script older config → plan_of script.space config terms ≡ a_plan.Lost g
+  pub plan-lost : (older : List Entry) (c : Caller) (terms : List Term) (n : ℕ) (v : Version) (config : Config) (g : RegionId) → IsKnown script older config → plan_of script.space config terms ≡ a_plan.Lost g
       → IsRefused (the_call script valid trace run older c (Search terms) n v) g config.epoch
   plan-lost older c terms n v config g k e = record {
     config = config;

@@ -5,3 +5,4 @@ pub mod Administered
 pub mod Refusals
 pub mod Answered
 pub mod Causes
+pub mod Law
