@@ -6,3 +6,4 @@ pub mod Refusals
 pub mod Answered
 pub mod Causes
 pub mod Law
+pub mod Present
