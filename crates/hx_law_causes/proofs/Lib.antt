@@ -6,4 +6,5 @@ pub mod Refusals
 pub mod Answered
 pub mod Causes
 pub mod Law
+pub mod Told
 pub mod Present
