@@ -148,7 +148,7 @@ module _ (e : Scene) (asked : Asked) (valid : IsSpace e.script.space) (ok : (key
       }
 
   -- an installed replica is found after it
-  found-done : (g : RegionId) (r : Replica) → replica_of g rs ≡ Some r → r.installed ≡ true → replica_of g resumed-all ≡ Some (adopted_replica e.script.space now-at r)
+  pub found-done : (g : RegionId) (r : Replica) → replica_of g rs ≡ Some r → r.installed ≡ true → replica_of g resumed-all ≡ Some (adopted_replica e.script.space now-at r)
   found-done g r found installed =
       let l = listed g (record { replica = r; found = found; installed = installed }) in
       let q : replica_or_new rs g ≡ r = ap (λ (o : Option Replica). when_some o (record { region = g; installed = false; states = [] }) (λ (x : Replica). x)) found in
@@ -159,7 +159,7 @@ module _ (e : Scene) (asked : Asked) (valid : IsSpace e.script.space) (ok : (key
   stays g h = record { replica = adopted_replica e.script.space now-at h.replica; found = found-done g h.replica h.found h.installed; installed = h.installed }
 
   -- the slot after, by moves
-  slot-moved : (key : List ℕ) (g : RegionId) (r : Replica) → r.region ≡ g
+  pub slot-moved : (key : List ℕ) (g : RegionId) (r : Replica) → r.region ≡ g
       → state_in e.script.space (adopted_replica e.script.space now-at r) key ≡ moved_all (adopting (at g) (is_active e.config r) (moved Forget (state_in e.script.space r key))) (moved Forget (state_in e.script.space r key))
   slot-moved key g r q =
       states-mapped (is_key_region e.script.space r.region) key (adopted_state (at r.region) (is_active e.config r)) (adopted-base (at r.region) (is_active e.config r)) (adopted-new (at r.region) (is_active e.config r) (is_key_region e.script.space r.region) key) r.states
@@ -167,7 +167,7 @@ module _ (e : Scene) (asked : Asked) (valid : IsSpace e.script.space) (ok : (key
       ∙ ap (λ (x : RegionId). moved_all (adopting (at x) (is_active e.config r) (moved Forget (state_in e.script.space r key))) (moved Forget (state_in e.script.space r key))) q
 
   -- the replica that posts
-  record Poster (p : Post) : Type 0 where
+  pub record Poster (p : Post) : Type 0 where
     pub replica : Replica
     pub found : replica_of replica.region rs ≡ Some replica
     pub installed : replica.installed ≡ true
@@ -175,7 +175,7 @@ module _ (e : Scene) (asked : Asked) (valid : IsSpace e.script.space) (ok : (key
     pub alive : is_lost e.config replica.region ≡ false
     pub posted : IsIn p (snap_posts now-at replica) ⊎ (IsIn p (flat_map (resumed_posts (at replica.region)) replica.states) ⊎ IsIn p (ready_post now-at replica.region))
 
-  poster : (p : Post) → IsIn p new → Poster p
+  pub poster : (p : Post) → IsIn p new → Poster p
   poster p j =
       let a = in-flat_map (adopted_posts e.script.space now-at) kept-ones p j in
       let n = in-map (replica_or_new rs) (listed_regions e.config i) a.0 a.1 in
@@ -306,7 +306,7 @@ module _ (e : Scene) (asked : Asked) (valid : IsSpace e.script.space) (ok : (key
   -- what a replica posts is true
   module _ (r : Replica) (found : replica_of r.region rs ≡ Some r) (installed : r.installed ≡ true) (active : is_active e.config r ≡ true) (alive : is_lost e.config r.region ≡ false) (t : KeyState) (there : IsIn t r.states) where
     -- the slot of its key
-    slot-is : state_in e.script.space r t.base.key ≡ t
+    pub slot-is : state_in e.script.space r t.base.key ≡ t
     slot-is = state-there (is_key_region e.script.space r.region) r.states t (replica-ascends e.script.space was joinable r (replica-found r.region rs r found).0) there
 
     -- the seat before
@@ -322,7 +322,7 @@ module _ (e : Scene) (asked : Asked) (valid : IsSpace e.script.space) (ok : (key
     seat1 = seat-of e.script e.Real (with_state_of e.servers i done) e.config e.line (new ++ e.posts) e.known r.region i done (state-here e.servers i done) (here.0, ap (λ (x : ServerState). x.halted) (state-here e.servers i done)) at-done alive
 
     -- its slot
-    slot-now : seat1.slot t.base.key ≡ moved_all (resumed (at r.region) t) t
+    pub slot-now : seat1.slot t.base.key ≡ moved_all (resumed (at r.region) t) t
     slot-now =
         view-now e.config i resumed-all (state_in e.script.space (adopted_replica e.script.space now-at r) t.base.key) ∙ slot-moved t.base.key r.region r refl
         ∙ ap (λ b. moved_all (adopting (at r.region) b (moved Forget (state_in e.script.space r t.base.key))) (moved Forget (state_in e.script.space r t.base.key))) active

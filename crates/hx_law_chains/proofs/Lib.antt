@@ -26,3 +26,7 @@ pub mod Entries
 pub mod Named
 pub mod Elsewhere
 pub mod Runs
+pub mod Doubts
+pub mod Telling
+pub mod TellingRows
+pub mod Headline

@@ -173,7 +173,7 @@ module _ (e : Scene) (asked : Asked) (valid : IsSpace e.script.space) (ok : (key
     us = upto n line
 
     -- that has the law
-    us-law : Lawful e.script e.known key us
+    pub us-law : Lawful e.script e.known key us
     us-law = lawful-upto e.script e.known key n line law
 
     -- the slot has its key
@@ -349,25 +349,30 @@ module _ (e : Scene) (asked : Asked) (valid : IsSpace e.script.space) (ok : (key
             line = line-is;
           }))
 
+    -- what the leader decides on a write
+    module _ (writes : is_write op ≡ true) where
+      abbrev pub Choice : Decision → Type 0
+      Choice = Decided e.script valid e.known key us us-law (t key).marks (t key).floor (t key).acked (t key).early e.config is_known caller op called writes on_key
+
+      decides : decide e.script.space e.config r.region (t key) caller op ≡ decide e.script.space e.config (key_region e.script.space key) (slot_of (t key).marks key us (t key).floor (t key).acked (t key).early) caller op
+      decides =
+          ap (λ (g : RegionId). decide e.script.space e.config g (t key) caller op) leads
+          ∙ decide-same e.script.space e.config (key_region e.script.space key) (t key) (slot_of (t key).marks key us (t key).floor (t key).acked (t key).early) marks
+          (shows-line e.script.space key line (lawful-made e.script e.known key line law) (around e.script (world e) key r.region i) (t key) own1 (subst (λ (g : RegionId). IsSlotOf g (t key)) leads slot) marks key-is) caller op
+
+      -- it is one of these
+      pub choice : Choice (decide e.script.space e.config r.region (t key) caller op)
+      choice = subst Choice (sym decides) (decided-is e.script valid e.known key us us-law (t key).marks (t key).floor (t key).acked (t key).early e.config is_known caller op called writes on_key)
+
     -- a write
     write-served : is_write op ≡ true → let step = at_slot st r (t key) (write_step at (t key) caller op) in Served e asked i step.state step.notes step.posts
-    write-served writes = by (decide e.script.space e.config r.region (t key) caller op)
-        (subst (Choice) (sym decides) (decided-is e.script valid e.known key us us-law (t key).marks (t key).floor (t key).acked (t key).early e.config is_known caller op called writes on_key))
+    write-served writes = by (decide e.script.space e.config r.region (t key) caller op) (choice writes)
       where
-        Choice : Decision → Type 0
-        Choice = Decided e.script valid e.known key us us-law (t key).marks (t key).floor (t key).acked (t key).early e.config is_known caller op called writes on_key
-
-        decides : decide e.script.space e.config r.region (t key) caller op ≡ decide e.script.space e.config (key_region e.script.space key) (slot_of (t key).marks key us (t key).floor (t key).acked (t key).early) caller op
-        decides =
-            ap (λ (g : RegionId). decide e.script.space e.config g (t key) caller op) leads
-            ∙ decide-same e.script.space e.config (key_region e.script.space key) (t key) (slot_of (t key).marks key us (t key).floor (t key).acked (t key).early) marks
-            (shows-line e.script.space key line (lawful-made e.script e.known key line law) (around e.script (world e) key r.region i) (t key) own1 (subst (λ (g : RegionId). IsSlotOf g (t key)) leads slot) marks key-is) caller op
-
         waits : (v : Version) (o : Option StuckAt) (p : Post) → IsIn p (waiting_doubt at caller v o) → Valid e.script (world e) p.from p.to p.message × SlotLate e asked i p
         waits v None p j = absurd j
         waits v (Some x) p j = elim (in-provided (leb x.version.0 v.0) (doubt_in at caller v x.region ∷ []) p j).1 [ inl q ↦ doubt-fine e asked i (world e) r.region caller op called writes v x.region p q | inr k ↦ absurd k ]
 
-        by : (d : Decision) → Choice d → Decides d
+        by : (d : Decision) → Choice writes d → Decides d
         by d (inl z) = subst Decides (sym z) (posts-served e asked valid ok differ i here rs same r found installed alive key [] (λ p j. absurd j))
         by d (inr (inl (inl z))) = subst Decides (sym z.1) (posts-served e asked valid ok differ i here rs same r found installed alive key (waiting_doubt at caller z.0 (stuck_of e.config (t key))) (waits z.0 (stuck_of e.config (t key))))
         by d (inr (inl (inr z))) = subst Decides (sym z.1) (posts-served e asked valid ok differ i here rs same r found installed alive key (doubt_in at caller (record { 0 = 0 }) z.0 ∷ [])
