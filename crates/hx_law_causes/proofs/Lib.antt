@@ -7,3 +7,5 @@ pub mod Answered
 pub mod Causes
 pub mod Law
 pub mod Present
+pub mod Places
+pub mod Headline

@@ -1,11 +1,10 @@
 -- Where no configuration of a run has lost a region, no call is refused or in doubt.
-use Rattle.std.proofs.Common.{◌≡◌, ℕ, ◌+◌, ◌⊎◌, inl, inr, Bool, true, false, List, [], ◌∷◌, ◌++◌, length, is_some, IsSome, Option, Some, None, refl, sym, ap, ◌∙◌, subst, arith}
+use Rattle.std.proofs.Common.{◌≡◌, ℕ, ◌+◌, inl, inr, false, List, [], ◌∷◌, ◌++◌, length, IsSome, Option, Some, None, refl, sym, ap, ◌∙◌, subst}
 use Rattle.std.proofs.lemmas.Bool.{false≢true}
 use Rattle.hx_types.specs.declared.calls.Answer.{Answer}
 use Rattle.hx_types.specs.declared.calls.Caller.{Caller}
 use Rattle.hx_types.specs.declared.calls.Op.{Op}
 use Rattle.hx_types.specs.declared.configs.Config.{Config}
-use Rattle.hx_types.specs.declared.ids.Actor.{Actor}
 use Rattle.hx_types.specs.declared.ids.Epoch.{Epoch}
 use Rattle.hx_types.specs.declared.ids.RegionId.{RegionId}
 use Rattle.hx_types.specs.declared.ids.Version.{Version}
@@ -17,14 +16,11 @@ use Rattle.hx_types.specs.declared.calls.Op.TheVariants.{Search}
 use Rattle.hx_types.specs.declared.ids.Actor.TheVariants.{Session}
 use Rattle.hx_types.specs.declared.traces.Note.TheVariants as a_note
 use Rattle.hx_types.specs.Words.{IsIn}
-use Rattle.hx_types.specs.Configs.{is_lost}
-use Rattle.hx_types.specs.Fitting.{IsScript, call_of, calls_of, is_doubt, is_refused, numbered}
+use Rattle.hx_types.specs.Fitting.{IsScript, call_of, is_doubt, is_refused, numbered}
 use Rattle.hx_model.specs.Causes.{AnsweredCall, HasCause, HasCauses, IsLostIn, config_of}
 use Rattle.hx_model.specs.Histories.{begin_of}
 use Rattle.hx_model.specs.Runs.{IsRun}
-use Rattle.hx_model.specs.SessionSteps.{SessionState, session_step}
 use Rattle.hx_model.specs.Runs.{session_of}
-use Rattle.hx_linear.proofs.SessionMessages.{started}
 use Rattle.hx_linear.proofs.Traces.{BeganAt, begin_is}
 use Rattle.hx_epochs.proofs.SessionNotes.{ends_now, may_start}
 use Rattle.hx_law_chains.proofs.Named.{named}

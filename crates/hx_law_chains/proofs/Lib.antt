@@ -29,4 +29,5 @@ pub mod Runs
 pub mod Doubts
 pub mod Telling
 pub mod TellingRows
+pub mod DoubtsTold
 pub mod Headline
