@@ -1,7 +1,6 @@
 -- In every run each outcome of an administrative call has its cause in the trace.
-use Rattle.std.proofs.Common.{◌≡◌, ℕ, ◌+◌, ◌<◌, ◌≤◌, ◌⊎◌, inl, inr, Bool, true, false, List, [], ◌∷◌, ◌++◌, length, Option, Some, None, refl, sym, ap, ◌∙◌, subst, arith, eqb, ltb}
-use Rattle.std.specs.Prelude.{⊤}
-use Rattle.std.proofs.lemmas.Bool.{cases_eq, cond_both, cond-false, cond-true, eq-eqb, eqb-true, false≢true, lt-ltb, ne_eqb}
+use Rattle.std.proofs.Common.{◌≡◌, ℕ, ◌+◌, ◌≤◌, inl, inr, Bool, true, false, List, [], ◌∷◌, length, Option, Some, None, refl, sym, ap, ◌∙◌, subst, arith, eqb, ltb}
+use Rattle.std.proofs.lemmas.Bool.{cases_eq, cond-false, cond-true, eq-eqb, false≢true, lt-ltb, ne_eqb}
 use Rattle.hx_types.specs.declared.calls.Answer.{Answer}
 use Rattle.hx_types.specs.declared.calls.Caller.{Caller}
 use Rattle.hx_types.specs.declared.calls.Op.{Op}
@@ -11,24 +10,21 @@ use Rattle.hx_types.specs.declared.ids.Epoch.{Epoch}
 use Rattle.hx_types.specs.declared.ids.SessionId.{SessionId}
 use Rattle.hx_types.specs.declared.messages.Message.{Message}
 use Rattle.hx_types.specs.declared.messages.Post.{Post}
-use Rattle.hx_types.specs.declared.messages.PostId.{PostId}
 use Rattle.hx_types.specs.declared.traces.Entry.{Entry}
 use Rattle.hx_types.specs.declared.traces.Note.{Note}
 use Rattle.hx_types.specs.declared.traces.Script.{Script}
 use Rattle.hx_types.specs.declared.calls.Answer.TheVariants as an_answer
-use Rattle.hx_types.specs.declared.calls.Op.TheVariants.{Put, Get, Del, Cput, Search, Stop, Add}
+use Rattle.hx_types.specs.declared.calls.Op.TheVariants.{Stop, Add}
 use Rattle.hx_types.specs.declared.messages.Message.TheVariants as a_message
 use Rattle.hx_types.specs.declared.ids.Actor.TheVariants.{Coordinator, Server, Session}
-use Rattle.hx_types.specs.declared.traces.Input.TheVariants.{Deliver}
 use Rattle.hx_types.specs.declared.traces.Note.TheVariants as a_note
 use Rattle.hx_types.specs.Words.{IsIn, first_some, post}
 use Rattle.hx_types.specs.Configs.{is_lost, lists_ready, members_of}
 use Rattle.hx_types.specs.Fitting.{IsScript, call_of, calls_of, numbered}
-use Rattle.hx_model.specs.Causes.{config_noted, config_of, is_fulfilled, issued_after}
-use Rattle.hx_model.specs.CoordinatorSteps.{CoordinatorState, CoordinatorStep, Newest, Task, any_joining, coordinator_step}
-use Rattle.hx_model.specs.ServerSteps.{server_step}
-use Rattle.hx_model.specs.SessionSteps.{SessionState, SessionStep, session_step}
-use Rattle.hx_model.specs.Runs.{IsRun, IsStep, Made, MayTake, coordinator_after, coordinator_of, made_of, server_of, session_after, session_of}
+use Rattle.hx_model.specs.Causes.{config_noted, is_fulfilled, issued_after}
+use Rattle.hx_model.specs.CoordinatorSteps.{CoordinatorState, CoordinatorStep, any_joining, coordinator_step}
+use Rattle.hx_model.specs.SessionSteps.{SessionState}
+use Rattle.hx_model.specs.Runs.{IsRun, Made, MayTake, coordinator_after, coordinator_of, made_of, server_of, session_after, session_of}
 use Rattle.hx_steady.specs.Served.{posts_of}
 use Rattle.hx_steady.proofs.Lists.{in-append}
 use Rattle.hx_linear.proofs.Traces.{BeganAt, arrived}
@@ -37,9 +33,9 @@ use Rattle.hx_law_chains.proofs.CoordinatorPosts.{OfCoordinator, coordinator-pla
 use Rattle.hx_law_chains.proofs.ServerPosts.{AnySnapshot, OfServer, server-plain}
 use Rattle.hx_law_searches.proofs.CallsKept.{step_is}
 use Rattle.hx_law_chains.proofs.Named.{named}
-use Rattle.hx_law_causes.proofs.Coordinating.{Answers, AsksFor, ByStep, Coordinated, Given, Spoken, ToSession, caller_of, coordinated, spoken-map, to-session}
+use Rattle.hx_law_causes.proofs.Coordinating.{Answers, AsksFor, ByStep, Given, Spoken, caller_of, coordinated, spoken-map, to-session}
 use Rattle.hx_law_causes.proofs.Outcomes.{Judged, administers_to, not_listed}
-use Rattle.hx_law_causes.proofs.Sessions.{Asks, Called, Goes, SessionDoes, Starts, session-does}
+use Rattle.hx_law_causes.proofs.Sessions.{Asks, SessionDoes, Starts, session-does}
 
 -- the call is the script's, and has begun
 abbrev pub Asked : Script → List Entry → Caller → Op → Type 0

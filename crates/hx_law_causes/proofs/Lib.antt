@@ -3,3 +3,10 @@ pub mod Outcomes
 pub mod Coordinating
 pub mod Administered
 pub mod Refusals
+pub mod Answered
+pub mod Causes
+pub mod Law
+pub mod Told
+pub mod Present
+pub mod Places
+pub mod Headline

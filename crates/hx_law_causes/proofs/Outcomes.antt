@@ -1,33 +1,22 @@
 -- Each answer of the coordinator to Stop and Add is judged on a configuration: on its own, or on the one that it issues.
-use Rattle.std.proofs.Common.{◌≡◌, ℕ, ◌+◌, ◌⊎◌, inl, inr, Bool, true, false, not, ◌&&◌, ◌||◌, List, [], ◌∷◌, ◌++◌, map, Option, Some, None, refl, sym, ap, ◌∙◌, subst, cond, eqb, ltb}
+use Rattle.std.proofs.Common.{◌≡◌, inl, inr, Bool, true, false, not, ◌&&◌, List, [], ◌∷◌, ◌++◌, Option, Some, None, refl, sym, ap, ◌∙◌, subst, cond}
 use Rattle.std.specs.Prelude.{⊤}
 use Rattle.std.specs.List.{list_any}
-use Rattle.std.proofs.lemmas.Bool.{and_from, and_parts, cases_Bool, cond_both, eq-eqb, eqb-true, false≢true}
+use Rattle.std.proofs.lemmas.Bool.{and_from, cond_both, eq-eqb, false≢true}
 use Rattle.hx_types.specs.declared.calls.Answer.{Answer}
 use Rattle.hx_types.specs.declared.calls.Caller.{Caller}
 use Rattle.hx_types.specs.declared.calls.Op.{Op}
 use Rattle.hx_types.specs.declared.configs.Config.{Config}
 use Rattle.hx_types.specs.declared.configs.Member.{Member}
-use Rattle.hx_types.specs.declared.ids.Actor.{Actor}
-use Rattle.hx_types.specs.declared.ids.Epoch.{Epoch}
 use Rattle.hx_types.specs.declared.ids.RegionId.{RegionId}
 use Rattle.hx_types.specs.declared.ids.ServerId.{ServerId}
-use Rattle.hx_types.specs.declared.ids.SessionId.{SessionId}
-use Rattle.hx_types.specs.declared.messages.Message.{Message}
-use Rattle.hx_types.specs.declared.messages.Post.{Post}
-use Rattle.hx_types.specs.declared.traces.Input.{Input}
-use Rattle.hx_types.specs.declared.traces.Note.{Note}
 use Rattle.hx_types.specs.declared.calls.Answer.TheVariants as an_answer
 use Rattle.hx_types.specs.declared.calls.Op.TheVariants.{Put, Get, Del, Cput, Search, Stop, Add}
-use Rattle.hx_types.specs.declared.messages.Message.TheVariants as a_message
-use Rattle.hx_types.specs.declared.ids.Actor.TheVariants.{Coordinator, Server, Session}
-use Rattle.hx_types.specs.declared.traces.Input.TheVariants.{Tick, Halt, Deliver}
-use Rattle.hx_types.specs.declared.traces.Note.TheVariants as a_note
-use Rattle.hx_types.specs.Words.{IsIn, below, post, provided, same_server, same_session, server_in, when_some, without_server}
+use Rattle.hx_types.specs.Words.{IsIn, same_server, server_in}
 use Rattle.hx_types.specs.Configs.{any_ready, is_lost, lists_joining, lists_ready, members_of}
 use Rattle.hx_model.specs.Causes.{is_fulfilled}
-use Rattle.hx_model.specs.CoordinatorSteps.{Answered, CoordinatorState, CoordinatorStep, Issuing, Newest, Phase, Sealing, Steady, Task, add_step, adds, adds_by, adds_steady, again, any_joining, answers_with, appended, by_number, config_without, coordinator_message, coordinator_step, coordinator_tick, die_for, die_posts, does, does_all, gone_step, goes, is_newest_call, is_out, issue, issued, issuing, judged, leaves, newest_answered, newest_of, outcome, ready_now, ready_step, remaining, resting, seal, sealed_now, sealed_step, sealing_or_issue, session_posts, still_sealing, stop_step, stops, telling, to_server, waits_less, with_answer, with_newest, with_number, with_server, with_task}
-use Rattle.hx_steady.proofs.Lists.{any-in, in-append, in-flat_map, in-map, in-provided, in_left, in_right}
+use Rattle.hx_model.specs.CoordinatorSteps.{Answered, CoordinatorState, Issuing, Task, adds_by, any_joining, answers_with, appended, config_without, does, does_all, issuing, judged, leaves}
+use Rattle.hx_steady.proofs.Lists.{any-in, in-append, in_left, in_right}
 use Rattle.hx_law_epochs.proofs.Next.{Grown, MayJoin, any-of, appended-here, grown-more, joiner, judged-may}
 
 -- a test of the server and the region that an administrative call names

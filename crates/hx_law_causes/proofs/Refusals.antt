@@ -1,24 +1,21 @@
 -- In every run each call that is refused, or in doubt for its key's region alone, has its cause: the configuration of its session, and whether the call was sent.
-use Rattle.std.proofs.Common.{◌≡◌, ℕ, zero, suc, ◌+◌, ◌-◌, ◌<◌, ◌≤◌, ◌⊎◌, inl, inr, Bool, true, false, not, ◌&&◌, ◌||◌, List, [], ◌∷◌, ◌++◌, length, Option, Some, None, refl, sym, ap, ◌∙◌, subst, arith, eqb, ltb, leb}
+use Rattle.std.proofs.Common.{◌≡◌, ℕ, inl, inr, Bool, true, false, ◌&&◌, ◌||◌, List, [], ◌∷◌, refl, sym, ap, ◌∙◌, subst, eqb}
 use Rattle.std.specs.List.{list_any}
-use Rattle.std.proofs.lemmas.Bool.{and_from, and_parts, cases_Bool, cases_eq, cond_both, cond-false, cond-true, eq-eqb, eqb-true, false≢true, le-leb, ne_eqb, or_cases}
+use Rattle.std.proofs.lemmas.Bool.{and_from, and_parts, cases_eq, cond-false, eq-eqb, eqb-true, false≢true, ne_eqb, or_cases}
 use Rattle.hx_types.specs.declared.calls.Caller.{Caller}
 use Rattle.hx_types.specs.declared.calls.Op.{Op}
-use Rattle.hx_types.specs.declared.configs.Config.{Config}
 use Rattle.hx_types.specs.declared.ids.Actor.{Actor}
 use Rattle.hx_types.specs.declared.ids.Epoch.{Epoch}
 use Rattle.hx_types.specs.declared.ids.SessionId.{SessionId}
 use Rattle.hx_types.specs.declared.messages.Message.{Message}
 use Rattle.hx_types.specs.declared.messages.Post.{Post}
-use Rattle.hx_types.specs.declared.messages.PostId.{PostId}
 use Rattle.hx_types.specs.declared.traces.Entry.{Entry}
 use Rattle.hx_types.specs.declared.traces.Input.{Input}
 use Rattle.hx_types.specs.declared.traces.Script.{Script}
 use Rattle.hx_types.specs.declared.messages.Message.TheVariants as a_message
 use Rattle.hx_types.specs.declared.ids.Actor.TheVariants.{Coordinator, Server, Session}
-use Rattle.hx_types.specs.declared.traces.Input.TheVariants.{Deliver}
 use Rattle.hx_types.specs.Words.{IsIn, post, same_actor}
-use Rattle.hx_types.specs.Fitting.{IsScript, call_of}
+use Rattle.hx_types.specs.Fitting.{IsScript}
 use Rattle.hx_model.specs.Causes.{carries_call, was_sent}
 use Rattle.hx_model.specs.Runs.{IsRun, MayTake, session_after, session_of}
 use Rattle.hx_model.specs.SessionSteps.{SessionState, session_step}
@@ -30,7 +27,7 @@ use Rattle.hx_law_epochs.proofs.Runs.{IsKnown, epochs-run}
 use Rattle.hx_law_epochs.proofs.Sessions.{session-config}
 use Rattle.hx_law_searches.proofs.CallsKept.{step_is}
 use Rattle.hx_law_chains.proofs.Named.{named}
-use Rattle.hx_law_causes.proofs.Sessions.{Goes, SessionDoes, Starts, session-does}
+use Rattle.hx_law_causes.proofs.Sessions.{SessionDoes, Starts, session-does}
 
 -- ---- whether a call was sent
 

@@ -1,8 +1,8 @@
 -- What a server's step tells of doubts: a write is in doubt because a pending version is held up by a lost region.
-use Rattle.std.proofs.Common.{◌≡◌, ℕ, ◌≤◌, ◌⊎◌, inl, inr, Bool, true, false, not, ◌&&◌, List, [], ◌∷◌, ◌++◌, map, Option, Some, None, refl, sym, ap, ◌∙◌, subst, arith, cond, eqb, leb, ltb}
+use Rattle.std.proofs.Common.{◌≡◌, ℕ, ◌≤◌, ◌⊎◌, inl, inr, Bool, true, false, List, [], ◌∷◌, Option, Some, None, refl, sym, ap, ◌∙◌, subst, cond, eqb, leb, ltb}
 use Rattle.std.specs.Prelude.{⊤}
-use Rattle.std.specs.List.{filter, flat_map}
-use Rattle.std.proofs.lemmas.Bool.{cond_both, cond-true, cond-false, and_parts, cases_Bool, leb-true, false≢true}
+use Rattle.std.specs.List.{flat_map}
+use Rattle.std.proofs.lemmas.Bool.{cond_both, false≢true}
 use Rattle.hx_types.specs.declared.calls.Answer.{Answer}
 use Rattle.hx_types.specs.declared.calls.Answer.TheVariants as an_answer
 use Rattle.hx_types.specs.declared.calls.Caller.{Caller}
@@ -13,12 +13,10 @@ use Rattle.hx_types.specs.declared.ids.Actor.{Actor}
 use Rattle.hx_types.specs.declared.ids.Epoch.{Epoch}
 use Rattle.hx_types.specs.declared.ids.RegionId.{RegionId}
 use Rattle.hx_types.specs.declared.ids.ServerId.{ServerId}
-use Rattle.hx_types.specs.declared.ids.SessionId.{SessionId}
 use Rattle.hx_types.specs.declared.ids.Version.{Version}
 use Rattle.hx_types.specs.declared.messages.Message.{Message}
 use Rattle.hx_types.specs.declared.messages.Message.TheVariants as a_message
 use Rattle.hx_types.specs.declared.messages.Post.{Post}
-use Rattle.hx_types.specs.declared.outcomes.Decision.{Decision}
 use Rattle.hx_types.specs.declared.outcomes.Decision.TheVariants as a_decision
 use Rattle.hx_types.specs.declared.outcomes.Hop.{Hop}
 use Rattle.hx_types.specs.declared.outcomes.Hop.TheVariants.{At, End, Blocked}
@@ -28,7 +26,7 @@ use Rattle.hx_types.specs.declared.traces.Script.{Script}
 use Rattle.hx_types.specs.declared.updates.Place.{Place}
 use Rattle.hx_types.specs.declared.updates.Update.{Update}
 use Rattle.hx_types.specs.declared.values.Value.{Value}
-use Rattle.hx_types.specs.Words.{IsIn, same_region, when_some}
+use Rattle.hx_types.specs.Words.{IsIn, when_some}
 use Rattle.hx_types.specs.Configs.{is_lost, leads}
 use Rattle.hx_types.specs.Effects.{changed_to, effect_of, is_write, key_of, left_as, tests_hold, written}
 use Rattle.hx_types.specs.Fitting.{call_of, is_doubt}
@@ -36,14 +34,13 @@ use Rattle.hx_model.specs.Causes.{pending_at}
 use Rattle.hx_model.specs.Leading.{StuckAt, by_mark, decide, first_lost, fresh, stuck_among, stuck_of}
 use Rattle.hx_model.specs.Lines.{line_object}
 use Rattle.hx_model.specs.Regions.{key_region}
-use Rattle.hx_model.specs.ServerSteps.{ServerState, Spot, ack_to, doubt_in, doubts_from, get_answer, move_posts, next_at, passed_on, prev_at, reply, told_to, update_to}
-use Rattle.hx_model.specs.Slots.{Acknowledge, Commit, Forget, Hold, KeyState, Move, Take, has_place, mark_of, pending_of, place_in}
+use Rattle.hx_model.specs.ServerSteps.{ServerState, Spot, ack_to, get_answer, move_posts, next_at, passed_on, prev_at, reply, told_to, update_to}
+use Rattle.hx_model.specs.Slots.{Acknowledge, Commit, Forget, Hold, KeyState, Move, Take, has_place, mark_of}
 use Rattle.hx_searches.proofs.Chains.{place-in}
-use Rattle.hx_steady.proofs.Lists.{in-filter, in-flat_map, in-map, when_some_both}
+use Rattle.hx_steady.proofs.Lists.{in-flat_map, when_some_both}
 use Rattle.hx_epochs.proofs.Holding.{AllKnown, Known}
-use Rattle.hx_epochs.proofs.Posts.{same-key}
 use Rattle.hx_epochs.proofs.World.{at_session}
-use Rattle.hx_law_chains.proofs.World.{Law, Lawful}
+use Rattle.hx_law_chains.proofs.World.{Law}
 
 -- a pending version of the key is held up by the lost region at the leader, and isn't above the version named, unless that is 0
 pub record HeldUp (space : Space) (st : ServerState) (leader : ServerId) (key : List ℕ) (v : Version) (g : RegionId) (epoch : Epoch) : Type 0 where

@@ -1,7 +1,6 @@
 -- An entry of the coordinator or of a session keeps all keys: sessions ask, and the coordinator may issue the next configuration.
 use Rattle.hx_model.specs.Lines.{upto}
-use Rattle.std.proofs.Common.{◌≡◌, ℕ, ◌+◌, ◌<◌, ◌≤◌, ◌⊎◌, inl, inr, true, false, List, [], ◌∷◌, ◌++◌, length, Option, Some, None, refl, sym, ap, ◌∙◌, subst, arith, eqb}
-use Rattle.std.specs.Prelude.{⊤}
+use Rattle.std.proofs.Common.{◌≡◌, ℕ, ◌≤◌, inl, inr, true, false, List, [], ◌∷◌, ◌++◌, length, Some, refl, sym, ap, ◌∙◌, subst, arith, eqb}
 use Rattle.std.proofs.lemmas.Bool.{cond_both, cond-false, ne_eqb}
 use Rattle.hx_types.specs.declared.calls.Op.{Op}
 use Rattle.hx_types.specs.declared.configs.Config.{Config}
@@ -18,12 +17,11 @@ use Rattle.hx_types.specs.declared.traces.Script.{Script}
 use Rattle.hx_types.specs.declared.updates.Update.{Update}
 use Rattle.hx_types.specs.declared.ids.Actor.TheVariants.{Coordinator, Server, Session}
 use Rattle.hx_types.specs.declared.messages.Message.TheVariants as a_message
-use Rattle.hx_types.specs.declared.traces.Note.TheVariants as a_note
-use Rattle.hx_types.specs.Words.{IsBefore, IsIn, post}
+use Rattle.hx_types.specs.Words.{IsIn, post}
 use Rattle.hx_types.specs.Configs.{lists}
 use Rattle.hx_types.specs.Fitting.{IsScript, call_of, calls_of, numbered}
 use Rattle.hx_model.specs.Histories.{line_notes, line_of}
-use Rattle.hx_model.specs.Runs.{IsRun, IsStep, Made, MayTake, coordinator_after, coordinator_of, made_of, server_after, server_of, session_of}
+use Rattle.hx_model.specs.Runs.{IsStep, Made, coordinator_after, coordinator_of, made_of, server_after, server_of, session_of}
 use Rattle.hx_model.specs.CoordinatorSteps.{CoordinatorState, coordinator_step}
 use Rattle.hx_model.specs.ServerSteps.{ServerState, state_in}
 use Rattle.hx_model.specs.SessionSteps.{SessionState, session_step}
@@ -34,22 +32,21 @@ use Rattle.hx_steady.proofs.Turns.{noted}
 use Rattle.hx_linear.proofs.SessionMessages.{started}
 use Rattle.hx_linear.proofs.SessionNotes.{started_same}
 use Rattle.hx_epochs.proofs.Entries.{view}
-use Rattle.hx_epochs.proofs.Lines.{More, more_same}
+use Rattle.hx_epochs.proofs.Lines.{more_same}
 use Rattle.hx_epochs.proofs.Order.{in-listed, listed-in}
 use Rattle.hx_epochs.proofs.SessionMessages.{session_turn}
 use Rattle.hx_epochs.proofs.SessionNotes.{keeps_lines}
 use Rattle.hx_epochs.proofs.SessionTurns.{SaysOf}
 use Rattle.hx_law_epochs.specs.Epochs.{FollowsOn}
-use Rattle.hx_law_epochs.proofs.Facts.{FromServer, Installed, Near, NoLater, Says}
-use Rattle.hx_law_epochs.proofs.Members.{order}
+use Rattle.hx_law_epochs.proofs.Facts.{Says}
 use Rattle.hx_law_epochs.proofs.Runs.{EpochsRun, IsKnown, Keeps, Real, keeps-entry, known-still}
 use Rattle.hx_law_chains.proofs.CoordinatorPosts.{Issues, OfCoordinator, coordinator-plain}
-use Rattle.hx_law_chains.proofs.Holders.{Live, Up, world_of}
+use Rattle.hx_law_chains.proofs.Holders.{Up, world_of}
 use Rattle.hx_law_chains.proofs.Issuing.{Issue, fixed_issued, key_issued, valid_issued}
-use Rattle.hx_law_chains.proofs.Keys.{Change, Moved, Turn, acking_up, along_up, below-all, changed, fixed_up, key_after, sending_up, told_up, valid_up}
+use Rattle.hx_law_chains.proofs.Keys.{Change, Turn, acking_up, along_up, below-all, fixed_up, key_after, sending_up, told_up, valid_up}
 use Rattle.hx_law_chains.proofs.Late.{NoSnap}
 use Rattle.hx_law_chains.proofs.Named.{named}
-use Rattle.hx_law_chains.proofs.World.{Chained, Fixed, KeyOk, Lawful, Told, Valid, World, lawful-known}
+use Rattle.hx_law_chains.proofs.World.{Chained, Fixed, KeyOk, Valid, World, lawful-known}
 
 -- ---- posts that are no snapshots, and more configurations that are known
 

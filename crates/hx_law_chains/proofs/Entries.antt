@@ -56,7 +56,7 @@ use Rattle.hx_law_chains.proofs.Ticks.{tick-served}
 use Rattle.hx_law_chains.proofs.World.{AckOk, Acking, KeyOk, Sending, UpdateOk, Valid}
 
 -- the first member of a region that isn't lost is ready
-head-ready : (c : Config) (g : RegionId) (i : ServerId) → IsOrderly c → is_lost c g ≡ false → head_of c g ≡ Some i → lists_ready c g i ≡ true
+pub head-ready : (c : Config) (g : RegionId) (i : ServerId) → IsOrderly c → is_lost c g ≡ false → head_of c g ≡ Some i → lists_ready c g i ≡ true
 head-ready c g i orderly alive head = by (members_of c g) refl alive head
   where
     by : (ms : List Member) → members_of c g ≡ ms → not (any_ready ms) ≡ false → when_some (first_of_list ms) None (λ (m : Member). Some m.server) ≡ Some i → lists_ready c g i ≡ true

@@ -28,4 +28,6 @@ pub mod Elsewhere
 pub mod Runs
 pub mod Doubts
 pub mod Telling
+pub mod TellingRows
+pub mod DoubtsTold
 pub mod Headline

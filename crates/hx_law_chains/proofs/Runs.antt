@@ -1,7 +1,6 @@
 -- Every run keeps all keys: by the entries of servers, and those of the coordinator and of sessions.
 use Rattle.hx_model.specs.Lines.{upto}
-use Rattle.std.proofs.Common.{◌≡◌, ℕ, ◌≤◌, ◌⊎◌, inl, inr, Bool, true, false, List, [], ◌∷◌, ◌++◌, length, Option, Some, None, refl, sym, ap, ◌∙◌, subst, arith, eqb, cond}
-use Rattle.std.specs.Prelude.{map}
+use Rattle.std.proofs.Common.{◌≡◌, ℕ, ◌⊎◌, inl, inr, Bool, true, false, List, [], ◌∷◌, ◌++◌, refl, sym, ap, ◌∙◌, subst, arith, eqb, cond}
 use Rattle.std.proofs.lemmas.Bool.{cond_both, cond-true, cond-false, eqb-true}
 use Rattle.hx_types.specs.declared.configs.Config.{Config}
 use Rattle.hx_types.specs.declared.ids.Actor.{Actor}
@@ -13,36 +12,32 @@ use Rattle.hx_types.specs.declared.messages.PostId.{PostId}
 use Rattle.hx_types.specs.declared.spaces.Space.{Space}
 use Rattle.hx_types.specs.declared.traces.Entry.{Entry}
 use Rattle.hx_types.specs.declared.traces.Input.{Input}
-use Rattle.hx_types.specs.declared.traces.Note.{Note}
 use Rattle.hx_types.specs.declared.traces.Script.{Script}
-use Rattle.hx_types.specs.declared.updates.Update.{Update}
 use Rattle.hx_types.specs.declared.ids.Actor.TheVariants.{Coordinator, Server, Session}
 use Rattle.hx_types.specs.declared.messages.Message.TheVariants as a_message
 use Rattle.hx_types.specs.declared.traces.Input.TheVariants.{Deliver}
 use Rattle.hx_types.specs.Words.{IsIn, post, provided, same_server}
-use Rattle.hx_types.specs.Configs.{first_config, members_of}
+use Rattle.hx_types.specs.Configs.{first_config}
 use Rattle.hx_types.specs.Fitting.{IsScript}
 use Rattle.hx_types.specs.Subspaces.{is_key_region}
 use Rattle.hx_model.specs.Histories.{line_notes, line_of}
-use Rattle.hx_model.specs.Runs.{IsRun, IsStep, Made, MayTake, coordinator_of, has_halted, is_actor, made_of, server_after, server_of}
+use Rattle.hx_model.specs.Runs.{IsRun, Made, MayTake, coordinator_of, has_halted, is_actor, made_of, server_after, server_of}
 use Rattle.hx_model.specs.ServerSteps.{Replica, ServerState, ServerStep, listed_regions, server_at_start, server_step, state_in}
 use Rattle.hx_model.specs.Slots.{Forget, KeyState, moved, new_state, state_among}
 use Rattle.hx_steady.specs.Served.{posts_of}
 use Rattle.hx_steady.proofs.Lists.{in-append, in-map}
 use Rattle.hx_steady.proofs.Replicas.{replica-found}
 use Rattle.hx_steady.proofs.Turns.{noted}
-use Rattle.hx_searches.proofs.Chains.{Differ}
 use Rattle.hx_epochs.proofs.Entries.{view}
 use Rattle.hx_epochs.proofs.Order.{listed-in}
 use Rattle.hx_law_facts.specs.Facts.{DeliversCall}
-use Rattle.hx_law_epochs.proofs.Facts.{Near}
 use Rattle.hx_law_epochs.proofs.Members.{order}
 use Rattle.hx_law_epochs.proofs.Runs.{EpochsRun, IsKnown, Real, epochs-run, known-still}
 use Rattle.hx_linear.proofs.Traces.{arrived}
 use Rattle.hx_law_chains.proofs.Entries.{input-served}
 use Rattle.hx_law_chains.proofs.Snapshots.{snapshots-kept}
 use Rattle.hx_law_chains.proofs.Elsewhere.{KeptAfter, calm-key, calm-valid, elsewhere-kept}
-use Rattle.hx_law_chains.proofs.Holders.{Live, with_state_of, world_of}
+use Rattle.hx_law_chains.proofs.Holders.{with_state_of, world_of}
 use Rattle.hx_law_chains.proofs.Moves.{Around, Own}
 use Rattle.hx_law_chains.proofs.Serving.{Asked, Assigns, Late, Scene, Served, after, world}
 use Rattle.hx_law_chains.proofs.World.{Chained, Fixed, KeyOk, Valid, World, around}

@@ -1,77 +1,47 @@
 -- Rows of a server's table: a doubt that it tells is of a pending version that a lost region holds up.
-use Rattle.std.proofs.Common.{◌≡◌, ℕ, suc, ◌+◌, ◌≤◌, ◌⊎◌, inl, inr, Bool, true, false, not, ◌&&◌, List, [], ◌∷◌, ◌++◌, map, length, is_some, Option, Some, None, refl, sym, ap, ◌∙◌, subst, arith, add-one, cond, eqb, leb, ltb}
-use Rattle.std.specs.Prelude.{⊤}
-use Rattle.std.specs.List.{filter, flat_map}
-use Rattle.std.proofs.lemmas.Bool.{cond_both, cond-true, cond-false, and_parts, cases_Bool, leb-true, ltb-true, false≢true}
+use Rattle.std.proofs.Common.{◌≡◌, ℕ, suc, ◌+◌, ◌≤◌, ◌⊎◌, inl, inr, Bool, true, not, List, [], ◌∷◌, ◌++◌, map, length, is_some, Option, Some, None, refl, sym, ap, ◌∙◌, subst, arith, add-one, leb}
+use Rattle.std.specs.List.{flat_map}
+use Rattle.std.proofs.lemmas.Bool.{cond_both, ltb-true, false≢true}
 use Rattle.hx_types.specs.declared.calls.Answer.TheVariants as an_answer
 use Rattle.hx_types.specs.declared.calls.Caller.{Caller}
 use Rattle.hx_types.specs.declared.calls.Op.{Op}
 use Rattle.hx_types.specs.declared.configs.Config.{Config}
-use Rattle.hx_types.specs.declared.configs.Member.{Member}
-use Rattle.hx_types.specs.declared.ids.Actor.{Actor}
-use Rattle.hx_types.specs.declared.ids.Actor.TheVariants.{Coordinator, Server, Session}
-use Rattle.hx_types.specs.declared.ids.Epoch.{Epoch}
 use Rattle.hx_types.specs.declared.ids.RegionId.{RegionId}
 use Rattle.hx_types.specs.declared.ids.ServerId.{ServerId}
 use Rattle.hx_types.specs.declared.ids.Version.{Version}
-use Rattle.hx_types.specs.declared.messages.Message.{Message}
-use Rattle.hx_types.specs.declared.messages.Message.TheVariants as a_message
 use Rattle.hx_types.specs.declared.messages.Post.{Post}
-use Rattle.hx_types.specs.declared.messages.PostId.{PostId}
-use Rattle.hx_types.specs.declared.outcomes.Decision.{Decision}
-use Rattle.hx_types.specs.declared.outcomes.Decision.TheVariants as a_decision
-use Rattle.hx_types.specs.declared.snapshots.Kept.{Kept}
-use Rattle.hx_types.specs.declared.traces.Input.{Input}
-use Rattle.hx_types.specs.declared.traces.Input.TheVariants.{Tick, Halt, Deliver}
 use Rattle.hx_types.specs.declared.updates.Update.{Update}
-use Rattle.hx_types.specs.declared.values.Term.{Term}
-use Rattle.hx_types.specs.Words.{IsIn, post, when_some}
-use Rattle.hx_types.specs.Configs.{head_of, is_lost, is_server, joiner_for, leads, lists_joining, lists_ready}
-use Rattle.hx_types.specs.Effects.{is_write, key_of}
+use Rattle.hx_types.specs.Words.{IsIn, when_some}
+use Rattle.hx_types.specs.Configs.{is_lost, leads}
+use Rattle.hx_types.specs.Effects.{key_of}
 use Rattle.hx_types.specs.Fitting.{call_of}
 use Rattle.hx_types.specs.Spaces.{IsSpace}
 use Rattle.hx_types.specs.Subspaces.{is_key_region}
 use Rattle.hx_model.specs.Causes.{pending_at}
-use Rattle.hx_model.specs.Holders.{snap_state}
-use Rattle.hx_model.specs.CoordinatorSteps.{Joined, Phase}
-use Rattle.hx_model.specs.Leading.{StuckAt, decide, stuck_of}
+use Rattle.hx_model.specs.Leading.{StuckAt, stuck_of}
 use Rattle.hx_model.specs.Regions.{key_region}
-use Rattle.hx_model.specs.ServerSteps.{Replica, ServerState, ServerStep, SlotStep, Spot, accepting, ack_step, ack_to, acked, adopted, adopted_posts, adopted_replica, asked, at_slot, by_moves, by_posts, call_at, call_step, called, called_by, decided, doubt_in, doubts_from, get_step, halting, hearing, if_installed, input_step, install_at, installed_slots, is_active, known_to, leader_doubts, listed_regions, message_step, move_posts, passed_on, pending_posts, prev_at, ready_post, replica_of, replica_or_new, replica_tick, reply, resumed, resumed_posts, saying, seal_at, server_step, snap_posts, snap_to, snapped, spot_of, state_in, tick_step, unmoved, update_step, updated, waiting_doubt, with_config, with_slot, with_slots, write_step}
-use Rattle.hx_model.specs.Slots.{Forget, KeyState, Move, acknowledged, has_place, moved, moved_all, offered, pending_of, top_of, upto}
+use Rattle.hx_model.specs.ServerSteps.{Replica, ServerState, SlotStep, Spot, accepting, ack_step, ack_to, by_moves, by_posts, called, doubt_in, known_to, move_posts, passed_on, prev_at, replica_of, resumed, state_in, update_step}
+use Rattle.hx_model.specs.Slots.{KeyState, acknowledged, has_place, offered, pending_of, top_of}
 use Rattle.hx_model.specs.Places.{declared_subspaces, place_after, places_of, regions_between}
 use Rattle.hx_model.specs.Regions.{place_of}
-use Rattle.hx_folds.specs.Folding.{IsJoinableServer}
 use Rattle.hx_types.specs.declared.snapshots.Touch.{Touch}
 use Rattle.hx_types.specs.declared.spaces.Space.{Space}
 use Rattle.hx_types.specs.declared.updates.Place.{Place}
 use Rattle.hx_types.specs.declared.values.Value.{Value}
-use Rattle.hx_types.specs.Words.{below, provided, same_region, same_text}
+use Rattle.hx_types.specs.Words.{below, same_region}
 use Rattle.hx_model.specs.Slots.{place_in, touches_after}
 use Rattle.hx_model.specs.Lines.{line_object}
-use Rattle.hx_steady.specs.Served.{slot_in}
-use Rattle.hx_steady.proofs.Lines.{pending-in}
-use Rattle.hx_steady.proofs.Replicas.{replica-found, replica-here, slot-found, slot-here, state-key, with_slot_at}
-use Rattle.hx_searches.proofs.Chains.{Differ, server-same}
-use Rattle.hx_searches.proofs.Lines.{in-upto}
+use Rattle.hx_searches.proofs.Chains.{Differ}
 use Rattle.hx_searches.proofs.Placed.{Made, place-found}
-use Rattle.hx_searches.proofs.Texts.{state-there}
-use Rattle.hx_epochs.proofs.Entries.{view}
 use Rattle.hx_epochs.proofs.Posts.{same-key}
-use Rattle.hx_epochs.proofs.Serving.{standing}
 use Rattle.hx_types.specs.Configs.{members_of}
-use Rattle.hx_law_epochs.proofs.Facts.{EpochsKept, Installed}
-use Rattle.hx_law_epochs.proofs.Replicas.{Shaped, hearing-is, installed-is}
-use Rattle.hx_law_chains.proofs.Holders.{Up, live-of}
 use Rattle.hx_law_chains.proofs.Keys.{following, low-in}
-use Rattle.hx_law_chains.proofs.Messages.{choice}
 use Rattle.hx_law_chains.proofs.Moves.{accepted-in}
-use Rattle.hx_law_chains.proofs.Serving.{Asked, Scene, world}
-use Rattle.hx_law_chains.proofs.Snapshots.{Carries, Sends, replica-ascends, replica-sent}
-use Rattle.hx_law_chains.proofs.SnapshotsTaken.{taken-posts}
-use Rattle.hx_law_chains.proofs.World.{AckOk, KeyOk, Sending, UpdateOk, Valid, World, around, law-of, lawful-sorted, spot}
-use Rattle.hx_steady.proofs.Lists.{in-append, in-filter, in-flat_map, in-map, in-provided, when_some_both}
-use Rattle.hx_epochs.proofs.Holding.{AllKnown, Held, accepting-known, acknowledged-known, offered-known, resumed-known}
-use Rattle.hx_law_chains.proofs.Doubts.{DoubtSays, HeldUp, Says, Sure, acked-says, decide-stuck, get-sure, law-sure, moves-say, passed-says, stuck-is, sure-says}
+use Rattle.hx_law_chains.proofs.Serving.{Scene, world}
+use Rattle.hx_law_chains.proofs.World.{KeyOk, around, law-of, lawful-sorted}
+use Rattle.hx_steady.proofs.Lists.{in-append, in-flat_map, in-map, in-provided}
+use Rattle.hx_epochs.proofs.Holding.{Held, accepting-known, acknowledged-known, offered-known, resumed-known}
+use Rattle.hx_law_chains.proofs.Doubts.{HeldUp, Says, Sure, acked-says, law-sure, moves-say, passed-says, stuck-is}
 
 -- ---- regions of keys among an update's places
 
@@ -103,7 +73,7 @@ places-at-key space key old new changes top touches p (inr i) t =
     between s (Some x) (Some y) g (inr i) = elim (in-provided (not (same_region (place_of space s key x) (place_of space s key y))) (place_of space s key y ∷ []) g i).1 [ inl e ↦ (y, e) | inr j ↦ absurd j ]
 
 -- an update with a place in a key region goes through its key's
-key-place-is : (space : Space) (key : List ℕ) (older : List Update) (u : Update) → Made space key older u → (g : RegionId) → has_place g u ≡ true → is_key_region space g ≡ true → g ≡ key_region space key
+pub key-place-is : (space : Space) (key : List ℕ) (older : List Update) (u : Update) → Made space key older u → (g : RegionId) → has_place g u ≡ true → is_key_region space g ≡ true → g ≡ key_region space key
 key-place-is space key older u made g h k = by (place_in g u.places) refl h
   where
     by : (o : Option Place) → place_in g u.places ≡ o → is_some o ≡ true → g ≡ key_region space key
@@ -113,7 +83,7 @@ key-place-is space key older u made g h k = by (place_in g u.places) refl h
         sym f.1 ∙ places-at-key space key (line_object older) u.object u.changes (length older) (touches_after [] older) p (subst (λ (l : List Place). IsIn p l) made.places f.0) (ap (is_key_region space) f.1 ∙ k)
 
 -- what is pending at a server whose replica is found
-pending-found : (space : Space) (st : ServerState) (key : List ℕ) (r : Replica) → replica_of (key_region space key) st.replicas ≡ Some r → pending_at space st key ≡ pending_of (state_in space r key)
+pub pending-found : (space : Space) (st : ServerState) (key : List ℕ) (r : Replica) → replica_of (key_region space key) st.replicas ≡ Some r → pending_at space st key ≡ pending_of (state_in space r key)
 pending-found space st key r e = ap (λ (o : Option Replica). when_some o [] (λ (x : Replica). pending_of (state_in space x key))) e
 
 module _ (e : Scene) (valid : IsSpace e.script.space) (ok : (key : List ℕ) → KeyOk e.script (world e) key) (differ : (g : RegionId) → Differ (members_of e.config g)) (i : ServerId) where
@@ -122,11 +92,11 @@ module _ (e : Scene) (valid : IsSpace e.script.space) (ok : (key : List ℕ) →
   Tells q p = Says e.script q i p
 
   -- an update of a line is no doubt
-  line-sure : (key : List ℕ) (u : Update) → IsIn u (e.line key) → Sure u
+  pub line-sure : (key : List ℕ) (u : Update) → IsIn u (e.line key) → Sure u
   line-sure key u j = let l = law-of e.script e.known key (e.line key) u (ok key).lawful j in law-sure e.script e.known key l.0 u l.1
 
   -- nor is what a holder holds
-  held-sure : (key : List ℕ) (g : RegionId) (t : KeyState) → (world e).holds key g i t → Held Sure t
+  pub held-sure : (key : List ℕ) (g : RegionId) (t : KeyState) → (world e).holds key g i t → Held Sure t
   held-sure key g t h =
       let o = (ok key).own g i t h in
       let law = (ok key).lawful in
