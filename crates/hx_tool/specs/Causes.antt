@@ -10,12 +10,12 @@ use Rattle.hx_types.specs.declared.ids.Actor.{Actor}
 use Rattle.hx_types.specs.declared.traces.Entry.{Entry}
 use Rattle.hx_types.specs.declared.traces.Script.{Script}
 use Rattle.hx_types.specs.declared.traces.Step.{Step}
-use Rattle.hx_model.specs.Built.{IsBuilt}
+use Rattle.hx_tool.specs.Built.{IsBuilt}
 use Rattle.hx_model.specs.Linear.{IsLinear}
 use Rattle.hx_model.specs.Runs.{IsRun}
 use Rattle.hx_model.specs.Schedule.{IsScheduled, scheduled, stepped}
 use Rattle.hx_model.specs.Searching.{FinishedSearch, IsSearchTrue, IsSearchWhole, search_of}
-use Rattle.hx_model.specs.Steady.{HasNoHalts}
+use Rattle.hx_steady.specs.Calm.{HasNoHalts}
 use Rattle.hx_script.specs.declared.errors.Reason.{Reason}
 use Rattle.hx_script.specs.declared.errors.Reason.TheVariants as a_reason
 use Rattle.hx_script.specs.declared.errors.ScriptError.{ScriptError}

@@ -3,3 +3,4 @@ pub mod Outcomes
 pub mod Plans
 pub mod Steps
 pub mod Causes
+pub mod Built

@@ -16,7 +16,7 @@ use Rattle.hx_model.specs.Runs.{MayTake, entry_of, is_actor, made_of, makes_enou
 use Rattle.hx_model.specs.Schedule.{Next, entries_of, entry_by, undelivered}
 use Rattle.hx_model.specs.ServerSteps.{ServerStep, server_step}
 use Rattle.hx_model.specs.SessionSteps.{session_step}
-use Rattle.hx_model.specs.Steady.{is_halt}
+use Rattle.hx_steady.specs.Calm.{is_halt}
 use Rattle.hx_model.proofs.Replays.{entry_by_step}
 use Rattle.hx_replica.specs.Servers.{server_entry}
 use Rattle.hx_session.specs.Sessions.{session_entry}

@@ -8,7 +8,7 @@ use Rattle.hx_types.specs.declared.traces.Script.{Script}
 use Rattle.hx_types.specs.Fitting.{IsScript, calls_of, numbered}
 use Rattle.hx_types.specs.Spaces.{Fits}
 use Rattle.hx_types.specs.Words.{IsIn, when_some}
-use Rattle.hx_model.specs.Steady.{IsFixed}
+use Rattle.hx_steady.specs.Calm.{IsFixed}
 use Rattle.hx_sound.specs.Sound.{PostsAreSound, ServersRun, VersionsAreSmall}
 use Rattle.hx_steady.proofs.Lists.{all-in, in-slice_get}
 use Rattle.hx_folds.proofs.Runs.{lean-of, server-of}

@@ -11,7 +11,7 @@ use Rattle.hx_types.specs.Posts.{IsSessionOf}
 use Rattle.hx_types.specs.Words.{same_session}
 use Rattle.hx_model.specs.Runs.{IsRun, MayTake, session_after, session_of}
 use Rattle.hx_model.specs.SessionSteps.{session_step}
-use Rattle.hx_model.specs.Steady.{HasNoHalts}
+use Rattle.hx_steady.specs.Calm.{HasNoHalts}
 use Rattle.hx_steady.proofs.Entries.{still-run}
 use Rattle.hx_steady.proofs.Kept.{Still, delivered-sent, lines}
 use Rattle.hx_sound.proofs.SessionSteps.{IsOwn, session-good}

@@ -12,7 +12,7 @@ use Rattle.hx_types.specs.declared.traces.Input.TheVariants.{Tick, Deliver}
 use Rattle.hx_types.specs.Words.{first_some, when_some}
 use Rattle.hx_types.specs.declared.traces.Input.{Input}
 use Rattle.hx_model.specs.Runs.{MayTake, made_of, makes_enough, post_named}
-use Rattle.hx_model.specs.Steady.{is_halt}
+use Rattle.hx_steady.specs.Calm.{is_halt}
 use Rattle.hx_model.specs.Schedule as model
 use Rattle.hx_model.specs.Schedule.{StepFault, delivery_of, entry_by, fault_of, idle_fault, is_worn, halted_fault, with_entry, worn_fault}
 use Rattle.hx_world.specs.declared.ends.StepError.{StepError}

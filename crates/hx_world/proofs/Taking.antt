@@ -24,7 +24,7 @@ use Rattle.hx_model.specs.CoordinatorSteps.{CoordinatorState, coordinator_at_sta
 use Rattle.hx_model.specs.Runs.{MayTake, coordinator_of, has_halted, is_actor, post_named, server_of, session_of}
 use Rattle.hx_model.specs.ServerSteps.{Replica, ServerState}
 use Rattle.hx_model.specs.SessionSteps.{SessionState}
-use Rattle.hx_model.specs.Steady.{is_halt}
+use Rattle.hx_steady.specs.Calm.{is_halt}
 use Rattle.hx_replica.specs.Servers as server
 use Rattle.hx_session.specs.Sessions as session
 use Rattle.hx_steady.proofs.Entries.{served_lemma, still-run}

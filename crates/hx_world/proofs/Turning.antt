@@ -18,7 +18,7 @@ use Rattle.hx_model.specs.Runs.{MayTake, is_actor, made_of, makes_enough, server
 use Rattle.hx_model.specs.Schedule.{entries_of, entry_by, undelivered}
 use Rattle.hx_model.specs.ServerSteps.{ServerState}
 use Rattle.hx_model.specs.SessionSteps.{SessionState}
-use Rattle.hx_model.specs.Steady.{is_halt}
+use Rattle.hx_steady.specs.Calm.{is_halt}
 use Rattle.hx_replica.specs.Servers as server
 use Rattle.hx_session.specs.Sessions as session
 use Rattle.hx_folds.specs.Folding.{IsServerOf as AreInOrder, folded_server}

@@ -8,7 +8,7 @@ use Rattle.hx_types.specs.declared.traces.Script.{Script}
 use Rattle.hx_types.specs.declared.ids.Actor.TheVariants.{Coordinator, Server, Session}
 use Rattle.hx_model.specs.Runs.{IsRun, server_of, session_of}
 use Rattle.hx_model.specs.Schedule.{entries_of, undelivered}
-use Rattle.hx_model.specs.Steady.{HasNoHalts}
+use Rattle.hx_steady.specs.Calm.{HasNoHalts}
 use Rattle.hx_sound.specs.Sound.{PostsAreSound, ServersRun, VersionsAreSmall}
 use Rattle.hx_folds.specs.Folding.{IsServerOf as AreInOrder, folded_server}
 use Rattle.hx_world.specs.declared.actors.Actors.{Actors}

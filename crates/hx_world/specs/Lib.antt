@@ -1,7 +1,7 @@
 pub use Rattle.hx_types.specs.Effects
 pub use Rattle.hx_model.specs.Runs
 pub use Rattle.hx_model.specs.Schedule
-pub use Rattle.hx_model.specs.Steady
+pub use Rattle.hx_steady.specs.Calm
 pub mod Examples
 pub mod Filing
 pub mod Hosts

@@ -1,7 +1,7 @@
 ghost use Rattle.std.specs.Prelude.{◌≡◌, true, false, OnOk, OnErr, IfErr, reverse};
 ghost use Rattle.hx_types.specs.declared.ids.Actor.TheVariants as an_actor;
 ghost use Rattle.hx_model.specs.Runs.{MayTake, is_actor};
-ghost use Rattle.hx_model.specs.Steady.{is_halt};
+ghost use Rattle.hx_steady.specs.Calm.{is_halt};
 ghost use Rattle.hx_world.specs.Invariant.{IsWorld};
 ghost use Rattle.hx_world.specs.Turns.{HasNoTurn, HasTurn};
 

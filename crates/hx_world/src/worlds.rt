@@ -1,7 +1,7 @@
 ghost use Rattle.std.specs.Prelude.{◌≡◌, [], ◌≤◌, IfOk, IfErr, OnErr, OnOk, is_some, length, reverse};
 ghost use Rattle.hx_model.specs.Runs.{IsRun};
 ghost use Rattle.hx_model.specs.Schedule.{next_entry};
-ghost use Rattle.hx_model.specs.Steady.{HasNoHalts};
+ghost use Rattle.hx_steady.specs.Calm.{HasNoHalts};
 ghost use Rattle.hx_world.specs.Runnable.{IsRunnable};
 ghost use Rattle.hx_world.specs.Worlds.{Advances, DrainFails, Drains, Fails, HasFewEntries, IsPartOf, IsStepOf, Refuses, Steps, most_entries};
 
