@@ -79,7 +79,7 @@ Plain (an_answer.Member epoch) = ⊥
 Plain (an_answer.Joining epoch) = ⊥
 Plain (an_answer.Lost epoch) = ⊥
 
-plain-effect : (space : Space) (old : Option (List Value)) (op : Op) → Plain (effect_of space old op).answer
+pub plain-effect : (space : Space) (old : Option (List Value)) (op : Op) → Plain (effect_of space old op).answer
 plain-effect space old (Put key sets) = tt
 plain-effect space None (Get key) = tt
 plain-effect space (Some object) (Get key) = tt
@@ -107,7 +107,7 @@ get-plain None a e = (ap is_doubt e, ap is_refused e)
 get-plain (Some object) a e = (ap is_doubt e, ap is_refused e)
 
 -- a reply that is refused or in doubt tells of a write
-tells-write : (line : List Update) (c : Caller) (v : Version) (a : Answer) (op : Op) → Tells line c v a op → (is_doubt a ≡ true) ⊎ (is_refused a ≡ true) → is_write op ≡ true
+pub tells-write : (line : List Update) (c : Caller) (v : Version) (a : Answer) (op : Op) → Tells line c v a op → (is_doubt a ≡ true) ⊎ (is_refused a ≡ true) → is_write op ≡ true
 tells-write line c v a op (inl h) w = h.0
 tells-write line c v a op (inr (inl h)) w = h.0
 tells-write line c v a op (inr (inr h)) w = let p = get-plain _ a h.2 in elim w [ inl d ↦ absurd (false≢true (sym p.0 ∙ d)) | inr r ↦ absurd (false≢true (sym p.1 ∙ r)) ]

@@ -8,3 +8,5 @@ pub mod Causes
 pub mod Law
 pub mod Told
 pub mod Present
+pub mod Places
+pub mod Headline
