@@ -6,7 +6,6 @@ pub mod Refusals
 pub mod Answered
 pub mod Causes
 pub mod Law
-pub mod Told
 pub mod Present
 pub mod Places
 pub mod Headline
