@@ -11,3 +11,4 @@ pub mod Servers
 pub mod Serving
 pub mod Sessions
 pub mod Runs
+pub mod Headline
