@@ -8,5 +8,6 @@ pub mod Causes
 pub mod Law
 pub mod Told
 pub mod Present
-pub mod Places
 pub mod Headline
+pub mod Replaying
+mod Example

@@ -17,11 +17,10 @@ use Rattle.hx_model.specs.ServerSteps.{Replica, if_installed, replica_of, state_
 use Rattle.hx_model.specs.Slots.{Forget, KeyState, has_place, moved, top_of}
 use Rattle.hx_steady.specs.Served.{posts_of}
 use Rattle.hx_epochs.proofs.Entries.{view}
-use Rattle.hx_law_epochs.proofs.Facts.{Installed}
 use Rattle.hx_law_epochs.proofs.Positions.{StandsBefore, placed-number}
 use Rattle.hx_law_epochs.proofs.Replicas.{installed-is}
 use Rattle.hx_law_epochs.proofs.Runs.{IsKnown, Real}
-use Rattle.hx_law_chains.specs.Chains.{AreAssigned, InOrder, IsUp, RunsAnswerCommitted, RunsAssignUpdates, RunsHoldParts, RunsKeepOrder, RunsSendParts, StandsEarlier}
+use Rattle.hx_law_chains.specs.Chains.{AreAssigned, InOrder, IsHeld, IsUp, RunsAnswerCommitted, RunsAssignUpdates, RunsHoldParts, RunsKeepOrder, RunsSendParts, StandsEarlier}
 use Rattle.hx_law_chains.proofs.Holders.{live-of}
 use Rattle.hx_law_chains.proofs.Runs.{chained-run, scene}
 use Rattle.hx_law_chains.proofs.Serving.{world}
@@ -54,52 +53,77 @@ assigned script t key (u ∷ us) h = (
 pub runs_assign_updates : RunsAssignUpdates
 runs_assign_updates script valid t run key = assigned script t key (line_of key t) ((chained-run script valid t run).keyed key).lawful
 
-module _ (script : Script) (valid : IsScript script) (t : List Entry) (run : IsRun script t) where
+-- a replica that is found and installed
+found-installed : (o : Option Replica) (r : Replica) → o ≡ Some r → r.installed ≡ true → if_installed o ≡ Some r
+found-installed None r f h = absurd (cc)
+found-installed (Some x) r f h = (let q : x ≡ r = cc in cond-true x.installed (Some x) None (ap (λ (y : Replica). y.installed) q ∙ h) ∙ f)
+
+module _ (script : Script) (valid : IsScript script) (t0 : List Entry) (run : IsRun script t0) where
   -- what holds of keys and posts
-  abbrev chained : Chained script (at script t) (posts_of t)
-  chained = chained-run script valid t run
+  abbrev chained : Chained script (at script t0) (posts_of t0)
+  chained = chained-run script valid t0 run
 
   -- what a slot is worth
   abbrev worth : ServerId → KeyState → KeyState
-  worth s x = view (coordinator_of script t).config (server_of script s t) x
+  worth s x = view (coordinator_of script t0).config (server_of script s t0) x
 
-  -- a replica that is up is installed
-  up-installed : (g : RegionId) (s : ServerId) (r : Replica) → IsUp script t g s r → (h : Installed (server_of script s t) g) × (h.replica ≡ r)
-  up-installed g s r u = let n = installed-is (replica_of g (server_of script s t).replicas) r u.installed in (record { replica = r; found = n.0; installed = n.1 }, refl)
-
-  -- and what it is worth is held
-  up-holds : (key : List ℕ) (g : RegionId) (s : ServerId) (r : Replica) → IsUp script t g s r → (at script t).holds key g s (worth s (state_in script.space r key))
+  -- what a replica that is up is worth is held
+  up-holds : (key : List ℕ) (g : RegionId) (s : ServerId) (r : Replica) → IsUp script t0 g s r → (at script t0).holds key g s (worth s (state_in script.space r key))
   up-holds key g s r u =
-      let n = installed-is (replica_of g (server_of script s t).replicas) r u.installed in
-      inl (live-of script.space (Real script) (λ y. server_of script y t) (coordinator_of script t).config key g s (server_of script s t) refl (u.server, u.running) (record { replica = r; found = n.0; installed = n.1 }))
+      let n = installed-is (replica_of g (server_of script s t0).replicas) r u.installed in
+      inl (live-of script.space (Real script) (λ y. server_of script y t0) (coordinator_of script t0).config key g s (server_of script s t0) refl (u.server, u.running) (record { replica = r; found = n.0; installed = n.1 }))
 
   -- what a slot is worth has its top, floor and content
   worth-top : (s : ServerId) (x : KeyState) → top_of (worth s x) ≡ top_of x
-  worth-top s x = cond_both (eqb (server_of script s t).config.epoch.0 (coordinator_of script t).config.epoch.0) x (moved Forget x) (λ y. top_of y ≡ top_of x) (λ z. refl) (λ z. refl)
+  worth-top s x = cond_both (eqb (server_of script s t0).config.epoch.0 (coordinator_of script t0).config.epoch.0) x (moved Forget x) (λ y. top_of y ≡ top_of x) (λ z. refl) (λ z. refl)
 
   worth-floor : (s : ServerId) (x : KeyState) → (worth s x).floor ≡ x.floor
-  worth-floor s x = cond_both (eqb (server_of script s t).config.epoch.0 (coordinator_of script t).config.epoch.0) x (moved Forget x) (λ y. y.floor ≡ x.floor) (λ z. refl) (λ z. refl)
+  worth-floor s x = cond_both (eqb (server_of script s t0).config.epoch.0 (coordinator_of script t0).config.epoch.0) x (moved Forget x) (λ y. y.floor ≡ x.floor) (λ z. refl) (λ z. refl)
 
   worth-part : (s : ServerId) (g : RegionId) (line : List Update) (x : KeyState) → IsPrefix g line (worth s x) → IsPrefix g line x
-  worth-part s g line x = cond_both (eqb (server_of script s t).config.epoch.0 (coordinator_of script t).config.epoch.0) x (moved Forget x) (λ y. IsPrefix g line y → IsPrefix g line x) (λ z p. p)
+  worth-part s g line x = cond_both (eqb (server_of script s t0).config.epoch.0 (coordinator_of script t0).config.epoch.0) x (moved Forget x) (λ y. IsPrefix g line y → IsPrefix g line x) (λ z p. p)
       (λ z p. record { list = p.list; object = p.object; marks = p.marks; touches = p.touches; floor = p.floor })
 
   -- replicas hold their part
-  hold-parts : (g : RegionId) (s : ServerId) (r : Replica) → IsUp script t g s r → (key : List ℕ) → IsPrefix g (line_of key t) (state_in script.space r key)
-  hold-parts g s r u key = worth-part s g (line_of key t) (state_in script.space r key) ((chained.keyed key).own g s (worth s (state_in script.space r key)) (up-holds key g s r u)).content
+  hold-parts : (g : RegionId) (s : ServerId) (r : Replica) → IsUp script t0 g s r → (key : List ℕ) → IsPrefix g (line_of key t0) (state_in script.space r key)
+  hold-parts g s r u key = worth-part s g (line_of key t0) (state_in script.space r key) ((chained.keyed key).own g s (worth s (state_in script.space r key)) (up-holds key g s r u)).content
+
+  -- what is worth the same: its top and its floor
+  record Same (t w : KeyState) : Type 0 where
+    pub top : top_of w ≡ top_of t
+    pub floor : w.floor ≡ t.floor
+
+  -- what stands for a region at a server is held, or what it is worth
+  holds : (key : List ℕ) (g : RegionId) (s : ServerId) (t : KeyState) → IsHeld script t0 key g s t → (w : KeyState) × (at script t0).holds key g s w × Same t w
+  holds key g s t (inl (r, up, is)) = (
+    worth s (state_in script.space r key),
+    up-holds key g s r up,
+    record { top = worth-top s (state_in script.space r key) ∙ ap top_of (sym is); floor = worth-floor s (state_in script.space r key) ∙ ap (λ (x : KeyState). x.floor) (sym is) },
+  )
+  holds key g s t (inr c) = (
+    t,
+    inr (record {
+      up = (c.server, c.running);
+      empty = λ h. c.empty h.replica (record { server = c.server; running = c.running; installed = found-installed (replica_of g (server_of script s t0).replicas) h.replica h.found h.installed });
+      from = c.from;
+      snapshot = c.snapshot;
+      pending = c.pending;
+      posted = c.posted;
+      is = c.is;
+    }),
+    record { top = refl; floor = refl },
+  )
 
   -- chains are in order
-  keep-order : (key : List ℕ) (u : Update) → IsIn u (line_of key t) → (g h : RegionId) (s x : ServerId) (r q : Replica) → has_place g u ≡ true → has_place h u ≡ true
-      → IsUp script t g s r → IsUp script t h x q → StandsEarlier (coordinator_of script t).config u g s h x → InOrder u (state_in script.space r key) (state_in script.space q key)
-  keep-order key u i g h s x r q p1 p2 a b e =
-      let first = up-holds key g s r a in
-      let second = up-holds key h x q b in
-      let stands : StandsBefore (coordinator_of script t).config u.places g s h x = (placed-number u.places h p2, e) in
+  keep-order : (key : List ℕ) (u : Update) → IsIn u (line_of key t0) → (g h : RegionId) (s x : ServerId) (t y : KeyState) → has_place g u ≡ true → has_place h u ≡ true
+      → IsHeld script t0 key g s t → IsHeld script t0 key h x y → StandsEarlier (coordinator_of script t0).config u g s h x → InOrder u t y
+  keep-order key u i g h s x t y p1 p2 a b e =
+      let (w, first, m) = holds key g s t a in
+      let (z, second, n) = holds key h x y b in
+      let stands : StandsBefore (coordinator_of script t0).config u.places g s h x = (placed-number u.places h p2, e) in
       record {
-        accepted = λ l. (let z = worth-top s (state_in script.space r key) in let y = worth-top x (state_in script.space q key) in
-            let k = ((chained.keyed key).own h x (worth x (state_in script.space q key)) second).taken u i p2 (omega (arith, l, y)) g s (worth s (state_in script.space r key)) first stands in omega (arith, k, z));
-        committed = λ l. (let z = worth-floor s (state_in script.space r key) in let y = worth-floor x (state_in script.space q key) in
-            let k = ((chained.keyed key).own g s (worth s (state_in script.space r key)) first).freed u i p1 (omega (arith, l, z)) h x (worth x (state_in script.space q key)) second stands in omega (arith, k, y));
+        accepted = λ l. (let p = m.top in let q = n.top in let k = ((chained.keyed key).own h x z second).taken u i p2 (omega (arith, l, q)) g s w first stands in omega (arith, k, p));
+        committed = λ l. (let p = m.floor in let q = n.floor in let k = ((chained.keyed key).own g s w first).freed u i p1 (omega (arith, l, p)) h x z second stands in omega (arith, k, q));
       }
 
 -- replicas hold their part
@@ -119,10 +143,6 @@ runs_send_parts script valid t run from g s snapshot pending posted real up empt
       posted = posted;
       is = refl;
     }))).content
-  where
-    found-installed : (o : Option Replica) (r : Replica) → o ≡ Some r → r.installed ≡ true → if_installed o ≡ Some r
-    found-installed None r f h = absurd (cc)
-    found-installed (Some x) r f h = (let q : x ≡ r = cc in cond-true x.installed (Some x) None (ap (λ (y : Replica). y.installed) q ∙ h) ∙ f)
 
 -- chains are in order
 pub runs_keep_order : RunsKeepOrder
@@ -130,13 +150,13 @@ runs_keep_order script valid t run = keep-order script valid t run
 
 -- answers rest on what is committed
 pub runs_answer_committed : RunsAnswerCommitted
-runs_answer_committed script valid t run from c v answer posted op key called on_key sure u i l g s r p up =
+runs_answer_committed script valid t run from c v answer posted op key called on_key sure u i l g s x p held =
     by ((chained-run script valid t run).valid (post from (Session c.session) (a_message.Reply c.number v answer)) posted op key called on_key)
   where
-    floor : Along script (at script t) key v.0 → u.version.0 ≤ (state_in script.space r key).floor
-    floor a = (let k = a u i l g s _ (up-holds script valid t run key g s r up) p in let z = worth-floor script valid t run s (state_in script.space r key) in omega (arith, k, z))
+    floor : Along script (at script t) key v.0 → u.version.0 ≤ x.floor
+    floor a = (let (w, h, m) = holds script valid t run key g s x held in let k = a u i l g s w h p in let z = m.floor in omega (arith, k, z))
 
-    by : Told script (at script t) key c v answer op → u.version.0 ≤ (state_in script.space r key).floor
+    by : Told script (at script t) key c v answer op → u.version.0 ≤ x.floor
     by (inl h) = absurd (false≢true (sym sure ∙ h.1))
     by (inr (inl h)) = floor h.2
     by (inr (inr h)) = floor h.3

@@ -57,10 +57,6 @@ module _ (spot : Spot) (snapshot : List Kept) (pending : List Update) (c : Carri
   abbrev at_key : Bool
   at_key = is_key_region spot.space spot.region
 
-  -- the slot of a key that is sent
-  abbrev sent-of : List ℕ → KeyState
-  sent-of key = snap_state spot.space spot.region key snapshot pending
-
   -- the sender's slot
   abbrev there : List ℕ → KeyState
   there key = state_among at_key key c.states

@@ -89,6 +89,21 @@ RunsSendParts =
     → is_actor script (Server s) ≡ true → (server_of script s trace).halted ≡ false → ((r : Replica) → IsUp script trace g s r → ⊥)
     → (key : List ℕ) → IsPrefix g (line_of key trace) (snap_state script.space g key snapshot pending)
 
+-- a snapshot of the newest epoch is under way with this slot to a server that hasn't halted and has no installed replica there
+pub record IsComing (script : Script) (trace : List Entry) (key : List ℕ) (g : RegionId) (s : ServerId) (t : KeyState) : Type 0 where
+  pub from : Actor
+  pub snapshot : List Kept
+  pub pending : List Update
+  pub posted : IsIn (post from (Server s) (a_message.Snap (coordinator_of script trace).config.epoch g snapshot pending)) (posts_of trace)
+  pub server : is_actor script (Server s) ≡ true
+  pub running : (server_of script s trace).halted ≡ false
+  pub empty : (r : Replica) → IsUp script trace g s r → ⊥
+  pub is : t ≡ snap_state script.space g key snapshot pending
+
+-- the slot of a key that stands for a region at a server: that of an installed replica, or of a snapshot under way
+abbrev pub IsHeld : Script → List Entry → List ℕ → RegionId → ServerId → KeyState → Type 0
+IsHeld script trace key g s t = ((r : Replica) × IsUp script trace g s r × (t ≡ state_in script.space r key)) ⊎ IsComing script trace key g s t
+
 -- ---- chains
 
 -- in the update's chain the first position stands before the second: at an earlier place, or earlier in the same region's list
@@ -101,23 +116,23 @@ pub record InOrder (u : Update) (first second : KeyState) : Type 0 where
   pub accepted : u.version.0 ≤ top_of second → u.version.0 ≤ top_of first
   pub committed : u.version.0 ≤ first.floor → u.version.0 ≤ second.floor
 
--- in every run updates are accepted down their chains and committed up them, whatever servers halted and whoever joined
+-- in every run updates are accepted down their chains and committed up them, whatever servers halted and whoever joins
 abbrev pub RunsKeepOrder : Type 0
 RunsKeepOrder =
     (script : Script) → IsScript script → (trace : List Entry) → IsRun script trace
     → (key : List ℕ) (u : Update) → IsIn u (line_of key trace)
-    → (g h : RegionId) (s x : ServerId) (r q : Replica) → has_place g u ≡ true → has_place h u ≡ true
-    → IsUp script trace g s r → IsUp script trace h x q → StandsEarlier (coordinator_of script trace).config u g s h x
-    → InOrder u (state_in script.space r key) (state_in script.space q key)
+    → (g h : RegionId) (s x : ServerId) (t y : KeyState) → has_place g u ≡ true → has_place h u ≡ true
+    → IsHeld script trace key g s t → IsHeld script trace key h x y → StandsEarlier (coordinator_of script trace).config u g s h x
+    → InOrder u t y
 
 -- ---- answers
 
--- in every run, where a call on a key was answered with a version and no doubt, each update of the key's line up to that version is committed by every installed replica of its chain whose server hasn't halted
+-- in every run, where a call on a key was answered with a version and no doubt, each update of the key's line up to that version is committed wherever its chain holds it at a server that hasn't halted
 abbrev pub RunsAnswerCommitted : Type 0
 RunsAnswerCommitted =
     (script : Script) → IsScript script → (trace : List Entry) → IsRun script trace
     → (from : Actor) (c : Caller) (v : Version) (answer : Answer) → IsIn (post from (Session c.session) (a_message.Reply c.number v answer)) (posts_of trace)
     → (op : Op) (key : List ℕ) → call_of script c ≡ Some op → key_of op ≡ Some key → is_doubt answer ≡ false
     → (u : Update) → IsIn u (line_of key trace) → u.version.0 ≤ v.0
-    → (g : RegionId) (s : ServerId) (r : Replica) → has_place g u ≡ true → IsUp script trace g s r
-    → u.version.0 ≤ (state_in script.space r key).floor
+    → (g : RegionId) (s : ServerId) (t : KeyState) → has_place g u ≡ true → IsHeld script trace key g s t
+    → u.version.0 ≤ t.floor

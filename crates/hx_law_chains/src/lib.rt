@@ -18,12 +18,12 @@ pub fn snapshots_hold_their_part()
     ensures { RunsSendParts }
 {}
 
-/// In every run what a replica has accepted is accepted by every replica before it in the update's chain, and what it has committed is committed by every one after it, in whatever configurations.
+/// In every run what a replica has accepted is accepted by every replica before it in the update's chain, and what it has committed is committed by every one after it, in whatever configurations; a snapshot under way to a joiner counts as the replica that it makes.
 pub fn chains_keep_their_order()
     ensures { RunsKeepOrder }
 {}
 
-/// In every run what a session was answered is committed by all: each update up to the version that the answer names, by every replica of its chain that is installed and hasn't halted.
+/// In every run what a session was answered is committed by all: each update up to the version that the answer names, by every replica of its chain that is installed and hasn't halted, and in every snapshot under way to a joiner.
 pub fn answers_are_committed()
     ensures { RunsAnswerCommitted }
 {}

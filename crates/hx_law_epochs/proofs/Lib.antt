@@ -4,6 +4,7 @@ pub mod Neighbours
 pub mod Next
 pub mod Follows
 pub mod Facts
+pub mod Controls
 pub mod Coordinator
 pub mod SlotPosts
 pub mod Replicas
@@ -11,3 +12,4 @@ pub mod Servers
 pub mod Serving
 pub mod Sessions
 pub mod Runs
+pub mod Headline

@@ -38,7 +38,8 @@ use Rattle.hx_epochs.proofs.SessionMessages.{session_turn}
 use Rattle.hx_epochs.proofs.SessionTurns.{SaysOf}
 use Rattle.hx_posts.proofs.Configs.{first-of_space, member-server}
 use Rattle.hx_law_epochs.specs.Epochs.{FollowsOn, IsSealedOrHalted, RunsOn, WasIssued}
-use Rattle.hx_law_epochs.proofs.Coordinator.{Controls, coordinates}
+use Rattle.hx_law_epochs.proofs.Controls.{Controls}
+use Rattle.hx_law_epochs.proofs.Coordinator.{coordinates}
 use Rattle.hx_law_epochs.proofs.Facts.{KeptBy, Says}
 use Rattle.hx_law_epochs.proofs.Replicas.{Shaped, start-installed, start-shaped}
 use Rattle.hx_law_epochs.proofs.Servers.{Does, Tells, server-does}

@@ -22,7 +22,7 @@ use Rattle.hx_law_epochs.specs.Epochs.{FollowsOn, IsSealedOrHalted}
 use Rattle.hx_law_epochs.proofs.Next.{IsOrderly}
 use Rattle.hx_law_epochs.proofs.Follows.{joining-member, member-listed, member-ready, ready-member}
 use Rattle.hx_law_epochs.proofs.Facts.{EpochsKept, FromServer, Installed, Near, NoLater, Says, SealedSince, SendsSnapshot, Waits}
-use Rattle.hx_law_epochs.proofs.Coordinator.{from-map}
+use Rattle.hx_law_epochs.proofs.Controls.{from-map}
 use Rattle.hx_law_epochs.proofs.Servers.{Does, Tells}
 
 -- the first member of a region that isn't lost is ready
