@@ -25,9 +25,9 @@ use Rattle.hx_model.specs.Causes.{config_noted, is_fulfilled, issued_after}
 use Rattle.hx_model.specs.CoordinatorSteps.{CoordinatorState, CoordinatorStep, any_joining, coordinator_step}
 use Rattle.hx_model.specs.SessionSteps.{SessionState}
 use Rattle.hx_model.specs.Runs.{IsRun, Made, MayTake, coordinator_after, coordinator_of, made_of, server_of, session_after, session_of}
-use Rattle.hx_steady.specs.Served.{posts_of}
-use Rattle.hx_steady.proofs.Lists.{in-append}
-use Rattle.hx_linear.proofs.Traces.{BeganAt, arrived}
+use Rattle.hx_law_lemmas.specs.Words.{posts_of}
+use Rattle.hx_law_lemmas.proofs.Lists.{in-append}
+use Rattle.hx_law_lemmas.proofs.Traces.{BeganAt, arrived}
 use Rattle.hx_law_epochs.proofs.Runs.{EpochsRun, IsKnown, Notes, epochs-run, keeps-entry, known-after, known-still}
 use Rattle.hx_law_chains.proofs.CoordinatorPosts.{OfCoordinator, coordinator-plain}
 use Rattle.hx_law_chains.proofs.ServerPosts.{AnySnapshot, OfServer, server-plain}

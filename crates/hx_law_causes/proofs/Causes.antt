@@ -28,7 +28,7 @@ use Rattle.hx_model.specs.Regions.{key_region}
 use Rattle.hx_model.specs.Runs.{IsRun}
 use Rattle.hx_model.specs.SessionSteps.{SessionState, lost_answer, no_version}
 use Rattle.hx_plan.proofs.Planned.{lowest}
-use Rattle.hx_linear.proofs.Traces.{BeganAt}
+use Rattle.hx_law_lemmas.proofs.Traces.{BeganAt}
 use Rattle.hx_law_epochs.proofs.Runs.{IsKnown}
 use Rattle.hx_law_causes.proofs.Administered.{OutcomeCause, Passes, WasFulfilled}
 use Rattle.hx_law_causes.proofs.Answered.{the_call}

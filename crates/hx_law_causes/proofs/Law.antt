@@ -33,10 +33,10 @@ use Rattle.hx_model.specs.Runs.{IsRun, MayTake, session_of}
 use Rattle.hx_model.specs.ServerSteps.{get_answer}
 use Rattle.hx_model.specs.SessionSteps.{SessionState, is_key_call}
 use Rattle.hx_model.specs.Slots.{upto}
-use Rattle.hx_steady.specs.Served.{posts_of}
-use Rattle.hx_linear.proofs.SessionMessages.{started}
-use Rattle.hx_linear.proofs.Traces.{BeganAt, EndedAt, arrived, began_at}
-use Rattle.hx_epochs.proofs.SessionNotes.{ends_now, may_start}
+use Rattle.hx_law_lemmas.specs.Words.{posts_of}
+use Rattle.hx_law_lemmas.proofs.CallEnds.{started}
+use Rattle.hx_law_lemmas.proofs.Traces.{BeganAt, EndedAt, arrived, began_at}
+use Rattle.hx_law_lemmas.proofs.SessionNotes.{ends_now, may_start}
 use Rattle.hx_law_chains.proofs.Named.{named}
 use Rattle.hx_law_epochs.proofs.Runs.{IsKnown}
 use Rattle.hx_law_facts.specs.Facts.{Tells}

@@ -19,9 +19,9 @@ use Rattle.hx_types.specs.Fitting.{IsScript}
 use Rattle.hx_model.specs.Causes.{carries_call, was_sent}
 use Rattle.hx_model.specs.Runs.{IsRun, MayTake, session_after, session_of}
 use Rattle.hx_model.specs.SessionSteps.{SessionState, session_step}
-use Rattle.hx_steady.specs.Served.{posts_of}
-use Rattle.hx_steady.proofs.Lists.{any-in, in-append, in_left, in_right}
-use Rattle.hx_linear.proofs.Traces.{arrived}
+use Rattle.hx_law_lemmas.specs.Words.{posts_of}
+use Rattle.hx_law_lemmas.proofs.Lists.{any-in, in-append, in_left, in_right}
+use Rattle.hx_law_lemmas.proofs.Traces.{arrived}
 use Rattle.hx_law_epochs.proofs.Next.{any-of}
 use Rattle.hx_law_epochs.proofs.Runs.{IsKnown, epochs-run}
 use Rattle.hx_law_epochs.proofs.Sessions.{session-config}

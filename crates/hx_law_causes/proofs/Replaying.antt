@@ -17,7 +17,7 @@ use Rattle.hx_types.specs.Posts.{ActorExists}
 use Rattle.hx_model.specs.Runs.{IsRun, MayTake, has_halted, is_actor, is_empty, made_of, makes_enough, post_named, session_of}
 use Rattle.hx_model.specs.Schedule.{Next, delivery_of, entry_by, first_delivery, idle_among, is_idle, next_input, scheduled, undelivered, with_entry}
 use Rattle.hx_model.specs.SessionSteps.{SessionState, SessionStep, begin, session_tick, staying}
-use Rattle.hx_steady.proofs.Lists.{in-below, when_some_both}
+use Rattle.hx_law_lemmas.proofs.Lists.{in-below, when_some_both}
 use Rattle.hx_posts.proofs.Bounds.{bounds}
 use Rattle.hx_posts.proofs.Runs.{posts_stay_sound}
 use Rattle.hx_law_epochs.proofs.Positions.{index-some}

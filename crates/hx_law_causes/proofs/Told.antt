@@ -24,9 +24,9 @@ use Rattle.hx_model.specs.Lines.{line_object, upto}
 use Rattle.hx_model.specs.Places.{places_of}
 use Rattle.hx_model.specs.Runs.{IsRun}
 use Rattle.hx_model.specs.Slots.{top_above, touches_after}
-use Rattle.hx_linear.proofs.EffectLaws.{effect_well}
-use Rattle.hx_linear.proofs.Lines.{in-below, upto_past}
-use Rattle.hx_searches.proofs.Lines.{top-numbered, upto_all}
+use Rattle.hx_law_lemmas.proofs.Effects.{effect_well}
+use Rattle.hx_law_lemmas.proofs.Numbered.{in-below, upto_past}
+use Rattle.hx_law_lemmas.proofs.Lines.{top-numbered, upto_all}
 use Rattle.hx_law_epochs.proofs.Runs.{IsKnown}
 use Rattle.hx_law_chains.proofs.Doubts.{lost-place}
 use Rattle.hx_law_chains.proofs.DoubtsTold.{doubts-told}

@@ -19,16 +19,15 @@ use Rattle.hx_model.specs.Leading.{StuckAt, stuck_of}
 use Rattle.hx_model.specs.ServerSteps.{Replica, ServerState, Spot, adopted, adopted_posts, adopted_replica, adopted_state, doubt_in, doubts_from, is_active, leader_doubts, listed_regions, move_posts, passed_on, ready_post, replica_of, replica_or_new, resumed, resumed_posts, snap_posts, state_in, with_config}
 use Rattle.hx_model.specs.Slots.{Forget, KeyState, Move, moved, moved_all, new_state, pending_of, pending_of_all, snapshot_of, state_among}
 use Rattle.hx_model.proofs.Laws.{base-moved_all}
-use Rattle.hx_steady.proofs.Lines.{pending-in}
-use Rattle.hx_steady.proofs.Lists.{in-append, in-filter, in-flat_map, in-map, in-provided, when_some_both}
-use Rattle.hx_steady.proofs.Replicas.{replica-found}
-use Rattle.hx_searches.proofs.Chains.{Differ}
-use Rattle.hx_searches.proofs.Texts.{state-there}
-use Rattle.hx_epochs.proofs.Entries.{view}
-use Rattle.hx_epochs.proofs.Lines.{more_same}
-use Rattle.hx_epochs.proofs.Moved.{which-server}
-use Rattle.hx_epochs.proofs.Serving.{standing}
-use Rattle.hx_epochs.proofs.Shapes.{listed-there, made-found, made-in, mapped-found, mapped-from}
+use Rattle.hx_law_lemmas.proofs.LeaderLines.{pending-in}
+use Rattle.hx_law_lemmas.proofs.Lists.{in-append, in-filter, in-flat_map, in-map, in-provided, when_some_both}
+use Rattle.hx_law_lemmas.proofs.Replicas.{replica-found}
+use Rattle.hx_law_lemmas.proofs.Chains.{Differ}
+use Rattle.hx_law_lemmas.proofs.Texts.{state-there}
+use Rattle.hx_law_lemmas.specs.Words.{standing, view}
+use Rattle.hx_law_lemmas.proofs.Cuts.{more_same}
+use Rattle.hx_law_lemmas.proofs.Cases.{which-server}
+use Rattle.hx_law_lemmas.proofs.ReplicaLists.{listed-there, made-found, made-in, mapped-found, mapped-from}
 use Rattle.hx_folds.specs.Folding.{IsJoinableServer}
 use Rattle.hx_law_epochs.proofs.Facts.{Installed}
 use Rattle.hx_law_chains.proofs.Holders.{Live, Up, live-of, seat-of, state-here, state-off, with_state_of}

@@ -36,10 +36,10 @@ use Rattle.hx_model.specs.Lines.{line_object}
 use Rattle.hx_model.specs.Regions.{key_region}
 use Rattle.hx_model.specs.ServerSteps.{ServerState, Spot, ack_to, get_answer, move_posts, next_at, passed_on, prev_at, reply, told_to, update_to}
 use Rattle.hx_model.specs.Slots.{Acknowledge, Commit, Forget, Hold, KeyState, Move, Take, has_place, mark_of}
-use Rattle.hx_searches.proofs.Chains.{place-in}
-use Rattle.hx_steady.proofs.Lists.{in-flat_map, when_some_both}
-use Rattle.hx_epochs.proofs.Holding.{AllKnown, Known}
-use Rattle.hx_epochs.proofs.World.{at_session}
+use Rattle.hx_law_lemmas.proofs.Chains.{place-in}
+use Rattle.hx_law_lemmas.proofs.Lists.{in-flat_map, when_some_both}
+use Rattle.hx_law_lemmas.proofs.HeldUpdates.{AllKnown, Known}
+use Rattle.hx_law_lemmas.proofs.Lawful.{at_session}
 use Rattle.hx_law_chains.proofs.World.{Law}
 
 -- a pending version of the key is held up by the lost region at the leader, and isn't above the version named, unless that is 0

@@ -26,17 +26,14 @@ use Rattle.hx_model.specs.CoordinatorSteps.{CoordinatorState, coordinator_step}
 use Rattle.hx_model.specs.ServerSteps.{ServerState, state_in}
 use Rattle.hx_model.specs.SessionSteps.{SessionState, session_step}
 use Rattle.hx_model.specs.Slots.{Forget, KeyState, moved}
-use Rattle.hx_steady.specs.Served.{posts_of}
-use Rattle.hx_steady.proofs.Lists.{in-append}
-use Rattle.hx_steady.proofs.Turns.{noted}
-use Rattle.hx_linear.proofs.SessionMessages.{started}
-use Rattle.hx_linear.proofs.SessionNotes.{started_same}
-use Rattle.hx_epochs.proofs.Entries.{view}
-use Rattle.hx_epochs.proofs.Lines.{more_same}
-use Rattle.hx_epochs.proofs.Order.{in-listed, listed-in}
-use Rattle.hx_epochs.proofs.SessionMessages.{session_turn}
-use Rattle.hx_epochs.proofs.SessionNotes.{keeps_lines}
-use Rattle.hx_epochs.proofs.SessionTurns.{SaysOf}
+use Rattle.hx_law_lemmas.specs.Words.{noted, posts_of, view}
+use Rattle.hx_law_lemmas.proofs.Lists.{in-append}
+use Rattle.hx_law_lemmas.proofs.CallEnds.{started, started_same}
+use Rattle.hx_law_lemmas.proofs.Cuts.{more_same}
+use Rattle.hx_law_lemmas.proofs.Order.{in-listed, listed-in}
+use Rattle.hx_law_lemmas.proofs.SessionMessages.{session_turn}
+use Rattle.hx_law_lemmas.proofs.SessionNotes.{keeps_lines}
+use Rattle.hx_law_lemmas.proofs.SessionTurns.{SaysOf}
 use Rattle.hx_law_epochs.specs.Epochs.{FollowsOn}
 use Rattle.hx_law_epochs.proofs.Facts.{Says}
 use Rattle.hx_law_epochs.proofs.Runs.{EpochsRun, IsKnown, Keeps, Real, keeps-entry, known-still}

@@ -31,12 +31,11 @@ use Rattle.hx_model.specs.CoordinatorSteps.{Joined, Phase}
 use Rattle.hx_model.specs.Regions.{key_region}
 use Rattle.hx_model.specs.ServerSteps.{Replica, ServerState, ServerStep, acked, adopted, asked, at_slot, call_at, call_step, called, called_by, halting, hearing, if_installed, input_step, install_at, message_step, replica_of, replica_tick, saying, seal_at, server_step, snapped, spot_of, state_in, tick_step, unmoved, updated, with_config}
 use Rattle.hx_model.specs.Slots.{Forget, KeyState, found_in, moved}
-use Rattle.hx_steady.proofs.Lists.{in-provided, when_some_both}
-use Rattle.hx_steady.proofs.Replicas.{replica-found}
-use Rattle.hx_searches.proofs.Chains.{Differ, server-same}
-use Rattle.hx_epochs.proofs.Entries.{view}
-use Rattle.hx_epochs.proofs.Lines.{more_same}
-use Rattle.hx_epochs.proofs.Serving.{standing}
+use Rattle.hx_law_lemmas.proofs.Lists.{in-provided, when_some_both}
+use Rattle.hx_law_lemmas.proofs.Replicas.{replica-found}
+use Rattle.hx_law_lemmas.proofs.Chains.{Differ, server-same}
+use Rattle.hx_law_lemmas.specs.Words.{standing, view}
+use Rattle.hx_law_lemmas.proofs.Cuts.{more_same}
 use Rattle.hx_folds.specs.Folding.{IsJoinableServer}
 use Rattle.hx_law_epochs.specs.Epochs.{FollowsOn}
 use Rattle.hx_law_epochs.proofs.Facts.{EpochsKept, Installed}

@@ -15,8 +15,7 @@ use Rattle.hx_model.specs.Histories.{line_of}
 use Rattle.hx_model.specs.Runs.{IsRun, coordinator_of, server_of}
 use Rattle.hx_model.specs.ServerSteps.{Replica, if_installed, replica_of, state_in}
 use Rattle.hx_model.specs.Slots.{Forget, KeyState, has_place, moved, top_of}
-use Rattle.hx_steady.specs.Served.{posts_of}
-use Rattle.hx_epochs.proofs.Entries.{view}
+use Rattle.hx_law_lemmas.specs.Words.{posts_of, view}
 use Rattle.hx_law_epochs.proofs.Positions.{StandsBefore, placed-number}
 use Rattle.hx_law_epochs.proofs.Replicas.{installed-is}
 use Rattle.hx_law_epochs.proofs.Runs.{IsKnown, Real}

@@ -24,16 +24,15 @@ use Rattle.hx_model.specs.Regions.{key_region}
 use Rattle.hx_model.specs.Places.{places_of}
 use Rattle.hx_model.specs.Slots.{KeyState, latest_of, mark_of, top_of, touches_after, touches_of}
 use Rattle.hx_model.specs.Leading.{StuckAt, assigned, by_mark, decide, first_lost, fresh, granted, refusal, stuck_of, with_places}
-use Rattle.hx_steady.proofs.Leader.{effect-same}
-use Rattle.hx_steady.proofs.Lines as steady
-use Rattle.hx_steady.proofs.Lists.{all-in, when_some_both}
-use Rattle.hx_steady.proofs.Regions.{places-not-lost}
-use Rattle.hx_searches.proofs.Chains.{Apart}
-use Rattle.hx_searches.proofs.Slots.{places-apart}
-use Rattle.hx_epochs.proofs.Leader.{IsNewer, decide-decided, slot_of}
-use Rattle.hx_epochs.proofs.World as epochs
-use Rattle.hx_halts.proofs.Servers.{effect-done}
-use Rattle.hx_searches.proofs.Placed.{Made}
+use Rattle.hx_law_lemmas.proofs.Effects.{effect-done, effect-same}
+use Rattle.hx_law_lemmas.proofs.LeaderLines as leader_lines
+use Rattle.hx_law_lemmas.proofs.Lists.{all-in, when_some_both}
+use Rattle.hx_law_lemmas.proofs.Regions.{places-not-lost}
+use Rattle.hx_law_lemmas.proofs.Chains.{Apart}
+use Rattle.hx_law_lemmas.proofs.UpdatesApart.{places-apart}
+use Rattle.hx_law_lemmas.proofs.Leader.{IsNewer, decide-decided, slot_of}
+use Rattle.hx_law_lemmas.proofs.Lawful as script_lines
+use Rattle.hx_law_lemmas.proofs.Placed.{Made}
 use Rattle.hx_law_chains.proofs.World.{Effected, Law, Lawful, lawful-made}
 
 -- a decision to assign is for what the leader assigns
@@ -64,7 +63,7 @@ number-in (q ∷ rest) p (inl e) = inl (ap (λ (x : Place). x.region.0) e)
 number-in (q ∷ rest) p (inr i) = inr (number-in rest p i)
 
 -- the law of a line in one configuration follows
-steady-law : (script : Script) → IsSpace script.space → (known : Config → Type 0) (key : List ℕ) (older : List Update) (u : Update) → Lawful script known key older → Law script known key older u → epochs.Law script key older u
+steady-law : (script : Script) → IsSpace script.space → (known : Config → Type 0) (key : List ℕ) (older : List Update) (u : Update) → Lawful script known key older → Law script known key older u → script_lines.Law script key older u
 steady-law script valid known key older u all law = record {
   lawful = record {
     version = law.made.version;
@@ -85,7 +84,7 @@ steady-law script valid known key older u all law = record {
 }
 
 -- so it follows of each update
-pub steady-lawful : (script : Script) → IsSpace script.space → (known : Config → Type 0) (key : List ℕ) (us : List Update) → Lawful script known key us → epochs.Lawful script key us
+pub steady-lawful : (script : Script) → IsSpace script.space → (known : Config → Type 0) (key : List ℕ) (us : List Update) → Lawful script known key us → script_lines.Lawful script key us
 steady-lawful script valid known key [] h = tt
 steady-lawful script valid known key (u ∷ us) h = (steady-law script valid known key us u h.1 h.0, steady-lawful script valid known key us h.1)
 
@@ -96,12 +95,12 @@ module _ (script : Script) (valid : IsSpace script.space) (known : Config → Ty
   here = slot_of marks key us floor acked early
 
   -- the line has the law of one configuration
-  abbrev plain : epochs.Lawful script key us
+  abbrev plain : script_lines.Lawful script key us
   plain = steady-lawful script valid known key us lawful
 
   -- its top is the length of the line
   top-is : top_of here ≡ length us
-  top-is = steady.top-line script.space key us (epochs.lawful-steady script key us plain)
+  top-is = leader_lines.top-line script.space key us (script_lines.lawful-steady script key us plain)
 
   -- what is assigned is the effect, or refused
   effected : (old : Option (List Value)) → old ≡ line_object us → Effected script.space known key us (with_places script.space config here caller old (effect_of script.space old op)) op
@@ -170,12 +169,12 @@ module _ (script : Script) (valid : IsSpace script.space) (known : Config → Ty
   assigned-law u newer is =
       let c : u.caller ≡ caller = ap (λ (x : Update). x.caller) is ∙ granted-caller (latest_of (key_region script.space key) here) in
       record {
-        made = subst (Made script.space key us) (sym is) (made (latest_of (key_region script.space key) here) (steady.kept-line script.space key us (epochs.lawful-steady script key us plain)));
+        made = subst (Made script.space key us) (sym is) (made (latest_of (key_region script.space key) here) (leader_lines.kept-line script.space key us (script_lines.lawful-steady script key us plain)));
         op = op;
         called = ap (call_of script) c ∙ called;
         writes = writes;
         on_key = on_key;
-        effect = subst (λ (x : Update). Effected script.space known key us x op) (sym is) (effected (latest_of (key_region script.space key) here) (steady.kept-line script.space key us (epochs.lawful-steady script key us plain)));
+        effect = subst (λ (x : Update). Effected script.space known key us x op) (sym is) (effected (latest_of (key_region script.space key) here) (leader_lines.kept-line script.space key us (script_lines.lawful-steady script key us plain)));
         newer = newer;
       }
 

@@ -25,13 +25,12 @@ use Rattle.hx_types.specs.Spaces.{IsSpace}
 use Rattle.hx_model.specs.Holders.{snap_state}
 use Rattle.hx_model.specs.ServerSteps.{Replica, ServerState, hearing, if_installed, state_in}
 use Rattle.hx_model.specs.Slots.{KeyState, found_in}
-use Rattle.hx_steady.proofs.Lists.{in-append}
-use Rattle.hx_steady.proofs.Turns.{noted}
-use Rattle.hx_searches.proofs.Chains.{Differ}
-use Rattle.hx_epochs.proofs.Entries.{view}
-use Rattle.hx_epochs.proofs.Lines.{More}
-use Rattle.hx_epochs.proofs.Moved.{which-server}
-use Rattle.hx_epochs.proofs.World.{at_session}
+use Rattle.hx_law_lemmas.proofs.Lists.{in-append}
+use Rattle.hx_law_lemmas.specs.Words.{noted, view}
+use Rattle.hx_law_lemmas.proofs.Chains.{Differ}
+use Rattle.hx_law_lemmas.proofs.Cuts.{More}
+use Rattle.hx_law_lemmas.proofs.Cases.{which-server}
+use Rattle.hx_law_lemmas.proofs.Lawful.{at_session}
 use Rattle.hx_law_epochs.proofs.Facts.{Installed}
 use Rattle.hx_law_chains.proofs.Holders.{Live, Up, state-here, state-off, with_state_of, world_of}
 use Rattle.hx_law_chains.proofs.Joining.{Twin, acking_joined, along_joined, fixed_joined, joined, key_joined, sending_joined}

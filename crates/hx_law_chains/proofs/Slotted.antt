@@ -18,15 +18,12 @@ use Rattle.hx_model.specs.ServerSteps.{Replica, ServerState, next_at, replica_of
 use Rattle.hx_model.specs.Slots.{Forget, KeyState, Move, has_place, moved, moved_all}
 use Rattle.hx_model.proofs.Laws.{base-moved_all}
 use Rattle.hx_model.proofs.States.{eq_of_same_text}
-use Rattle.hx_steady.specs.Served.{slot_in}
-use Rattle.hx_steady.proofs.Replicas.{replica-here, replica-other, slot-found, slot-here, slot-other_key, slot-other_region, state-key, with_slot_at}
-use Rattle.hx_steady.proofs.Turns.{noted}
-use Rattle.hx_searches.proofs.Chains.{Differ}
-use Rattle.hx_searches.proofs.Slots.{places-apart}
-use Rattle.hx_epochs.proofs.Entries.{view}
-use Rattle.hx_epochs.proofs.Lines.{More, more_same}
-use Rattle.hx_epochs.proofs.Posts.{which-region}
-use Rattle.hx_epochs.proofs.Serving.{standing}
+use Rattle.hx_law_lemmas.specs.Words.{noted, slot_in, standing, view}
+use Rattle.hx_law_lemmas.proofs.Replicas.{replica-here, replica-other, slot-found, slot-here, slot-other_key, slot-other_region, state-key, with_slot_at}
+use Rattle.hx_law_lemmas.proofs.Chains.{Differ}
+use Rattle.hx_law_lemmas.proofs.UpdatesApart.{places-apart}
+use Rattle.hx_law_lemmas.proofs.Cuts.{More, more_same}
+use Rattle.hx_law_lemmas.proofs.Cases.{which-region}
 use Rattle.hx_law_epochs.proofs.Facts.{Installed}
 use Rattle.hx_law_epochs.proofs.Neighbours.{next-none}
 use Rattle.hx_law_epochs.proofs.Positions.{placed-number}

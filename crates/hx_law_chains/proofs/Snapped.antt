@@ -16,13 +16,12 @@ use Rattle.hx_types.specs.Spaces.{IsSpace}
 use Rattle.hx_model.specs.Holders.{snap_state}
 use Rattle.hx_model.specs.ServerSteps.{Replica, ServerState, ServerStep, Spot, installed_slots, move_posts, passed_on, ready_post, replica_of, resumed, saying, snapped, state_in, with_replica, with_slots}
 use Rattle.hx_model.specs.Slots.{KeyState, Move, Take, moved_all, pending_of, top_of}
-use Rattle.hx_steady.proofs.Lines.{pending-in}
-use Rattle.hx_steady.proofs.Lists.{in-append, in-flat_map, in-provided, in_left}
-use Rattle.hx_steady.proofs.Replicas.{replica-here, replica-other}
-use Rattle.hx_searches.proofs.Chains.{Differ}
-use Rattle.hx_epochs.proofs.Entries.{view}
-use Rattle.hx_epochs.proofs.Serving.{standing}
-use Rattle.hx_epochs.proofs.Posts.{which-region}
+use Rattle.hx_law_lemmas.proofs.LeaderLines.{pending-in}
+use Rattle.hx_law_lemmas.proofs.Lists.{in-append, in-flat_map, in-provided, in_left}
+use Rattle.hx_law_lemmas.proofs.Replicas.{replica-here, replica-other}
+use Rattle.hx_law_lemmas.proofs.Chains.{Differ}
+use Rattle.hx_law_lemmas.specs.Words.{standing, view}
+use Rattle.hx_law_lemmas.proofs.Cases.{which-region}
 use Rattle.hx_law_epochs.proofs.Facts.{Installed}
 use Rattle.hx_law_chains.proofs.Holders.{Up, live-of, live-only, state-here, with_state_of}
 use Rattle.hx_law_chains.proofs.Joining.{Twin}

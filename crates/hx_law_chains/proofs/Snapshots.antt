@@ -25,13 +25,13 @@ use Rattle.hx_model.specs.Runs.{IsRun, Made, MayTake, coordinator_of, made_of, s
 use Rattle.hx_model.specs.ServerSteps.{Replica, ServerState, server_step}
 use Rattle.hx_model.specs.SessionSteps.{SessionState}
 use Rattle.hx_model.specs.Slots.{Forget, KeyState, moved, pending_of_all, snapshot_of, state_among}
-use Rattle.hx_steady.specs.Served.{posts_of}
-use Rattle.hx_steady.proofs.Lists.{in-append}
-use Rattle.hx_linear.proofs.Traces.{arrived}
-use Rattle.hx_linear.proofs.SessionMessages.{started}
-use Rattle.hx_epochs.proofs.SessionMessages.{session_turn}
-use Rattle.hx_epochs.proofs.SessionTurns.{SaysOf}
-use Rattle.hx_searches.proofs.Texts.{Ascend, state_key}
+use Rattle.hx_law_lemmas.specs.Words.{posts_of}
+use Rattle.hx_law_lemmas.proofs.Lists.{in-append}
+use Rattle.hx_law_lemmas.proofs.Traces.{arrived}
+use Rattle.hx_law_lemmas.proofs.CallEnds.{started}
+use Rattle.hx_law_lemmas.proofs.SessionMessages.{session_turn}
+use Rattle.hx_law_lemmas.proofs.SessionTurns.{SaysOf}
+use Rattle.hx_law_lemmas.proofs.Texts.{Ascend, state_key}
 use Rattle.hx_posts.proofs.Runs.{posts_stay_sound}
 use Rattle.hx_folds.specs.Folding.{CanBeSent, CanJoin, HasFloors, InputJoins, IsJoinableReplica, IsJoinableServer, IsSlotOf, KeysAscend, folded}
 use Rattle.hx_folds.specs.Laws.{SendsJoin}

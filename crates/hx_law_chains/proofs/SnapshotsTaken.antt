@@ -11,7 +11,7 @@ use Rattle.hx_model.proofs.States.{eq_of_same_text, same_text_self}
 use Rattle.hx_model.specs.Holders.{kept_among, snap_state}
 use Rattle.hx_model.specs.ServerSteps.{Slots, Spot, accepting, installed_slots, join_keys, keys_of, move_posts, offered_all, passed_on, resumed, state_from}
 use Rattle.hx_model.specs.Slots.{Forget, KeyState, kept_of, moved, moved_all, pending_of, snapshot_of, state_among}
-use Rattle.hx_steady.proofs.Lists.{in-append}
+use Rattle.hx_law_lemmas.proofs.Lists.{in-append}
 use Rattle.hx_folds.specs.Folding.{CanBeSent, CanJoin, folded}
 use Rattle.hx_folds.specs.Laws.{over}
 use Rattle.hx_folds.proofs.Installing.{Once, after_join, among-slot-turn, ascend-once, from-kept, installed, keys-ascend, other, some}

@@ -38,13 +38,12 @@ use Rattle.hx_model.specs.ServerSteps.{Replica, ServerState, ServerStep, SlotSte
 use Rattle.hx_model.specs.Slots.{Forget, KeyState, Move, has_place, moved, moved_all, offered, pending_of, top_of, upto}
 use Rattle.hx_folds.specs.Folding.{IsJoinableServer}
 use Rattle.hx_types.specs.Words.{provided}
-use Rattle.hx_steady.proofs.Lines.{pending-in}
-use Rattle.hx_steady.proofs.Replicas.{replica-found, replica-here, slot-found, slot-here, state-key, with_slot_at}
-use Rattle.hx_searches.proofs.Chains.{Differ, server-same}
-use Rattle.hx_searches.proofs.Lines.{in-upto}
-use Rattle.hx_searches.proofs.Texts.{state-there}
-use Rattle.hx_epochs.proofs.Entries.{view}
-use Rattle.hx_epochs.proofs.Serving.{standing}
+use Rattle.hx_law_lemmas.proofs.LeaderLines.{pending-in}
+use Rattle.hx_law_lemmas.proofs.Replicas.{replica-found, replica-here, slot-found, slot-here, state-key, with_slot_at}
+use Rattle.hx_law_lemmas.proofs.Chains.{Differ, server-same}
+use Rattle.hx_law_lemmas.proofs.Lines.{in-upto}
+use Rattle.hx_law_lemmas.proofs.Texts.{state-there}
+use Rattle.hx_law_lemmas.specs.Words.{standing, view}
 use Rattle.hx_types.specs.Configs.{members_of}
 use Rattle.hx_law_epochs.proofs.Facts.{EpochsKept, Installed}
 use Rattle.hx_law_epochs.proofs.Replicas.{Shaped, hearing-is, installed-is}
@@ -56,8 +55,8 @@ use Rattle.hx_law_chains.proofs.Serving.{Asked, Scene, world}
 use Rattle.hx_law_chains.proofs.Snapshots.{Carries, Sends, replica-ascends, replica-sent}
 use Rattle.hx_law_chains.proofs.SnapshotsTaken.{taken-posts}
 use Rattle.hx_law_chains.proofs.World.{KeyOk, Law, UpdateOk, Valid, around, law-of, lawful-sorted, spot}
-use Rattle.hx_steady.proofs.Lists.{in-append, in-filter, in-flat_map, in-map, in-provided, when_some_both}
-use Rattle.hx_epochs.proofs.Holding.{Held, accepting-known, offered-known}
+use Rattle.hx_law_lemmas.proofs.Lists.{in-append, in-filter, in-flat_map, in-map, in-provided, when_some_both}
+use Rattle.hx_law_lemmas.proofs.HeldUpdates.{Held, accepting-known, offered-known}
 use Rattle.hx_law_chains.proofs.Doubts.{Sure, decide-stuck, get-sure, law-sure, moves-say, passed-says, sure-says}
 use Rattle.hx_law_chains.proofs.Telling.{Tells, ack-tells, held-sure, key-place-is, line-sure, pending-found, resumed-tells, stuck-tells, update-tells}
 use Rattle.hx_law_chains.proofs.Adopting.{found-done, poster, slot-moved}

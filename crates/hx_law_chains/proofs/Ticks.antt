@@ -20,13 +20,13 @@ use Rattle.hx_types.specs.Subspaces.{is_key_region}
 use Rattle.hx_model.specs.ServerSteps.{Replica, ServerState, Spot, is_active, next_at, passed_on, pending_posts, ready_post, replica_tick, snap_posts, state_in, update_to}
 use Rattle.hx_model.specs.Holders.{snap_state}
 use Rattle.hx_model.specs.Slots.{KeyState, pending_of, pending_of_all, snapshot_of, top_of}
-use Rattle.hx_steady.proofs.Lines.{pending-in}
-use Rattle.hx_steady.proofs.Lists.{in-append, in-flat_map, in-provided}
-use Rattle.hx_searches.proofs.Chains.{Differ}
-use Rattle.hx_searches.proofs.Texts.{state-there}
-use Rattle.hx_epochs.proofs.Moved.{which-server}
-use Rattle.hx_epochs.proofs.Serving.{standing}
-use Rattle.hx_epochs.proofs.Shapes.{Once, once-found}
+use Rattle.hx_law_lemmas.proofs.LeaderLines.{pending-in}
+use Rattle.hx_law_lemmas.proofs.Lists.{in-append, in-flat_map, in-provided}
+use Rattle.hx_law_lemmas.proofs.Chains.{Differ}
+use Rattle.hx_law_lemmas.proofs.Texts.{state-there}
+use Rattle.hx_law_lemmas.proofs.Cases.{which-server}
+use Rattle.hx_law_lemmas.specs.Words.{standing}
+use Rattle.hx_law_lemmas.proofs.ReplicaLists.{Once, once-found}
 use Rattle.hx_folds.specs.Folding.{IsJoinableServer}
 use Rattle.hx_law_epochs.proofs.Facts.{Installed}
 use Rattle.hx_law_chains.proofs.Holders.{Up, state-here, state-off, with_state_of}

@@ -30,7 +30,7 @@ use Rattle.hx_model.specs.Slots.{KeyState, has_place, top_of, touches_after}
 use Rattle.hx_model.specs.ServerSteps.{Replica, if_installed, replica_of, state_in}
 use Rattle.hx_model.specs.Runs.{IsRun, coordinator_of, is_actor, server_of}
 use Rattle.hx_model.specs.Histories.{line_of}
-use Rattle.hx_steady.specs.Served.{posts_of}
+use Rattle.hx_law_lemmas.specs.Words.{posts_of}
 
 -- ---- lines
 

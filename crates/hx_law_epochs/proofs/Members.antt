@@ -9,9 +9,9 @@ use Rattle.hx_types.specs.declared.ids.ServerId.{ServerId}
 use Rattle.hx_types.specs.Words.{IsIn, first_of_list, same_server, when_some}
 use Rattle.hx_types.specs.Configs.{any_ready, head_of, is_lost, joiner_for, joiner_in, members_of}
 use Rattle.hx_model.specs.Neighbours.{last_member, member_after, member_before}
-use Rattle.hx_steady.proofs.Lists.{in-map}
-use Rattle.hx_searches.proofs.Chains.{Differ, server-other, server-same}
-use Rattle.hx_epochs.proofs.Order.{after-order, before-in, servers_of}
+use Rattle.hx_law_lemmas.proofs.Lists.{in-map}
+use Rattle.hx_law_lemmas.proofs.Chains.{Differ, server-other, server-same}
+use Rattle.hx_law_lemmas.proofs.Order.{after-order, before-in, servers_of}
 
 -- the servers of a region's members, in order
 abbrev pub order : Config → RegionId → List ServerId

@@ -10,9 +10,9 @@ use Rattle.hx_types.specs.declared.updates.Place.{Place}
 use Rattle.hx_types.specs.Words.{IsBefore, IsIn}
 use Rattle.hx_types.specs.Configs.{head_of, is_lost, members_of}
 use Rattle.hx_model.specs.Neighbours.{enters, enters_last, hop_at, last_member, member_after, member_before, next_of, place_before, place_number, prev_of, region_at}
-use Rattle.hx_steady.proofs.Chains.{first-listed, last-some}
-use Rattle.hx_searches.proofs.Chains.{Apart, Differ, after-before, after-last, number-is, region-is}
-use Rattle.hx_epochs.proofs.Order.{after-nobody, head-nobody, head-order, in-listed, last-server}
+use Rattle.hx_law_lemmas.proofs.FirstMembers.{first-listed, last-some}
+use Rattle.hx_law_lemmas.proofs.Chains.{Apart, Differ, after-before, after-last, number-is, region-is}
+use Rattle.hx_law_lemmas.proofs.Order.{after-nobody, head-nobody, head-order, in-listed, last-server}
 use Rattle.hx_law_epochs.proofs.Members.{before-after, head-before, head-some, last-of, order}
 use Rattle.hx_law_epochs.proofs.Positions.{Adjacent, HasPlace, StandsBefore, adjacent-across, adjacent-within, index-below, index-some, next-across, next-within, number-region, place-at, prev-across, prev-within}
 

@@ -12,8 +12,8 @@ use Rattle.hx_types.specs.Words.{IsBefore, IsIn, same_region, when_some}
 use Rattle.hx_types.specs.Configs.{head_of, members_of}
 use Rattle.hx_model.specs.Neighbours.{enters, enters_last, member_after, member_before, members_at, next_of, place_before, place_number, prev_of}
 use Rattle.hx_model.specs.Slots.{place_in}
-use Rattle.hx_searches.proofs.Chains.{Apart, Differ, at-number, members-is}
-use Rattle.hx_epochs.proofs.Order.{after-nobody, after-order, before-in, before-trans, head-nobody, head-order, order-cases, servers_of}
+use Rattle.hx_law_lemmas.proofs.Chains.{Apart, Differ, at-number, members-is}
+use Rattle.hx_law_lemmas.proofs.Order.{after-nobody, after-order, before-in, before-trans, head-nobody, head-order, order-cases, servers_of}
 use Rattle.hx_law_epochs.proofs.Members.{order, server-member}
 
 -- the region has a place among them

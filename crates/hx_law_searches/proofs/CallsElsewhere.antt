@@ -19,9 +19,9 @@ use Rattle.hx_types.specs.Fitting.{call_of, is_doubt}
 use Rattle.hx_model.specs.SessionSteps.{SessionState}
 use Rattle.hx_model.specs.Runs.{session_of}
 use Rattle.hx_model.specs.Histories.{line_of}
-use Rattle.hx_steady.specs.Served.{posts_of}
-use Rattle.hx_steady.proofs.Lists.{in-append, in_right}
-use Rattle.hx_linear.proofs.Traces.{BeganAt, EndedAt}
+use Rattle.hx_law_lemmas.specs.Words.{posts_of}
+use Rattle.hx_law_lemmas.proofs.Lists.{in-append, in_right}
+use Rattle.hx_law_lemmas.proofs.Traces.{BeganAt, EndedAt}
 use Rattle.hx_law_searches.proofs.Calls.{Calls, EndedFirst, IsKnown, WasPosted, ended-known}
 
 -- ---- an entry of no session

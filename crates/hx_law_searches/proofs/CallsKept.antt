@@ -16,13 +16,13 @@ use Rattle.hx_types.specs.Words.{IsIn, post}
 use Rattle.hx_model.specs.SessionSteps.{session_step}
 use Rattle.hx_model.specs.Runs.{IsRun, IsStep, Made, MayTake, coordinator_of, made_of, server_of, session_after, session_of}
 use Rattle.hx_model.specs.Histories.{line_notes, line_of}
-use Rattle.hx_linear.proofs.Traces.{arrived}
-use Rattle.hx_searches.proofs.Lines.{in-upto}
-use Rattle.hx_epochs.proofs.SessionMessages.{SessionTurn, session_turn}
+use Rattle.hx_law_lemmas.proofs.Traces.{arrived}
+use Rattle.hx_law_lemmas.proofs.Lines.{in-upto}
+use Rattle.hx_law_lemmas.proofs.SessionMessages.{SessionTurn, session_turn}
 use Rattle.hx_model.specs.CoordinatorSteps.{coordinator_step}
 use Rattle.hx_law_facts.specs.Facts.{DeliversCall, Facts}
 use Rattle.hx_law_facts.proofs.Lines.{line-numbered}
-use Rattle.hx_linear.proofs.Lines.{in-below}
+use Rattle.hx_law_lemmas.proofs.Numbered.{in-below}
 use Rattle.hx_law_chains.proofs.Elsewhere.{issued-line}
 use Rattle.hx_law_chains.proofs.Named.{named}
 use Rattle.hx_law_searches.proofs.Calls.{Calls, IsKnown, WasPosted}

@@ -24,14 +24,12 @@ use Rattle.hx_types.specs.Fitting.{call_of, calls_of, is_doubt, numbered}
 use Rattle.hx_model.specs.SessionSteps.{SessionState}
 use Rattle.hx_model.specs.Runs.{MayTake, session_after, session_of}
 use Rattle.hx_model.specs.Histories.{line_of}
-use Rattle.hx_steady.specs.Served.{posts_of}
-use Rattle.hx_steady.proofs.Lists.{in-append, in_right}
-use Rattle.hx_linear.proofs.SessionMessages.{started}
-use Rattle.hx_linear.proofs.SessionNotes.{EndsNow, started_same, was_running}
-use Rattle.hx_linear.proofs.SessionTurns.{CallStop, goes_on}
-use Rattle.hx_linear.proofs.Traces.{BeganAt, EndedAt, arrived}
-use Rattle.hx_epochs.proofs.SessionMessages.{SessionTurn}
-use Rattle.hx_epochs.proofs.SessionNotes.{begins_now, ends_now, keeps_lines, may_start}
+use Rattle.hx_law_lemmas.specs.Words.{posts_of}
+use Rattle.hx_law_lemmas.proofs.Lists.{in-append, in_right}
+use Rattle.hx_law_lemmas.proofs.CallEnds.{CallStop, EndsNow, goes_on, started, started_same, was_running}
+use Rattle.hx_law_lemmas.proofs.Traces.{BeganAt, EndedAt, arrived}
+use Rattle.hx_law_lemmas.proofs.SessionMessages.{SessionTurn}
+use Rattle.hx_law_lemmas.proofs.SessionNotes.{begins_now, ends_now, keeps_lines, may_start}
 use Rattle.hx_law_chains.proofs.Named.{AreNamed}
 use Rattle.hx_law_searches.proofs.Calls.{CallSent, Calls, EndedFirst, Ends, LaterThan, NoCall, WasPosted}
 

@@ -12,8 +12,8 @@ use Rattle.hx_types.specs.Fitting.{is_done}
 use Rattle.hx_model.specs.Runs.{IsRun}
 use Rattle.hx_model.specs.Histories.{history_of, line_of}
 use Rattle.hx_model.specs.Searching.{changes_object}
-use Rattle.hx_searches.proofs.Lines.{Sorted}
-use Rattle.hx_searches.proofs.Placed.{AllMade}
+use Rattle.hx_law_lemmas.proofs.Lines.{Sorted}
+use Rattle.hx_law_lemmas.proofs.Placed.{AllMade}
 use Rattle.hx_law_facts.specs.Facts.{Facts}
 use Rattle.hx_law_facts.proofs.Lines.{line-made, line-sorted, update-at}
 use Rattle.hx_law_searches.proofs.Histories.{write_of}

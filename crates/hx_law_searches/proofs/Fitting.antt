@@ -27,14 +27,12 @@ use Rattle.hx_model.proofs.States.{same_text_self}
 use Rattle.hx_model.specs.Histories.{line_notes, line_of}
 use Rattle.hx_model.specs.Runs.{IsRun, Made, coordinator_of, made_of, server_of, session_of}
 use Rattle.hx_model.specs.ServerSteps.{get_answer}
-use Rattle.hx_steady.proofs.Lists.{any-in, in-append, in-map, in_left, in_right}
+use Rattle.hx_law_lemmas.proofs.Lists.{any-in, in-append, in-map, in-reverse, in_left, in_right, of-reverse}
 use Rattle.hx_posts.proofs.SlotPosts.{any-of}
-use Rattle.hx_linear.proofs.Lists.{in-reverse, of-reverse}
-use Rattle.hx_linear.proofs.SessionMessages.{began_notes, started}
-use Rattle.hx_linear.proofs.SessionTurns.{CallStop, end_notes}
-use Rattle.hx_linear.proofs.Traces.{BeganAt, EndedAt, of_session, session_self}
-use Rattle.hx_epochs.proofs.SessionMessages.{SessionTurn}
-use Rattle.hx_epochs.proofs.SessionNotes.{all_notes}
+use Rattle.hx_law_lemmas.proofs.CallEnds.{CallStop, began_notes, end_notes, started}
+use Rattle.hx_law_lemmas.proofs.Traces.{BeganAt, EndedAt, of_session, session_self}
+use Rattle.hx_law_lemmas.proofs.SessionMessages.{SessionTurn}
+use Rattle.hx_law_lemmas.proofs.SessionNotes.{all_notes}
 use Rattle.hx_law_chains.proofs.CoordinatorPosts.{Issues, coordinator-plain}
 use Rattle.hx_law_chains.proofs.Named.{named}
 use Rattle.hx_law_chains.proofs.ServerPosts.{AnySnapshot, AssignsOne, server-plain}

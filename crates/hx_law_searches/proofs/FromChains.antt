@@ -31,13 +31,12 @@ use Rattle.hx_model.specs.Runs.{IsRun, coordinator_of, has_halted, is_actor, ser
 use Rattle.hx_model.specs.ServerSteps.{Replica, ServerState, hearing, if_installed, replica_of, state_in}
 use Rattle.hx_model.specs.Slots.{KeyState, found_in, kept_row, object_of}
 use Rattle.hx_model.specs.Histories.{line_of}
-use Rattle.hx_steady.specs.Served.{posts_of}
-use Rattle.hx_steady.proofs.Replicas.{replica-found}
-use Rattle.hx_searches.proofs.Texts.{state-there}
-use Rattle.hx_searches.proofs.Placed.{AllMade}
+use Rattle.hx_law_lemmas.specs.Words.{posts_of, view}
+use Rattle.hx_law_lemmas.proofs.Replicas.{replica-found}
+use Rattle.hx_law_lemmas.proofs.Texts.{state-there}
+use Rattle.hx_law_lemmas.proofs.Placed.{AllMade}
 use Rattle.hx_folds.specs.Folding.{IsSlotOf}
-use Rattle.hx_halts.proofs.Servers.{hearing-found, hearing-open, installed-found}
-use Rattle.hx_epochs.proofs.Entries.{view}
+use Rattle.hx_law_lemmas.proofs.Hearing.{hearing-found, hearing-open, installed-found}
 use Rattle.hx_law_chains.proofs.Holders.{seat-of}
 use Rattle.hx_law_chains.proofs.Keys.{along-fixed}
 use Rattle.hx_law_chains.proofs.Posts.{Seat}
@@ -49,7 +48,7 @@ use Rattle.hx_law_chains.proofs.World.{Along, Fixed, KeyOk, Law, Lawful, Told, l
 use Rattle.hx_law_facts.specs.Facts.{AnswersGet, AssignsNext, Facts, IsLine, IsUpdateAfter, ShowsRows, StaysUpTo, Tells, WasTold, part_at}
 use Rattle.hx_law_facts.proofs.Showing.{rows-full, rows-sound}
 use Rattle.hx_law_facts.proofs.Staying.{stays-by}
-use Rattle.hx_linear.proofs.Lines.{in-below}
+use Rattle.hx_law_lemmas.proofs.Numbered.{in-below}
 use Rattle.hx_law_searches.proofs.Fronts.{front, front-fixed, front-kept, front-reaches, front-within}
 
 -- an update with the law stands so

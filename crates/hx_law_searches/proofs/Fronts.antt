@@ -11,11 +11,11 @@ use Rattle.hx_types.specs.Configs.{members_of}
 use Rattle.hx_types.specs.Spaces.{IsSpace}
 use Rattle.hx_model.specs.Regions.{key_region}
 use Rattle.hx_model.specs.Slots.{KeyState, has_place, kept_row, object_of, top_above, top_of}
-use Rattle.hx_linear.proofs.Lines.{upto_here, upto_past}
-use Rattle.hx_searches.proofs.Chains.{Differ}
-use Rattle.hx_searches.proofs.Lines.{Sorted, in-only, in-top, in-upto, in-upto_from, only, only-in, only-sorted, top-least, upto-low, upto-sorted}
-use Rattle.hx_searches.proofs.Passing.{passes-key}
-use Rattle.hx_searches.proofs.Slots.{places-apart}
+use Rattle.hx_law_lemmas.proofs.Numbered.{upto_here, upto_past}
+use Rattle.hx_law_lemmas.proofs.Chains.{Differ}
+use Rattle.hx_law_lemmas.proofs.Lines.{Sorted, in-only, in-top, in-upto, in-upto_from, only, only-in, only-sorted, top-least, upto-low, upto-sorted}
+use Rattle.hx_law_lemmas.proofs.Passing.{passes-key}
+use Rattle.hx_law_lemmas.proofs.UpdatesApart.{places-apart}
 use Rattle.hx_folds.specs.Folding.{IsSlotOf}
 use Rattle.hx_folds.proofs.Prefixes.{object-line}
 use Rattle.hx_law_epochs.proofs.Positions.{placed-number, stands-cases}

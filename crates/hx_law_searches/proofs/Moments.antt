@@ -8,9 +8,9 @@ use Rattle.hx_types.specs.declared.traces.Entry.{Entry}
 use Rattle.hx_types.specs.declared.traces.Script.{Script}
 use Rattle.hx_types.specs.Words.{IsIn}
 use Rattle.hx_model.specs.Runs.{IsRun}
-use Rattle.hx_steady.specs.Served.{posts_of}
-use Rattle.hx_steady.proofs.Lists.{in-append}
-use Rattle.hx_linear.proofs.Traces.{BeganAt, EndedAt}
+use Rattle.hx_law_lemmas.specs.Words.{posts_of}
+use Rattle.hx_law_lemmas.proofs.Lists.{in-append}
+use Rattle.hx_law_lemmas.proofs.Traces.{BeganAt, EndedAt}
 use Rattle.hx_law_facts.specs.Facts.{IsPartOf}
 
 -- a part of a run is a run

@@ -17,11 +17,11 @@ use Rattle.hx_types.specs.Fitting.{call_of, is_doubt}
 use Rattle.hx_model.specs.Runs.{IsRun}
 use Rattle.hx_model.specs.Histories.{CallEnd, end_of, gets_of, history_of, history_on, in_place, line_of, not_refused, note_of_end, write_item}
 use Rattle.hx_model.specs.Linear.{EachOnce, ended_before}
-use Rattle.hx_steady.proofs.Lists.{in-append}
-use Rattle.hx_linear.proofs.Gets.{gets-in}
-use Rattle.hx_linear.proofs.Traces.{EndedAt, ended_at}
-use Rattle.hx_searches.proofs.Histories.{end-noted}
-use Rattle.hx_searches.proofs.Lines.{Sorted, numbered-sorted}
+use Rattle.hx_law_lemmas.proofs.Lists.{in-append}
+use Rattle.hx_law_lemmas.proofs.Gets.{gets-in}
+use Rattle.hx_law_lemmas.proofs.Traces.{EndedAt, ended_at}
+use Rattle.hx_law_lemmas.proofs.Positions.{end-noted}
+use Rattle.hx_law_lemmas.proofs.Lines.{Sorted, numbered-sorted}
 use Rattle.hx_law_facts.specs.Facts.{Facts, IsLine}
 use Rattle.hx_law_facts.proofs.Lines.{caller-once, line-numbered, update-at}
 use Rattle.hx_law_searches.proofs.Calls.{Calls}

@@ -22,10 +22,10 @@ use Rattle.hx_types.specs.Words.{IsIn, post, same_session}
 use Rattle.hx_types.specs.Fitting.{call_of, numbered}
 use Rattle.hx_model.specs.SessionSteps.{SessionState, session_step}
 use Rattle.hx_model.specs.Runs.{IsRun, Made, MayTake, coordinator_of, made_of, server_of, session_after, session_of}
-use Rattle.hx_steady.specs.Served.{posts_of}
-use Rattle.hx_steady.proofs.Lists.{in-append}
-use Rattle.hx_linear.proofs.Traces.{BeganAt, arrived}
-use Rattle.hx_halts.proofs.Asking.{Asks, HasParts, SearchTurn, search-turn}
+use Rattle.hx_law_lemmas.specs.Words.{posts_of}
+use Rattle.hx_law_lemmas.proofs.Lists.{in-append}
+use Rattle.hx_law_lemmas.proofs.Traces.{BeganAt, arrived}
+use Rattle.hx_law_lemmas.proofs.Asking.{Asks, HasParts, SearchTurn, search-turn}
 use Rattle.hx_law_facts.specs.Facts.{Facts, IsPartOf, ShowsRows}
 use Rattle.hx_law_searches.proofs.Calls.{Calls}
 use Rattle.hx_law_searches.proofs.CallsKept.{calls_kept, step_is}

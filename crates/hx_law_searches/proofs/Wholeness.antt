@@ -29,15 +29,14 @@ use Rattle.hx_model.specs.Searching.{Cut, FinishedSearch, IsCutShown, IsSearchWh
 use Rattle.hx_plan.proofs.Listing.{Contains-below}
 use Rattle.hx_plan.proofs.Planned.{all_asked, asked}
 use Rattle.hx_region.specs.Spans.{subspace_count}
-use Rattle.hx_steady.proofs.Lists.{any-in, in-map}
-use Rattle.hx_linear.proofs.Traces.{BeganAt}
-use Rattle.hx_searches.proofs.Histories.{LastChange, last-is}
-use Rattle.hx_searches.proofs.Joins.{IsCovered, merged-covers, merged-in, part_rows}
-use Rattle.hx_searches.proofs.Lines.{same_version}
-use Rattle.hx_searches.proofs.Passing.{keeps-key, keeps-new, passes-key}
-use Rattle.hx_searches.proofs.Placed.{Made}
-use Rattle.hx_searches.proofs.Rows.{kept-newest, row_with, stands}
-use Rattle.hx_searches.proofs.Trueness.{before-first}
+use Rattle.hx_law_lemmas.proofs.Lists.{any-in, before-first, in-map}
+use Rattle.hx_law_lemmas.proofs.Traces.{BeganAt}
+use Rattle.hx_law_lemmas.proofs.Positions.{LastChange, last-is}
+use Rattle.hx_law_lemmas.proofs.Joins.{IsCovered, merged-covers, merged-in, part_rows}
+use Rattle.hx_law_lemmas.proofs.Lines.{same_version}
+use Rattle.hx_law_lemmas.proofs.Passing.{keeps-key, keeps-new, passes-key}
+use Rattle.hx_law_lemmas.proofs.Placed.{Made}
+use Rattle.hx_law_lemmas.proofs.Rows.{kept-newest, row_with, stands}
 use Rattle.hx_law_facts.specs.Facts.{Facts}
 use Rattle.hx_law_searches.proofs.Changes.{change-item, item-change, made, sorted}
 use Rattle.hx_law_searches.proofs.Gathering.{Finished, ShownBefore}

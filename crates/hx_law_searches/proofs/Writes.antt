@@ -9,10 +9,10 @@ use Rattle.hx_types.specs.Words.{IsIn}
 use Rattle.hx_types.specs.Effects.{effect_of, is_write, key_of}
 use Rattle.hx_types.specs.Fitting.{call_of, is_refused}
 use Rattle.hx_model.specs.Histories.{not_refused}
-use Rattle.hx_steady.proofs.Lists.{in-filter}
-use Rattle.hx_linear.proofs.EffectLaws.{effect_well}
-use Rattle.hx_linear.proofs.Lines.{in-below, upto_past}
-use Rattle.hx_searches.proofs.Lines.{Sorted, numbered-sorted, top-least, upto_all}
+use Rattle.hx_law_lemmas.proofs.Lists.{in-filter}
+use Rattle.hx_law_lemmas.proofs.Effects.{effect_well}
+use Rattle.hx_law_lemmas.proofs.Numbered.{in-below, upto_past}
+use Rattle.hx_law_lemmas.proofs.Lines.{Sorted, numbered-sorted, top-least, upto_all}
 use Rattle.hx_law_facts.specs.Facts.{IsLine, IsUpdateAfter}
 use Rattle.hx_law_facts.proofs.Lines.{line-numbered, line-upto}
 
