@@ -14,7 +14,7 @@ use Rattle.hx_types.specs.Fitting.{calls_of, numbered}
 use Rattle.hx_types.specs.Spaces.{ArePart, AssignFits, Fits, IsKind, IsName, IsSpace, IsSubspaceOf, TermFits, is_word}
 use Rattle.hx_types.specs.Words.{when_some}
 use Rattle.hx_steady.specs.Calm.{IsFixed, reconfigures}
-use Rattle.hx_steady.proofs.Lists.{all-in, in-slice_get, when_some_both}
+use Rattle.hx_law_lemmas.proofs.Lists.{all-in, in-slice_get, when_some_both}
 use Rattle.hx_world.specs.Examples.{axis_of, books, genre_is, one, one_call, script_in, search_calls, three_calls, year_is}
 use Rattle.hx_world.specs.Runnable.{IsRunnable}
 

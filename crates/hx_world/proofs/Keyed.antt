@@ -33,7 +33,7 @@ use Rattle.hx_model.specs.Runs.{IsRun, Made, made_of, session_of}
 use Rattle.hx_model.specs.SessionSteps.{SessionState, SessionStep, all_parts, awaits, is_search, lacks_part, ask_regions, ask_to, begin, call_to, call_under_way, end_with_parts, ending, is_administrative, is_key_call, lost_answer, send, send_to, session_install, session_message, session_step, session_tick, staying, with_part, with_poll}
 use Rattle.hx_steady.specs.Calm.{HasNoHalts}
 use Rattle.hx_steady.specs.Served.{IsCausedAs, IsServed, posts_of}
-use Rattle.hx_steady.proofs.Lists.{in-append, in-flat_map, in-provided, when_some_both}
+use Rattle.hx_law_lemmas.proofs.Lists.{in-append, in-flat_map, in-provided, when_some_both}
 
 -- a call is on a key
 abbrev pub IsOnKey : Message → Type 0

@@ -20,7 +20,7 @@ use Rattle.hx_model.specs.Runs.{has_halted, is_empty, makes_enough, session_of}
 use Rattle.hx_model.specs.Schedule as model
 use Rattle.hx_model.specs.Schedule.{Next, StepFault, delivery_of, entry_by, fault_of, first_delivery, idle_among, is_idle, is_worn, next_entry, next_input, step_input, undelivered, with_entry, worn_fault}
 use Rattle.hx_model.specs.SessionSteps.{SessionState, SessionStep, begin, session_step, session_tick, staying}
-use Rattle.hx_steady.proofs.Lists.{in-slice_get}
+use Rattle.hx_law_lemmas.proofs.Lists.{in-slice_get}
 use Rattle.hx_world.specs.declared.ends.StepError.{StepError}
 use Rattle.hx_world.specs.declared.ends.StepError.TheVariants as an_error
 use Rattle.hx_world.specs.declared.hosts.Host.{Host}
