@@ -3,7 +3,7 @@ use Rattle.std.proofs.Common.{◌≡◌, ◌-◌, List, [], ◌∷◌, length, O
 use Rattle.std.specs.List.{slice_get}
 use Rattle.std.specs.Option.{option_map}
 use Rattle.hx_types.specs.declared.configs.Member.{Member}
-use Rattle.hx_types.specs.declared.names.ServerId.{ServerId}
+use Rattle.hx_types.specs.declared.ids.ServerId.{ServerId}
 use Rattle.hx_model.specs.Neighbours.{last_member}
 
 last_of : (found : Option ServerId) (m : Member) (rest : List Member) → option_map (λ (x : Member). x.server) (slice_get (m ∷ rest) (length rest)) ≡ last_member found (m ∷ rest)

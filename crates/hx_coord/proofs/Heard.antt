@@ -2,12 +2,12 @@
 use Rattle.std.proofs.Common.{◌≡◌, ◌≢◌, ℕ, ◌<◌, ◌≤◌, ◌==◌, nat_lt, Bool, true, false, cond, not, ◌&&◌, List, [], ◌∷◌, ◌++◌, refl, ap, sym, ◌∙◌, arith}
 use Rattle.std.proofs.lemmas.Bool.{cond-true, cond-false}
 use Rattle.hx_types.specs.declared.configs.Config.{Config}
-use Rattle.hx_types.specs.declared.names.Actor.{Actor}
-use Rattle.hx_types.specs.declared.names.Epoch.{Epoch}
-use Rattle.hx_types.specs.declared.names.RegionId.{RegionId}
-use Rattle.hx_types.specs.declared.names.ServerId.{ServerId}
+use Rattle.hx_types.specs.declared.ids.Actor.{Actor}
+use Rattle.hx_types.specs.declared.ids.Epoch.{Epoch}
+use Rattle.hx_types.specs.declared.ids.RegionId.{RegionId}
+use Rattle.hx_types.specs.declared.ids.ServerId.{ServerId}
 use Rattle.hx_types.specs.declared.messages.Message.TheVariants as a_message
-use Rattle.hx_types.specs.declared.names.Actor.TheVariants.{Coordinator, Server}
+use Rattle.hx_types.specs.declared.ids.Actor.TheVariants.{Coordinator, Server}
 use Rattle.hx_types.specs.Configs.{is_lost, lists_joining}
 use Rattle.hx_types.specs.Words.{post, server_in}
 use Rattle.hx_model.specs.CoordinatorSteps.{CoordinatorStep, Steady, goes, gone_step, poll_step, ready_now, ready_step, seal, sealed_now, sealed_step, with_server}

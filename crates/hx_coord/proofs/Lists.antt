@@ -4,8 +4,8 @@ use Rattle.std.specs.List.{list_any, slice_get}
 use Rattle.std.specs.Prelude.{slice_set, IsSomeAnd}
 use Rattle.std.proofs.lemmas.Bool.{cond-true, cond-false}
 use Rattle.hx_types.specs.declared.configs.Member.{Member}
-use Rattle.hx_types.specs.declared.names.ServerId.{ServerId}
-use Rattle.hx_types.specs.declared.names.SessionId.{SessionId}
+use Rattle.hx_types.specs.declared.ids.ServerId.{ServerId}
+use Rattle.hx_types.specs.declared.ids.SessionId.{SessionId}
 use Rattle.hx_types.specs.Words.{same_session}
 use Rattle.hx_model.specs.CoordinatorSteps.{Answered, Issuing, Joined, Newest, Task, does, does_all, lists_without, newest_answered, newest_of, with_newest, with_server}
 use Rattle.hx_coord.specs.Leaving.{is_above, members_without}

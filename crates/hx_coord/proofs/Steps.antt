@@ -6,11 +6,11 @@ use Rattle.hx_types.specs.declared.calls.Answer.{Answer}
 use Rattle.hx_types.specs.declared.calls.Caller.{Caller}
 use Rattle.hx_types.specs.declared.configs.Config.{Config}
 use Rattle.hx_types.specs.declared.messages.Post.{Post}
-use Rattle.hx_types.specs.declared.names.ServerId.{ServerId}
+use Rattle.hx_types.specs.declared.ids.ServerId.{ServerId}
 use Rattle.hx_types.specs.declared.messages.Message.TheVariants as a_message
 use Rattle.hx_types.specs.declared.calls.Answer.TheVariants as an_answer
 use Rattle.hx_types.specs.declared.calls.Op.TheVariants.{Add, Stop}
-use Rattle.hx_types.specs.declared.names.RegionId.{RegionId}
+use Rattle.hx_types.specs.declared.ids.RegionId.{RegionId}
 use Rattle.hx_types.specs.Words.{provided, server_in, without_server}
 use Rattle.hx_model.specs.CoordinatorSteps.{CoordinatorStep, Steady, adds, adds_steady, again, by_number, coordinator_tick, issue, issuing, judged, newest_of, outcome, remaining, resting, seal, sealed_now, sealing_or_issue, still_sealing, stops, telling, to_server}
 use Rattle.hx_coord.specs.declared.agendas.Agenda.{Agenda}

@@ -3,7 +3,7 @@ use Rattle.std.specs.Prelude.{ℕ, ◌+◌, Bool, not, List, map, nat_lt}
 use Rattle.std.specs.List.{filter}
 use Rattle.hx_types.specs.declared.configs.Config.{Config}
 use Rattle.hx_types.specs.declared.configs.Member.{Member}
-use Rattle.hx_types.specs.declared.names.ServerId.{ServerId}
+use Rattle.hx_types.specs.declared.ids.ServerId.{ServerId}
 use Rattle.hx_model.specs.CoordinatorSteps.{Joined, is_out, lists_without, made_ready, remaining}
 
 -- the members of a region without the gone, those that became ready marked so

@@ -1,6 +1,6 @@
 ghost use Rattle.std.specs.Prelude.{◌≡◌, ◌≤◌, ◌^◌, ◌∷◌, [], IfOk};
 ghost use Rattle.hx_types.specs.declared.messages.Message.TheVariants as a_message;
-ghost use Rattle.hx_types.specs.declared.names.Actor.TheVariants.{Coordinator, Server, Session};
+ghost use Rattle.hx_types.specs.declared.ids.Actor.TheVariants.{Coordinator, Server, Session};
 ghost use Rattle.hx_types.specs.Words.{post};
 ghost use Rattle.hx_model.specs.CoordinatorSteps.{Steady, coordinator_message, goes, gone_step, poll_step, ready_now, ready_step, sealed_step};
 ghost use Rattle.hx_coord.specs.Changes.{IsMade, phase_seen, standing, told};

@@ -1,5 +1,5 @@
 ghost use Rattle.std.specs.Prelude.{◌≡◌, ◌++◌, not, IfOk, OnOk};
-ghost use Rattle.hx_types.specs.declared.names.ServerId.{ServerId as ServerNumber};
+ghost use Rattle.hx_types.specs.declared.ids.ServerId.{ServerId as ServerNumber};
 ghost use Rattle.hx_types.specs.Words.{server_in};
 ghost use Rattle.hx_model.specs.CoordinatorSteps.{coordinator_tick, die_posts};
 ghost use Rattle.hx_coord.specs.Changes.{IsMade, phase_seen, standing};

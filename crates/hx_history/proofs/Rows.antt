@@ -11,9 +11,9 @@ use Rattle.hx_types.specs.declared.calls.Caller.{Caller}
 use Rattle.hx_types.specs.declared.traces.Entry.{Entry}
 use Rattle.hx_types.specs.declared.traces.Script.{Script}
 use Rattle.hx_types.specs.declared.calls.Op.{Op}
-use Rattle.hx_types.specs.declared.names.Actor.{Actor}
-use Rattle.hx_types.specs.declared.names.Actor.TheVariants.{Session}
-use Rattle.hx_types.specs.declared.names.SessionId.{SessionId}
+use Rattle.hx_types.specs.declared.ids.Actor.{Actor}
+use Rattle.hx_types.specs.declared.ids.Actor.TheVariants.{Session}
+use Rattle.hx_types.specs.declared.ids.SessionId.{SessionId}
 use Rattle.hx_types.specs.Words.{when_some}
 use Rattle.hx_types.specs.Fitting.{call_of, numbered}
 use Rattle.hx_model.specs.Histories.{is_session}

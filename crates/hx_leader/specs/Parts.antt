@@ -4,10 +4,10 @@ use Rattle.std.specs.Option.{option_map}
 use Rattle.hx_types.specs.declared.calls.Answer.{Answer}
 use Rattle.hx_types.specs.declared.calls.Caller.{Caller}
 use Rattle.hx_types.specs.declared.configs.Config.{Config}
-use Rattle.hx_types.specs.declared.names.RegionId.{RegionId}
-use Rattle.hx_types.specs.declared.names.Version.{Version}
-use Rattle.hx_types.specs.declared.results.Decision.{Decision}
-use Rattle.hx_types.specs.declared.results.Decision.TheVariants as a_decision
+use Rattle.hx_types.specs.declared.ids.RegionId.{RegionId}
+use Rattle.hx_types.specs.declared.ids.Version.{Version}
+use Rattle.hx_types.specs.declared.outcomes.Decision.{Decision}
+use Rattle.hx_types.specs.declared.outcomes.Decision.TheVariants as a_decision
 use Rattle.hx_types.specs.declared.spaces.Space.{Space}
 use Rattle.hx_types.specs.declared.updates.Update.{Update}
 use Rattle.hx_types.specs.declared.values.Value.{Value}

@@ -2,7 +2,7 @@
 use Rattle.std.specs.Prelude.{◌≡◌, ℕ, ◌-◌, Bool, ◌==◌, List, reverse, slice_get, Option, Some}
 use Rattle.std.specs.List.{find}
 use Rattle.hx_types.specs.declared.histories.Item.{Item}
-use Rattle.hx_types.specs.declared.results.Effect.{Effect}
+use Rattle.hx_types.specs.declared.outcomes.Effect.{Effect}
 use Rattle.hx_types.specs.declared.values.Assign.{Assign}
 use Rattle.hx_types.specs.declared.values.Value.{Value}
 use Rattle.hx_types.specs.Words.{when_some}

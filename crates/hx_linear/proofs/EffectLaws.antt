@@ -2,7 +2,7 @@
 use Rattle.std.proofs.Common.{◌≡◌, false, List, [], ◌∷◌, Option, Some, None, refl, ap, ◌∙◌}
 use Rattle.std.specs.Prelude.{ℕ, not}
 use Rattle.std.proofs.lemmas.Bool.{cond_both, cond-true}
-use Rattle.hx_types.specs.declared.results.Effect.{Effect}
+use Rattle.hx_types.specs.declared.outcomes.Effect.{Effect}
 use Rattle.hx_types.specs.declared.calls.Op.{Op}
 use Rattle.hx_types.specs.declared.traces.Script.{Script}
 use Rattle.hx_types.specs.declared.spaces.Space.{Space}

@@ -9,7 +9,7 @@ use Rattle.hx_types.specs.declared.calls.Op.{Op}
 use Rattle.hx_types.specs.declared.traces.Script.{Script}
 use Rattle.hx_types.specs.declared.updates.Update.{Update}
 use Rattle.hx_types.specs.declared.values.Value.{Value}
-use Rattle.hx_types.specs.declared.names.Version.{Version}
+use Rattle.hx_types.specs.declared.ids.Version.{Version}
 use Rattle.hx_types.specs.declared.calls.Op.TheVariants.{Get}
 use Rattle.hx_types.specs.Words.{IsIn}
 use Rattle.hx_types.specs.Effects.{is_write, key_of}

@@ -5,7 +5,7 @@ use Rattle.hx_types.specs.declared.calls.Answer.{Answer}
 use Rattle.hx_types.specs.declared.traces.Input.{Input}
 use Rattle.hx_types.specs.declared.traces.Note.{Note}
 use Rattle.hx_types.specs.declared.updates.Update.{Update}
-use Rattle.hx_types.specs.declared.names.Version.{Version}
+use Rattle.hx_types.specs.declared.ids.Version.{Version}
 use Rattle.hx_types.specs.declared.traces.Note.TheVariants as a_note
 use Rattle.hx_types.specs.Words.{IsIn}
 use Rattle.hx_model.specs.SessionSteps.{SessionState, SessionStep}

@@ -6,8 +6,8 @@ use Rattle.std.proofs.lemmas.Bool.Decides.{nat_tests}
 use Rattle.std.proofs.lemmas.List.{get_or-map, get_or-set_other, get_or-set_same, get_or_append_left, get_or_push, length-map, length-set, length_push}
 use Rattle.std.proofs.lemmas.List.Sums.{sum_by-set}
 use Rattle.hx_types.specs.declared.configs.Config.{Config}
-use Rattle.hx_types.specs.declared.names.RegionId.{RegionId}
-use Rattle.hx_types.specs.declared.results.Planned.TheVariants as a_plan
+use Rattle.hx_types.specs.declared.ids.RegionId.{RegionId}
+use Rattle.hx_types.specs.declared.outcomes.Planned.TheVariants as a_plan
 use Rattle.hx_types.specs.declared.spaces.Space.{Space}
 use Rattle.hx_types.specs.declared.values.Term.{Term}
 use Rattle.hx_types.specs.Words.{below}

@@ -5,8 +5,8 @@ use Rattle.std.proofs.lemmas.Bool.{cond_both}
 use Rattle.hx_types.specs.declared.calls.Caller.{Caller}
 use Rattle.hx_types.specs.declared.configs.Config.{Config}
 use Rattle.hx_types.specs.declared.messages.Post.{Post}
-use Rattle.hx_types.specs.declared.names.RegionId.{RegionId}
-use Rattle.hx_types.specs.declared.names.Version.{Version}
+use Rattle.hx_types.specs.declared.ids.RegionId.{RegionId}
+use Rattle.hx_types.specs.declared.ids.Version.{Version}
 use Rattle.hx_types.specs.declared.spaces.Space.{Space}
 use Rattle.hx_types.specs.declared.updates.Place.{Place}
 use Rattle.hx_types.specs.declared.updates.Update.{Update}

@@ -5,12 +5,12 @@ use Rattle.std.specs.Option.{option_map}
 use Rattle.std.proofs.lemmas.Bool.{cond_both}
 use Rattle.hx_types.specs.declared.configs.Config.{Config}
 use Rattle.hx_types.specs.declared.configs.Member.{Member}
-use Rattle.hx_types.specs.declared.names.RegionId.{RegionId}
-use Rattle.hx_types.specs.declared.names.ServerId.{ServerId}
-use Rattle.hx_types.specs.declared.results.Hop.{Hop}
+use Rattle.hx_types.specs.declared.ids.RegionId.{RegionId}
+use Rattle.hx_types.specs.declared.ids.ServerId.{ServerId}
+use Rattle.hx_types.specs.declared.outcomes.Hop.{Hop}
 use Rattle.hx_types.specs.declared.spaces.Space.{Space}
 use Rattle.hx_types.specs.declared.updates.Place.{Place}
-use Rattle.hx_types.specs.declared.results.Hop.TheVariants.{At, Blocked}
+use Rattle.hx_types.specs.declared.outcomes.Hop.TheVariants.{At, Blocked}
 use Rattle.hx_types.specs.Words.{IsIn, first_of_list, same_server, when_some}
 use Rattle.hx_types.specs.Configs.{head_of, is_lost, members_of}
 use Rattle.hx_types.specs.Spaces.{IsConfigOf, IsServerOf}

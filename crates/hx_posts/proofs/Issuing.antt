@@ -9,8 +9,8 @@ use Rattle.hx_types.specs.declared.calls.Answer.{Answer}
 use Rattle.hx_types.specs.declared.calls.Op.{Op}
 use Rattle.hx_types.specs.declared.configs.Config.{Config}
 use Rattle.hx_types.specs.declared.configs.Member.{Member}
-use Rattle.hx_types.specs.declared.names.RegionId.{RegionId}
-use Rattle.hx_types.specs.declared.names.ServerId.{ServerId}
+use Rattle.hx_types.specs.declared.ids.RegionId.{RegionId}
+use Rattle.hx_types.specs.declared.ids.ServerId.{ServerId}
 use Rattle.hx_types.specs.declared.spaces.Space.{Space}
 use Rattle.hx_types.specs.declared.calls.Answer.TheVariants as an_answer
 use Rattle.hx_types.specs.declared.calls.Op.TheVariants.{Put, Get, Del, Cput, Search, Stop, Add}

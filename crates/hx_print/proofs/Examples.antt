@@ -9,7 +9,7 @@ use Rattle.hx_types.specs.declared.values.Value.TheVariants as a_value
 use Rattle.hx_types.specs.declared.traces.Step.TheVariants as a_step
 use Rattle.hx_types.specs.declared.calls.Op.TheVariants.{Put, Get, Del, Cput, Search, Stop, Add}
 use Rattle.hx_types.specs.declared.values.Term.TheVariants.{Equal, Range}
-use Rattle.hx_types.specs.declared.names.Actor.TheVariants.{Coordinator, Server, Session}
+use Rattle.hx_types.specs.declared.ids.Actor.TheVariants.{Coordinator, Server, Session}
 use Rattle.std.specs.Fmt.{digits}
 use Rattle.hx_print.specs.Printing.{actor_text, add_text, axes_text, axis_text, bounds_text, call_line, cput_text, int_line, key_line, named_text, next_axis_text, op_text, post_name, quoted, range_text, script_text, servers_line, session_text, sessions_text, space_line, space_text, step_line, step_text, steps_text, string_line, subspace_line, tolerate_line, value_text}
 use Rattle.std.proofs.Common.{refl}

@@ -5,12 +5,12 @@ use Rattle.std.proofs.lemmas.Option.{same_Some}
 use Rattle.hx_types.specs.declared.calls.Caller.{Caller}
 use Rattle.hx_types.specs.declared.calls.Op.{Op}
 use Rattle.hx_types.specs.declared.messages.Message.{Message}
-use Rattle.hx_types.specs.declared.names.Actor.{Actor}
-use Rattle.hx_types.specs.declared.names.Epoch.{Epoch}
-use Rattle.hx_types.specs.declared.names.RegionId.{RegionId}
+use Rattle.hx_types.specs.declared.ids.Actor.{Actor}
+use Rattle.hx_types.specs.declared.ids.Epoch.{Epoch}
+use Rattle.hx_types.specs.declared.ids.RegionId.{RegionId}
 use Rattle.hx_types.specs.declared.spaces.Space.{Space}
 use Rattle.hx_types.specs.declared.messages.Message.TheVariants as a_message
-use Rattle.hx_types.specs.declared.names.Actor.TheVariants.{Coordinator, Server, Session}
+use Rattle.hx_types.specs.declared.ids.Actor.TheVariants.{Coordinator, Server, Session}
 use Rattle.hx_types.specs.Configs.{leads}
 use Rattle.hx_types.specs.Effects.{key_of}
 use Rattle.hx_types.specs.Posts.{goes_between}

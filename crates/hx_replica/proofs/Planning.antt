@@ -3,17 +3,17 @@ use Rattle.std.proofs.Common.{◌≡◌, ℕ, List, [], Option, None, Some, refl
 use Rattle.std.specs.List.{slice_get}
 use Rattle.std.specs.Option.{option_map}
 use Rattle.std.proofs.lemmas.Bool.{cond-false}
-use Rattle.hx_types.specs.declared.names.RegionId.{RegionId}
+use Rattle.hx_types.specs.declared.ids.RegionId.{RegionId}
 use Rattle.hx_types.specs.declared.messages.Message.{Message}
 use Rattle.hx_types.specs.declared.messages.Post.{Post}
 use Rattle.hx_types.specs.declared.messages.PostId.{PostId}
-use Rattle.hx_types.specs.declared.names.Actor.{Actor}
-use Rattle.hx_types.specs.declared.names.ServerId.{ServerId}
+use Rattle.hx_types.specs.declared.ids.Actor.{Actor}
+use Rattle.hx_types.specs.declared.ids.ServerId.{ServerId}
 use Rattle.hx_types.specs.declared.spaces.Space.{Space}
 use Rattle.hx_types.specs.declared.traces.Entry.{Entry}
 use Rattle.hx_types.specs.declared.traces.Input.{Input}
 use Rattle.hx_types.specs.declared.traces.Note.{Note}
-use Rattle.hx_types.specs.declared.names.Actor.TheVariants.{Server}
+use Rattle.hx_types.specs.declared.ids.Actor.TheVariants.{Server}
 use Rattle.hx_types.specs.declared.traces.Input.TheVariants.{Deliver}
 use Rattle.hx_model.specs.Runs.{entry_of}
 use Rattle.hx_model.specs.ServerSteps.{Replica, ServerState, ServerStep, at_slot, message_step, server_step, spot_of, state_in, unmoved, with_slot}

@@ -3,12 +3,12 @@ use Rattle.std.proofs.Common.{◌≡◌, ℕ, true, false, List, [], ◌∷◌, 
 use Rattle.std.specs.List.{slice_get}
 use Rattle.std.specs.Option.{option_map}
 use Rattle.hx_types.specs.declared.messages.Post.{Post}
-use Rattle.hx_types.specs.declared.names.Actor.{Actor}
-use Rattle.hx_types.specs.declared.names.Epoch.{Epoch}
-use Rattle.hx_types.specs.declared.names.RegionId.{RegionId}
+use Rattle.hx_types.specs.declared.ids.Actor.{Actor}
+use Rattle.hx_types.specs.declared.ids.Epoch.{Epoch}
+use Rattle.hx_types.specs.declared.ids.RegionId.{RegionId}
 use Rattle.hx_types.specs.declared.values.Term.{Term}
 use Rattle.hx_types.specs.declared.messages.Message.TheVariants as a_message
-use Rattle.hx_types.specs.declared.names.Actor.TheVariants.{Server}
+use Rattle.hx_types.specs.declared.ids.Actor.TheVariants.{Server}
 use Rattle.hx_types.specs.Configs.{lists_ready}
 use Rattle.hx_types.specs.Words.{post, provided}
 use Rattle.hx_model.specs.ServerSteps.{Replica as ReplicaState, ServerState, asked, hearing, if_installed}

@@ -2,8 +2,8 @@
 use Rattle.std.specs.Prelude.{◌≡◌, Bool, if◌then◌else◌, List, [], ◌∷◌, ◌++◌, map, nat_le}
 use Rattle.std.specs.List.{flat_map}
 use Rattle.hx_types.specs.declared.messages.Post.{Post}
-use Rattle.hx_types.specs.declared.names.RegionId.{RegionId}
-use Rattle.hx_types.specs.declared.names.Version.{Version}
+use Rattle.hx_types.specs.declared.ids.RegionId.{RegionId}
+use Rattle.hx_types.specs.declared.ids.Version.{Version}
 use Rattle.hx_types.specs.declared.spaces.Space.{Space}
 use Rattle.hx_types.specs.declared.updates.Update.{Update}
 use Rattle.hx_types.specs.Words.{provided}

@@ -2,12 +2,12 @@
 use Rattle.std.specs.Prelude.{ℕ, true, [], ◌∷◌}
 use Rattle.hx_types.specs.declared.configs.Config.{Config}
 use Rattle.hx_types.specs.declared.messages.Message.{Message}
-use Rattle.hx_types.specs.declared.names.ServerId.{ServerId}
+use Rattle.hx_types.specs.declared.ids.ServerId.{ServerId}
 use Rattle.hx_types.specs.declared.spaces.Space.{Space}
 use Rattle.hx_types.specs.declared.traces.Input.{Input}
 use Rattle.hx_types.specs.declared.calls.Op.TheVariants.{Put}
 use Rattle.hx_types.specs.declared.messages.Message.TheVariants.{Ask, Call}
-use Rattle.hx_types.specs.declared.names.Actor.TheVariants.{Coordinator, Session}
+use Rattle.hx_types.specs.declared.ids.Actor.TheVariants.{Coordinator, Session}
 use Rattle.hx_types.specs.declared.traces.Input.TheVariants.{Deliver}
 
 abbrev pub small : Space

@@ -1,7 +1,7 @@
 -- Which replica hears a message on a key.
 use Rattle.std.specs.Prelude.{List, ℕ, ⊤, if◌then◌else◌, Option, None}
 use Rattle.hx_types.specs.declared.messages.Message.{Message}
-use Rattle.hx_types.specs.declared.names.Epoch.{Epoch}
+use Rattle.hx_types.specs.declared.ids.Epoch.{Epoch}
 use Rattle.hx_types.specs.declared.spaces.Space.{Space}
 use Rattle.hx_types.specs.declared.messages.Message.TheVariants as a_message
 use Rattle.hx_types.specs.Configs.{leads}

@@ -3,7 +3,7 @@ use Rattle.std.specs.Prelude.{◌≡◌, ℕ, ◌<◌, ◌≤◌, true, false, L
 use Rattle.hx_types.specs.declared.configs.Config.{Config}
 use Rattle.hx_types.specs.declared.messages.Message.{Message}
 use Rattle.hx_types.specs.declared.messages.PostId.{PostId}
-use Rattle.hx_types.specs.declared.names.Actor.{Actor}
+use Rattle.hx_types.specs.declared.ids.Actor.{Actor}
 use Rattle.hx_types.specs.declared.spaces.Space.{Space}
 use Rattle.hx_types.specs.declared.traces.Input.{Input}
 use Rattle.hx_types.specs.declared.traces.Input.TheVariants.{Deliver}

@@ -1,7 +1,7 @@
 -- The replicas of a server, in ascending order of regions.
 use Rattle.std.specs.Prelude.{◌≡◌, true, List, [], map}
 use Rattle.std.specs.List.{AllByRecursion}
-use Rattle.hx_types.specs.declared.names.RegionId.{RegionId}
+use Rattle.hx_types.specs.declared.ids.RegionId.{RegionId}
 use Rattle.hx_types.specs.declared.spaces.Space.{Space}
 use Rattle.hx_types.specs.Spaces.{IsAscending}
 use Rattle.hx_types.specs.Subspaces.{is_key_region}

@@ -1,5 +1,5 @@
 ghost use Rattle.std.specs.Prelude.{◌≡◌, [], ◌∷◌, IfOk};
-ghost use Rattle.hx_types.specs.declared.names.Actor.TheVariants as an_actor;
+ghost use Rattle.hx_types.specs.declared.ids.Actor.TheVariants as an_actor;
 ghost use Rattle.hx_types.specs.Words.{post};
 ghost use Rattle.hx_replica.specs.declared.plans.Change.TheVariants as a_change;
 

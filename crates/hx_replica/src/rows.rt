@@ -2,7 +2,7 @@ ghost use Rattle.std.specs.Prelude.{◌≡◌, ◌≤◌, ◌<◌, ◌^◌, ◌�
 ghost use Rattle.std.specs.List.{All};
 ghost use Rattle.hx_types.specs.Spaces.{IsSpace};
 ghost use Rattle.hx_types.specs.declared.updates.Place.{Place};
-ghost use Rattle.hx_types.specs.declared.results.Decision.TheVariants as a_decision;
+ghost use Rattle.hx_types.specs.declared.outcomes.Decision.TheVariants as a_decision;
 ghost use Rattle.hx_model.specs.Leading.{decide, stuck_of};
 ghost use Rattle.hx_model.specs.Regions.{key_region};
 ghost use Rattle.hx_model.specs.ServerSteps.{ack_step, accepting, by_moves, by_posts, call_step, decided, get_step, known_to, update_step, waiting_doubt, write_step};

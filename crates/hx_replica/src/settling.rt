@@ -2,7 +2,7 @@ ghost use Rattle.std.specs.Prelude.{◌≡◌, ◌≤◌, ◌++◌, ◌==◌, If
 ghost use Rattle.std.specs.Borrow.{Bor};
 ghost use Rattle.std.specs.List.{All, flat_map, list_any, prefix_len};
 ghost use Rattle.hx_model.specs.Slots.{pending_of};
-ghost use Rattle.hx_types.specs.declared.names.Version.{Version as Numbered};
+ghost use Rattle.hx_types.specs.declared.ids.Version.{Version as Numbered};
 ghost use Rattle.hx_types.specs.declared.updates.Update.{Update as Updated};
 ghost use Rattle.hx_replica.specs.Made.{IsHere, seen, settled_among, settles, spot_seen, told_of};
 

@@ -12,7 +12,7 @@ use Rattle.hx_types.specs.declared.spaces.Space.{Space}
 use Rattle.hx_types.specs.declared.spaces.Kind.TheVariants as kinds
 use Rattle.hx_types.specs.declared.calls.Op.{Op}
 use Rattle.hx_types.specs.declared.calls.Op.TheVariants.{Put, Get, Cput, Search, Add}
-use Rattle.hx_types.specs.declared.names.Actor.TheVariants.{Coordinator, Server}
+use Rattle.hx_types.specs.declared.ids.Actor.TheVariants.{Coordinator, Server}
 use Rattle.hx_types.specs.declared.traces.Script.{Script}
 use Rattle.hx_types.specs.declared.traces.Step.{Step}
 use Rattle.hx_types.specs.declared.traces.Step.TheVariants.{Deliver, Tick, Halt}

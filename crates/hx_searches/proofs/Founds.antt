@@ -4,8 +4,8 @@ use Rattle.std.specs.List.{filter, slice_get}
 use Rattle.std.proofs.lemmas.Bool.{cond_both, false≢true}
 use Rattle.hx_types.specs.declared.calls.Caller.{Caller}
 use Rattle.hx_types.specs.declared.calls.Row.{Row}
-use Rattle.hx_types.specs.declared.names.RegionId.{RegionId}
-use Rattle.hx_types.specs.declared.names.ServerId.{ServerId}
+use Rattle.hx_types.specs.declared.ids.RegionId.{RegionId}
+use Rattle.hx_types.specs.declared.ids.ServerId.{ServerId}
 use Rattle.hx_types.specs.declared.spaces.Space.{Space}
 use Rattle.hx_types.specs.declared.traces.Entry.{Entry}
 use Rattle.hx_types.specs.declared.traces.Script.{Script}
@@ -13,7 +13,7 @@ use Rattle.hx_types.specs.declared.updates.Place.{Place}
 use Rattle.hx_types.specs.declared.updates.Update.{Update}
 use Rattle.hx_types.specs.declared.values.Term.{Term}
 use Rattle.hx_types.specs.declared.calls.Op.TheVariants.{Search}
-use Rattle.hx_types.specs.declared.names.Actor.TheVariants.{Session}
+use Rattle.hx_types.specs.declared.ids.Actor.TheVariants.{Session}
 use Rattle.hx_types.specs.declared.traces.Note.TheVariants as a_note
 use Rattle.hx_types.specs.Words.{IsIn, list_of}
 use Rattle.hx_types.specs.Subspaces.{is_key_region}

@@ -4,8 +4,8 @@ use Rattle.hx_types.specs.declared.calls.Answer.{Answer}
 use Rattle.hx_types.specs.declared.calls.Caller.{Caller}
 use Rattle.hx_types.specs.declared.calls.Op.{Op}
 use Rattle.hx_types.specs.declared.calls.Row.{Row}
-use Rattle.hx_types.specs.declared.names.Actor.{Actor}
-use Rattle.hx_types.specs.declared.names.RegionId.{RegionId}
+use Rattle.hx_types.specs.declared.ids.Actor.{Actor}
+use Rattle.hx_types.specs.declared.ids.RegionId.{RegionId}
 use Rattle.hx_types.specs.declared.spaces.Space.{Space}
 use Rattle.hx_types.specs.declared.traces.Entry.{Entry}
 use Rattle.hx_types.specs.declared.traces.Note.{Note}
@@ -14,7 +14,7 @@ use Rattle.hx_types.specs.declared.updates.Update.{Update}
 use Rattle.hx_types.specs.declared.values.Term.{Term}
 use Rattle.hx_types.specs.declared.calls.Answer.TheVariants as an_answer
 use Rattle.hx_types.specs.declared.calls.Op.TheVariants.{Put, Get, Del, Cput, Search, Stop, Add}
-use Rattle.hx_types.specs.declared.names.Actor.TheVariants.{Coordinator, Server, Session}
+use Rattle.hx_types.specs.declared.ids.Actor.TheVariants.{Coordinator, Server, Session}
 use Rattle.hx_types.specs.Words.{IsIn, when_some}
 use Rattle.hx_types.specs.Fitting.{IsScript, call_of}
 use Rattle.hx_model.specs.Runs.{IsRun, MayTake, made_of}

@@ -6,9 +6,9 @@ use Rattle.std.specs.declared.alloc.Global.{Global}
 use Rattle.std.proofs.lemmas.Bool.{cond_both, cond-false, lt-leb}
 use Rattle.std.proofs.lemmas.List.Elements.{All-from_recursion, recursion_from_All, All-weaker}
 use Rattle.hx_types.specs.declared.calls.Answer.{Answer}
-use Rattle.hx_types.specs.declared.names.RegionId.{RegionId}
-use Rattle.hx_types.specs.declared.names.SessionId.{SessionId}
-use Rattle.hx_types.specs.declared.names.Version.{Version}
+use Rattle.hx_types.specs.declared.ids.RegionId.{RegionId}
+use Rattle.hx_types.specs.declared.ids.SessionId.{SessionId}
+use Rattle.hx_types.specs.declared.ids.Version.{Version}
 use Rattle.hx_types.specs.declared.snapshots.Kept.{Kept}
 use Rattle.hx_types.specs.declared.snapshots.Mark.{Mark}
 use Rattle.hx_types.specs.declared.snapshots.Touch.{Touch}
@@ -17,7 +17,7 @@ use Rattle.hx_types.specs.Words.{provided}
 use Rattle.hx_model.specs.Places.{touched_in}
 use Rattle.hx_model.specs.Slots.{Acknowledge, Commit, Forget, Hold, KeyState, Move, Take, ack_answer, acknowledged, commits, is_pending, kept_of, kept_row, latest_of, mark_among, mark_of, marks_after, moved, moved_all, object_in, object_of, other_version, pending_of, settled, state_of_kept, top_above, top_of, touches_after, touches_of, upto}
 use Rattle.hx_folds.specs.Folding.{Descends, IsSlotOf, ShowSame, above, folded}
-use Rattle.hx_types.specs.declared.results.Acked.TheVariants as an_ack
+use Rattle.hx_types.specs.declared.outcomes.Acked.TheVariants as an_ack
 use Rattle.hx_folds.proofs.Folds.{folded-twice, kept-folded, mark-folded, object-folded, pending-folded, top-folded, touches-folded}
 use Rattle.hx_folds.proofs.Shown.{acknowledged-settled, alike-folded, alike-show, settled-same}
 use Rattle.hx_folds.proofs.Slots.{alike-moved_all, settled-fit, slot-folded, AllFit}

@@ -5,7 +5,7 @@ use Rattle.std.specs.Option.{option_map}
 use Rattle.std.proofs.lemmas.Bool.{cond-true, cond-false, le-ltb, lt-ltb, ne_eqb, eq-eqb}
 use Rattle.std.proofs.lemmas.List.{at_drop_more, drop_all, drop_more, get_or_read, set_split, take_all, take-append-drop, take_more}
 use Rattle.std.proofs.lemmas.Option.{slice_get-get_or}
-use Rattle.hx_types.specs.declared.names.SessionId.{SessionId}
+use Rattle.hx_types.specs.declared.ids.SessionId.{SessionId}
 use Rattle.hx_types.specs.declared.snapshots.Mark.{Mark}
 use Rattle.hx_types.specs.Words.{same_session, when_some}
 use Rattle.hx_model.specs.Slots.{mark_by}

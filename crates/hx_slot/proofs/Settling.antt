@@ -6,9 +6,9 @@ use Rattle.std.proofs.lemmas.Bool.{cond_both, cond-false, cond-true, eqb-true}
 use Rattle.std.proofs.lemmas.List.Quantifiers.{position-Some}
 use Rattle.std.proofs.Math.Seq.{take-add}
 use Rattle.std.proofs.lemmas.List.{drop-drop, drop-set-add, get_or-drop, length-drop, length-map}
-use Rattle.hx_types.specs.declared.names.Version.{Version}
-use Rattle.hx_types.specs.declared.results.Acked.{Acked}
-use Rattle.hx_types.specs.declared.results.Acked.TheVariants as an_ack
+use Rattle.hx_types.specs.declared.ids.Version.{Version}
+use Rattle.hx_types.specs.declared.outcomes.Acked.{Acked}
+use Rattle.hx_types.specs.declared.outcomes.Acked.TheVariants as an_ack
 use Rattle.hx_types.specs.declared.updates.Update.{Update}
 use Rattle.hx_model.specs.Slots.{Acknowledge, Forget, KeyState, Move, ack_answer, commits, is_pending, moved, moved_all, settled}
 use Rattle.hx_slot.specs.declared.entries.Placed.{Placed}

@@ -5,7 +5,7 @@ use Rattle.std.specs.Option.{IfSome, option_map}
 use Rattle.std.proofs.lemmas.Bool.{cond_both, cond-false, cond-true, eqb-true, false≢true, ltb-false, ltb-true, ne_eqb, not-false}
 use Rattle.std.proofs.lemmas.Option.{slice_get_past, slice_get_read}
 use Rattle.std.proofs.lemmas.List.Folds.{find_at}
-use Rattle.hx_types.specs.declared.names.RegionId.{RegionId}
+use Rattle.hx_types.specs.declared.ids.RegionId.{RegionId}
 use Rattle.hx_types.specs.declared.updates.Place.{Place}
 use Rattle.hx_types.specs.declared.updates.Update.{Update}
 use Rattle.hx_types.specs.Words.{when_some}

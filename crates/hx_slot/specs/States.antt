@@ -5,17 +5,17 @@ use Rattle.std.specs.List.{All}
 use Rattle.std.specs.Option.{IfSome, option_map}
 use Rattle.hx_types.specs.declared.calls.Answer.{Answer}
 use Rattle.hx_types.specs.declared.calls.Row.{Row}
-use Rattle.hx_types.specs.declared.names.RegionId.{RegionId}
-use Rattle.hx_types.specs.declared.names.Version.{Version}
-use Rattle.hx_types.specs.declared.results.Acked.{Acked}
-use Rattle.hx_types.specs.declared.results.Offer.{Offer}
+use Rattle.hx_types.specs.declared.ids.RegionId.{RegionId}
+use Rattle.hx_types.specs.declared.ids.Version.{Version}
+use Rattle.hx_types.specs.declared.outcomes.Acked.{Acked}
+use Rattle.hx_types.specs.declared.outcomes.Offer.{Offer}
 use Rattle.hx_types.specs.declared.snapshots.Kept.{Kept}
 use Rattle.hx_types.specs.declared.snapshots.Mark.{Mark}
 use Rattle.hx_types.specs.declared.snapshots.Touch.{Touch}
 use Rattle.hx_types.specs.declared.updates.Update.{Update}
 use Rattle.hx_types.specs.declared.values.Value.{Value}
-use Rattle.hx_types.specs.declared.results.Acked.TheVariants as an_ack
-use Rattle.hx_types.specs.declared.results.Offer.TheVariants.{Accepted, Known, Early}
+use Rattle.hx_types.specs.declared.outcomes.Acked.TheVariants as an_ack
+use Rattle.hx_types.specs.declared.outcomes.Offer.TheVariants.{Accepted, Known, Early}
 use Rattle.hx_types.specs.Spaces.{IsAscending}
 use Rattle.hx_model.specs.Neighbours.{place_number}
 use Rattle.hx_model.specs.Slots.{KeyState, after_at, kept_of}

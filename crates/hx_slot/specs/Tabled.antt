@@ -1,8 +1,8 @@
 -- Tables of the newest mark of each session and of the last touch of each region.
 use Rattle.std.specs.Prelude.{◌≡◌, ℕ, zero, suc, ◌<◌, ⊤, List, [], ◌∷◌, map, if◌then◌else◌, nat_lt, Option, None, Some, slice_get, vec_capacity, vec_len, ◌+◌, ◌*◌, ◌≤◌}
 use Rattle.std.specs.Option.{option_map}
-use Rattle.hx_types.specs.declared.names.RegionId.{RegionId}
-use Rattle.hx_types.specs.declared.names.SessionId.{SessionId}
+use Rattle.hx_types.specs.declared.ids.RegionId.{RegionId}
+use Rattle.hx_types.specs.declared.ids.SessionId.{SessionId}
 use Rattle.hx_types.specs.declared.snapshots.Mark.{Mark}
 use Rattle.hx_types.specs.declared.snapshots.Touch.{Touch}
 use Rattle.hx_types.specs.Spaces.{IsAscending}

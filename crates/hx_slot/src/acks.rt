@@ -2,7 +2,7 @@ ghost use Rattle.std.specs.Prelude.{◌≡◌, ◌≤◌, ◌==◌, false, filte
 ghost use Rattle.std.specs.List.{AllWithin, list_any};
 ghost use Rattle.hx_slot.specs.Acks.{AreSameEntries, front_acked, front_with, is_of_version};
 ghost use Rattle.hx_slot.specs.declared.entries.Taken.{Taken};
-ghost use Rattle.hx_types.specs.declared.names.Version.{Version};
+ghost use Rattle.hx_types.specs.declared.ids.Version.{Version};
 
 use crate::entries::Taken;
 use hx_types::Version;

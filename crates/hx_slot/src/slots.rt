@@ -10,7 +10,7 @@ ghost use Rattle.hx_slot.specs.Entries.{IsHeld, row_seen};
 ghost use Rattle.hx_slot.specs.Rooms.{IsGrown};
 ghost use Rattle.hx_slot.specs.States.{HasFewPlaces, IsLater, IsOrderly, IsPlacedIn, accepted_count, call_at, call_seen, committed_count, committed_state, object_at, object_seen};
 ghost use Rattle.hx_types.specs.declared.calls.Answer.{Answer};
-ghost use Rattle.hx_types.specs.declared.names.Version.{Version};
+ghost use Rattle.hx_types.specs.declared.ids.Version.{Version};
 ghost use Rattle.hx_types.specs.declared.updates.Place.{Place};
 ghost use Rattle.hx_types.specs.declared.snapshots.Touch.{Touch as Touched};
 ghost use Rattle.hx_types.specs.declared.updates.Update.{Update};

@@ -5,7 +5,7 @@ ghost use Rattle.hx_model.specs.Places.{touched_in};
 ghost use Rattle.hx_model.specs.Slots.{with_touch, with_touches};
 ghost use Rattle.hx_slot.specs.Tabled.{AscendByRegion, IsAt, IsGap, touch_among, touches_over};
 ghost use Rattle.hx_types.specs.Words.{provided};
-ghost use Rattle.hx_types.specs.declared.names.Version.{Version};
+ghost use Rattle.hx_types.specs.declared.ids.Version.{Version};
 
 use crate::entries::Taken;
 use crate::rooms::insert_within;

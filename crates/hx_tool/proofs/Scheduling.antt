@@ -1,7 +1,7 @@
 -- A drained world holds the run of its script that its steps and the schedule give.
 use Rattle.std.proofs.Common.{◌≡◌, ◌⊎◌, inr, ◌≤◌, ◌<◌, length, arith, ℕ, List, [], refl, sym, subst, ◌∙◌, ap, reverse, None, map}
 use Rattle.std.proofs.lemmas.List.{length-reverse}
-use Rattle.hx_types.specs.declared.names.Actor.{Actor}
+use Rattle.hx_types.specs.declared.ids.Actor.{Actor}
 use Rattle.hx_types.specs.declared.traces.Entry.{Entry}
 use Rattle.hx_types.specs.declared.traces.Script.{Script}
 use Rattle.hx_types.specs.declared.traces.Step.{Step}

@@ -1,6 +1,6 @@
 -- A script's steps, one after another.
 use Rattle.std.proofs.Common.{◌≡◌, ℕ, List, [], ◌∷◌, refl, sym, ap, ◌∙◌, subst, reverse, map, Option, Some, None}
-use Rattle.hx_types.specs.declared.names.Actor.{Actor}
+use Rattle.hx_types.specs.declared.ids.Actor.{Actor}
 use Rattle.hx_types.specs.declared.traces.Entry.{Entry}
 use Rattle.hx_types.specs.declared.traces.Script.{Script}
 use Rattle.hx_types.specs.declared.traces.Step.{Step}

@@ -6,7 +6,7 @@ use Rattle.hx_io.specs.Pieces.{ConsumesExactly}
 use Rattle.hx_io.specs.declared.errors.ReadError.{ReadError}
 use Rattle.hx_io.specs.declared.errors.ReadError.TheVariants as a_read_error
 use Rattle.hx_types.specs.declared.calls.Caller.{Caller}
-use Rattle.hx_types.specs.declared.names.Actor.{Actor}
+use Rattle.hx_types.specs.declared.ids.Actor.{Actor}
 use Rattle.hx_types.specs.declared.traces.Entry.{Entry}
 use Rattle.hx_types.specs.declared.traces.Script.{Script}
 use Rattle.hx_types.specs.declared.traces.Step.{Step}

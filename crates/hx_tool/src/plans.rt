@@ -1,6 +1,6 @@
 ghost use Rattle.std.specs.Prelude.{◌≡◌, ◌++◌, map, IfOk, OnOk};
 ghost use Rattle.std.specs.List.{flat_map};
-ghost use Rattle.hx_types.specs.declared.names.RegionId.{RegionId};
+ghost use Rattle.hx_types.specs.declared.ids.RegionId.{RegionId};
 ghost use Rattle.hx_types.specs.Fitting.{IsScript};
 ghost use Rattle.hx_report.specs.Reporting.{caller_text, next_number_text, numbers_text};
 ghost use Rattle.hx_tool.specs.Plans.{call_lines, plan_line, planned_text, plans_text, session_lines, sessions_lines};

@@ -4,7 +4,7 @@ ghost use Rattle.hx_io.specs.Causes.{Rose};
 ghost use Rattle.hx_io.specs.Pieces.{AppendsPrefix, ConsumesExactly};
 ghost use Rattle.hx_script.specs.declared.errors.Reason.{Reason};
 ghost use Rattle.hx_script.specs.declared.errors.Reason.TheVariants as a_reason;
-ghost use Rattle.hx_types.specs.declared.names.Actor.{Actor};
+ghost use Rattle.hx_types.specs.declared.ids.Actor.{Actor};
 ghost use Rattle.hx_tool.specs.Causes.{IsAnswer, IsCause, IsFaulty, IsJudged, IsJudgedResult, IsMadeOf, IsRefused, IsStopped, IsTaken, IsUnbuilt, IsWorn, ReadsText, limit};
 ghost use Rattle.hx_tool.specs.Commands.{Replays, Says};
 ghost use Rattle.hx_tool.specs.Outcomes.{HasNoTrace, IsSilent, status_of};

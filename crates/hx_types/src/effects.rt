@@ -5,7 +5,7 @@ ghost use Rattle.hx_types.specs.Effects.{changed_to, default_of, defaults, delet
 use crate::calls::{Answer, Op};
 use crate::copies::{Exact, Same};
 use crate::errors::Memory;
-use crate::results::Effect;
+use crate::outcomes::Effect;
 use crate::spaces::{Kind, Space};
 use crate::texts::Text;
 use crate::values::{Assign, Object, Value};

@@ -7,7 +7,7 @@ ghost use Rattle.hx_types.specs.declared.values.Term.{Term};
 ghost use Rattle.hx_types.specs.Spaces.{IsSpace};
 
 use crate::calls::Op;
-use crate::names::{RegionId, ServerId};
+use crate::ids::{RegionId, ServerId};
 use crate::spaces::{Kind, Space};
 use crate::starting::count_regions;
 use crate::texts::Text;

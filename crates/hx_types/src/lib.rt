@@ -1,6 +1,7 @@
 //! Values, operations, messages and entries of the store, and the definitions that they share.
 //!
-//! Every type but [`Text`] and [`Sequence`] is plain, with public fields. [`Exact`] copies a value,
+//! Every type but [`Text`], [`Shared`], [`Sequence`] and [`SharedList`] is plain, with public fields.
+//! What a message carries is shared, so that a copy of it is a few pointers. [`Exact`] copies a value,
 //! [`Same`] compares two; [`fits`] tells whether an operation belongs to a space, [`effect`] is what
 //! it does to an object, and [`first_config`] the configuration that every actor knows at the start.
 //!
@@ -16,10 +17,11 @@ mod effects;
 mod errors;
 mod fitting;
 mod histories;
+mod ids;
 mod lists;
 mod messages;
-mod names;
-mod results;
+mod outcomes;
+mod shared;
 mod shared_lists;
 mod snapshots;
 mod spaces;
@@ -37,12 +39,13 @@ pub use effects::effect;
 pub use errors::Memory;
 pub use fitting::fits;
 pub use histories::{Item, Items, Record, Records, Searched, Searches};
-pub use lists::Sequence;
-pub use messages::{Message, Post, PostId, Posts};
-pub use names::{
+pub use ids::{
     Actor, Epoch, RegionId, RegionList, ServerId, ServerList, SessionId, Stamp, Version,
 };
-pub use results::{Acked, Decision, Effect, Hop, Offer, Planned};
+pub use lists::Sequence;
+pub use messages::{Message, Post, PostId, Posts};
+pub use outcomes::{Acked, Decision, Effect, Hop, Offer, Planned};
+pub use shared::Shared;
 pub use shared_lists::SharedList;
 pub use snapshots::{Kept, Mark, Marks, Snapshot, Touch, Touches};
 pub use spaces::{Attribute, Attributes, Axes, Axis, Kind, Space, Subspaces};

@@ -8,7 +8,7 @@ ghost use Rattle.hx_types.specs.declared.spaces.Axis.{Axis};
 
 use crate::configs::{Config, Member, Members, RegionLists};
 use crate::errors::Memory;
-use crate::names::{Epoch, ServerId, ServerList};
+use crate::ids::{Epoch, ServerId, ServerList};
 use crate::spaces::{Axis, Space};
 use std::alloc::Global;
 

@@ -1,12 +1,12 @@
 -- In one configuration a session keeps its number, its calls and the configuration.
 use Rattle.std.proofs.Common.{List, [], ◌∷◌, length, refl}
 use Rattle.std.proofs.lemmas.Bool.{cond_both}
-use Rattle.hx_types.specs.declared.names.Actor.{Actor}
-use Rattle.hx_types.specs.declared.names.SessionId.{SessionId}
+use Rattle.hx_types.specs.declared.ids.Actor.{Actor}
+use Rattle.hx_types.specs.declared.ids.SessionId.{SessionId}
 use Rattle.hx_types.specs.declared.traces.Entry.{Entry}
 use Rattle.hx_types.specs.declared.traces.Input.{Input}
 use Rattle.hx_types.specs.declared.traces.Script.{Script}
-use Rattle.hx_types.specs.declared.names.Actor.TheVariants.{Coordinator, Server, Session}
+use Rattle.hx_types.specs.declared.ids.Actor.TheVariants.{Coordinator, Server, Session}
 use Rattle.hx_types.specs.Posts.{IsSessionOf}
 use Rattle.hx_types.specs.Words.{same_session}
 use Rattle.hx_model.specs.Runs.{IsRun, MayTake, session_after, session_of}

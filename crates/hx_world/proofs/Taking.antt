@@ -7,15 +7,15 @@ use Rattle.std.proofs.lemmas.List.Elements.{All-weaker, recursion_from_All}
 use Rattle.hx_types.specs.declared.messages.Message.{Message}
 use Rattle.hx_types.specs.declared.messages.Post.{Post}
 use Rattle.hx_types.specs.declared.messages.PostId.{PostId}
-use Rattle.hx_types.specs.declared.names.Actor.{Actor}
-use Rattle.hx_types.specs.declared.names.ServerId.{ServerId}
-use Rattle.hx_types.specs.declared.names.SessionId.{SessionId}
+use Rattle.hx_types.specs.declared.ids.Actor.{Actor}
+use Rattle.hx_types.specs.declared.ids.ServerId.{ServerId}
+use Rattle.hx_types.specs.declared.ids.SessionId.{SessionId}
 use Rattle.hx_types.specs.declared.traces.Entry.{Entry}
 use Rattle.hx_types.specs.declared.traces.Input.{Input}
 use Rattle.hx_types.specs.declared.traces.Script.{Script}
 use Rattle.hx_types.specs.declared.updates.Update.{Update}
 use Rattle.hx_types.specs.declared.messages.Message.TheVariants as a_message
-use Rattle.hx_types.specs.declared.names.Actor.TheVariants.{Coordinator, Server, Session}
+use Rattle.hx_types.specs.declared.ids.Actor.TheVariants.{Coordinator, Server, Session}
 use Rattle.hx_types.specs.declared.traces.Input.TheVariants.{Tick, Halt, Deliver}
 use Rattle.hx_types.specs.Posts.{ActorExists, Bounds, IsSessionOf, IsSoundMessage, IsSoundPost, IsSoundUpdate, has_place_in}
 use Rattle.hx_types.specs.Spaces.{IsServerOf}

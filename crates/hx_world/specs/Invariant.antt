@@ -1,11 +1,11 @@
 -- What a world keeps: its fields are the states that the definitions fold from its trace.
 use Rattle.std.specs.Prelude.{◌≡◌, ℕ, ◌+◌, List, length, reverse, slice_get, Some}
 use Rattle.hx_types.specs.declared.messages.PostId.{PostId}
-use Rattle.hx_types.specs.declared.names.ServerId.{ServerId}
-use Rattle.hx_types.specs.declared.names.SessionId.{SessionId}
+use Rattle.hx_types.specs.declared.ids.ServerId.{ServerId}
+use Rattle.hx_types.specs.declared.ids.SessionId.{SessionId}
 use Rattle.hx_types.specs.declared.traces.Entry.{Entry}
 use Rattle.hx_types.specs.declared.traces.Script.{Script}
-use Rattle.hx_types.specs.declared.names.Actor.TheVariants.{Coordinator, Server, Session}
+use Rattle.hx_types.specs.declared.ids.Actor.TheVariants.{Coordinator, Server, Session}
 use Rattle.hx_model.specs.Runs.{IsRun, server_of, session_of}
 use Rattle.hx_model.specs.Schedule.{entries_of, undelivered}
 use Rattle.hx_model.specs.Steady.{HasNoHalts}

@@ -1,5 +1,5 @@
 ghost use Rattle.std.specs.Prelude.{◌≡◌, true, false, OnOk, OnErr, IfErr, reverse};
-ghost use Rattle.hx_types.specs.declared.names.Actor.TheVariants as an_actor;
+ghost use Rattle.hx_types.specs.declared.ids.Actor.TheVariants as an_actor;
 ghost use Rattle.hx_model.specs.Runs.{MayTake, is_actor};
 ghost use Rattle.hx_model.specs.Steady.{is_halt};
 ghost use Rattle.hx_world.specs.Invariant.{IsWorld};

@@ -1,5 +1,5 @@
 ghost use Rattle.std.specs.Prelude.{◌≡◌, [], ◌<◌, ◌+◌, ◌^◌, OnOk, OnErr, IfErr, IfOk, length};
-ghost use Rattle.hx_types.specs.declared.names.Actor.TheVariants as an_actor;
+ghost use Rattle.hx_types.specs.declared.ids.Actor.TheVariants as an_actor;
 ghost use Rattle.hx_world.specs.Filing.{Files, IsSameLog};
 ghost use Rattle.hx_world.specs.Names.{AreAscending};
 ghost use Rattle.hx_world.specs.Turns.{IsAdmitted, IsBarred, resting_entry};

@@ -1,5 +1,5 @@
 use Rattle.std.proofs.Common.{◌≡◌, ◌++◌, not, take}
-use Rattle.hx_types.specs.declared.names.ServerId.{ServerId}
+use Rattle.hx_types.specs.declared.ids.ServerId.{ServerId}
 use Rattle.hx_types.specs.Words.{server_in}
 use Rattle.hx_model.specs.CoordinatorSteps.{die_posts}
 use Rattle.hx_coord.proofs.turns.ask_to_die.Given as goal

@@ -1,7 +1,7 @@
 use Rattle.std.proofs.Common.{◌++◌, List, ap, sym, ◌∙◌}
 use Rattle.std.specs.Borrow.{Bor}
 use Rattle.std.specs.List.{flat_map}
-use Rattle.hx_types.specs.declared.names.Version.{Version}
+use Rattle.hx_types.specs.declared.ids.Version.{Version}
 use Rattle.hx_types.specs.declared.updates.Update.{Update}
 use Rattle.hx_replica.specs.Made.{end_of, seen, settled_among, spot_seen, told_of}
 use Rattle.hx_replica.proofs.Resumed.{carried_on}

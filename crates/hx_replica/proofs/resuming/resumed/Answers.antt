@@ -1,6 +1,6 @@
 -- A slot that goes on posts what is pending, what it commits and what it doubts.
 use Rattle.std.proofs.Common.{◌++◌, ap, ◌∙◌}
-use Rattle.hx_types.specs.declared.names.RegionId.{RegionId}
+use Rattle.hx_types.specs.declared.ids.RegionId.{RegionId}
 use Rattle.hx_model.specs.Slots.{moved_all, settled}
 use Rattle.hx_folds.specs.Folding.{folded}
 use Rattle.hx_store.specs.Stores.{acknowledging}

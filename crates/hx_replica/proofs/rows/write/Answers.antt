@@ -1,6 +1,6 @@
 use Rattle.std.proofs.Common.{◌≡◌, ◌≤◌, List, sym, ◌∙◌, subst, ℕ}
-use Rattle.hx_types.specs.declared.results.Decision.{Decision}
-use Rattle.hx_types.specs.declared.results.Decision.TheVariants as a_decision
+use Rattle.hx_types.specs.declared.outcomes.Decision.{Decision}
+use Rattle.hx_types.specs.declared.outcomes.Decision.TheVariants as a_decision
 use Rattle.hx_model.specs.Leading.{decide}
 use Rattle.hx_model.specs.ServerSteps.{decided}
 use Rattle.hx_replica.specs.Made.{IsMade, spot_seen}

@@ -1,5 +1,5 @@
 use Rattle.std.proofs.Common.{◌≡◌, map, take}
-use Rattle.hx_types.specs.declared.names.ServerId.{ServerId}
+use Rattle.hx_types.specs.declared.ids.ServerId.{ServerId}
 use Rattle.hx_report.proofs.epochs.server_numbers.Given as goal
 
 abbrev pub invariant-loop-server : goal.invariant-loop-server

@@ -1,6 +1,6 @@
 use Rattle.std.proofs.Common.{◌≡◌, [], map, take}
 use Rattle.std.specs.List.{flat_map}
-use Rattle.hx_types.specs.declared.names.RegionId.{RegionId}
+use Rattle.hx_types.specs.declared.ids.RegionId.{RegionId}
 use Rattle.hx_types.specs.Configs.{head_of}
 use Rattle.hx_model.specs.SessionSteps.{ask_to}
 use Rattle.hx_session.specs.Changes.{asked_part, sender_seen}

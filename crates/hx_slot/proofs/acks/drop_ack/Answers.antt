@@ -1,6 +1,6 @@
 use Rattle.std.proofs.Common.{eqb, not, rules}
 use Rattle.std.proofs.lemmas.Fn.{filter_same}
-use Rattle.hx_types.specs.declared.names.Version.{Version}
+use Rattle.hx_types.specs.declared.ids.Version.{Version}
 use Rattle.hx_slot.proofs.acks.drop_ack.Goals as goal
 
 pub returns-clause-items : goal.returns-clause-items

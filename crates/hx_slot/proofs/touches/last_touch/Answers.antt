@@ -1,6 +1,6 @@
 use Rattle.std.proofs.Common.{ℕ, Option, ◌∙◌, ap}
 use Rattle.std.specs.Option.{unwrap_or}
-use Rattle.hx_types.specs.declared.names.Version.{Version}
+use Rattle.hx_types.specs.declared.ids.Version.{Version}
 use Rattle.hx_model.specs.Places.{touched_in}
 use Rattle.hx_slot.proofs.Regions.{number-or_zero, touched-among}
 use Rattle.hx_slot.proofs.touches.last_touch.Goals as goal

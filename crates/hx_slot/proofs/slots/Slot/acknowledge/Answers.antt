@@ -3,7 +3,7 @@ use Rattle.std.proofs.Common.{◌+◌, ◌∙◌, ap, arith, drop, eqb, not, ref
 use Rattle.std.specs.List.{filter, position}
 use Rattle.std.specs.Vec.{with_item}
 use Rattle.std.proofs.lemmas.Bool.{false≢true}
-use Rattle.hx_types.specs.declared.names.Version.{Version}
+use Rattle.hx_types.specs.declared.ids.Version.{Version}
 use Rattle.hx_model.specs.Slots.{Acknowledge, is_pending, moved}
 use Rattle.hx_slot.specs.Acks.{is_of_version}
 use Rattle.hx_slot.specs.Invariant.{seen}

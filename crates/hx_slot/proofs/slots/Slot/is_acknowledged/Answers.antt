@@ -1,6 +1,6 @@
 use Rattle.std.proofs.Common.{ℕ, List, ◌∙◌, ap, eqb}
 use Rattle.std.specs.List.{list_any}
-use Rattle.hx_types.specs.declared.names.Version.{Version}
+use Rattle.hx_types.specs.declared.ids.Version.{Version}
 use Rattle.hx_slot.specs.States.{SlotState}
 use Rattle.hx_slot.proofs.Acking.{versions-any}
 use Rattle.hx_slot.proofs.slots.Slot.is_acknowledged.Goals as goal

@@ -3,7 +3,7 @@ use Rattle.std.proofs.Common.{ℕ, ◌≡◌, ◌<◌, ◌≤◌, List, Option, 
 use Rattle.std.specs.List.{All}
 use Rattle.std.specs.Option.{IfSome, option_copied}
 use Rattle.hx_types.specs.declared.calls.Answer.{Answer}
-use Rattle.hx_types.specs.declared.names.Version.{Version}
+use Rattle.hx_types.specs.declared.ids.Version.{Version}
 use Rattle.hx_types.specs.declared.snapshots.Mark.{Mark}
 use Rattle.hx_model.specs.Slots.{mark_among, mark_of, top_of}
 use Rattle.hx_slot.specs.declared.entries.Taken.{Taken}

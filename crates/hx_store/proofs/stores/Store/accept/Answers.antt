@@ -1,4 +1,4 @@
-use Rattle.hx_types.specs.declared.names.RegionId.{RegionId}
+use Rattle.hx_types.specs.declared.ids.RegionId.{RegionId}
 use Rattle.hx_model.specs.Slots.{KeyState, moved_all, offered}
 use Rattle.hx_store.specs.Stores.{ArePending, CanBeOffered, accepted, accepted_at}
 use Rattle.hx_store.proofs.Moves.{keeps_folded}

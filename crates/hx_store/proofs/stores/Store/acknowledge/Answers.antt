@@ -1,4 +1,4 @@
-use Rattle.hx_types.specs.declared.names.RegionId.{RegionId}
+use Rattle.hx_types.specs.declared.ids.RegionId.{RegionId}
 use Rattle.hx_model.specs.Slots.{KeyState, acknowledged}
 use Rattle.hx_store.specs.Stores.{acknowledged_at}
 use Rattle.hx_store.proofs.Moves.{keeps_folded}
