@@ -5,11 +5,12 @@ use Rattle.std.proofs.lemmas.Bool.{le-ltb}
 use Rattle.std.proofs.lemmas.Bool.Decides.{leb_tells}
 use Rattle.hx_types.specs.declared.messages.Post.{Post}
 use Rattle.hx_types.specs.declared.messages.PostId.{PostId}
+use Rattle.hx_types.specs.Words.{IsIn}
 use Rattle.hx_clock.specs.declared.parts.Stamped.{Stamped}
 use Rattle.hx_clock.specs.declared.view.NumberedPart.{NumberedPart}
 use Rattle.hx_clock.specs.declared.view.View.{View}
 use Rattle.hx_clock.specs.Parts.{Posted}
-use Rattle.hx_clock.specs.Views.{acted, appended, joined, known_part, longer, told, Has, IsAmong, Knows, Owns}
+use Rattle.hx_clock.specs.Views.{acted, appended, handed_to, joined, known_part, longer, told, Has, IsAmong, Knows, Owns}
 use Rattle.hx_clock.proofs.Lists.{in_left, in_right}
 
 among_left : (ps qs : List NumberedPart) (x : Stamped) → IsAmong ps x → IsAmong (ps ++ qs) x
@@ -26,6 +27,15 @@ pub told_knows : (v m : View) → m ≡ told v → (id : PostId) (p : Post) → 
 told_knows v m e id p h =
     subst (λ (u : View). Knows u id p) (sym e)
     (knows_more v (told v) (λ x k. inr (⊎_elim (λ a. among_left v.carried v.known x a) (λ b. among_right v.carried v.known x b) k)) id p h)
+
+pub carried_known : (v : View) (x : Stamped) (id : PostId) (p : Post) → IsAmong v.carried x → Posted x id p → Knows v id p
+carried_known v x id p h made = ∣ (x, inl h, made) ∣₁
+
+-- what a new actor knows where the counting seat carries nothing
+pub handed_knows : (v m : View) (n : ℕ) → m ≡ handed_to n v → v.carried ≡ [] → (id : PostId) (p : Post) → Knows v id p → Knows m id p
+handed_knows v m n e none id p h =
+    subst (λ (u : View). Knows u id p) (sym e)
+        (knows_more v (handed_to n v) (λ x k. inr (⊎_elim (λ (a : IsAmong v.carried x). absurd (subst (IsIn a.0) none a.1)) (λ (b : IsAmong v.known x). b) k)) id p h)
 
 pub joined_left : (v w m : View) → m ≡ joined v w → (id : PostId) (p : Post) → Knows v id p → Knows m id p
 joined_left v w m e id p h =

@@ -53,6 +53,7 @@ impl Clock {
         ensures number { seat.old.view.count ≡ Some result.0 }
         ensures seat { seat.new.view ≡ enrolled_as result.0 seat.old.view }
         ensures made { result.1.view ≡ handed_to result.0 seat.old.view }
+        ensures knows { seat.old.view.carried ≡ [] → (id : PostId) (post : Post) → Knows seat.old.view id post → Knows result.1.view id post }
     {
         let number = self.table.shared.fetch_add::<Enrol>(&mut seat.token, 1, 1);
         let token = self.table.shared.split_seat::<Hand>(&mut seat.token);
@@ -92,7 +93,8 @@ impl Clock {
         ensures clock { (seat.new.clock ≡ self.now) × (result.clock ≡ self.now) }
         ensures seat { seat.new.view ≡ seat.old.view }
         ensures pass { result.view ≡ told seat.old.view }
-        ensures knows { (post : Post) → Knows seat.old.view id post → Knows result.view id post }
+        ensures knows { (x : Stamped) (post : Post) → Carries seat.old.view x → Posted x id post → Knows result.view id post }
+        ensures told { (other : PostId) (post : Post) → Knows seat.old.view other post → Knows result.view other post }
         ensures bare { (result.view.carried ≡ []) × (result.view.count ≡ None) }
     {
         let _ = id;

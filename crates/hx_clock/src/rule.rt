@@ -25,7 +25,7 @@ pub(crate) trait Making {
 
 impl Making for Brand {
     ghost use Rattle.std.specs.Prelude.{[]};
-    ghost use Rattle.hx_types.specs.declared.names.Actor.TheVariants.{Coordinator};
+    ghost use Rattle.hx_types.specs.declared.ids.Actor.TheVariants.{Coordinator};
     ghost use Rattle.hx_types.specs.declared.traces.Input.TheVariants.{Tick};
 
     ghost entry = { record { actor = Coordinator; input = Tick; outputs = []; notes = [] } };

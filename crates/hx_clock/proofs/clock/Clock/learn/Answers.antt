@@ -1,14 +1,14 @@
 use Rattle.std.proofs.Common.{ap, rules, ◌∙◌}
 use Rattle.hx_clock.proofs.Knowing.{joined_left, joined_right, known-append, owns_joined}
 use Rattle.hx_clock.proofs.Steps.{joins}
-use Rattle.hx_clock.specs.Views.{joined, known_part}
+use Rattle.hx_clock.specs.Views.{known_part}
 use Rattle.hx_clock.proofs.clock.Clock.learn.Goals as goal
 
 pub join_seat-requires : goal.join_seat-requires
-join_seat-requires c = (search rules, search rules, search rules, search rules, joins _ _ _ _)
+join_seat-requires c = search (rules, joins)
 
 pub returns-clause-seat : goal.returns-clause-seat
-returns-clause-seat c = ap (λ m. m.0) c.join_seat.ensures.2 ∙ ap (λ s. joined s.view c.pass.inside.token.me.0) c.seat.view_is ∙ ap (λ p. joined c.args.seat.now.view p.view) c.pass.view_is
+returns-clause-seat c = search rules
 
 pub returns-clause-longer : goal.returns-clause-longer
 returns-clause-longer c k = ap (λ v. known_part k v.known) (returns-clause-seat c) ∙ known-append k c.args.seat.now.view.known c.args.pass.view.known
