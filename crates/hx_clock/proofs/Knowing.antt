@@ -35,7 +35,7 @@ carried_known v x id p h made = ∣ (x, inl h, made) ∣₁
 pub handed_knows : (v m : View) (n : ℕ) → m ≡ handed_to n v → v.carried ≡ [] → (id : PostId) (p : Post) → Knows v id p → Knows m id p
 handed_knows v m n e none id p h =
     subst (λ (u : View). Knows u id p) (sym e)
-        (knows_more v (handed_to n v) (λ x k. inr (⊎_elim (λ (a : IsAmong v.carried x). absurd (subst (IsIn a.0) none a.1)) (λ (b : IsAmong v.known x). b) k)) id p h)
+    (knows_more v (handed_to n v) (λ x k. inr (⊎_elim (λ (a : IsAmong v.carried x). absurd (subst (IsIn a.0) none a.1)) (λ (b : IsAmong v.known x). b) k)) id p h)
 
 pub joined_left : (v w m : View) → m ≡ joined v w → (id : PostId) (p : Post) → Knows v id p → Knows m id p
 joined_left v w m e id p h =

@@ -3,4 +3,4 @@ pub mod Histories
 pub mod Knowing
 pub mod Carried
 pub mod Steps
-pub mod InStep
+pub mod Orderly

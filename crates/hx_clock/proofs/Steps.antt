@@ -14,7 +14,8 @@ use Rattle.hx_types.specs.declared.traces.Entry.{Entry}
 use Rattle.hx_types.specs.declared.messages.Post.{Post}
 use Rattle.hx_types.specs.declared.messages.PostId.{PostId}
 use Rattle.hx_types.specs.Words.{IsIn}
-use Rattle.hx_clock.specs.declared.limits.TheConstants.{ACTORS, ENTRIES}
+use Rattle.hx_types.specs.declared.limits.TheConstants.{MOST_ENTRIES}
+use Rattle.hx_clock.specs.declared.limits.TheConstants.{MOST_ENROLLED}
 use Rattle.hx_clock.specs.declared.parts.Stamped.{Stamped}
 use Rattle.hx_clock.specs.declared.view.NumberedPart.{NumberedPart}
 use Rattle.hx_clock.specs.declared.view.View.{View}
@@ -82,10 +83,10 @@ few-after history t m own all k =
     (λ (h : length (added k (length history) t) ≡ 0). omega (arith, all k))
     (added-length k (length history) t)
 
-word_next : (n c : ℕ) (history : List Event) → n ≡ length history → c ≤ ACTORS → AllByRecursion (λ t. t.by < c) history → ((k : ℕ) → length (part_in k history) ≤ ENTRIES) → (n + 1) % 2 ^ 64 ≡ length history + 1
+word_next : (n c : ℕ) (history : List Event) → n ≡ length history → c ≤ MOST_ENROLLED → AllByRecursion (λ t. t.by < c) history → ((k : ℕ) → length (part_in k history) ≤ MOST_ENTRIES) → (n + 1) % 2 ^ 64 ≡ length history + 1
 word_next n c history e most within worn =
-    let a = history-most c ENTRIES history within worn in
-    let b : c * ENTRIES ≤ ACTORS * ENTRIES = mul-le-mul_right ENTRIES most in
+    let a = history-most c MOST_ENTRIES history within worn in
+    let b : c * MOST_ENTRIES ≤ MOST_ENROLLED * MOST_ENTRIES = mul-le-mul_right MOST_ENTRIES most in
     let small : n + 1 < 2 ^ 64 = omega arith in
     mod-eq_of_lt small ∙ omega arith
 
@@ -102,7 +103,7 @@ apart views c id j v u k once at there other mine p i e =
 
 -- a seat's only part, and one more entry
 act_kept : (s : State ⊤ View) (kept : IsKept s) (id k : ℕ) (part : List Stamped) (known : List NumberedPart) (count : Option ℕ) (e : Entry) (next : ℕ)
-    → get_elem? s.views id ≡ some (view_of (numbered k part ∷ []) known count) → length part < ENTRIES → DeliveryMeets (Knows (view_of (numbered k part ∷ []) known count)) e
+    → get_elem? s.views id ≡ some (view_of (numbered k part ∷ []) known count) → length part < MOST_ENTRIES → DeliveryMeets (Knows (view_of (numbered k part ∷ []) known count)) e
     → next ≡ length kept.history + 1
     → IsKept record { words = slice_set s.words 0 next; homes = s.homes; views = slice_set s.views id (view_of (numbered k (part ++ stamped (length kept.history) e ∷ []) ∷ []) known count) }
 act_kept s kept id k part known count e next at few cause is =
@@ -116,13 +117,13 @@ act_kept s kept id k part known count e next at few cause is =
     let most = total-at (λ v. times k v.carried) s.views id v at in
     let once = kept.carried_once k in
     let drawn : k < kept.actors = one-lt k kept.actors (omega arith) in
-    let few' : length (part_in k history) < ENTRIES = subst (λ xs. length xs < ENTRIES) own few in
+    let few' : length (part_in k history) < MOST_ENTRIES = subst (λ xs. length xs < MOST_ENTRIES) own few in
     record {
       history = history ++ t ∷ [];
       actors = kept.actors;
       words = ap (λ ws. slice_set ws 0 next) kept.words ∙ ap (λ n. n ∷ kept.actors ∷ []) (is ∙ sym (length-append history (t ∷ [])));
       few_actors = kept.few_actors;
-      few_entries = few-after history t ENTRIES few' kept.few_entries;
+      few_entries = few-after history t MOST_ENTRIES few' kept.few_entries;
       by_actors = each_append _ history (t ∷ []) kept.by_actors (drawn, tt);
       causal = causal-snoc history t kept.causal (meets_more e _ _ (λ i p. was_posted history kept.actors v i p f) cause);
       carried_once = λ j. let a = total-set (λ v. times j v.carried) s.views id v w at in let b = kept.carried_once j in omega arith;
@@ -145,7 +146,7 @@ fresh history actors v f x h =
     let e : x.stamp.0 ≡ 0 + s.0 = ap (λ (y : Stamped). y.stamp.0) s.3 in omega arith
 
 pub acts : (slots id k : ℕ) (part : List Stamped) (known : List NumberedPart) (count : Option ℕ) (c : List (ℕ × ⊤)) (e : Entry)
-    → length part < ENTRIES → DeliveryMeets (Knows (view_of (numbered k part ∷ []) known count)) e
+    → length part < MOST_ENTRIES → DeliveryMeets (Knows (view_of (numbered k part ∷ []) known count)) e
     → Allows IsKept slots id (view_of (numbered k part ∷ []) known count, c) 0 (λ n. (n + 1) % 2 ^ 64) (Acts e (view_of (numbered k part ∷ []) known count, c))
 unfolding act_kept
 acts slots id k part known count c e few cause s kept len at small =
@@ -154,10 +155,10 @@ acts slots id k part known count c e few cause s kept len at small =
     let is : slice_index s.words 0 ≡ length kept.history = ap (λ ws. slice_index ws 0) kept.words in
     let P : ℕ → Type 0 = λ n. (w : View) × (a : Act ⊤) × Valid s.homes c a × IsKept (stepped s 0 ((n + 1) % 2 ^ 64) id c w a) × Acts e (v, c) n (w, carried_after c a) in
     let next = act_kept s kept id k part known count e ((length kept.history + 1) % 2 ^ 64) at few cause (word_next (length kept.history) kept.actors kept.history refl kept.few_actors kept.by_actors kept.few_entries) in
-    let most = history-most next.actors ENTRIES next.history next.by_actors next.few_entries in
+    let most = history-most next.actors MOST_ENTRIES next.history next.by_actors next.few_entries in
     let long : length next.history ≡ length kept.history + 1 = length-append kept.history (event k e ∷ []) in
-    let times_most : next.actors * ENTRIES ≤ ACTORS * ENTRIES = mul-le-mul_right ENTRIES next.few_actors in
-    let small' : length kept.history < ACTORS * ENTRIES = omega arith in
+    let times_most : next.actors * MOST_ENTRIES ≤ MOST_ENROLLED * MOST_ENTRIES = mul-le-mul_right MOST_ENTRIES next.few_actors in
+    let small' : length kept.history < MOST_ENROLLED * MOST_ENTRIES = omega arith in
     subst P (sym is) (
       view_of (numbered k (part ++ stamped (length kept.history) e ∷ []) ∷ []) known count,
       keeps,
@@ -187,7 +188,7 @@ some-number : (n d : ℕ) → Some n ≡ Some d → n ≡ d
 some-number n d e = cc
 
 enrol_kept : (s : State ⊤ View) (kept : IsKept s) (id n : ℕ) (carried known : List NumberedPart) (next : ℕ)
-    → get_elem? s.views id ≡ some (view_of carried known (Some n)) → n < ACTORS → next ≡ n + 1
+    → get_elem? s.views id ≡ some (view_of carried known (Some n)) → n < MOST_ENROLLED → next ≡ n + 1
     → IsKept record { words = slice_set s.words 1 next; homes = s.homes; views = slice_set s.views id (view_of (numbered n [] ∷ carried) known (Some (n + 1))) }
 enrol_kept s kept id n carried known next at few is =
     let v : View = view_of carried known (Some n) in
@@ -219,7 +220,7 @@ enrol_kept s kept id n carried known next at few is =
     }
 
 pub enrols : (slots id n : ℕ) (carried known : List NumberedPart) (c : List (ℕ × ⊤))
-    → n < ACTORS
+    → n < MOST_ENROLLED
     → Allows IsKept slots id (view_of carried known (Some n), c) 1 (λ m. (m + 1) % 2 ^ 64) (Enrols (view_of carried known (Some n), c))
 enrols slots id n carried known c few s kept len at small =
     let v : View = view_of carried known (Some n) in
@@ -366,7 +367,7 @@ opens = record {
 
 -- the same of a view that owns one part, or that has a count
 pub acts_at : (slots id : ℕ) (v w : View) (c : List (ℕ × ⊤)) (e f : Entry) → v ≡ w
-    → ((k : ℕ) × (part : List Stamped) × Owns w k part × (length part < ENTRIES)) → f ≡ e → DeliveryMeets (Knows w) e
+    → ((k : ℕ) × (part : List Stamped) × Owns w k part × (length part < MOST_ENTRIES)) → f ≡ e → DeliveryMeets (Knows w) e
     → Allows IsKept slots id (v, c) 0 (λ n. (n + 1) % 2 ^ 64) (Acts f (v, c))
 acts_at slots id v w c e f is own same cause =
     let as_seen : w ≡ view_of (numbered own.0 own.1 ∷ []) w.known w.count = ap (λ cs. view_of cs w.known w.count) own.2 in
@@ -377,11 +378,11 @@ acts_at slots id v w c e f is own same cause =
 
 -- what an act tells of the view as contracts see it
 pub acts_told : (v w : View) (c : List (ℕ × ⊤)) (e f : Entry) (n : ℕ) (m : View × List (ℕ × ⊤)) → v ≡ w → f ≡ e → Acts f (v, c) n m
-    → (m.0 ≡ acted (stamped n e) w) × IsAfter n w × (n < ACTORS * ENTRIES)
+    → (m.0 ≡ acted (stamped n e) w) × IsAfter n w × (n < MOST_ENROLLED * MOST_ENTRIES)
 acts_told v w c e f n m is same h =
     (ap (λ m. m.0) h.0 ∙ ap (λ y. acted (stamped n y) v) same ∙ ap (acted (stamped n e)) is, subst (IsAfter n) is h.1, h.2)
 
-pub enrols_at : (slots id : ℕ) (v w : View) (c : List (ℕ × ⊤)) → v ≡ w → ((n : ℕ) × (w.count ≡ Some n) × (n < ACTORS))
+pub enrols_at : (slots id : ℕ) (v w : View) (c : List (ℕ × ⊤)) → v ≡ w → ((n : ℕ) × (w.count ≡ Some n) × (n < MOST_ENROLLED))
     → Allows IsKept slots id (v, c) 1 (λ m. (m + 1) % 2 ^ 64) (Enrols (v, c))
 enrols_at slots id v w c is h =
     let as_seen : w ≡ view_of w.carried w.known (Some h.0) = ap (λ n. view_of w.carried w.known n) h.1 in

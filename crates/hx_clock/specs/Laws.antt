@@ -5,7 +5,8 @@ use mathlib.Core.Option.{some}
 use mathlib.Core.List.{IsPrefix}
 use lib.ListN.{get_elem?}
 use Rattle.atomic_table.specs.Table.{State}
-use Rattle.hx_clock.specs.declared.limits.TheConstants.{ACTORS, ENTRIES}
+use Rattle.hx_types.specs.declared.limits.TheConstants.{MOST_ENTRIES}
+use Rattle.hx_clock.specs.declared.limits.TheConstants.{MOST_ENROLLED}
 use Rattle.hx_clock.specs.declared.parts.Stamped.{Stamped}
 use Rattle.hx_clock.specs.declared.view.NumberedPart.{NumberedPart}
 use Rattle.hx_clock.specs.declared.view.View.{View}
@@ -28,7 +29,7 @@ carried_in s = flat_map (λ v. v.carried) s.views
 abbrev pub parts_in : State ⊤ View → List (List Stamped)
 parts_in s = map (λ p. p.entries) (carried_in s)
 
-pub record IsInStep (s : State ⊤ View) : Type 0 where
+pub record IsOrderly (s : State ⊤ View) : Type 0 where
   -- each number below that of actors is carried by one view, once, and no view carries another
   pub carried_once : (k : ℕ) → total (λ v. times k v.carried) s.views ≡ one (nat_lt k (actors_in s))
   -- one view has a count, and that count is the number of actors
@@ -40,9 +41,9 @@ pub record IsInStep (s : State ⊤ View) : Type 0 where
   -- each known part is a prefix of the carried part of its number
   pub known : (place k : ℕ) (v : View) → get_elem? s.views place ≡ some v → IsPrefix (known_part k v.known) (known_part k (carried_in s))
   -- no part is too long, and there are not too many
-  pub few_entries : AllByRecursion (λ part. length part ≤ ENTRIES) (parts_in s)
-  pub few_actors : actors_in s ≤ ACTORS
+  pub few_entries : AllByRecursion (λ part. length part ≤ MOST_ENTRIES) (parts_in s)
+  pub few_actors : actors_in s ≤ MOST_ENROLLED
 
 -- so it is whenever the rule holds
-abbrev pub RuleIsInStep : Type 0
-RuleIsInStep = (s : State ⊤ View) → IsKept s → IsInStep s
+abbrev pub PartsStayCausal : Type 0
+PartsStayCausal = (s : State ⊤ View) → IsKept s → IsOrderly s

@@ -9,7 +9,8 @@ use Rattle.atomic_table.specs.Table.{State, Me}
 use Rattle.hx_types.specs.declared.messages.Post.{Post}
 use Rattle.hx_types.specs.declared.messages.PostId.{PostId}
 use Rattle.hx_types.specs.declared.traces.Entry.{Entry}
-use Rattle.hx_clock.specs.declared.limits.TheConstants.{ACTORS, ENTRIES}
+use Rattle.hx_types.specs.declared.limits.TheConstants.{MOST_ENTRIES}
+use Rattle.hx_clock.specs.declared.limits.TheConstants.{MOST_ENROLLED}
 use Rattle.hx_clock.specs.declared.parts.Stamped.{Stamped}
 use Rattle.hx_clock.specs.declared.view.View.{View}
 use Rattle.hx_clock.specs.Parts.{stamped, Posted, DeliveryMeets, IsCausal, HasStampsBelow}
@@ -56,8 +57,8 @@ pub record IsKept (s : State ⊤ View) : Type 0 where
   pub history : List Event
   pub actors : ℕ
   pub words : s.words ≡ length history ∷ actors ∷ []
-  pub few_actors : actors ≤ ACTORS
-  pub few_entries : (k : ℕ) → length (part_in k history) ≤ ENTRIES
+  pub few_actors : actors ≤ MOST_ENROLLED
+  pub few_entries : (k : ℕ) → length (part_in k history) ≤ MOST_ENTRIES
   pub by_actors : AllByRecursion (λ e. e.by < actors) history
   pub causal : IsCausalHistory history
   -- each number that was drawn is carried by one view, once, and no view carries another
@@ -69,7 +70,7 @@ pub record IsKept (s : State ⊤ View) : Type 0 where
 -- act: the entry has the number found as its stamp, above each that the seat has
 abbrev pub Acts : Entry → Me ⊤ View → ℕ → Me ⊤ View → Type 0
 Acts entry m found m' =
-    (m' ≡ (acted (stamped found entry) m.0, m.1)) × IsAfter found m.0 × (found < ACTORS * ENTRIES)
+    (m' ≡ (acted (stamped found entry) m.0, m.1)) × IsAfter found m.0 × (found < MOST_ENROLLED * MOST_ENTRIES)
 
 -- enrol: the number found was drawn, which is what the seat had counted
 abbrev pub Enrols : Me ⊤ View → ℕ → Me ⊤ View → Type 0

@@ -1,7 +1,8 @@
 ghost use Rattle.std.specs.Prelude.{ℕ, ◌≡◌, ◌+◌, ◌*◌, ◌<◌, ◌∷◌, ◌++◌, [], length, IfOk, None, Some, List};
 ghost use Rattle.hx_types.specs.declared.messages.Post.{Post};
 ghost use Rattle.hx_types.specs.declared.messages.PostId.{PostId};
-ghost use Rattle.hx_clock.specs.declared.limits.TheConstants.{ACTORS, ENTRIES};
+ghost use Rattle.hx_types.specs.declared.limits.TheConstants.{MOST_ENTRIES};
+ghost use Rattle.hx_clock.specs.declared.limits.TheConstants.{MOST_ENROLLED};
 ghost use Rattle.hx_clock.specs.declared.parts.Stamped.{Stamped};
 ghost use Rattle.hx_clock.specs.Parts.{stamped, Posted, DeliveryMeets, IsCausal, HasStampsBelow, all_of};
 ghost use Rattle.hx_clock.specs.Views.{acted, counting, enrolled_as, handed_to, joined, known_part, longer, told, Carries, Has, IsAfter, IsWhole, Knows, Owns, parts_of};
@@ -48,11 +49,12 @@ impl Clock {
     /// Draws a number for a new actor, from 0, and gives the seat that carries it.
     pub fn enrol(&mut self, seat: &mut Seat) -> (u32, Seat)
         requires clock { seat.old.clock ≡ self.old }
-        requires room { (n : ℕ) × (seat.old.view.count ≡ Some n) × (n < ACTORS) }
+        requires room { (n : ℕ) × (seat.old.view.count ≡ Some n) × (n < MOST_ENROLLED) }
         ensures clock { (self.new ≡ self.old) × (seat.new.clock ≡ self.old) × (result.1.clock ≡ self.old) }
         ensures number { seat.old.view.count ≡ Some result.0 }
         ensures seat { seat.new.view ≡ enrolled_as result.0 seat.old.view }
         ensures made { result.1.view ≡ handed_to result.0 seat.old.view }
+        ensures own { Owns result.1.view result.0 [] }
         ensures knows { seat.old.view.carried ≡ [] → (id : PostId) (post : Post) → Knows seat.old.view id post → Knows result.1.view id post }
     {
         let number = self.table.shared.fetch_add::<Enrol>(&mut seat.token, 1, 1);
@@ -63,13 +65,13 @@ impl Clock {
     /// Draws the next stamp for an entry of the seat's actor. It waits for nobody.
     pub fn act(&self, seat: &mut Seat, entry: &Entry) -> Stamp
         requires clock { seat.old.clock ≡ self.now }
-        requires own { (k : ℕ) × (part : List Stamped) × Owns seat.old.view k part × (length part < ENTRIES) }
+        requires own { (k : ℕ) × (part : List Stamped) × Owns seat.old.view k part × (length part < MOST_ENTRIES) }
         requires cause { DeliveryMeets (Knows seat.old.view) entry.now }
         ensures clock { seat.new.clock ≡ self.now }
         ensures seat { seat.new.view ≡ acted (stamped result.0 entry.now) seat.old.view }
         ensures own { (k : ℕ) (part : List Stamped) → Owns seat.old.view k part → Owns seat.new.view k (part ++ stamped result.0 entry.now ∷ []) }
         ensures later { (x : Stamped) → Has seat.old.view x → x.stamp.0 < result.0 }
-        ensures bound { result.0 < ACTORS * ENTRIES }
+        ensures bound { result.0 < MOST_ENROLLED * MOST_ENTRIES }
     {
         self.act_making::<Brand>(seat, entry)
     }
@@ -77,10 +79,10 @@ impl Clock {
     fn act_making<M: Making>(&self, seat: &mut Seat, entry: &Entry) -> Stamp
         requires making { M.entry ≡ entry.now }
         requires clock { seat.old.clock ≡ self.now }
-        requires own { (k : ℕ) × (part : List Stamped) × Owns seat.old.view k part × (length part < ENTRIES) }
+        requires own { (k : ℕ) × (part : List Stamped) × Owns seat.old.view k part × (length part < MOST_ENTRIES) }
         requires cause { DeliveryMeets (Knows seat.old.view) entry.now }
         ensures clock { seat.new.clock ≡ self.now }
-        ensures acts { (seat.new.view ≡ acted (stamped result.0 entry.now) seat.old.view) × IsAfter result.0 seat.old.view × (result.0 < ACTORS * ENTRIES) }
+        ensures acts { (seat.new.view ≡ acted (stamped result.0 entry.now) seat.old.view) × IsAfter result.0 seat.old.view × (result.0 < MOST_ENROLLED * MOST_ENTRIES) }
     {
         Stamp(self.table.shared.fetch_add::<Act<M>>(&mut seat.token, 0, 1))
     }
@@ -97,6 +99,7 @@ impl Clock {
         ensures told { (other : PostId) (post : Post) → Knows seat.old.view other post → Knows result.view other post }
         ensures bare { (result.view.carried ≡ []) × (result.view.count ≡ None) }
     {
+        // The contract alone reads the post's name.
         let _ = id;
         Seat {
             token: self.table.shared.split_seat::<Tell>(&mut seat.token),

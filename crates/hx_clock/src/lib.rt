@@ -19,8 +19,8 @@ mod seat;
 mod view;
 
 pub use clock::Clock;
-pub use laws::always_in_step;
-pub use limits::{ACTORS, ENTRIES};
+pub use laws::parts_stay_causal;
+pub use limits::MOST_ENROLLED;
 pub use parts::{Part, Parts, Stamped};
 pub use seat::{Pass, Seat};
 pub use view::{NumberedPart, View};

@@ -14,3 +14,6 @@ returns-clause-made c = search rules
 
 pub returns-clause-knows : goal.returns-clause-knows
 returns-clause-knows c = handed_knows c.args.seat.now.view _ _ (returns-clause-made c)
+
+pub returns-clause-own : goal.returns-clause-own
+returns-clause-own c = ap (λ v. v.carried) (returns-clause-made c)

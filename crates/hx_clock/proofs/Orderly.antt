@@ -7,14 +7,15 @@ use Rattle.std.specs.Prelude.{slice_index, ⊤}
 use Rattle.std.specs.List.{AllByRecursion}
 use Rattle.std.proofs.lemmas.Bool.Decides.{eqb_tells}
 use Rattle.atomic_table.specs.Table.{State}
-use Rattle.hx_clock.specs.declared.limits.TheConstants.{ACTORS, ENTRIES}
+use Rattle.hx_types.specs.declared.limits.TheConstants.{MOST_ENTRIES}
+use Rattle.hx_clock.specs.declared.limits.TheConstants.{MOST_ENROLLED}
 use Rattle.hx_clock.specs.declared.parts.Stamped.{Stamped}
 use Rattle.hx_clock.specs.declared.view.NumberedPart.{NumberedPart}
 use Rattle.hx_clock.specs.declared.view.View.{View}
 use Rattle.hx_clock.specs.Parts.{HasStampsBelow}
 use Rattle.hx_clock.specs.Views.{known_part, longer, one, times, total}
 use Rattle.hx_clock.specs.Rule.{part_in, Event, IsKept}
-use Rattle.hx_clock.specs.Laws.{actors_in, carried_in, parts_in, stamps_in, IsInStep}
+use Rattle.hx_clock.specs.Laws.{actors_in, carried_in, parts_in, stamps_in, IsOrderly}
 use Rattle.hx_clock.proofs.Lists.{each_append, each_map, total-append}
 use Rattle.hx_clock.proofs.Histories.{one-not, part-none}
 use Rattle.hx_clock.proofs.Knowing.{longer-first, longer-none, longer-second, lt_tells}
@@ -95,8 +96,8 @@ each_mapped : {A B : Type 0} (P : B → Type 0) (f : A → B) (xs : List A) → 
 each_mapped P f [] h = tt
 each_mapped P f (x ∷ xs) h = (h.0, each_mapped P f xs h.1)
 
-pub in_step : (s : State ⊤ View) → IsKept s → IsInStep s
-in_step s kept =
+pub stays_orderly : (s : State ⊤ View) → IsKept s → IsOrderly s
+stays_orderly s kept =
     let stamps : stamps_in s ≡ length kept.history = ap (λ ws. slice_index ws 0) kept.words in
     let actors : actors_in s ≡ kept.actors = ap (λ ws. slice_index ws 1) kept.words in
     let whole : AreWhole kept.history kept.actors (carried_in s) = (
@@ -111,7 +112,7 @@ in_step s kept =
       causal = whole-causal kept.history kept.actors (carried_in s) whole kept.causal;
       stamps = subst (λ n. HasStampsBelow n (parts_in s)) (sym stamps) (whole-stamps kept.history kept.actors (carried_in s) whole);
       known = λ place k v at. known-carried kept.history kept.actors k (carried_in s) v.known whole (kept.fits place v at).known;
-      few_entries = each_mapped (λ part. length part ≤ ENTRIES) (λ (p : NumberedPart). p.entries) (carried_in s)
-          (each_map _ _ (carried_in s) (λ p i e. subst (λ xs. length xs ≤ ENTRIES) (sym e) (kept.few_entries p.number)) whole.0);
-      few_actors = subst (λ n. n ≤ ACTORS) (sym actors) kept.few_actors;
+      few_entries = each_mapped (λ part. length part ≤ MOST_ENTRIES) (λ (p : NumberedPart). p.entries) (carried_in s)
+          (each_map _ _ (carried_in s) (λ p i e. subst (λ xs. length xs ≤ MOST_ENTRIES) (sym e) (kept.few_entries p.number)) whole.0);
+      few_actors = subst (λ n. n ≤ MOST_ENROLLED) (sym actors) kept.few_actors;
     }
