@@ -1,5 +1,5 @@
 -- The examples of the tests.
-use Rattle.std.proofs.Common.{ℕ, zero, suc, ◌≡◌, ◌<◌, inl, List, [], ◌∷◌, refl, subst, sym, arith}
+use Rattle.std.proofs.Common.{ℕ, zero, suc, ◌<◌, inl, [], ◌∷◌, refl, subst, sym, arith}
 use Rattle.std.specs.List.{IsDistinct}
 use Rattle.std.specs.List.Sorted.{IsStrictlyIncreasing}
 use Rattle.hx_types.specs.declared.messages.PostId.{PostId}

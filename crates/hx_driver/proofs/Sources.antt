@@ -1,16 +1,16 @@
 -- What the merge of lists gives.
-use Rattle.std.proofs.Common.{cond, ◌≡◌, ◌≢◌, ℕ, zero, suc, ◌+◌, ◌<◌, ◌≤◌, Bool, true, false, List, [], ◌∷◌, ◌++◌, map, length, get_or, Option, Some, None, refl, ap, sym, subst, ◌∙◌, arith, append-nil, ltb-true, ltb-false}
+use Rattle.std.proofs.Common.{cond, ◌≡◌, ℕ, zero, suc, ◌+◌, ◌<◌, Bool, true, false, List, [], ◌∷◌, ◌++◌, map, length, get_or, Option, refl, ap, sym, subst, ◌∙◌, arith, append-nil, ltb-false}
 use Rattle.std.proofs.lemmas.Bool.{le-ltb}
 use Rattle.hx_types.specs.declared.ids.Actor.TheVariants.{Coordinator}
 use Rattle.hx_types.specs.declared.traces.Input.TheVariants.{Tick}
-use Rattle.std.specs.Prelude.{nat_lt, eqb, flat_map, IsPermutation, All, slice_index, slice_index_or}
+use Rattle.std.specs.Prelude.{nat_lt, eqb, IsPermutation, All}
 use Rattle.std.specs.Cmp.{IsStrictWeakOrder}
 use Rattle.std.specs.Ordering.{is_lt, nat_cmp}
 use Rattle.std.specs.declared.cmp.Ordering.TheVariants.{Less, Equal, Greater}
-use Rattle.std.specs.Iterator.{Yields, DrainsIf, AlwaysYields}
+use Rattle.std.specs.Iterator.{DrainsIf, AlwaysYields}
 use Rattle.std.specs.Iterator.Runs.{Run, WholeRun, EveryRun, ItemsAre}
 use Rattle.std.specs.List.{IsDistinct}
-use Rattle.std.specs.List.Sorted.{IsSortedBy, IsStrictlyIncreasing, IsNonDecreasing, IsNonDecreasingBy}
+use Rattle.std.specs.List.Sorted.{IsSortedBy, IsStrictlyIncreasing}
 use Rattle.std.specs.Vec.Iter.{into_iter_items, into_iter_steps, into_iter_len}
 use Rattle.std.specs.declared.vec.IntoIter.{IntoIter}
 use Rattle.std.specs.Prelude.{Vec, vec_len, ◌^◌}
@@ -19,7 +19,7 @@ use Rattle.std.proofs.lemmas.List.Sorted.{sorted_far, IsPermutation-map}
 use Rattle.std.proofs.lemmas.List.Elements.{All-cons, All-nil}
 use Rattle.std.proofs.lemmas.Map.Keys.{IsDistinct-IsPermutation, IsStrictlyIncreasing-from_distinct}
 use Rattle.std.proofs.lemmas.Bool.Decides.{nat_tests}
-use Rattle.itertools.specs.KMerge.{SourcesGive, MergeGivesAll, MergeInOrder, kmerge_steps, joined_lists}
+use Rattle.itertools.specs.KMerge.{SourcesGive, MergeGivesAll, MergeInOrder, kmerge_steps}
 use Rattle.itertools.specs.declared.kmerge_impl.KMergeBy.{KMergeBy}
 use Rattle.hx_clock.specs.declared.parts.Stamped.{Stamped}
 use Rattle.std.specs.List.{AllByRecursion}

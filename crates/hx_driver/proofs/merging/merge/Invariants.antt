@@ -1,5 +1,4 @@
 use Rattle.std.proofs.Common.{◌≡◌, map}
-use Rattle.hx_clock.specs.declared.parts.Stamped.{Stamped}
 use Rattle.hx_driver.proofs.merging.merge.Given as goal
 
 abbrev pub invariant-loop-stamped : goal.invariant-loop-stamped
