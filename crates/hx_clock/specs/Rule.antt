@@ -46,19 +46,24 @@ abbrev pub counts : Option ℕ → ℕ
 counts None = 0
 counts (Some n) = 1
 
--- what a view carries are whole parts, what it knows are prefixes of parts, and what it counts are the actors
+-- a view fits the history and the number of actors
 pub record Fits (history : List Event) (actors : ℕ) (v : View) : Type 0 where
+  -- what it carries are whole parts
   pub carried : AllByRecursion (λ p. p.entries ≡ part_in p.number history) v.carried
+  -- what it knows are prefixes of parts
   pub known : AllByRecursion (λ p. IsPrefix p.entries (part_in p.number history)) v.known
+  -- what it counts are the actors
   pub count : (n : ℕ) → v.count ≡ Some n → n ≡ actors
 
--- the rule
+-- the rule: there are a history and a number of actors that the words tell, and that all views fit
 pub record IsKept (s : State ⊤ View) : Type 0 where
   pub history : List Event
   pub actors : ℕ
   pub words : s.words ≡ length history ∷ actors ∷ []
+  -- there are few enough of both that no word wraps
   pub few_actors : actors ≤ MOST_ENROLLED
   pub few_entries : (k : ℕ) → length (part_in k history) ≤ MOST_ENTRIES
+  -- each event is of an actor that enrolled, and delivers what was posted before
   pub by_actors : AllByRecursion (λ e. e.by < actors) history
   pub causal : IsCausalHistory history
   -- each number that was drawn is carried by one view, once, and no view carries another

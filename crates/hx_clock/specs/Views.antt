@@ -46,14 +46,16 @@ Owns v k part = v.carried ≡ numbered k part ∷ []
 abbrev pub IsAfter : ℕ → View → Type 0
 IsAfter n v = (x : Stamped) → Has v x → x.stamp.0 < n
 
--- how many of the parts have the number k
+-- 1 where it is so, and 0 where not
 abbrev pub one : Bool → ℕ
 one b = cond b 1 0
 
+-- f of each item, added up
 abbrev pub total : {A : Type 0} → (A → ℕ) → List A → ℕ
 total f [] = 0
 total f (x ∷ xs) = f x + total f xs
 
+-- how many of the parts have the number k
 abbrev pub times : ℕ → List NumberedPart → ℕ
 times k parts = total (λ p. one (eqb k p.number)) parts
 
@@ -61,7 +63,7 @@ times k parts = total (λ p. one (eqb k p.number)) parts
 abbrev pub longer : List Stamped → List Stamped → List Stamped
 longer xs ys = cond (nat_lt (length xs) (length ys)) ys xs
 
--- the part of the number k: the longest that stands there
+-- what is known of the number k: the longest of its parts, or nothing
 abbrev pub known_part : ℕ → List NumberedPart → List Stamped
 known_part k [] = []
 known_part k (p ∷ ps) = longer (cond (eqb k p.number) p.entries []) (known_part k ps)
