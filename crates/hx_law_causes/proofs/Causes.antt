@@ -1,4 +1,5 @@
 -- Every answer of every call of a run has its cause.
+use Rattle.hx_model.specs.Lines.{no_version, upto}
 use Rattle.std.proofs.Common.{◌≡◌, ℕ, ◌-◌, ◌≢◌, ◌⊎◌, inl, Bool, true, false, not, ◌&&◌, List, Some, refl, sym, ap, ◌∙◌, subst}
 use Rattle.std.proofs.lemmas.Bool.{and_parts, cond_both, false≢true}
 use Rattle.hx_types.specs.declared.calls.Answer.{Answer}
@@ -23,10 +24,9 @@ use Rattle.hx_model.specs.Causes.{AnsweredCall, HasCause, IsAddRefused, IsIssued
 use Rattle.hx_model.specs.CoordinatorSteps.{any_joining}
 use Rattle.hx_model.specs.Histories.{line_of}
 use Rattle.hx_model.specs.Planning.{plan_of}
-use Rattle.hx_model.specs.Slots.{upto}
 use Rattle.hx_model.specs.Regions.{key_region}
 use Rattle.hx_model.specs.Runs.{IsRun}
-use Rattle.hx_model.specs.SessionSteps.{SessionState, lost_answer, no_version}
+use Rattle.hx_model.specs.SessionSteps.{SessionState, lost_answer}
 use Rattle.hx_plan.proofs.Planned.{lowest}
 use Rattle.hx_law_lemmas.proofs.Traces.{BeganAt}
 use Rattle.hx_law_epochs.proofs.Runs.{IsKnown}

@@ -1,4 +1,5 @@
 -- The law on causes: each end of a call in a run has its cause.
+use Rattle.hx_model.specs.Lines.{upto}
 use Rattle.std.proofs.Common.{◌≡◌, ℕ, ◌+◌, ◌-◌, ◌≢◌, ◌⊎◌, inl, inr, true, false, List, ◌∷◌, ◌++◌, length, Option, Some, None, refl, sym, ap, ◌∙◌, subst, arith}
 use Rattle.std.specs.Prelude.{⊤}
 use Rattle.std.proofs.lemmas.Bool.{cases_Bool, cond_both, false≢true}
@@ -32,7 +33,6 @@ use Rattle.hx_model.specs.Legal.{object_now}
 use Rattle.hx_model.specs.Runs.{IsRun, MayTake, session_of}
 use Rattle.hx_model.specs.ServerSteps.{get_answer}
 use Rattle.hx_model.specs.SessionSteps.{SessionState, is_key_call}
-use Rattle.hx_model.specs.Slots.{upto}
 use Rattle.hx_law_lemmas.specs.Words.{posts_of}
 use Rattle.hx_law_lemmas.proofs.CallEnds.{started}
 use Rattle.hx_law_lemmas.proofs.Traces.{BeganAt, EndedAt, arrived, began_at}

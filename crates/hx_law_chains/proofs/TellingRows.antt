@@ -1,4 +1,5 @@
 -- Each input of a server: a doubt that it tells is of a pending version that a lost region holds up.
+use Rattle.hx_model.specs.Lines.{upto}
 use Rattle.std.proofs.Common.{◌≡◌, ℕ, ◌<◌, ◌≤◌, ◌⊎◌, inl, inr, Bool, true, false, not, ◌&&◌, List, [], ◌∷◌, ◌++◌, map, Option, Some, None, refl, sym, ap, ◌∙◌, subst, arith, cond, eqb, leb, ltb}
 use Rattle.std.specs.Prelude.{⊤}
 use Rattle.std.specs.List.{filter, flat_map}
@@ -35,7 +36,7 @@ use Rattle.hx_model.specs.CoordinatorSteps.{Joined, Phase}
 use Rattle.hx_model.specs.Leading.{StuckAt, decide, stuck_of}
 use Rattle.hx_model.specs.Regions.{key_region}
 use Rattle.hx_model.specs.ServerSteps.{Replica, ServerState, ServerStep, SlotStep, Spot, accepting, acked, adopted, adopted_replica, asked, at_slot, call_at, call_step, called, called_by, decided, doubt_in, doubts_from, get_step, halting, hearing, if_installed, input_step, install_at, installed_slots, is_active, leader_doubts, listed_regions, message_step, move_posts, passed_on, pending_posts, ready_post, replica_of, replica_or_new, replica_tick, resumed, resumed_posts, saying, seal_at, server_step, snap_posts, snapped, spot_of, state_in, tick_step, unmoved, updated, waiting_doubt, with_config, with_slot, with_slots, write_step}
-use Rattle.hx_model.specs.Slots.{Forget, KeyState, Move, has_place, moved, moved_all, offered, pending_of, top_of, upto}
+use Rattle.hx_model.specs.Slots.{Forget, KeyState, Move, has_place, moved, moved_all, offered, pending_of, top_of}
 use Rattle.hx_folds.specs.Folding.{IsJoinableServer}
 use Rattle.hx_types.specs.Words.{provided}
 use Rattle.hx_law_lemmas.proofs.LeaderLines.{pending-in}
