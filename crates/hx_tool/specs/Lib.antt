@@ -3,3 +3,5 @@ pub mod Outcomes
 pub mod Plans
 pub mod Steps
 pub mod Causes
+pub mod Calling
+pub mod Showing
