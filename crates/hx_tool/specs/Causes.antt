@@ -127,7 +127,7 @@ pub record IsReplayed (with_trace : Bool) (script : Script) (trace : List Entry)
   pub few : HasFewEntries (reverse trace)
   pub linear : (key : List ℕ) → IsLinear script (reverse trace) key
   pub searches : (c : Caller) (s : FinishedSearch) → search_of script (reverse trace) c ≡ Some s → IsSearchWell script (reverse trace) s
-  pub report_is : IsReport script (reverse trace) report with_trace
+  pub report_is : IsReport script (reverse trace) [] report with_trace
 
 -- the plans of the script's searches, and no trace
 pub record IsPlanned (script : Script) (trace : List Entry) (plans : List ℕ) : Type 0 where
