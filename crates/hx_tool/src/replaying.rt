@@ -2,12 +2,7 @@ ghost use Rattle.std.specs.Prelude.{◌≡◌, ◌⊎◌, ℕ, [], IfOk, IfErr, 
 ghost use Rattle.hx_types.specs.declared.traces.Step.{Step};
 ghost use Rattle.hx_model.specs.Schedule.{stepped};
 ghost use Rattle.hx_types.specs.Fitting.{IsScript};
-<<<<<<< HEAD
 ghost use Rattle.hx_tool.specs.Built.{IsBuilt};
-ghost use Rattle.hx_report.specs.Reporting.{IsReport};
-=======
-ghost use Rattle.hx_model.specs.Built.{IsBuilt};
->>>>>>> program
 ghost use Rattle.hx_tool.specs.Causes.{IsReplay, IsReplayed, IsWholeRun};
 ghost use Rattle.hx_tool.specs.Steps.{AreTaken};
 
