@@ -13,7 +13,7 @@ use Rattle.hx_folds.proofs.States.{among-key}
 use Rattle.hx_model.specs.Slots.{KeyState, new_state, state_among, with_state}
 use Rattle.hx_store.specs.declared.store_slot.StoreSlot.{StoreSlot}
 use Rattle.hx_store.specs.Invariant.{AscendAt, Entry, HasMoved, IsAdded, IsListedAt, IsSplit, IsStore, IsStoreSlot, is_listed, key_in, room_of, rooms_in, state_in, states_in, stored_at}
-use Rattle.hx_store.specs.Stores.{IsPlace, KeepsRooms, Room, StoreState, UsesRoom, after_step, has_place, has_slot, key_at, no_moves, spare_at, state_at}
+use Rattle.hx_store.specs.Stores.{IsPlace, KeepsOtherRooms, KeepsRooms, Room, StoreState, UsesRoom, after_step, has_place, has_slot, key_at, no_moves, spare_at, state_at}
 use Rattle.hx_store.proofs.Lists.{all-at, at-end, at-map, at-within, length-of-map, within-at}
 use Rattle.hx_store.proofs.Order.{found-with, has-place, listed-there, with-again}
 use Rattle.hx_store.proofs.Setting.{add-store, added-keeps, are-there, count-most, is-among, own, set-keeps, set-listed, set-open, set-quiet, set-same, set-uses, slot-state, unlisted-room, wide-store}
@@ -35,6 +35,27 @@ keeps-same a b e = subst (KeepsRooms a) (sym e) (self a)
     self : (rs : List Room) → KeepsRooms rs rs
     self [] = tt
     self (r ∷ rs) = (refl, omega arith, self rs)
+
+-- rooms of other keys
+pub others-kept : (key : List ℕ) (a b c : List Room) → KeepsRooms a b → KeepsOtherRooms key b c → KeepsOtherRooms key a c
+others-kept key [] b c h k = tt
+others-kept key (x ∷ a) [] c h k = absurd h
+others-kept key (x ∷ a) (y ∷ b) [] h k = absurd k
+others-kept key (x ∷ a) (y ∷ b) (z ∷ c) h k = (k.0 ∙ h.0, (λ n. (let p = h.1 in let q = k.1 (ap (λ (l : List ℕ). same_text l key) h.0 ∙ n) in omega (arith, p, q))), others-kept key a b c h.2 k.2)
+
+pub kept-others : (key : List ℕ) (a b : List Room) → KeepsRooms a b → KeepsOtherRooms key a b
+kept-others key [] b h = tt
+kept-others key (x ∷ a) [] h = absurd h
+kept-others key (x ∷ a) (y ∷ b) h = (h.0, (λ n. h.1), kept-others key a b h.2)
+
+set-others : (key : List ℕ) (es : List Entry) (i : ℕ) (e : Entry) (w : StoreSlot) → slice_get es i ≡ Some e → e.0 ≡ key → KeepsOtherRooms key (rooms_in es) (rooms_in (set_value_at es i w))
+set-others key [] i e w at k = tt
+set-others key (x ∷ es) zero e w at k = (
+  refl,
+  (λ n. absurd (false≢true (sym n ∙ ap (λ (y : Entry). same_text y.0 key) (same_Some x e at) ∙ ap (λ (l : List ℕ). same_text l key) k ∙ same_text_self key))),
+  kept-others key (rooms_in es) (rooms_in es) (keeps-same (rooms_in es) (rooms_in es) refl),
+)
+set-others key (x ∷ es) (suc i) e w at k = (refl, (λ n. omega arith), set-others key es i e w at k)
 
 -- places stay
 pub keeps-at : (a b : List Room) (i : ℕ) → KeepsRooms a b → i < length a → (i < length b) × (when_some (slice_get b i) [] (λ (r : Room). r.key) ≡ when_some (slice_get a i) [] (λ (r : Room). r.key))
@@ -241,6 +262,13 @@ module _ (g : RegionId) (marks : Bool) (es : List Entry) (order : List ℕ) (cap
         subst (λ (es : List Entry). IsStore g marks es order cap) (sym set) both.0,
         ap (λ (s : StoreState). with_state after.slot.state s.states) (sym view) ∙ both.1 ∙ ap (λ (es : List Entry). states_in es order) (sym set),
       )
+
+  -- the room at a place is another
+  pub put-others : (place : ℕ) (before after : StoreSlot) (new : List Entry) (key : List ℕ) → stored_at es place ≡ Some before → new ≡ set_value_at es place after → key_at self place ≡ key → KeepsOtherRooms key self.rooms (rooms_in new)
+  put-others place before after new key found set k =
+      let e = stored-entry es place before found in
+      subst (λ (rs : List Room). KeepsOtherRooms key rs (rooms_in new)) (ap (λ (s : StoreState). s.rooms) view)
+      (subst (λ (es' : List Entry). KeepsOtherRooms key (rooms_in es) (rooms_in es')) (sym set) (set-others key es place e.0 after e.1 (sym (slot-key place before found) ∙ k)))
 
   -- the slot of a place is listed already
   pub open-same : (place : ℕ) (w : StoreSlot) → stored_at es place ≡ Some w → w.listed ≡ true → self.states ≡ after_step self (key_at self place) no_moves

@@ -1,5 +1,5 @@
 -- A store as contracts see it: the slots of a region, in byte order of keys.
-use Rattle.std.specs.Prelude.{◌≡◌, ℕ, zero, suc, ◌+◌, ◌<◌, ◌≤◌, Bool, true, ⊤, List, [], ◌∷◌, ◌++◌, map, length}
+use Rattle.std.specs.Prelude.{◌≡◌, ℕ, zero, suc, ◌+◌, ◌<◌, ◌≤◌, Bool, true, false, ⊤, List, [], ◌∷◌, ◌++◌, map, length}
 use Rattle.std.specs.List.{All, list_any, slice_get}
 use Rattle.hx_types.specs.declared.ids.RegionId.{RegionId}
 use Rattle.hx_types.specs.declared.ids.Version.{Version}
@@ -47,6 +47,12 @@ abbrev pub KeepsRooms : List Room → List Room → Type 0
 KeepsRooms [] new = ⊤
 KeepsRooms (r ∷ old) [] = ⊥
 KeepsRooms (r ∷ old) (q ∷ new) = (q.key ≡ r.key) × (r.spare ≤ q.spare) × KeepsRooms old new
+
+-- nor does any but that of a key
+abbrev pub KeepsOtherRooms : List ℕ → List Room → List Room → Type 0
+KeepsOtherRooms key [] new = ⊤
+KeepsOtherRooms key (r ∷ old) [] = ⊥
+KeepsOtherRooms key (r ∷ old) (q ∷ new) = (q.key ≡ r.key) × (same_text r.key key ≡ false → r.spare ≤ q.spare) × KeepsOtherRooms key old new
 
 -- nor does any but that at a place, which falls by at most 1
 abbrev pub UsesRoom : ℕ → List Room → List Room → Type 0

@@ -6,7 +6,7 @@ ghost use Rattle.hx_folds.specs.Folding.{KeptsAscend, KeysAscend};
 ghost use Rattle.hx_model.specs.ServerSteps.{state_from};
 ghost use Rattle.hx_model.specs.Slots.{found_in, moved_all, offered, pending_of_all, snapshot_of, with_state};
 ghost use Rattle.hx_slot.specs.States.{IsOrderly, SlotState};
-ghost use Rattle.hx_store.specs.Stores.{ArePending, CanBeOffered, IsPlace, KeepsRooms, UsesRoom, accepted_at, acknowledged_at, after_step, has_place, has_slot, key_at, no_moves, spare_at, state_at};
+ghost use Rattle.hx_store.specs.Stores.{ArePending, CanBeOffered, IsPlace, KeepsOtherRooms, KeepsRooms, UsesRoom, accepted_at, acknowledged_at, after_step, has_place, has_slot, key_at, no_moves, spare_at, state_at};
 
 use crate::copying::{add_kept, add_pending};
 use crate::places::{
@@ -273,6 +273,7 @@ impl Store {
         ensures marks { self.new.marks ≡ self.old.marks }
         ensures states { OnOk result (self.new.states ≡ with_state slot.state self.old.states) }
         ensures stays { OnErr result (self.new.states ≡ self.old.states) }
+        ensures others { KeepsOtherRooms slot.state.base.key self.old.rooms self.new.rooms }
     {
         let place = self.ensure(alloc, slot.key())?;
         replace_at(&mut self.slots, place, slot);
