@@ -1,5 +1,5 @@
 -- Where an update of a line has its places: in the key's region, and where it changes in those of the old and new object in each declared subspace.
-use Rattle.std.proofs.Common.{◌≡◌, ℕ, ◌+◌, ◌⊎◌, inl, inr, Bool, true, false, not, List, [], ◌∷◌, map, length, Option, Some, None, refl, sym, ap, ◌∙◌, subst, cond, eqb, is_some, ltb, ◌-◌, leb}
+use Rattle.std.proofs.Common.{◌≡◌, ℕ, ◌+◌, ◌⊎◌, inl, inr, Bool, true, false, not, List, [], ◌∷◌, map, length, Option, Some, None, refl, sym, ap, ◌∙◌, subst, cond, eqb, is_some, ltb, leb}
 use Rattle.std.specs.List.{flat_map}
 use Rattle.std.proofs.lemmas.Bool.{cond_both, cond-true, eq-eqb, eqb-true, false≢true}
 use Rattle.hx_types.specs.declared.ids.RegionId.{RegionId}
@@ -18,7 +18,6 @@ use Rattle.hx_law_lemmas.proofs.Lists.{in-flat_map, in-map, in-provided, in-flat
 use Rattle.hx_law_lemmas.proofs.Numbered.{Numbered}
 use Rattle.hx_law_lemmas.proofs.Lines.{Sorted, numbered-sorted, only}
 use Rattle.hx_model.specs.Lines.{line_object, upto}
-use Rattle.hx_types.specs.declared.traces.Note.TheVariants as a_note
 
 -- what an update of a line is, after the older ones
 pub record Made (space : Space) (key : List ℕ) (older : List Update) (u : Update) : Type 0 where

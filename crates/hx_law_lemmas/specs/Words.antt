@@ -1,14 +1,12 @@
 -- Words that proofs share: all posts of a trace, a server's slot of a key, lines after notes, what a slot counts for in an epoch.
-use Rattle.std.specs.Prelude.{ℕ, ◌+◌, true, false, List, [], ◌∷◌, ◌++◌, cond, eqb}
+use Rattle.std.specs.Prelude.{ℕ, true, false, List, [], ◌∷◌, ◌++◌, cond, eqb}
 use Rattle.hx_types.specs.declared.configs.Config.{Config}
 use Rattle.hx_types.specs.declared.messages.Post.{Post}
 use Rattle.hx_types.specs.declared.ids.RegionId.{RegionId}
 use Rattle.hx_types.specs.declared.ids.ServerId.{ServerId}
 use Rattle.hx_types.specs.declared.spaces.Space.{Space}
 use Rattle.hx_types.specs.declared.updates.Update.{Update}
-use Rattle.hx_types.specs.declared.messages.Message.TheVariants as a_message
 use Rattle.hx_types.specs.Words.{when_some}
-use Rattle.hx_types.specs.Configs.{first_config}
 use Rattle.hx_model.specs.Slots.{Forget, KeyState, moved, new_state}
 use Rattle.hx_model.specs.ServerSteps.{Replica, ServerState, replica_of, state_in}
 use Rattle.hx_types.specs.declared.traces.Note.{Note}
@@ -22,10 +20,6 @@ view c p t = cond (eqb p.config.epoch.0 c.epoch.0) t (moved Forget t)
 -- a server that hasn't halted and isn't sealed
 abbrev pub standing : Config → ServerId → List Replica → ServerState
 standing c i rs = record { id = i; config = c; sealed = false; halted = false; replicas = rs }
-
--- a server in the first configuration
-abbrev pub standing : Space → ServerId → List Replica → ServerState
-standing space s rs = record { id = s; config = first_config space; sealed = false; halted = false; replicas = rs }
 
 -- the lines after notes
 abbrev pub noted : (List ℕ → List Update) → List Note → List ℕ → List Update
