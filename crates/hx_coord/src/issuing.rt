@@ -15,7 +15,7 @@ use crate::servers::is_in;
 use crate::tasks::{JoinedList, Newest, NewestList, Task, Tasks};
 use hx_types::{
     Answer, Caller, Config, Exact, Memory, Note, Notes, Op, RegionId, Sequence, ServerId,
-    ServerList,
+    ServerList, Shared,
 };
 use std::alloc::Global;
 use std::marker::Model;
@@ -163,6 +163,7 @@ fn issued(alloc: Global, agenda: Agenda, issuing: Issuing) -> Result<Made, Memor
         answered,
         left,
     } = issuing;
+    let config = Shared::new(alloc, config)?;
     let mut posts = installs(alloc, &config, agenda.sessions)?;
     tell_outcomes(alloc, &mut posts, answered.as_slice())?;
     let notes = note_issued(alloc, &config)?;
@@ -175,7 +176,7 @@ fn issued(alloc: Global, agenda: Agenda, issuing: Issuing) -> Result<Made, Memor
     })
 }
 
-fn note_issued(alloc: Global, config: &Config) -> Result<Notes, Memory>
+fn note_issued(alloc: Global, config: &Shared<Config>) -> Result<Notes, Memory>
     ensures { IfOk result (λ notes. notes ≡ a_note.Issued config.now ∷ []) }
 {
     let mut notes = Notes::new(alloc);
