@@ -1,21 +1,77 @@
 #!/usr/bin/env bash
-# Runs the proved program, with these words and standard streams; builds it first where it is missing.
-set -eu
+# hx: runs the store with these words on standard input and output. The program is proved and built
+# first where it is missing or older than its sources; --unproved runs it before it is proved.
+set -u
 top=$(cd "$(dirname "${BASH_SOURCE[0]}")" && pwd)
-program=$top/crates/hx_tool/out/hx_tool
+folder=$top/crates/hx_tool
+program=$folder/out/hx_tool
+log=$folder/hx-build.log
+
+# commands: whether the words are some that the program takes; wrong words never start a build
+commands() {
+  case "$*" in
+    replay | 'replay --trace' | plan | --help | --version) return 0 ;;
+    *) return 1 ;;
+  esac
+}
 
 stale() {
   [ ! -x "$program" ] && return 0
   [ -n "$(find "$top/crates" "$top/crates.txt" \( -name '*.rt' -o -name '*.antt' -o -name crates.txt \) -newer "$program" -not -path '*/out/*' -print -quit)" ]
 }
 
-if stale; then
-  printf 'hx: proving and building the program; from nothing this takes about 20 minutes\n' >&2
-  log=$top/crates/hx_tool/hx-build.log
-  if ! (cd "$top/crates/hx_tool" && rt run -- --version </dev/null) >"$log" 2>&1; then
-    printf 'hx: the program could not be proved and built; see %s\n' "$log" >&2
-    exit 1
+# below: the crates that the program depends on, lowest first, a line each
+below() {
+  awk -F: '!/^#/ && NF > 1 { needs[$1] = $2 }
+    function visit(name, parts, count, i) {
+      if (name in seen || !(name in needs)) return
+      seen[name] = 1
+      count = split(needs[name], parts, " ")
+      for (i = 1; i <= count; i++) visit(parts[i])
+      print name
+    }
+    END { visit("hx_tool") }' "$top/crates.txt" | grep -v '^hx_tool$'
+}
+
+# prove NAME..: proves the crates, as many side by side as there are processors, and tells of each
+prove() {
+  export top log
+  export count=$# started=$SECONDS begun=$(date +%s)
+  printf '%s\n' "$@" | xargs -P "$(nproc)" -I{} bash -c '
+    if ! (cd "$top/crates/{}" && rt lib) >"$log.{}" 2>&1; then
+      cat "$log.{}" >>"$log"; rm -f "$log.{}"; exit 255
+    fi
+    rm -f "$log.{}"
+    printf "." >>"$log.done"
+    spent=$(($(date +%s) - begun))
+    printf "hx: %2d of %d crates proved: %s (%d:%02d)\n" "$(wc -c <"$log.done")" "$count" "{}" $((spent / 60)) $((spent % 60)) >&2'
+}
+
+build() {
+  printf 'hx: proving the program before it is built; from nothing this takes 10 to 25 minutes.\n' >&2
+  printf 'hx: to see an answer in a minute, call it with --unproved as the first word.\n' >&2
+  rm -f "$log" "$log".*
+  if prove $(below) 2>&1 >/dev/null | grep --line-buffered '^hx: ' >&2 \
+    && (cd "$folder" && rt run -- --version </dev/null) >>"$log" 2>&1; then
+    rm -f "$log".*
+    touch "$program"
+    return 0
   fi
-  touch "$program"
+  reason=$(grep -m1 -E 'error|refused|not proved|failed|No space|command not found' "$log" || tail -n 1 "$log")
+  printf 'hx: not built: %s\nhx: the whole log is %s\n' "$reason" "$log" >&2
+  return 1
+}
+
+if [ "${1-}" = --unproved ]; then
+  shift
+  commands "$@" || { printf 'usage: hx replay or run or soak or plan\n' >&2; exit 2; }
+  printf 'hx: what follows is written by code that has not been proved\n' >&2
+  cd "$folder" && exec rt try -- "$@" 2> >(grep -vE '^(checked|races|run)[:=]' >&2)
 fi
+if ! commands "$@"; then
+  printf 'usage: hx replay or run or soak or plan\n' >&2
+  exit 2
+fi
+command -v rt >/dev/null || { printf 'hx: the Rattle toolchain (rt) is not on the path\n' >&2; exit 1; }
+if stale; then build || exit 1; fi
 exec "$program" "$@"

@@ -1,13 +1,13 @@
 -- Moves of a slot whose updates have a property.
-use Rattle.std.proofs.Common.{ℕ, zero, suc, inl, inr, List, [], ◌∷◌, ◌++◌, length, refl, sym, subst, leb}
+use Rattle.std.proofs.Common.{ℕ, zero, suc, inl, inr, List, [], ◌∷◌, ◌++◌, length, refl, sym, subst, leb, not}
 use Rattle.std.specs.Prelude.{⊤}
 use Rattle.std.specs.List.{filter, find}
 use Rattle.std.proofs.lemmas.Bool.{cond_both}
 use Rattle.hx_types.specs.declared.ids.RegionId.{RegionId}
 use Rattle.hx_types.specs.declared.updates.Update.{Update}
-use Rattle.hx_types.specs.Words.{IsIn}
+use Rattle.hx_types.specs.Words.{IsIn, provided}
 use Rattle.hx_model.specs.Neighbours.{is_end}
-use Rattle.hx_model.specs.Slots.{Acknowledge, Commit, Forget, Hold, KeyState, Move, Take, acknowledged, commits, follows, is_pending, moved, moved_all, offered, other_version, pending_of, settled, taken, top_of, turns}
+use Rattle.hx_model.specs.Slots.{Acknowledge, Commit, Forget, Hold, KeyState, Move, Take, acknowledged, commits, follows, is_pending, moved, moved_all, offered, other_version, pending_of, settled, taken, top_of, turns, waits_below}
 use Rattle.hx_model.specs.ServerSteps.{Spot, accepting, end_marks, next_at, resumed, with_commits}
 use Rattle.hx_steady.proofs.Lines.{pending-in}
 use Rattle.hx_steady.proofs.Lists.{in-append, in-filter, in-find, in-map, in-provided, when_some_both}
@@ -104,9 +104,10 @@ accepting-known P spot t ms h k = with_commits-known P t (ms ++ end_marks spot (
 -- what an acknowledgement brings is known
 pub acknowledged-known : (P : Update → Type 0) (t : KeyState) (v : ℕ) → Held P t → AllKnown P (acknowledged t v)
 acknowledged-known P t v h m i =
-    elim (in-provided (is_pending v t) (Acknowledge v ∷ settled (moved (Acknowledge v) t)) m i).1 [
+    let c = not (waits_below t.acked v (pending_of t)) in
+    elim (in-provided (is_pending v t) (Acknowledge v ∷ provided c (settled (moved (Acknowledge v) t))) m i).1 [
       | inl p ↦ subst (Known P) (sym p) tt
-      | inr j ↦ settled-known P (moved (Acknowledge v) t) (held-moved P (Acknowledge v) t h tt) m j
+      | inr j ↦ settled-known P (moved (Acknowledge v) t) (held-moved P (Acknowledge v) t h tt) m (in-provided c (settled (moved (Acknowledge v) t)) m j).1
     ]
 
 -- what a slot does when its server adopts a configuration is known

@@ -7,7 +7,7 @@ use Rattle.hx_types.specs.declared.ids.RegionId.{RegionId}
 use Rattle.hx_types.specs.declared.updates.Update.{Update}
 use Rattle.hx_types.specs.Words.{IsIn, provided}
 use Rattle.hx_model.specs.Neighbours.{is_end}
-use Rattle.hx_model.specs.Slots.{Acknowledge, Commit, Forget, Hold, KeyState, Move, Take, acknowledged, commits, follows, is_pending, moved, moved_all, no_kept, offered, other_version, pending_above, pending_of, settled, taken, top_above, top_of, turns, upto}
+use Rattle.hx_model.specs.Slots.{Acknowledge, Commit, Forget, Hold, KeyState, Move, Take, acknowledged, commits, follows, is_pending, moved, moved_all, no_kept, offered, other_version, pending_above, pending_of, settled, taken, top_above, top_of, turns, upto, waits_below}
 use Rattle.hx_model.specs.ServerSteps.{Spot, accepting, end_marks, next_at, resumed, with_commits}
 use Rattle.hx_steady.proofs.Lists.{any-in, in-append, in-filter, in-find, in_left, in_right, when_some_both}
 use Rattle.hx_searches.proofs.Lines.{Sorted, in-top, in-upto, in-upto_from, same_version, upto-sorted, upto_next}
@@ -362,11 +362,12 @@ module _ (key : List ℕ) (line : List Update) (g : RegionId) (E B A : Update �
 
   -- what an acknowledgement brings is allowed
   pub acknowledged-allowed : (t : KeyState) (v : ℕ) → Own key line E B A t → Allowed line E B A t (Acknowledge v) → AllAllowed line E B A t (acknowledged t v)
-  acknowledged-allowed t v own k = by (is_pending v t)
+  acknowledged-allowed t v own k = by (is_pending v t) (not (waits_below t.acked v (pending_of t)))
     where
-      by : (b : Bool) → AllAllowed line E B A t (provided b (Acknowledge v ∷ settled (moved (Acknowledge v) t)))
-      by false = tt
-      by true = (k, settled-allowed (moved (Acknowledge v) t) (later-one t (Acknowledge v) own k).own)
+      by : (b c : Bool) → AllAllowed line E B A t (provided b (Acknowledge v ∷ provided c (settled (moved (Acknowledge v) t))))
+      by false c = tt
+      by true false = (k, tt)
+      by true true = (k, settled-allowed (moved (Acknowledge v) t) (later-one t (Acknowledge v) own k).own)
 
   -- what a slot does when its server adopts a configuration is allowed
   pub resumed-allowed : (spot : Spot) (t : KeyState) → ((u : Update) → IsIn u line → is_end (next_at spot u) ≡ true → A u) → Own key line E B A t → AllAllowed line E B A t (resumed spot t)

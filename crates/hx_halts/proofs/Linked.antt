@@ -1,5 +1,5 @@
 -- What a slot has accepted is linked: each update after the last one before it with a place in the region.
-use Rattle.std.proofs.Common.{◌≡◌, ℕ, zero, suc, inl, inr, true, false, List, [], ◌∷◌, ◌++◌, length, Option, Some, None, refl, sym, ap, ◌∙◌, subst, eqb, ltb, leb}
+use Rattle.std.proofs.Common.{◌≡◌, ℕ, zero, suc, inl, inr, true, false, List, [], ◌∷◌, ◌++◌, length, Option, Some, None, refl, sym, ap, ◌∙◌, subst, eqb, ltb, leb, not}
 use Rattle.std.specs.Prelude.{⊤}
 use Rattle.std.specs.List.{filter, find}
 use Rattle.std.proofs.lemmas.Bool.{cond_both, cond-false, eqb-true, false≢true}
@@ -19,14 +19,14 @@ use Rattle.hx_types.specs.declared.messages.Message.TheVariants as a_message
 use Rattle.hx_types.specs.declared.ids.Actor.TheVariants.{Coordinator, Server, Session}
 use Rattle.hx_types.specs.declared.outcomes.Decision.TheVariants as a_decision
 use Rattle.hx_types.specs.declared.traces.Input.TheVariants.{Tick, Halt, Deliver}
-use Rattle.hx_types.specs.Words.{IsIn, when_some}
+use Rattle.hx_types.specs.Words.{IsIn, when_some, provided}
 use Rattle.hx_types.specs.Configs.{leads}
 use Rattle.hx_types.specs.Effects.{is_write, key_of}
 use Rattle.hx_types.specs.Subspaces.{is_key_region}
 use Rattle.hx_model.specs.Neighbours.{is_end}
 use Rattle.hx_model.specs.Regions.{key_region}
 use Rattle.hx_model.specs.Leading.{decide}
-use Rattle.hx_model.specs.Slots.{Acknowledge, Commit, Forget, Hold, KeyState, Move, Take, acknowledged, after_at, commits, follows, is_pending, moved, moved_all, offered, pending_of, settled, taken, top_above, top_of, turns}
+use Rattle.hx_model.specs.Slots.{Acknowledge, Commit, Forget, Hold, KeyState, Move, Take, acknowledged, after_at, commits, follows, is_pending, moved, moved_all, offered, pending_of, settled, taken, top_above, top_of, turns, waits_below}
 use Rattle.hx_model.specs.ServerSteps.{Replica, ServerState, ServerStep, SlotStep, Spot, accepting, acked, adopted, adopted_replica, adopted_state, asked, at_slot, call_at, call_step, called, called_by, decided, end_marks, get_step, hearing, if_installed, input_step, is_active, listed_regions, message_step, next_at, replica_of, replica_or_new, resumed, server_step, spot_of, state_in, unmoved, update_step, updated, with_config, write_step, ack_step}
 use Rattle.hx_steady.proofs.Lists.{in-append, in-map, in-provided, when_some_both}
 use Rattle.hx_steady.proofs.Replicas.{in-with_replica, in-with_state, replica-found, state-from, with_slot_at}
@@ -112,9 +112,10 @@ accepting-follow h spot t ms a =
 -- an acknowledgement is idle
 acknowledged-idle : (t : KeyState) (v : ℕ) (m : Move) → IsIn m (acknowledged t v) → Idle m
 acknowledged-idle t v m i =
-    elim (in-provided (is_pending v t) (Acknowledge v ∷ settled (moved (Acknowledge v) t)) m i).1 [
+    let c = not (waits_below t.acked v (pending_of t)) in
+    elim (in-provided (is_pending v t) (Acknowledge v ∷ provided c (settled (moved (Acknowledge v) t))) m i).1 [
       | inl e ↦ subst Idle (sym e) tt
-      | inr j ↦ commits-idle (moved (Acknowledge v) t).acked (pending_of (moved (Acknowledge v) t)) m j
+      | inr j ↦ commits-idle (moved (Acknowledge v) t).acked (pending_of (moved (Acknowledge v) t)) m (in-provided c (settled (moved (Acknowledge v) t)) m j).1
     ]
 
 -- so is what a slot does when its server adopts a configuration

@@ -18,4 +18,4 @@ pub mod Legal
 pub mod Linear
 pub mod Searching
 pub mod Causes
-pub mod Chained
+pub mod Holders

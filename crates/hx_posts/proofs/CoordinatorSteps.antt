@@ -24,7 +24,7 @@ use Rattle.hx_types.specs.Words.{IsIn, below, post, same_server, same_session, s
 use Rattle.hx_types.specs.Configs.{is_lost, lists_joining}
 use Rattle.hx_types.specs.Spaces.{Fits, IsServerOf}
 use Rattle.hx_types.specs.Posts.{ActorExists, IsSessionOf, IsSoundAnswer, IsSoundMessage, IsSoundPost, goes_between, is_session_actor}
-use Rattle.hx_model.specs.CoordinatorSteps.{Answered, CoordinatorState, CoordinatorStep, Issuing, Newest, Phase, Sealing, Steady, Task, adds, adds_steady, administers, again, by_number, coordinator_message, coordinator_step, coordinator_tick, die_for, die_posts, gone_step, goes, is_out, issue, issued, issuing, judged, newest_answered, newest_of, outcome, poll_step, ready_now, ready_step, remaining, resting, seal, sealed_now, sealed_step, sealing_or_issue, session_posts, still_sealing, stops, telling, to_server, waits_less, with_newest, with_number, with_server, with_task, add_step, stop_step}
+use Rattle.hx_model.specs.CoordinatorSteps.{Answered, CoordinatorState, CoordinatorStep, Issuing, Newest, Phase, Sealing, Steady, Task, adds, adds_steady, administers, again, by_number, coordinator_message, coordinator_step, coordinator_tick, die_for, die_posts, gone_step, goes, is_out, issue, issued, issuing, judged, newest_answered, newest_of, outcome, poll_step, ready_now, ready_step, remaining, resting, seal, sealed_now, sealed_step, sealing_or_issue, session_posts, still_sealing, stops, telling, to_server, waits_less, with_newest, with_number, with_server, with_task, add_step, stop_step, is_newest_call, with_answer}
 use Rattle.hx_steady.proofs.Lists.{all-in, in-append, in-below, in-filter, in-flat_map, in-map, in-provided}
 use Rattle.hx_posts.proofs.Bounds.{IsSoundConfig, bounds, config-up, exists-up, sound_answer-up}
 use Rattle.hx_posts.proofs.Issuing.{IsSoundAnswered, IsSoundIssuing, IsSoundTask, JudgedWell, issuing-sound, judged-sound}
@@ -119,11 +119,15 @@ module _ (space : Space) (sessions n : ℕ) where
       → (x : Newest) → IsIn x (newest_answered xs ns) → IsMaybeSound space sessions n x.answer
   answered-newest [] f ns g = g
   answered-newest (a ∷ xs) f ns g =
-      answered-newest xs (λ b j. f b (inr j)) (with_newest (record { session = a.caller.session; number = a.caller.number; answer = Some a.answer }) ns)
-      (λ x i. elim (in-with_newest (record { session = a.caller.session; number = a.caller.number; answer = Some a.answer }) ns x i) [
+      answered-newest xs (λ b j. f b (inr j)) (with_answer a ns)
+      (
+      cond_both (is_newest_call a.caller ns) (with_newest (record { session = a.caller.session; number = a.caller.number; answer = Some a.answer }) ns) ns (λ l. (x : Newest) → IsIn x l → IsMaybeSound space sessions n x.answer)
+      (λ t x i. elim (in-with_newest (record { session = a.caller.session; number = a.caller.number; answer = Some a.answer }) ns x i) [
         | inl e ↦ subst (λ (y : Newest). IsMaybeSound space sessions n y.answer) (sym e) (f a (inl refl)).answer
         | inr j ↦ g x j
       ])
+      (λ t. g)
+      )
 
   -- the configuration is posted to its servers and to each session, and the answers to their callers
   issued-good : (c : CoordinatorState) → IsSoundCoordinator space sessions n c → (i : Issuing) → IsSoundIssuing space sessions n i → DoesWell (issued c [] i)

@@ -1,5 +1,5 @@
 -- Moves of a slot: versions of what it has accepted descend to its base, and its floor is never below the base.
-use Rattle.std.proofs.Common.{◌≡◌, ℕ, zero, suc, ◌<◌, ◌≤◌, inl, inr, Bool, true, false, List, [], ◌∷◌, ◌++◌, map, length, Option, Some, None, refl, subst, arith, eqb, leb}
+use Rattle.std.proofs.Common.{◌≡◌, ℕ, zero, suc, ◌<◌, ◌≤◌, inl, inr, Bool, true, false, List, [], ◌∷◌, ◌++◌, map, length, Option, Some, None, refl, subst, arith, eqb, leb, not}
 use Rattle.std.specs.Prelude.{⊤}
 use Rattle.std.specs.List.{All, filter, find, list_any}
 use Rattle.std.specs.Option.{option_map}
@@ -9,7 +9,7 @@ use Rattle.hx_types.specs.declared.updates.Place.{Place}
 use Rattle.hx_types.specs.declared.updates.Update.{Update}
 use Rattle.hx_types.specs.Words.{IsIn, provided, same_region, when_some}
 use Rattle.hx_model.specs.Neighbours.{is_end}
-use Rattle.hx_model.specs.Slots.{Acknowledge, Commit, Forget, Hold, KeyState, Move, Take, acknowledged, commits, follows, is_pending, moved, moved_all, offered, pending_of, place_in, settled, taken, top_above, top_of, turns}
+use Rattle.hx_model.specs.Slots.{Acknowledge, Commit, Forget, Hold, KeyState, Move, Take, acknowledged, commits, follows, is_pending, moved, moved_all, offered, pending_of, place_in, settled, taken, top_above, top_of, turns, waits_below}
 use Rattle.hx_model.specs.ServerSteps.{Spot, accepting, end_marks, next_at, offered_all, resumed, with_commits}
 use Rattle.hx_steady.proofs.Lists.{all-in, in-find, when_some_both}
 use Rattle.hx_steady.proofs.Lines.{pending-in}
@@ -144,11 +144,12 @@ accepting-rise spot ms t h r = with_commits-rise (ms ++ end_marks spot (taken ms
 -- an acknowledgement with what it brings
 pub acknowledged-rise : (t : KeyState) (v : ℕ) → IsOrdered t → AllRise t (acknowledged t v)
 acknowledged-rise t v h =
-    by (is_pending v t)
+    by (is_pending v t) (not (waits_below t.acked v (pending_of t)))
   where
-    by : (b : Bool) → AllRise t (provided b (Acknowledge v ∷ settled (moved (Acknowledge v) t)))
-    by false = tt
-    by true = (tt, settled-rise (moved (Acknowledge v) t) (ordered-moved (Acknowledge v) t h tt))
+    by : (b c : Bool) → AllRise t (provided b (Acknowledge v ∷ provided c (settled (moved (Acknowledge v) t))))
+    by false c = tt
+    by true false = (tt, tt)
+    by true true = (tt, settled-rise (moved (Acknowledge v) t) (ordered-moved (Acknowledge v) t h tt))
 
 -- a slot that goes on in another configuration
 pub resumed-rise : (spot : Spot) (t : KeyState) → IsOrdered t → AllRise t (resumed spot t)

@@ -1,6 +1,5 @@
 -- Snapshots: what a server posts to a joiner is sound, and what a joiner makes of it is too.
 use Rattle.std.proofs.Common.{◌≡◌, ℕ, ◌+◌, ◌≤◌, ◌⊎◌, inl, inr, Bool, true, false, ◌&&◌, List, [], ◌∷◌, ◌++◌, map, Option, Some, None, refl, sym, ap, ◌∙◌, subst, arith, cond, ltb}
-use Rattle.std.specs.Prelude.{not}
 use Rattle.std.specs.List.{filter, list_all}
 use Rattle.std.proofs.lemmas.Bool.{and_parts, cond_both}
 use Rattle.std.proofs.lemmas.List.Elements.{All-nil}
@@ -11,9 +10,9 @@ use Rattle.hx_types.specs.declared.ids.ServerId.{ServerId}
 use Rattle.hx_types.specs.declared.snapshots.Kept.{Kept}
 use Rattle.hx_types.specs.declared.spaces.Space.{Space}
 use Rattle.hx_types.specs.declared.updates.Update.{Update}
-use Rattle.hx_types.specs.Words.{IsIn, same_server, same_text, text_below}
+use Rattle.hx_types.specs.Words.{IsIn, same_server, same_text, text_below, first_of_list}
 use Rattle.hx_types.specs.Subspaces.{is_key_region}
-use Rattle.hx_types.specs.Configs.{joiner_after, joiner_for, joiner_in, lists_joining, members_of}
+use Rattle.hx_types.specs.Configs.{joiner_for, joiner_in, lists_joining, members_of, any_ready}
 use Rattle.hx_types.specs.Spaces.{IsServerOf, KeyFits}
 use Rattle.hx_types.specs.Posts.{IsSoundKept, IsSoundPost, IsSoundUpdate, has_place_in, keys_ascend}
 use Rattle.hx_model.specs.Slots.{KeyState, kept_of, moved_all, pending_of, pending_of_all, snapshot_of, state_among}
@@ -30,21 +29,29 @@ use Rattle.hx_posts.proofs.Slots.{IsSoundSlot, after-of, base-sound, held-togeth
 use Rattle.hx_posts.proofs.Kept.{kept_of-sound}
 use Rattle.hx_posts.proofs.SlotPosts.{IsSpot, moves-sound}
 use Rattle.hx_posts.proofs.Servers.{DoesWell, IsSoundReplica, Relies, here, saying-good, unmoved-good, with_replica-sound}
+use Rattle.std.specs.Option.{option_map}
 
 -- ---- what a server posts
 
--- who joins after a server is a member
-joiner-after : (s : ServerId) (m : Member) (rest : List Member) (x : ServerId) → joiner_after s m rest ≡ Some x → (y : Member) × IsIn y rest × (y.server ≡ x)
-joiner-after s m [] x = λ e. absurd (cc)
-joiner-after s m (y ∷ rest) x =
-    cond_both (same_server m.server s && m.ready && not y.ready) (Some y.server) (joiner_after s y rest) (λ o. o ≡ Some x → (z : Member) × IsIn z (y ∷ rest) × (z.server ≡ x))
-    (λ t e. let q : y.server ≡ x = cc in (y, inl refl, q))
-    (λ t e. let r = joiner-after s y rest x e in (r.0, inr r.1, r.2))
+-- the server of the first of a list is a member's
+first-in : (ms : List Member) (x : ServerId) → option_map (λ (y : Member). y.server) (first_of_list ms) ≡ Some x → (y : Member) × IsIn y ms × (y.server ≡ x)
+first-in [] x e = absurd (cc)
+first-in (y ∷ rest) x e = let q : y.server ≡ x = cc in (y, inl refl, q)
 
--- and so is who joins after a server of a list
+-- who joins after a server is a member
 joiner-in : (s : ServerId) (ms : List Member) (x : ServerId) → joiner_in s ms ≡ Some x → (y : Member) × IsIn y ms × (y.server ≡ x)
-joiner-in s [] x e = absurd (cc)
-joiner-in s (m ∷ rest) x e = let r = joiner-after s m rest x e in (r.0, inr r.1, r.2)
+joiner-in s [] x = λ e. absurd (cc)
+joiner-in s (m ∷ rest) x =
+    cond_both (any_ready rest) (joiner_in s rest) (cond (same_server m.server s && m.ready) (next rest) None) (λ o. o ≡ Some x → (z : Member) × IsIn z (m ∷ rest) × (z.server ≡ x))
+    (λ t e. let r = joiner-in s rest x e in (r.0, inr r.1, r.2))
+    (
+    λ t. cond_both (same_server m.server s && m.ready) (next rest) None (λ o. o ≡ Some x → (z : Member) × IsIn z (m ∷ rest) × (z.server ≡ x))
+    (λ q e. let r = first-in rest x e in (r.0, inr r.1, r.2))
+    (λ q e. absurd (cc))
+    )
+  where
+    next : List Member → Option ServerId
+    next ms = option_map (λ (y : Member). y.server) (first_of_list ms)
 
 -- what is filtered from a list that ascends by its keys ascends too
 filter-ascends : {A : Type 0} (key : A → List ℕ) (test : A → Bool) (xs : List A) → Ascend key xs → Ascend key (filter test xs)

@@ -7,7 +7,7 @@ use Rattle.hx_types.specs.declared.ids.RegionId.{RegionId}
 use Rattle.hx_types.specs.declared.updates.Update.{Update}
 use Rattle.hx_types.specs.Words.{IsIn, provided, when_some}
 use Rattle.hx_model.specs.Neighbours.{is_end}
-use Rattle.hx_model.specs.Slots.{Acknowledge, Commit, Forget, Hold, KeyState, Move, Take, acknowledged, after_at, commits, follows, has_place, is_pending, moved, moved_all, no_kept, offered, other_version, pending_above, pending_of, settled, taken, top_above, top_of, turns, upto}
+use Rattle.hx_model.specs.Slots.{Acknowledge, Commit, Forget, Hold, KeyState, Move, Take, acknowledged, after_at, commits, follows, has_place, is_pending, moved, moved_all, no_kept, offered, other_version, pending_above, pending_of, settled, taken, top_above, top_of, turns, upto, waits_below}
 use Rattle.hx_model.specs.ServerSteps.{Spot, accepting, end_marks, next_at, with_commits}
 use Rattle.hx_steady.proofs.Lists.{any-in, in-append, in-filter, in-find, in_left, in_right, when_some_both}
 use Rattle.hx_searches.proofs.Lines.{More, Sorted, in-only, in-top, in-upto, in-upto_from, only, only-in, only-sorted, same_version, upto-sorted, upto_next}
@@ -359,8 +359,9 @@ module _ (key : List ℕ) (line : List Update) (g : RegionId) (A : Update → Ty
 
   -- what an acknowledgement brings is allowed
   pub acknowledged-allowed : (t : KeyState) (v : ℕ) → Own key line g A t → ((u : Update) × IsIn u line × (u.version.0 ≡ v) × A u) → AllAllowed line g A t (acknowledged t v)
-  acknowledged-allowed t v own k = by (is_pending v t)
+  acknowledged-allowed t v own k = by (is_pending v t) (not (waits_below t.acked v (pending_of t)))
     where
-      by : (b : Bool) → AllAllowed line g A t (provided b (Acknowledge v ∷ settled (moved (Acknowledge v) t)))
-      by false = tt
-      by true = (k, settled-allowed (moved (Acknowledge v) t) (later-one t (Acknowledge v) own k).own)
+      by : (b c : Bool) → AllAllowed line g A t (provided b (Acknowledge v ∷ provided c (settled (moved (Acknowledge v) t))))
+      by false c = tt
+      by true false = (k, tt)
+      by true true = (k, settled-allowed (moved (Acknowledge v) t) (later-one t (Acknowledge v) own k).own)

@@ -1,7 +1,7 @@
 -- In the first configuration every member is ready, and where a replica hears, it is found.
 use Rattle.std.proofs.Common.{◌≡◌, ◌+◌, inl, inr, Bool, true, false, not, ◌&&◌, ◌||◌, List, [], ◌∷◌, map, Option, Some, None, refl, sym, ap, ◌∙◌, subst, eqb}
 use Rattle.std.specs.List.{slice_get}
-use Rattle.std.proofs.lemmas.Bool.{cond_both, cond-false, and_parts, false≢true}
+use Rattle.std.proofs.lemmas.Bool.{cond_both, and_parts, false≢true, cond-true}
 use Rattle.hx_types.specs.declared.configs.Member.{Member}
 use Rattle.hx_types.specs.declared.ids.Epoch.{Epoch}
 use Rattle.hx_types.specs.declared.ids.RegionId.{RegionId}
@@ -9,7 +9,7 @@ use Rattle.hx_types.specs.declared.ids.ServerId.{ServerId}
 use Rattle.hx_types.specs.declared.spaces.Space.{Space}
 use Rattle.hx_types.specs.Words.{IsIn, below, same_server}
 use Rattle.hx_types.specs.Subspaces.{region_count}
-use Rattle.hx_types.specs.Configs.{first_config, first_member, is_lost, joiner_after, joiner_in, lists_joining, members_of}
+use Rattle.hx_types.specs.Configs.{first_config, first_member, is_lost, joiner_in, lists_joining, members_of, any_ready}
 use Rattle.hx_model.specs.ServerSteps.{Replica, hearing, if_installed, replica_of}
 use Rattle.hx_steady.proofs.Lists.{any-in, in-map, in-slice_get, when_some_both}
 use Rattle.hx_steady.proofs.Turns.{standing}
@@ -40,17 +40,10 @@ none-joining space g s =
 -- no member that isn't ready follows
 pub no_joiner : (s : ServerId) (members : List Member) → ((m : Member) → IsIn m members → m.ready ≡ true) → joiner_in s members ≡ None
 no_joiner s [] f = refl
-no_joiner s (m ∷ members) f = after m members (λ x i. f x (inr i))
-  where
-    never : (a b : Bool) → b ≡ true → (a && not b) ≡ false
-    never true b e = ap not e
-    never false b e = refl
-
-    after : (m : Member) (rest : List Member) → ((x : Member) → IsIn x rest → x.ready ≡ true) → joiner_after s m rest ≡ None
-    after m [] f = refl
-    after m (x ∷ rest) f =
-        cond-false (same_server m.server s && m.ready && not x.ready) (Some x.server) (joiner_after s x rest) (never (same_server m.server s && m.ready) x.ready (f x (inl refl)))
-        ∙ after x rest (λ y i. f y (inr i))
+no_joiner s (m ∷ []) f = cond_both (same_server m.server s && m.ready) None None (λ o. o ≡ None) (λ t. refl) (λ t. refl)
+no_joiner s (m ∷ x ∷ rest) f =
+    cond-true (any_ready (x ∷ rest)) (joiner_in s (x ∷ rest)) _ (ap (λ b. b || any_ready rest) (f x (inr (inl refl))))
+    ∙ no_joiner s (x ∷ rest) (λ y i. f y (inr i))
 
 -- where a replica hears, it is found
 pub hearing-found : (space : Space) (s : ServerId) (rs : List Replica) (epoch : Epoch) (g : RegionId) (r : Replica) → hearing (standing space s rs) epoch g ≡ Some r → replica_of g rs ≡ Some r

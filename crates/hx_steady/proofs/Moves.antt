@@ -1,5 +1,5 @@
 -- Moves of a slot: what a slot holds stays in the line, and the leader's slot has the whole line with a rising floor.
-use Rattle.std.proofs.Common.{◌≡◌, ℕ, zero, suc, ◌<◌, ◌≤◌, inl, inr, Bool, true, false, List, [], ◌∷◌, ◌++◌, map, length, refl, sym, ap, ◌∙◌, subst, arith, leb, eqb}
+use Rattle.std.proofs.Common.{◌≡◌, ℕ, zero, suc, ◌<◌, ◌≤◌, inl, inr, Bool, true, false, List, [], ◌∷◌, ◌++◌, map, length, refl, sym, ap, ◌∙◌, subst, arith, leb, eqb, not}
 use Rattle.std.specs.Prelude.{⊤}
 use Rattle.std.specs.List.{filter, find, list_any}
 use Rattle.std.proofs.lemmas.Bool.{cond_both, cond-true, cond-false, lt-leb}
@@ -8,7 +8,7 @@ use Rattle.hx_types.specs.declared.spaces.Space.{Space}
 use Rattle.hx_types.specs.declared.updates.Update.{Update}
 use Rattle.hx_types.specs.Words.{IsIn, provided}
 use Rattle.hx_model.specs.Neighbours.{is_end}
-use Rattle.hx_model.specs.Slots.{Acknowledge, Commit, Forget, Hold, KeyState, Move, Take, acknowledged, commits, follows, is_pending, moved, moved_all, no_kept, offered, other_version, pending_above, pending_of, settled, taken, top_of, turns}
+use Rattle.hx_model.specs.Slots.{Acknowledge, Commit, Forget, Hold, KeyState, Move, Take, acknowledged, commits, follows, is_pending, moved, moved_all, no_kept, offered, other_version, pending_above, pending_of, settled, taken, top_of, turns, waits_below}
 use Rattle.hx_model.specs.ServerSteps.{Spot, accepting, end_marks, next_at, with_commits}
 use Rattle.hx_steady.proofs.Lists.{in-append, in-filter, in-find, in-map, in-provided, when_some_both}
 use Rattle.hx_steady.proofs.Lines.{Lawful, Rising, in-line, pending-in, pending-rising}
@@ -105,9 +105,10 @@ accepting-known line spot t ms h k = with_commits-known line t (ms ++ end_marks 
 -- what an acknowledgement brings is known
 pub acknowledged-known : (line : List Update) (t : KeyState) (v : ℕ) → Held line t → AllKnown line (acknowledged t v)
 acknowledged-known line t v h m i =
-    elim (in-provided (is_pending v t) (Acknowledge v ∷ settled (moved (Acknowledge v) t)) m i).1 [
+    let c = not (waits_below t.acked v (pending_of t)) in
+    elim (in-provided (is_pending v t) (Acknowledge v ∷ provided c (settled (moved (Acknowledge v) t))) m i).1 [
       | inl p ↦ subst (Known line) (sym p) tt
-      | inr j ↦ settled-known line (moved (Acknowledge v) t) (held-moved line (Acknowledge v) t h tt) m j
+      | inr j ↦ settled-known line (moved (Acknowledge v) t) (held-moved line (Acknowledge v) t h tt) m (in-provided c (settled (moved (Acknowledge v) t)) m j).1
     ]
 
 -- the leader's slot: the whole line, and nothing early
@@ -203,11 +204,12 @@ marks-turn space key line (u ∷ us) t h l =
 -- what an acknowledgement brings is a turn of the leader
 pub acknowledged-turn : (space : Space) (key : List ℕ) (line : List Update) (t : KeyState) (v : ℕ) → Lawful space key line → Leads key line t → LeaderTurn key line t (acknowledged t v)
 acknowledged-turn space key line t v h l =
-    by (is_pending v t)
+    by (is_pending v t) (not (waits_below t.acked v (pending_of t)))
   where
-    by : (b : Bool) → LeaderTurn key line t (provided b (Acknowledge v ∷ settled (moved (Acknowledge v) t)))
-    by false = no_turn key line t l
-    by true = mark-turn key line t v (settled (moved (Acknowledge v) t)) (settled-turn space key line (moved (Acknowledge v) t) h (mark-leads key line t v l))
+    by : (b c : Bool) → LeaderTurn key line t (provided b (Acknowledge v ∷ provided c (settled (moved (Acknowledge v) t))))
+    by false c = no_turn key line t l
+    by true false = mark-turn key line t v [] (no_turn key line (moved (Acknowledge v) t) (mark-leads key line t v l))
+    by true true = mark-turn key line t v (settled (moved (Acknowledge v) t)) (settled-turn space key line (moved (Acknowledge v) t) h (mark-leads key line t v l))
 
 -- an update of the next version whose turn it is, is taken alone
 pub offered-next : (g : RegionId) (t : KeyState) (u : Update) → t.early ≡ [] → top_of t < u.version.0 → follows g (top_of t) u ≡ true → offered g t u ≡ Take u ∷ []
