@@ -8,11 +8,11 @@ use Rattle.std.proofs.lemmas.List.{drop-append-le, length-append, map_push, take
 use Rattle.hx_types.specs.declared.ids.RegionId.{RegionId}
 use Rattle.hx_types.specs.declared.updates.Update.{Update}
 use Rattle.hx_model.specs.Slots.{Hold, Take, moved, other_version}
-use Rattle.hx_slot.specs.declared.entries.Placed.{Placed}
-use Rattle.hx_slot.specs.declared.entries.Taken.{Taken}
+use Rattle.hx_slot.specs.declared.updates.PlacedUpdate.{PlacedUpdate}
+use Rattle.hx_slot.specs.declared.updates.AcceptedUpdate.{AcceptedUpdate}
 use Rattle.hx_slot.specs.declared.slots.Slot.TheInside.{Inside}
 use Rattle.hx_slot.specs.declared.tables.Tables.{Tables}
-use Rattle.hx_slot.specs.Entries.{Ascends, IsHeld, IsPlaced, last_version, newest_first}
+use Rattle.hx_slot.specs.Updates.{Ascends, IsHeld, IsPlaced, last_version, newest_first}
 use Rattle.hx_slot.specs.Acks.{AreAcked, count_unacked, is_of_version}
 use Rattle.hx_slot.specs.Invariant.{IsLine, IsSlot, coming, pending_in, whole, updates_of, versions_of}
 use Rattle.hx_slot.specs.Tabled.{AreTables, IsNoted}
@@ -28,23 +28,23 @@ by_recursion-filter P test [] h = tt
 by_recursion-filter P test (x ∷ xs) h =
     cond_both (test x) (x ∷ filter test xs) (filter test xs) (AllByRecursion P) (λ e. (h.0, by_recursion-filter P test xs h.1)) (λ e. by_recursion-filter P test xs h.1)
 
-Ascends-push : (v : ℕ) (ts : List Taken) (t : Taken) → Ascends v ts → last_version v ts < t.update.version.0 → Ascends v (ts ++ t ∷ [])
+Ascends-push : (v : ℕ) (ts : List AcceptedUpdate) (t : AcceptedUpdate) → Ascends v ts → last_version v ts < t.update.version.0 → Ascends v (ts ++ t ∷ [])
 Ascends-push v [] t h l = (l, tt)
 Ascends-push v (x ∷ ts) t h l = (h.0, Ascends-push x.update.version.0 ts t h.1 l)
 
 -- the line with an update more
-line-push : {g : RegionId} {base : ℕ} {ts : List Taken} {c floor : ℕ} → IsLine g base ts c floor → (t : Taken) → IsPlaced g t.update t.place → last_version base ts < t.update.version.0 → IsLine g base (ts ++ t ∷ []) c floor
+line-push : {g : RegionId} {base : ℕ} {ts : List AcceptedUpdate} {c floor : ℕ} → IsLine g base ts c floor → (t : AcceptedUpdate) → IsPlaced g t.update t.place → last_version base ts < t.update.version.0 → IsLine g base (ts ++ t ∷ []) c floor
 line-push {g = g} {base = base} {ts = ts} {c = c} line t p l =
     let n = length-append ts (t ∷ []) in
     record {
       ascends = Ascends-push base ts t line.ascends l;
-      placed = by_recursion-push (λ (x : Taken). IsPlaced g x.update x.place) ts t line.placed p;
+      placed = by_recursion-push (λ (x : AcceptedUpdate). IsPlaced g x.update x.place) ts t line.placed p;
       within = (let w = line.within in omega (arith, n, w));
       floor_is = line.floor_is ∙ ap (last_version base) (sym (take-append-le c ts (t ∷ []) line.within));
     }
 
 -- no version above the last is in the line
-pub not_in : (v w : ℕ) (ts : List Taken) → Ascends v ts → last_version v ts < w → list_any (is_of_version w) ts ≡ false
+pub not_in : (v w : ℕ) (ts : List AcceptedUpdate) → Ascends v ts → last_version v ts < w → list_any (is_of_version w) ts ≡ false
 not_in v w [] h l = refl
 not_in v w (t ∷ rest) h l =
     let b = last_version-above t.update.version.0 rest h.1 in
@@ -57,7 +57,7 @@ not_in v w (t ∷ rest) h l =
     )
 
 -- nothing is acknowledged of a version above the last
-unacked : (v w : ℕ) (ts : List Taken) (acked : List ℕ) → Ascends v ts → last_version v ts < w → AllByRecursion (λ n. list_any (is_of_version n) ts ≡ true) acked → list_any (λ n. eqb n w) acked ≡ false
+unacked : (v w : ℕ) (ts : List AcceptedUpdate) (acked : List ℕ) → Ascends v ts → last_version v ts < w → AllByRecursion (λ n. list_any (is_of_version n) ts ≡ true) acked → list_any (λ n. eqb n w) acked ≡ false
 unacked v w ts [] h l known = refl
 unacked v w ts (n ∷ rest) h l known =
     false_from_ne_true (list_any (λ n. eqb n w) (n ∷ rest))
@@ -68,19 +68,19 @@ unacked v w ts (n ∷ rest) h l known =
     ]
     )
 
-known-push : (ts : List Taken) (t : Taken) (acked : List ℕ) → AllByRecursion (λ n. list_any (is_of_version n) ts ≡ true) acked → AllByRecursion (λ n. list_any (is_of_version n) (ts ++ t ∷ []) ≡ true) acked
+known-push : (ts : List AcceptedUpdate) (t : AcceptedUpdate) (acked : List ℕ) → AllByRecursion (λ n. list_any (is_of_version n) ts ≡ true) acked → AllByRecursion (λ n. list_any (is_of_version n) (ts ++ t ∷ []) ≡ true) acked
 known-push ts t [] h = tt
 known-push ts t (n ∷ rest) h = (list_any-append (is_of_version n) ts (t ∷ []) ∙ or_left (list_any (is_of_version n) ts) (list_any (is_of_version n) (t ∷ [])) h.0, known-push ts t rest h.1)
 
-acked-push : (v : ℕ) (acked : List ℕ) (ts : List Taken) (t : Taken) → AreAcked acked ts → Ascends v ts → last_version v ts < t.update.version.0 → t.acknowledged ≡ false → AreAcked acked (ts ++ t ∷ [])
+acked-push : (v : ℕ) (acked : List ℕ) (ts : List AcceptedUpdate) (t : AcceptedUpdate) → AreAcked acked ts → Ascends v ts → last_version v ts < t.update.version.0 → t.acknowledged ≡ false → AreAcked acked (ts ++ t ∷ [])
 acked-push v acked ts t h a l f =
     record {
-      marked = by_recursion-push (λ (x : Taken). x.acknowledged ≡ list_any (λ n. eqb n x.update.version.0) acked) ts t h.marked (f ∙ sym (unacked v t.update.version.0 ts acked a l h.known));
+      marked = by_recursion-push (λ (x : AcceptedUpdate). x.acknowledged ≡ list_any (λ n. eqb n x.update.version.0) acked) ts t h.marked (f ∙ sym (unacked v t.update.version.0 ts acked a l h.known));
       known = known-push ts t acked h.known;
     }
 
 -- an unacknowledged update more
-pub count-push : (ts : List Taken) (t : Taken) → count_unacked (ts ++ t ∷ []) ≤ count_unacked ts + 1
+pub count-push : (ts : List AcceptedUpdate) (t : AcceptedUpdate) → count_unacked (ts ++ t ∷ []) ≤ count_unacked ts + 1
 count-push [] t = cond_both t.acknowledged 0 1 (λ n. n + 0 ≤ 0 + 1) (λ e. omega arith) (λ e. omega arith)
 count-push (x ∷ ts) t =
     let b = count-push ts t in
@@ -89,11 +89,11 @@ count-push (x ∷ ts) t =
     omega (arith, b, n, m)
 
 -- what is pending with an update more
-pending-push : (a : Inside) → IsSlot a → (t : Taken) → drop a.committed (a.accepted.items ++ t ∷ []) ≡ pending_in a ++ t ∷ []
+pending-push : (a : Inside) → IsSlot a → (t : AcceptedUpdate) → drop a.committed (a.accepted.items ++ t ∷ []) ≡ pending_in a ++ t ∷ []
 pending-push a h t = drop-append-le a.committed a.accepted.items (t ∷ []) h.line.within
 
 -- the slot that accepts an update
-pub accepted-slot : (a : Inside) (t : Taken) (accepted : Vec Taken Global) (early : Vec Placed Global) (tables : Tables) (spare : ℕ)
+pub accepted-slot : (a : Inside) (t : AcceptedUpdate) (accepted : Vec AcceptedUpdate Global) (early : Vec PlacedUpdate Global) (tables : Tables) (spare : ℕ)
     → IsSlot a → IsPlaced a.region t.update t.place → last_version a.base.floor.0 a.accepted.items < t.update.version.0 → t.acknowledged ≡ false
     → accepted.items ≡ a.accepted.items ++ t ∷ [] → vec_len accepted ≡ vec_len a.accepted + 1 → vec_capacity accepted ≡ vec_capacity a.accepted
     → AllByRecursion (IsHeld a.region) early.items → vec_len early ≤ vec_len a.early → vec_capacity early ≡ vec_capacity a.early
@@ -108,9 +108,9 @@ accepted-slot a t accepted early tables spare h p above f items len capacity hel
     let l = a.accepted.ok.0 in
     let room = h.room in
     record {
-      line = subst (λ (ts : List Taken). IsLine a.region a.base.floor.0 ts a.committed a.floor.0) e (line-push h.line t p above);
+      line = subst (λ (ts : List AcceptedUpdate). IsLine a.region a.base.floor.0 ts a.committed a.floor.0) e (line-push h.line t p above);
       base = h.base;
-      acked = subst (λ (ts : List Taken). AreAcked (versions_of a.acked.items) (drop a.committed ts)) e
+      acked = subst (λ (ts : List AcceptedUpdate). AreAcked (versions_of a.acked.items) (drop a.committed ts)) e
           (subst (AreAcked (versions_of a.acked.items)) (sym pending) (acked-push a.floor.0 (versions_of a.acked.items) (pending_in a) t h.acked (pending-ascends h.line) (let q = top-pending h.line in omega (arith, q, above)) f));
       early = held;
       room = record {
@@ -119,12 +119,12 @@ accepted-slot a t accepted early tables spare h p above f items len capacity hel
         pending = (let r = room.pending in omega (arith, r, l, within));
         acked = (
             let r = room.acked in
-            let n = ap (λ (ts : List Taken). count_unacked (drop a.committed ts)) items ∙ ap count_unacked pending in
+            let n = ap (λ (ts : List AcceptedUpdate). count_unacked (drop a.committed ts)) items ∙ ap count_unacked pending in
             omega (arith, r, n, count)
             );
         few = (let r = room.few in omega (arith, r));
       };
-      tables = λ m. subst (λ (ts : List Taken). AreTables ts tables) e (noted m);
+      tables = λ m. subst (λ (ts : List AcceptedUpdate). AreTables ts tables) e (noted m);
       table_room = λ m. (
           let r = h.table_room m in
           record {
@@ -135,16 +135,16 @@ accepted-slot a t accepted early tables spare h p above f items len capacity hel
     }
 
 -- the updates that a test of their versions keeps
-pub updates_of-filter : (v : ℕ) (early : List Placed) → updates_of (filter (λ (p : Placed). not (eqb p.update.version.0 v)) early) ≡ filter (other_version v) (updates_of early)
+pub updates_of-filter : (v : ℕ) (early : List PlacedUpdate) → updates_of (filter (λ (p : PlacedUpdate). not (eqb p.update.version.0 v)) early) ≡ filter (other_version v) (updates_of early)
 updates_of-filter v [] = refl
 updates_of-filter v (p ∷ rest) =
-    cond_both (not (eqb p.update.version.0 v)) (p ∷ filter (λ (p : Placed). not (eqb p.update.version.0 v)) rest) (filter (λ (p : Placed). not (eqb p.update.version.0 v)) rest) (λ (ps : List Placed). updates_of ps ≡ filter (other_version v) (updates_of (p ∷ rest)))
+    cond_both (not (eqb p.update.version.0 v)) (p ∷ filter (λ (p : PlacedUpdate). not (eqb p.update.version.0 v)) rest) (filter (λ (p : PlacedUpdate). not (eqb p.update.version.0 v)) rest) (λ (ps : List PlacedUpdate). updates_of ps ≡ filter (other_version v) (updates_of (p ∷ rest)))
     (λ e. ap (λ (us : List Update). p.update ∷ us) (updates_of-filter v rest) ∙ sym (cond-true (not (eqb p.update.version.0 v)) _ _ e))
     (λ e. updates_of-filter v rest ∙ sym (cond-false (not (eqb p.update.version.0 v)) _ _ e))
 
 -- what contracts see of it
-pub accepted-state : (a : Inside) (t : Taken) (accepted : Vec Taken Global) (early : Vec Placed Global) (tables : Tables) (spare : ℕ)
-    → accepted.items ≡ a.accepted.items ++ t ∷ [] → early.items ≡ filter (λ (p : Placed). not (eqb p.update.version.0 t.update.version.0)) a.early.items
+pub accepted-state : (a : Inside) (t : AcceptedUpdate) (accepted : Vec AcceptedUpdate Global) (early : Vec PlacedUpdate Global) (tables : Tables) (spare : ℕ)
+    → accepted.items ≡ a.accepted.items ++ t ∷ [] → early.items ≡ filter (λ (p : PlacedUpdate). not (eqb p.update.version.0 t.update.version.0)) a.early.items
     → (whole (record a { accepted = accepted; early = early; tables = tables; spare = spare })).state ≡ moved (Take t.update) (whole a).state
 accepted-state a t accepted early tables spare items kept =
     let line = ap (newest_first []) items ∙ newest_first-append [] a.accepted.items (t ∷ []) in
@@ -152,7 +152,7 @@ accepted-state a t accepted early tables spare items kept =
     λ j. record { marks = a.marks; base = a.base; accepted = line j; floor = a.floor.0; acked = versions_of a.acked.items; early = waiting j }
 
 -- the slot with other early updates, no more of them with those to come
-pub held-slot : (a : Inside) (early : Vec Placed Global) (spare : ℕ) → IsSlot a → AllByRecursion (IsHeld a.region) early.items → vec_len early + spare ≤ coming a → vec_capacity early ≡ vec_capacity a.early
+pub held-slot : (a : Inside) (early : Vec PlacedUpdate Global) (spare : ℕ) → IsSlot a → AllByRecursion (IsHeld a.region) early.items → vec_len early + spare ≤ coming a → vec_capacity early ≡ vec_capacity a.early
     → IsSlot (record a { early = early; spare = spare })
 held-slot a early spare h held fewer capacity =
     let room = h.room in
@@ -175,10 +175,10 @@ held-slot a early spare h held fewer capacity =
           );
     }
 
-pub held-state : (a : Inside) (p : Placed) (early : Vec Placed Global) (spare : ℕ) → early.items ≡ filter (λ (q : Placed). not (eqb q.update.version.0 p.update.version.0)) a.early.items ++ p ∷ []
+pub held-state : (a : Inside) (p : PlacedUpdate) (early : Vec PlacedUpdate Global) (spare : ℕ) → early.items ≡ filter (λ (q : PlacedUpdate). not (eqb q.update.version.0 p.update.version.0)) a.early.items ++ p ∷ []
     → (whole (record a { early = early; spare = spare })).state ≡ moved (Hold p.update) (whole a).state
 held-state a p early spare items =
-    let waiting = ap updates_of items ∙ map_push (λ (q : Placed). q.update) _ p ∙ ap (λ (us : List Update). us ++ p.update ∷ []) (updates_of-filter p.update.version.0 a.early.items) in
+    let waiting = ap updates_of items ∙ map_push (λ (q : PlacedUpdate). q.update) _ p ∙ ap (λ (us : List Update). us ++ p.update ∷ []) (updates_of-filter p.update.version.0 a.early.items) in
     λ j. record { marks = a.marks; base = a.base; accepted = newest_first [] a.accepted.items; floor = a.floor.0; acked = versions_of a.acked.items; early = waiting j }
 
 -- without the one that is taken out
@@ -188,15 +188,15 @@ by_recursion-remove P [] (suc i) h = tt
 by_recursion-remove P (x ∷ xs) zero h = h.1
 by_recursion-remove P (x ∷ xs) (suc i) h = (h.0, by_recursion-remove P xs i h.1)
 
-filter-removed : (v : ℕ) (early : List Placed) (i : ℕ) (p : Placed) → i < length early → p ≡ get_or early i p → p.update.version.0 ≡ v → filter (other_version v) (updates_of (remove early i)) ≡ filter (other_version v) (updates_of early)
+filter-removed : (v : ℕ) (early : List PlacedUpdate) (i : ℕ) (p : PlacedUpdate) → i < length early → p ≡ get_or early i p → p.update.version.0 ≡ v → filter (other_version v) (updates_of (remove early i)) ≡ filter (other_version v) (updates_of early)
 filter-removed v [] i p l e q = absurd (omega arith)
 filter-removed v (x ∷ rest) zero p l e q =
-    sym (cond-false (other_version v x.update) _ _ (ap not (eq-eqb x.update.version.0 v (ap (λ (y : Placed). y.update.version.0) (sym e) ∙ q))))
+    sym (cond-false (other_version v x.update) _ _ (ap not (eq-eqb x.update.version.0 v (ap (λ (y : PlacedUpdate). y.update.version.0) (sym e) ∙ q))))
 filter-removed v (x ∷ rest) (suc i) p l e q =
     ap (λ (us : List Update). cond (other_version v x.update) (x.update ∷ us) us) (filter-removed v rest i p (omega arith) e q)
 
-pub removed-state : (a : Inside) (i : ℕ) (p : Placed) (early : Vec Placed Global) (spare : ℕ) → i < length a.early.items → p ≡ get_or a.early.items i p → early.items ≡ remove a.early.items i
+pub removed-state : (a : Inside) (i : ℕ) (p : PlacedUpdate) (early : Vec PlacedUpdate Global) (spare : ℕ) → i < length a.early.items → p ≡ get_or a.early.items i p → early.items ≡ remove a.early.items i
     → moved (Take p.update) (whole (record a { early = early; spare = spare })).state ≡ moved (Take p.update) (whole a).state
 removed-state a i p early spare l e items =
-    let waiting = ap (λ (ps : List Placed). filter (other_version p.update.version.0) (updates_of ps)) items ∙ filter-removed p.update.version.0 a.early.items i p l e refl in
+    let waiting = ap (λ (ps : List PlacedUpdate). filter (other_version p.update.version.0) (updates_of ps)) items ∙ filter-removed p.update.version.0 a.early.items i p l e refl in
     λ j. record { marks = a.marks; base = a.base; accepted = p.update ∷ newest_first [] a.accepted.items; floor = a.floor.0; acked = versions_of a.acked.items; early = waiting j }

@@ -8,23 +8,23 @@ use Rattle.hx_types.specs.declared.ids.Version.{Version}
 use Rattle.hx_types.specs.declared.updates.Update.{Update}
 use Rattle.hx_types.specs.Words.{provided}
 use Rattle.hx_model.specs.Slots.{Commit, KeyState, Move, commits, moved_all}
-use Rattle.hx_slot.specs.declared.entries.Taken.{Taken}
-use Rattle.hx_slot.specs.Acks.{AreAcked, AreSameEntries, count_unacked, front_acked, front_with, is_of_version}
-use Rattle.hx_slot.specs.Entries.{Ascends, last_version}
+use Rattle.hx_slot.specs.declared.updates.AcceptedUpdate.{AcceptedUpdate}
+use Rattle.hx_slot.specs.Acks.{AreAcked, AreSameUpdates, count_unacked, front_acked, front_with, is_of_version}
+use Rattle.hx_slot.specs.Updates.{Ascends, last_version}
 use Rattle.hx_slot.specs.Invariant.{versions_of}
 use Rattle.hx_slot.proofs.Accepting.{by_recursion-filter, not_in}
 use Rattle.hx_slot.proofs.Newest.{Ascends-append, by_recursion-drop, last_version-above, update_of}
-use Rattle.hx_slot.proofs.SameEntries.{same-set}
+use Rattle.hx_slot.proofs.SameUpdates.{same-set}
 use Rattle.hx_slot.proofs.Turns.{no-place}
 
 abbrev pub is_acked : List ℕ → ℕ → Bool
 is_acked acked v = list_any (λ w. eqb w v) acked
 
 -- the lowest acknowledged updates are committed
-abbrev pub commits_of : List Taken → List Move
-commits_of ts = map (λ (t : Taken). Commit t.update) ts
+abbrev pub commits_of : List AcceptedUpdate → List Move
+commits_of ts = map (λ (t : AcceptedUpdate). Commit t.update) ts
 
-pub commits-front : (acked : List ℕ) (ts : List Taken) → AllByRecursion (λ (t : Taken). t.acknowledged ≡ is_acked acked t.update.version.0) ts → commits acked (map update_of ts) ≡ commits_of (take (front_acked ts) ts)
+pub commits-front : (acked : List ℕ) (ts : List AcceptedUpdate) → AllByRecursion (λ (t : AcceptedUpdate). t.acknowledged ≡ is_acked acked t.update.version.0) ts → commits acked (map update_of ts) ≡ commits_of (take (front_acked ts) ts)
 commits-front acked [] h = refl
 commits-front acked (t ∷ rest) h =
     cond_both t.acknowledged (suc (front_acked rest)) zero (λ n. commits acked (map update_of (t ∷ rest)) ≡ commits_of (take n (t ∷ rest)))
@@ -32,12 +32,12 @@ commits-front acked (t ∷ rest) h =
     (λ e. ap (λ b. provided b (Commit t.update ∷ commits acked (map update_of rest))) (sym h.0 ∙ e))
 
 -- the acknowledgements without those of committed updates
-abbrev pub dropped : List Taken → List ℕ → List ℕ
+abbrev pub dropped : List AcceptedUpdate → List ℕ → List ℕ
 dropped [] acked = acked
 dropped (t ∷ rest) acked = dropped rest (filter (λ w. not (eqb w t.update.version.0)) acked)
 
 -- what committing them makes of a state
-pub commits-state : (ts : List Taken) (s : KeyState) → moved_all (commits_of ts) s ≡ record s { floor = last_version s.floor ts; acked = dropped ts s.acked }
+pub commits-state : (ts : List AcceptedUpdate) (s : KeyState) → moved_all (commits_of ts) s ≡ record s { floor = last_version s.floor ts; acked = dropped ts s.acked }
 commits-state [] s = refl
 commits-state (t ∷ rest) s = commits-state rest (record s { floor = t.update.version.0; acked = filter (λ w. not (eqb w t.update.version.0)) s.acked })
 
@@ -62,22 +62,22 @@ any-filter {A} p q (x ∷ xs) h =
     (λ e. any-filter p q xs h ∙ sym (ap (λ b. b || list_any p xs) (false_from_ne_true (p x) (λ t. false≢true (sym e ∙ h x t)))))
 
 -- what is pending has versions above the floor
-above-floor : (v w : ℕ) (ts : List Taken) → Ascends v ts → list_any (is_of_version w) ts ≡ true → v < w
+above-floor : (v w : ℕ) (ts : List AcceptedUpdate) → Ascends v ts → list_any (is_of_version w) ts ≡ true → v < w
 above-floor v w [] h e = absurd (false≢true e)
 above-floor v w (t ∷ rest) h e = elim (or_cases (is_of_version w t) (list_any (is_of_version w) rest) e) [
   | inl s ↦ (let q = eqb-true t.update.version.0 w s in omega (arith, q))
   | inr s ↦ (let b = above-floor t.update.version.0 w rest h.1 s in omega (arith, b))
 ]
 
-abbrev pub AreKnown : List Taken → List ℕ → Type 0
+abbrev pub AreKnown : List AcceptedUpdate → List ℕ → Type 0
 AreKnown ts acked = AllByRecursion (λ w. list_any (is_of_version w) ts ≡ true) acked
 
-all-above : (v : ℕ) (ts : List Taken) (acked : List ℕ) → Ascends v ts → AreKnown ts acked → AllByRecursion (λ w. ltb v w ≡ true) acked
+all-above : (v : ℕ) (ts : List AcceptedUpdate) (acked : List ℕ) → Ascends v ts → AreKnown ts acked → AllByRecursion (λ w. ltb v w ≡ true) acked
 all-above v ts [] h k = tt
 all-above v ts (w ∷ rest) h k = (lt-ltb v w (above-floor v w ts h k.0), all-above v ts rest h k.1)
 
 -- without the first update, what isn't of its version is of a later one
-known-rest : (t : Taken) (ts : List Taken) (acked : List ℕ) → AreKnown (t ∷ ts) acked → AreKnown ts (filter (λ w. not (eqb w t.update.version.0)) acked)
+known-rest : (t : AcceptedUpdate) (ts : List AcceptedUpdate) (acked : List ℕ) → AreKnown (t ∷ ts) acked → AreKnown ts (filter (λ w. not (eqb w t.update.version.0)) acked)
 known-rest t ts [] k = tt
 known-rest t ts (w ∷ rest) k =
     cond_both (not (eqb w t.update.version.0)) (w ∷ filter (λ w. not (eqb w t.update.version.0)) rest) (filter (λ w. not (eqb w t.update.version.0)) rest) (AreKnown ts)
@@ -92,13 +92,13 @@ known-rest t ts (w ∷ rest) k =
     )
     (λ e. known-rest t ts rest k.1)
 
-pub ascends-take : (v n : ℕ) (ts : List Taken) → Ascends v ts → Ascends v (take n ts)
+pub ascends-take : (v n : ℕ) (ts : List AcceptedUpdate) → Ascends v ts → Ascends v (take n ts)
 ascends-take v zero ts h = tt
 ascends-take v (suc n) [] h = tt
 ascends-take v (suc n) (t ∷ rest) h = (h.0, ascends-take t.update.version.0 n rest h.1)
 
 -- the acknowledgements that are left are those above the new floor
-pub dropped-upto : (v n : ℕ) (ts : List Taken) (acked : List ℕ) → Ascends v ts → AreKnown ts acked → dropped (take n ts) acked ≡ filter (ltb (last_version v (take n ts))) acked
+pub dropped-upto : (v n : ℕ) (ts : List AcceptedUpdate) (acked : List ℕ) → Ascends v ts → AreKnown ts acked → dropped (take n ts) acked ≡ filter (ltb (last_version v (take n ts))) acked
 dropped-upto v zero ts acked h k = sym (filter-all (ltb v) acked (all-above v ts acked h k))
 dropped-upto v (suc n) [] acked h k = sym (filter-all (ltb v) acked (all-above v [] acked h k))
 dropped-upto v (suc n) (t ∷ rest) acked h k =
@@ -113,7 +113,7 @@ dropped-upto v (suc n) (t ∷ rest) acked h k =
     )
 
 -- how many updates the acknowledgements commit
-pub commits-count : (acked : List ℕ) (ts : List Taken) → AllByRecursion (λ (t : Taken). t.acknowledged ≡ is_acked acked t.update.version.0) ts → length (commits acked (map update_of ts)) ≡ front_acked ts
+pub commits-count : (acked : List ℕ) (ts : List AcceptedUpdate) → AllByRecursion (λ (t : AcceptedUpdate). t.acknowledged ≡ is_acked acked t.update.version.0) ts → length (commits acked (map update_of ts)) ≡ front_acked ts
 commits-count acked [] h = refl
 commits-count acked (t ∷ rest) h =
     cond_both t.acknowledged (suc (front_acked rest)) zero (λ n. length (commits acked (map update_of (t ∷ rest))) ≡ n)
@@ -137,7 +137,7 @@ or_false true = refl
 or_false false = refl
 
 -- how many it would commit
-pub commits-with : (v : ℕ) (acked : List ℕ) (ts : List Taken) → AllByRecursion (λ (t : Taken). t.acknowledged ≡ is_acked acked t.update.version.0) ts → length (commits (with_ack v acked) (map update_of ts)) ≡ front_with v ts
+pub commits-with : (v : ℕ) (acked : List ℕ) (ts : List AcceptedUpdate) → AllByRecursion (λ (t : AcceptedUpdate). t.acknowledged ≡ is_acked acked t.update.version.0) ts → length (commits (with_ack v acked) (map update_of ts)) ≡ front_with v ts
 commits-with v acked [] h = refl
 commits-with v acked (t ∷ rest) h =
     cond_both (t.acknowledged || is_of_version v t) (suc (front_with v rest)) zero (λ n. length (commits (with_ack v acked) (map update_of (t ∷ rest))) ≡ n)
@@ -151,7 +151,7 @@ commits-with v acked (t ∷ rest) h =
     ]
 
 -- a version is pending where an update has it
-pub pending-any : (v : ℕ) (ts : List Taken) → list_any (λ (u : Update). eqb u.version.0 v) (map update_of ts) ≡ list_any (is_of_version v) ts
+pub pending-any : (v : ℕ) (ts : List AcceptedUpdate) → list_any (λ (u : Update). eqb u.version.0 v) (map update_of ts) ≡ list_any (is_of_version v) ts
 pending-any v [] = refl
 pending-any v (t ∷ rest) = ap (λ b. is_of_version v t || b) (pending-any v rest)
 
@@ -162,7 +162,7 @@ find-none {A} test (x ∷ xs) =
     (λ b e. absurd (cc))
     (λ b e. ap (λ c. c || list_any test xs) b ∙ find-none test xs e)
 
-pub none-pending : (v : ℕ) (ts : List Taken) → position (is_of_version v) ts ≡ None → list_any (is_of_version v) ts ≡ false
+pub none-pending : (v : ℕ) (ts : List AcceptedUpdate) → position (is_of_version v) ts ≡ None → list_any (is_of_version v) ts ≡ false
 none-pending v ts e = find-none (is_of_version v) ts (no-place (is_of_version v) ts e)
 
 -- two facts of each
@@ -170,24 +170,24 @@ by_recursion-both : {A : Type 0} (P Q R : A → Type 0) (xs : List A) → AllByR
 by_recursion-both P Q R [] h k f = tt
 by_recursion-both P Q R (x ∷ xs) h k f = (f x h.0 k.0, by_recursion-both P Q R xs h.1 k.1 f)
 
-ascends-above : (v : ℕ) (ts : List Taken) → Ascends v ts → AllByRecursion (λ (t : Taken). v < t.update.version.0) ts
+ascends-above : (v : ℕ) (ts : List AcceptedUpdate) → Ascends v ts → AllByRecursion (λ (t : AcceptedUpdate). v < t.update.version.0) ts
 ascends-above v [] h = tt
 ascends-above v (t ∷ rest) h =
     let above = ascends-above t.update.version.0 rest h.1 in
-    (h.0, by_recursion-both (λ (x : Taken). t.update.version.0 < x.update.version.0) (λ (x : Taken). t.update.version.0 < x.update.version.0) (λ (x : Taken). v < x.update.version.0) rest above above (λ x a b. omega arith))
+    (h.0, by_recursion-both (λ (x : AcceptedUpdate). t.update.version.0 < x.update.version.0) (λ (x : AcceptedUpdate). t.update.version.0 < x.update.version.0) (λ (x : AcceptedUpdate). v < x.update.version.0) rest above above (λ x a b. omega arith))
 
 -- what is left pending is above the new floor
-pub ascends-rest : (v n : ℕ) (ts : List Taken) → Ascends v ts → Ascends (last_version v (take n ts)) (drop n ts)
+pub ascends-rest : (v n : ℕ) (ts : List AcceptedUpdate) → Ascends v ts → Ascends (last_version v (take n ts)) (drop n ts)
 ascends-rest v n ts h = Ascends-append v (take n ts) (drop n ts) (subst (Ascends v) (sym (take-append-drop n ts)) h)
 
-known-left : (v n w : ℕ) (ts : List Taken) → Ascends v ts → last_version v (take n ts) < w → list_any (is_of_version w) ts ≡ true → list_any (is_of_version w) (drop n ts) ≡ true
+known-left : (v n w : ℕ) (ts : List AcceptedUpdate) → Ascends v ts → last_version v (take n ts) < w → list_any (is_of_version w) ts ≡ true → list_any (is_of_version w) (drop n ts) ≡ true
 known-left v n w ts h l e =
     let whole = ap (list_any (is_of_version w)) (take-append-drop n ts) in
     let parts = list_any-append (is_of_version w) (take n ts) (drop n ts) in
     let front = not_in v w (take n ts) (ascends-take v n ts h) l in
     sym (ap (λ b. b || list_any (is_of_version w) (drop n ts)) front) ∙ sym parts ∙ whole ∙ e
 
-known-settled : (v n : ℕ) (ts : List Taken) (acked : List ℕ) → Ascends v ts → AreKnown ts acked → AreKnown (drop n ts) (filter (ltb (last_version v (take n ts))) acked)
+known-settled : (v n : ℕ) (ts : List AcceptedUpdate) (acked : List ℕ) → Ascends v ts → AreKnown ts acked → AreKnown (drop n ts) (filter (ltb (last_version v (take n ts))) acked)
 known-settled v n ts [] h k = tt
 known-settled v n ts (w ∷ rest) h k =
     cond_both (ltb (last_version v (take n ts)) w) (w ∷ filter (ltb (last_version v (take n ts))) rest) (filter (ltb (last_version v (take n ts))) rest) (AreKnown (drop n ts))
@@ -195,12 +195,12 @@ known-settled v n ts (w ∷ rest) h k =
     (λ e. known-settled v n ts rest h k.1)
 
 -- what is acknowledged after the lowest are committed
-pub acked-settled : (v n : ℕ) (ts : List Taken) (acked : List ℕ) → Ascends v ts → AreAcked acked ts → AreAcked (filter (ltb (last_version v (take n ts))) acked) (drop n ts)
+pub acked-settled : (v n : ℕ) (ts : List AcceptedUpdate) (acked : List ℕ) → Ascends v ts → AreAcked acked ts → AreAcked (filter (ltb (last_version v (take n ts))) acked) (drop n ts)
 acked-settled v n ts acked h a =
     record {
-      marked = by_recursion-both (λ (t : Taken). t.acknowledged ≡ is_acked acked t.update.version.0) (λ (t : Taken). last_version v (take n ts) < t.update.version.0)
-          (λ (t : Taken). t.acknowledged ≡ is_acked (filter (ltb (last_version v (take n ts))) acked) t.update.version.0) (drop n ts)
-          (by_recursion-drop (λ (t : Taken). t.acknowledged ≡ is_acked acked t.update.version.0) n ts a.marked)
+      marked = by_recursion-both (λ (t : AcceptedUpdate). t.acknowledged ≡ is_acked acked t.update.version.0) (λ (t : AcceptedUpdate). last_version v (take n ts) < t.update.version.0)
+          (λ (t : AcceptedUpdate). t.acknowledged ≡ is_acked (filter (ltb (last_version v (take n ts))) acked) t.update.version.0) (drop n ts)
+          (by_recursion-drop (λ (t : AcceptedUpdate). t.acknowledged ≡ is_acked acked t.update.version.0) n ts a.marked)
           (ascends-above (last_version v (take n ts)) (drop n ts) (ascends-rest v n ts h))
           (
           λ t e l. e ∙ sym (any-filter (λ x. eqb x t.update.version.0) (ltb (last_version v (take n ts))) acked (λ x s. (let q = eqb-true x t.update.version.0 s in lt-ltb (last_version v (take n ts)) x (omega (arith, q, l)))))
@@ -209,7 +209,7 @@ acked-settled v n ts acked h a =
     }
 
 -- no more are unacknowledged among the rest
-pub count-drop : (n : ℕ) (ts : List Taken) → count_unacked (drop n ts) ≤ count_unacked ts
+pub count-drop : (n : ℕ) (ts : List AcceptedUpdate) → count_unacked (drop n ts) ≤ count_unacked ts
 count-drop zero ts = omega arith
 count-drop (suc n) [] = omega arith
 count-drop (suc n) (t ∷ rest) =
@@ -218,12 +218,12 @@ count-drop (suc n) (t ∷ rest) =
     omega (arith, b, m)
 
 -- one update's mark is set
-pub count-set : (ts : List Taken) (i : ℕ) (t : Taken) → i < length ts → t ≡ get_or ts i t → count_unacked (set ts i (record t { acknowledged = true })) + cond t.acknowledged 0 1 ≡ count_unacked ts
+pub count-set : (ts : List AcceptedUpdate) (i : ℕ) (t : AcceptedUpdate) → i < length ts → t ≡ get_or ts i t → count_unacked (set ts i (record t { acknowledged = true })) + cond t.acknowledged 0 1 ≡ count_unacked ts
 count-set [] i t l e = absurd (omega arith)
 count-set (x ∷ rest) zero t l e =
     let m : count_unacked (x ∷ rest) ≡ cond x.acknowledged 0 1 + count_unacked rest = refl in
     let n : count_unacked (record t { acknowledged = true } ∷ rest) ≡ 0 + count_unacked rest = refl in
-    let q : cond t.acknowledged 0 1 ≡ cond x.acknowledged 0 1 = ap {B = ℕ} (λ (y : Taken). cond y.acknowledged 0 1) e in
+    let q : cond t.acknowledged 0 1 ≡ cond x.acknowledged 0 1 = ap {B = ℕ} (λ (y : AcceptedUpdate). cond y.acknowledged 0 1) e in
     omega (arith, m, n, q)
 count-set (x ∷ rest) (suc i) t l e =
     let b = count-set rest i t (omega arith) e in
@@ -247,63 +247,63 @@ length-dropped v (w ∷ rest) =
     by false h = omega (arith, h)
 
 -- versions at later places are higher
-place-above : (v : ℕ) (ts : List Taken) (i : ℕ) (t : Taken) → Ascends v ts → i < length ts → t ≡ get_or ts i t → v < t.update.version.0
+place-above : (v : ℕ) (ts : List AcceptedUpdate) (i : ℕ) (t : AcceptedUpdate) → Ascends v ts → i < length ts → t ≡ get_or ts i t → v < t.update.version.0
 place-above v [] i t h l e = absurd (omega arith)
-place-above v (x ∷ rest) zero t h l e = (let q = ap (λ (y : Taken). y.update.version.0) e in omega (arith, q, h.0))
+place-above v (x ∷ rest) zero t h l e = (let q = ap (λ (y : AcceptedUpdate). y.update.version.0) e in omega (arith, q, h.0))
 place-above v (x ∷ rest) (suc i) t h l e = (let b = place-above x.update.version.0 rest i t h.1 (omega arith) e in omega (arith, b, h.0))
 
-abbrev IsMarked : List ℕ → Taken → Type 0
+abbrev IsMarked : List ℕ → AcceptedUpdate → Type 0
 IsMarked acked t = t.acknowledged ≡ is_acked acked t.update.version.0
 
 -- marks of other versions stay
-marked-others : (v : ℕ) (acked : List ℕ) (ts : List Taken) → AllByRecursion (IsMarked acked) ts → AllByRecursion (λ (t : Taken). v < t.update.version.0) ts → AllByRecursion (IsMarked (with_ack v acked)) ts
+marked-others : (v : ℕ) (acked : List ℕ) (ts : List AcceptedUpdate) → AllByRecursion (IsMarked acked) ts → AllByRecursion (λ (t : AcceptedUpdate). v < t.update.version.0) ts → AllByRecursion (IsMarked (with_ack v acked)) ts
 marked-others v acked ts h a =
-    by_recursion-both (IsMarked acked) (λ (t : Taken). v < t.update.version.0) (IsMarked (with_ack v acked)) ts h a (λ t e l. e ∙ sym (is_acked-other v t.update.version.0 acked (λ q. omega (arith, q, l))))
+    by_recursion-both (IsMarked acked) (λ (t : AcceptedUpdate). v < t.update.version.0) (IsMarked (with_ack v acked)) ts h a (λ t e l. e ∙ sym (is_acked-other v t.update.version.0 acked (λ q. omega (arith, q, l))))
 
-marked-set : (base : ℕ) (acked : List ℕ) (ts : List Taken) (i : ℕ) (t : Taken) → Ascends base ts → i < length ts → t ≡ get_or ts i t → AllByRecursion (IsMarked acked) ts
+marked-set : (base : ℕ) (acked : List ℕ) (ts : List AcceptedUpdate) (i : ℕ) (t : AcceptedUpdate) → Ascends base ts → i < length ts → t ≡ get_or ts i t → AllByRecursion (IsMarked acked) ts
     → AllByRecursion (IsMarked (with_ack t.update.version.0 acked)) (set ts i (record t { acknowledged = true }))
 marked-set base acked [] i t h l e m = absurd (omega arith)
 marked-set base acked (x ∷ rest) zero t h l e m = (
   sym (is_acked-same t.update.version.0 acked),
-  marked-others t.update.version.0 acked rest m.1 (subst (λ v. AllByRecursion (λ (y : Taken). v < y.update.version.0) rest) (ap (λ (y : Taken). y.update.version.0) (sym e)) (ascends-above x.update.version.0 rest h.1)),
+  marked-others t.update.version.0 acked rest m.1 (subst (λ v. AllByRecursion (λ (y : AcceptedUpdate). v < y.update.version.0) rest) (ap (λ (y : AcceptedUpdate). y.update.version.0) (sym e)) (ascends-above x.update.version.0 rest h.1)),
 )
 marked-set base acked (x ∷ rest) (suc i) t h l e m =
     let b = place-above x.update.version.0 rest i t h.1 (omega arith) e in
     (m.0 ∙ sym (is_acked-other t.update.version.0 x.update.version.0 acked (λ q. omega (arith, q, b))), marked-set x.update.version.0 acked rest i t h.1 (omega arith) e m.1)
 
 -- the same versions stand in a list of the same entries
-same-any : (v : ℕ) (xs ys : List Taken) → AreSameEntries xs ys → list_any (is_of_version v) ys ≡ list_any (is_of_version v) xs
+same-any : (v : ℕ) (xs ys : List AcceptedUpdate) → AreSameUpdates xs ys → list_any (is_of_version v) ys ≡ list_any (is_of_version v) xs
 same-any v [] [] h = refl
 same-any v [] (y ∷ ys) h = absurd h
 same-any v (x ∷ xs) [] h = absurd h
 same-any v (x ∷ xs) (y ∷ ys) h =
     ap (λ (u : Update). eqb u.version.0 v || list_any (is_of_version v) ys) h.0 ∙ ap (λ b. is_of_version v x || b) (same-any v xs ys h.2)
 
-pub known-same : (xs ys : List Taken) (acked : List ℕ) → AreSameEntries xs ys → AreKnown xs acked → AreKnown ys acked
+pub known-same : (xs ys : List AcceptedUpdate) (acked : List ℕ) → AreSameUpdates xs ys → AreKnown xs acked → AreKnown ys acked
 known-same xs ys [] h k = tt
 known-same xs ys (w ∷ rest) h k = (same-any w xs ys h ∙ k.0, known-same xs ys rest h k.1)
 
 -- what is acknowledged with one version more
-pub acked-set : (base : ℕ) (acked : List ℕ) (ts : List Taken) (i : ℕ) (t : Taken) → Ascends base ts → i < length ts → t ≡ get_or ts i t → AreAcked acked ts
+pub acked-set : (base : ℕ) (acked : List ℕ) (ts : List AcceptedUpdate) (i : ℕ) (t : AcceptedUpdate) → Ascends base ts → i < length ts → t ≡ get_or ts i t → AreAcked acked ts
     → AreAcked (with_ack t.update.version.0 acked) (set ts i (record t { acknowledged = true }))
 acked-set base acked ts i t h l e a =
     let same = same-set ts i t true l e in
     record {
       marked = marked-set base acked ts i t h l e a.marked;
       known = (
-        same-any t.update.version.0 ts (set ts i (record t { acknowledged = true })) same ∙ list_any_at (is_of_version t.update.version.0) ts i t l (eq-eqb (get_or ts i t).update.version.0 t.update.version.0 (ap (λ (y : Taken). y.update.version.0) (sym e))),
+        same-any t.update.version.0 ts (set ts i (record t { acknowledged = true })) same ∙ list_any_at (is_of_version t.update.version.0) ts i t l (eq-eqb (get_or ts i t).update.version.0 t.update.version.0 (ap (λ (y : AcceptedUpdate). y.update.version.0) (sym e))),
         known-same ts (set ts i (record t { acknowledged = true })) (filter (λ w. not (eqb w t.update.version.0)) acked) same (by_recursion-filter (λ w. list_any (is_of_version w) ts ≡ true) (λ w. not (eqb w t.update.version.0)) acked a.known),
       );
     }
 
 -- the mark of an update at a place
-pub marked-at : (acked : List ℕ) (ts : List Taken) (i : ℕ) (t : Taken) → i < length ts → t ≡ get_or ts i t → AllByRecursion (IsMarked acked) ts → IsMarked acked t
+pub marked-at : (acked : List ℕ) (ts : List AcceptedUpdate) (i : ℕ) (t : AcceptedUpdate) → i < length ts → t ≡ get_or ts i t → AllByRecursion (IsMarked acked) ts → IsMarked acked t
 marked-at acked [] i t l e m = absurd (omega arith)
 marked-at acked (x ∷ rest) zero t l e m = subst (IsMarked acked) (sym e) m.0
 marked-at acked (x ∷ rest) (suc i) t l e m = marked-at acked rest i t (omega arith) e m.1
 
 -- nothing is acknowledged
-pub acked-none : (ts : List Taken) → AllByRecursion (λ (t : Taken). t.acknowledged ≡ false) ts → AreAcked [] ts
+pub acked-none : (ts : List AcceptedUpdate) → AllByRecursion (λ (t : AcceptedUpdate). t.acknowledged ≡ false) ts → AreAcked [] ts
 acked-none ts h = record { marked = h; known = tt }
 
 -- versions that a test of their numbers keeps

@@ -13,9 +13,9 @@ use Rattle.hx_types.specs.declared.updates.Update.{Update}
 use Rattle.hx_types.specs.declared.values.Value.{Value}
 use Rattle.hx_types.specs.Words.{provided, same_session}
 use Rattle.hx_model.specs.Slots.{KeyState, kept_of, marks_after, row_of, touches_after, upto, with_mark, with_touches}
-use Rattle.hx_slot.specs.declared.entries.Taken.{Taken}
+use Rattle.hx_slot.specs.declared.updates.AcceptedUpdate.{AcceptedUpdate}
 use Rattle.hx_slot.specs.declared.slots.Slot.TheInside.{Inside}
-use Rattle.hx_slot.specs.Entries.{Ascends, last_version, newest_first, row_by, row_over}
+use Rattle.hx_slot.specs.Updates.{Ascends, last_version, newest_first, row_by, row_over}
 use Rattle.hx_slot.specs.Invariant.{IsSlot, whole}
 use Rattle.hx_slot.specs.States.{IsOrderly, IsRowUpTo, committed_state}
 use Rattle.hx_slot.specs.Tabled.{AscendByRegion, marks_over, touches_over}
@@ -42,17 +42,17 @@ mark-over_at m marks i x y l e f s n p =
         ∙ ap (λ (z : Mark). z ∷ drop (i + 1) marks) (cond-false (ltb m.number x.number) _ _ (le-ltb m.number x.number l))
 
 -- the touches of one update more
-pub touches_over-more : (line : List Taken) (i : ℕ) (t : Taken) (old new : List Touch) (places : List Place) → i < length line → t ≡ get_or line i t → places ≡ t.update.places → new ≡ with_touches t.update.version places old → touches_over new (drop (i + 1) line) ≡ touches_over old (drop i line)
+pub touches_over-more : (line : List AcceptedUpdate) (i : ℕ) (t : AcceptedUpdate) (old new : List Touch) (places : List Place) → i < length line → t ≡ get_or line i t → places ≡ t.update.places → new ≡ with_touches t.update.version places old → touches_over new (drop (i + 1) line) ≡ touches_over old (drop i line)
 touches_over-more line i t old new places l e p n =
     ap (λ (ts : List Touch). touches_over ts (drop (i + 1) line)) (n ∙ ap (λ (ps : List Place). with_touches t.update.version ps old) p)
-    ∙ ap (λ (x : Taken). touches_over (with_touches x.update.version x.update.places old) (drop (i + 1) line)) e
+    ∙ ap (λ (x : AcceptedUpdate). touches_over (with_touches x.update.version x.update.places old) (drop (i + 1) line)) e
     ∙ sym (at_drop_more (touches_over old) line i t l)
 
-pub marks_after-over : (base : List Mark) (o : List Update) (ts : List Taken) → marks_after base (newest_first o ts) ≡ marks_over (marks_after base o) ts
+pub marks_after-over : (base : List Mark) (o : List Update) (ts : List AcceptedUpdate) → marks_after base (newest_first o ts) ≡ marks_over (marks_after base o) ts
 marks_after-over base o [] = refl
 marks_after-over base o (t ∷ rest) = marks_after-over base (t.update ∷ o) rest
 
-pub touches_after-over : (base : List Touch) (o : List Update) (ts : List Taken) → touches_after base (newest_first o ts) ≡ touches_over (touches_after base o) ts
+pub touches_after-over : (base : List Touch) (o : List Update) (ts : List AcceptedUpdate) → touches_after base (newest_first o ts) ≡ touches_over (touches_after base o) ts
 touches_after-over base o [] = refl
 touches_after-over base o (t ∷ rest) = touches_after-over base (t.update ∷ o) rest
 
@@ -75,13 +75,13 @@ row_of-upto v u l = by u.object
     by None = tt
     by (Some object) = l
 
-row_by-upto : (v : ℕ) (t : Taken) (row : Option Row) → t.update.version.0 ≤ v → IsRowUpTo v row → IsRowUpTo v (row_by t row)
+row_by-upto : (v : ℕ) (t : AcceptedUpdate) (row : Option Row) → t.update.version.0 ≤ v → IsRowUpTo v row → IsRowUpTo v (row_by t row)
 row_by-upto v t row l h =
     cond_both t.place.keeps (cond t.update.changes (row_of t.update) row) None (IsRowUpTo v)
     (λ e. cond_both t.update.changes (row_of t.update) row (IsRowUpTo v) (λ q. row_of-upto v t.update l) (λ q. h))
     (λ e. tt)
 
-row_over-upto : (v w : ℕ) (row : Option Row) (ts : List Taken) → Ascends w ts → last_version w ts ≤ v → IsRowUpTo v row → IsRowUpTo v (row_over row ts)
+row_over-upto : (v w : ℕ) (row : Option Row) (ts : List AcceptedUpdate) → Ascends w ts → last_version w ts ≤ v → IsRowUpTo v row → IsRowUpTo v (row_over row ts)
 row_over-upto v w row [] a l h = h
 row_over-upto v w row (t ∷ rest) a l h =
     let b = last_version-above t.update.version.0 rest a.1 in

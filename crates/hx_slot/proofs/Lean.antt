@@ -15,18 +15,18 @@ use Rattle.hx_types.specs.declared.snapshots.Touch.{Touch}
 use Rattle.hx_types.specs.declared.updates.Update.{Update}
 use Rattle.hx_types.specs.Words.{provided}
 use Rattle.hx_model.specs.Places.{touched_in}
-use Rattle.hx_model.specs.Slots.{Acknowledge, Commit, Forget, Hold, KeyState, Move, Take, ack_answer, acknowledged, commits, is_pending, kept_of, kept_row, latest_of, mark_among, mark_of, marks_after, moved, moved_all, object_in, object_of, other_version, pending_of, settled, state_of_kept, top_above, top_of, touches_after, touches_of, upto}
+use Rattle.hx_model.specs.Slots.{Acknowledge, Commit, Forget, Hold, KeyState, Move, Take, ack_answer, acknowledged, commits, is_pending, kept_of, kept_row, latest_of, mark_among, mark_of, marks_after, moved, moved_all, object_in, object_of, other_version, pending_of, settled, state_of_kept, top_above, top_of, touches_after, touches_of, upto, waits_below}
 use Rattle.hx_folds.specs.Folding.{Descends, IsSlotOf, ShowSame, above, folded}
 use Rattle.hx_types.specs.declared.outcomes.Acked.TheVariants as an_ack
 use Rattle.hx_folds.proofs.Folds.{folded-twice, kept-folded, mark-folded, object-folded, pending-folded, top-folded, touches-folded}
 use Rattle.hx_folds.proofs.Shown.{acknowledged-settled, alike-folded, alike-show, settled-same}
 use Rattle.hx_folds.proofs.Slots.{alike-moved_all, settled-fit, slot-folded, AllFit}
-use Rattle.hx_slot.specs.declared.entries.Placed.{Placed}
-use Rattle.hx_slot.specs.declared.entries.Taken.{Taken}
+use Rattle.hx_slot.specs.declared.updates.PlacedUpdate.{PlacedUpdate}
+use Rattle.hx_slot.specs.declared.updates.AcceptedUpdate.{AcceptedUpdate}
 use Rattle.hx_slot.specs.declared.slots.Slot.TheInside.{Inside}
 use Rattle.hx_slot.specs.declared.tables.Tables.{Tables}
-use Rattle.hx_slot.specs.Acks.{AreSameEntries, front_acked, front_with, is_of_version}
-use Rattle.hx_slot.specs.Entries.{Ascends, last_version, newest_first, row_over}
+use Rattle.hx_slot.specs.Acks.{AreSameUpdates, front_acked, front_with, is_of_version, is_waiting_below}
+use Rattle.hx_slot.specs.Updates.{Ascends, last_version, newest_first, row_over}
 use Rattle.hx_slot.specs.Invariant.{IsSlot, pending_in, seen, updates_of, versions_of, whole}
 use Rattle.hx_slot.specs.States.{IsOrderly, call_at}
 use Rattle.hx_slot.specs.Tabled.{mark_found, marks_over, newer_of, touch_among, touches_over}
@@ -42,7 +42,7 @@ use Rattle.hx_slot.proofs.Settling as settling
 use Rattle.hx_slot.proofs.Turns.{later-held}
 
 -- a slot's line is one of a slot
-descends-newest : (b w : ℕ) (o : List Update) (ts : List Taken) → Descends b o → top_above b o ≤ w → Ascends w ts → Descends b (newest_first o ts)
+descends-newest : (b w : ℕ) (o : List Update) (ts : List AcceptedUpdate) → Descends b o → top_above b o ≤ w → Ascends w ts → Descends b (newest_first o ts)
 descends-newest b w o [] h l a = h
 descends-newest b w o (t ∷ rest) h l a = let n = a.0 in descends-newest b t.update.version.0 (t.update ∷ o) rest (omega (arith, l, n), h) (omega arith) a.1
 
@@ -145,6 +145,9 @@ would-count a h v =
 pub pending-version : (a : Inside) → IsSlot a → (v : ℕ) → list_any (is_of_version v) (pending_in a) ≡ is_pending v (seen a).state
 pending-version a h v = settling.pending-version a h v ∙ sym (ap (list_any (λ (u : Update). eqb u.version.0 v)) (shown a h).pending)
 
+pub waits-seen : (a : Inside) → IsSlot a → (v : ℕ) → list_any (is_waiting_below v) (pending_in a) ≡ waits_below (seen a).state.acked v (pending_of (seen a).state)
+waits-seen a h v = settling.waits-any (versions_of a.acked.items) v (pending_in a) h.acked.marked ∙ ap (waits_below (versions_of a.acked.items) v) (pending-seen a h)
+
 -- what is settled is committed, and goes into the base
 pub settled-state : (a : Inside) (n : ℕ) (floor : Version) (acked : Vec Version Global) → IsSlot a → n ≡ front_acked (pending_in a) → floor.0 ≡ last_version a.floor.0 (take n (pending_in a))
     → acked.items ≡ filter (λ (v : Version). ltb floor.0 v.0) a.acked.items
@@ -160,17 +163,17 @@ settled-state a n floor acked h e f items =
     ∙ ap (λ (ms : List Move). folded a.region (moved_all ms (whole a).state)) same
     )
 
-pub acknowledged-state : (a : Inside) (i : ℕ) (t : Taken) (accepted : Vec Taken Global) (acked : Vec Version Global) → i < length (pending_in a) → t ≡ get_or (pending_in a) i t
+pub acknowledged-state : (a : Inside) (i : ℕ) (t : AcceptedUpdate) (accepted : Vec AcceptedUpdate Global) (acked : Vec Version Global) → i < length (pending_in a) → t ≡ get_or (pending_in a) i t
     → accepted.items ≡ set a.accepted.items (a.committed + i) (record t { acknowledged = true }) → versions_of acked.items ≡ with_ack t.update.version.0 (versions_of a.acked.items)
     → (seen (record a { accepted = accepted; acked = acked })).state ≡ moved (Acknowledge t.update.version.0) (seen a).state
 acknowledged-state a i t accepted acked l e items acks = ap (folded a.region) (settling.acknowledged-state a i t accepted acked l e items acks)
 
-pub forgotten-state : (a : Inside) (accepted : Vec Taken Global) (acked : Vec Version Global) (early : Vec Placed Global) → AreSameEntries a.accepted.items accepted.items → acked.items ≡ [] → early.items ≡ []
+pub forgotten-state : (a : Inside) (accepted : Vec AcceptedUpdate Global) (acked : Vec Version Global) (early : Vec PlacedUpdate Global) → AreSameUpdates a.accepted.items accepted.items → acked.items ≡ [] → early.items ≡ []
     → (seen (record a { accepted = accepted; acked = acked; early = early })).state ≡ moved Forget (seen a).state
 forgotten-state a accepted acked early same none_acked none_early = ap (folded a.region) (settling.forgotten-state a accepted acked early same none_acked none_early)
 
-pub renewed-state : (a : Inside) (base : Kept) (accepted : Vec Taken Global) (acked : Vec Version Global) (early : Vec Placed Global) (tables : Tables) → base ≡ a.base
-    → AreSameEntries a.accepted.items accepted.items → acked.items ≡ [] → early.items ≡ []
+pub renewed-state : (a : Inside) (base : Kept) (accepted : Vec AcceptedUpdate Global) (acked : Vec Version Global) (early : Vec PlacedUpdate Global) (tables : Tables) → base ≡ a.base
+    → AreSameUpdates a.accepted.items accepted.items → acked.items ≡ [] → early.items ≡ []
     → (seen (record a { base = base; accepted = accepted; acked = acked; early = early; tables = tables; spare = 0 })).state ≡ moved Forget (seen a).state
 renewed-state a base accepted acked early tables same_base same none_acked none_early = ap (folded a.region) (renewing.renewed-state a base accepted acked early tables same_base same none_acked none_early)
 
@@ -188,17 +191,17 @@ take-folded g s u l =
       early = (moved (Take u) s).early;
     }
 
-pub accepted-state : (a : Inside) (t : Taken) (accepted : Vec Taken Global) (early : Vec Placed Global) (tables : Tables) (spare : ℕ) → a.floor.0 < t.update.version.0
-    → accepted.items ≡ a.accepted.items ++ t ∷ [] → early.items ≡ filter (λ (p : Placed). not (eqb p.update.version.0 t.update.version.0)) a.early.items
+pub accepted-state : (a : Inside) (t : AcceptedUpdate) (accepted : Vec AcceptedUpdate Global) (early : Vec PlacedUpdate Global) (tables : Tables) (spare : ℕ) → a.floor.0 < t.update.version.0
+    → accepted.items ≡ a.accepted.items ++ t ∷ [] → early.items ≡ filter (λ (p : PlacedUpdate). not (eqb p.update.version.0 t.update.version.0)) a.early.items
     → (seen (record a { accepted = accepted; early = early; tables = tables; spare = spare })).state ≡ moved (Take t.update) (seen a).state
 accepted-state a t accepted early tables spare above items kept =
     ap (folded a.region) (accepting.accepted-state a t accepted early tables spare items kept) ∙ take-folded a.region (whole a).state t.update above
 
-pub held-state : (a : Inside) (p : Placed) (early : Vec Placed Global) (spare : ℕ) → early.items ≡ filter (λ (q : Placed). not (eqb q.update.version.0 p.update.version.0)) a.early.items ++ p ∷ []
+pub held-state : (a : Inside) (p : PlacedUpdate) (early : Vec PlacedUpdate Global) (spare : ℕ) → early.items ≡ filter (λ (q : PlacedUpdate). not (eqb q.update.version.0 p.update.version.0)) a.early.items ++ p ∷ []
     → (seen (record a { early = early; spare = spare })).state ≡ moved (Hold p.update) (seen a).state
 held-state a p early spare items = ap (folded a.region) (accepting.held-state a p early spare items)
 
-pub removed-state : (a : Inside) (i : ℕ) (p : Placed) (early : Vec Placed Global) (spare : ℕ) → i < length a.early.items → p ≡ get_or a.early.items i p → early.items ≡ remove a.early.items i
+pub removed-state : (a : Inside) (i : ℕ) (p : PlacedUpdate) (early : Vec PlacedUpdate Global) (spare : ℕ) → i < length a.early.items → p ≡ get_or a.early.items i p → early.items ≡ remove a.early.items i
     → moved (Take p.update) (seen (record a { early = early; spare = spare })).state ≡ moved (Take p.update) (seen a).state
 removed-state a i p early spare l e items =
     let old = accepting.removed-state a i p early spare l e items in
@@ -206,18 +209,26 @@ removed-state a i p early spare l e items =
 
 -- an acknowledgement of what isn't pending changes nothing
 pub ack-none : (g : RegionId) (s : KeyState) (v : ℕ) → folded g s ≡ s → is_pending v s ≡ false → s ≡ folded g (moved_all (acknowledged s v) s)
-ack-none g s v bare e = sym bare ∙ ap (λ (ms : List Move). folded g (moved_all ms s)) (sym (ap (λ b. provided b (Acknowledge v ∷ settled (moved (Acknowledge v) s))) e))
+ack-none g s v bare e = sym bare ∙ ap (λ (ms : List Move). folded g (moved_all ms s)) (sym (ap (λ b. provided b (Acknowledge v ∷ provided (not (waits_below s.acked v (pending_of s))) (settled (moved (Acknowledge v) s)))) e))
 
--- and one of what is pending commits what can be
-pub ack-some : (g h : RegionId) (s m new : KeyState) (v : ℕ) → is_pending v s ≡ true → m ≡ moved (Acknowledge v) s → h ≡ g → new ≡ folded h (moved_all (settled m) m) → new ≡ folded g (moved_all (acknowledged s v) s)
-ack-some g h s m new v e q r n =
+-- one behind a lower update that waits commits nothing
+pub ack-waiting : (g : RegionId) (s new : KeyState) (v : ℕ) → folded g s ≡ s → is_pending v s ≡ true → waits_below s.acked v (pending_of s) ≡ true → new ≡ moved (Acknowledge v) s → new ≡ folded g (moved_all (acknowledged s v) s)
+ack-waiting g s new v bare e w n =
+    n ∙ ap (moved (Acknowledge v)) (sym bare)
+    ∙ ap (λ (ms : List Move). folded g (moved_all ms s))
+    (
+    sym (ap (λ b. provided b (Acknowledge v ∷ provided (not (waits_below s.acked v (pending_of s))) (settled (moved (Acknowledge v) s)))) e ∙ ap (λ b. Acknowledge v ∷ provided (not b) (settled (moved (Acknowledge v) s))) w)
+    )
+
+-- and any other of what is pending commits what can be
+pub ack-settling : (g h : RegionId) (s m new : KeyState) (v : ℕ) → is_pending v s ≡ true → waits_below s.acked v (pending_of s) ≡ false → m ≡ moved (Acknowledge v) s → h ≡ g → new ≡ folded h (moved_all (settled m) m)
+    → new ≡ folded g (moved_all (acknowledged s v) s)
+ack-settling g h s m new v e w q r n =
     n ∙ (λ j. folded (r j) (moved_all (settled (q j)) (q j)))
-    ∙ ap (λ (ms : List Move). folded g (moved_all ms s)) (sym (ap (λ b. provided b (Acknowledge v ∷ settled (moved (Acknowledge v) s))) e))
-
-pub answer-some : (s m : KeyState) (v n : ℕ) → is_pending v s ≡ true → m ≡ moved (Acknowledge v) s → n ≡ length (settled m) → cond (eqb n 0) an_ack.Kept (an_ack.Committed n) ≡ ack_answer s v
-answer-some s m v n e q r =
-    (let k = r ∙ ap (λ (x : KeyState). length (settled x)) q in λ j. cond (eqb (k j) 0) an_ack.Kept (an_ack.Committed (k j)))
-    ∙ sym (cond-false (not (is_pending v s)) _ _ (ap not e))
+    ∙ ap (λ (ms : List Move). folded g (moved_all ms s))
+    (
+    sym (ap (λ b. provided b (Acknowledge v ∷ provided (not (waits_below s.acked v (pending_of s))) (settled (moved (Acknowledge v) s)))) e ∙ ap (λ b. Acknowledge v ∷ provided (not b) (settled (moved (Acknowledge v) s))) w)
+    )
 
 -- what contracts see has no past
 pub seen-bare : (a : Inside) → folded a.region (seen a).state ≡ (seen a).state

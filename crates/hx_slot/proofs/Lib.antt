@@ -7,7 +7,7 @@ pub mod Noting
 pub mod Accepting
 pub mod Acking
 pub mod Settling
-pub mod SameEntries
+pub mod SameUpdates
 pub mod Refitting
 pub mod Reading
 pub mod Turns
@@ -16,3 +16,4 @@ pub mod Carrying
 pub mod Orderly
 pub mod Renewed
 pub mod Lean
+pub mod Standing

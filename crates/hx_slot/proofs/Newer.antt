@@ -11,25 +11,25 @@ use Rattle.hx_types.specs.declared.updates.Update.{Update}
 use Rattle.hx_types.specs.Spaces.{IsAscending}
 use Rattle.hx_types.specs.Words.{same_session, when_some}
 use Rattle.hx_model.specs.Slots.{mark_among, mark_by, marks_after, with_mark}
-use Rattle.hx_slot.specs.declared.entries.Taken.{Taken}
+use Rattle.hx_slot.specs.declared.updates.AcceptedUpdate.{AcceptedUpdate}
 use Rattle.hx_slot.specs.Tabled.{AreMarks, mark_at, mark_found, newer_of}
 use Rattle.hx_slot.proofs.Regions.{UpdatesUpTo}
 
 -- what has a mark stands in the line
-within : (line : List Taken) (i : ℕ) (m : Mark) → mark_at line i ≡ Some m → i < length line
+within : (line : List AcceptedUpdate) (i : ℕ) (m : Mark) → mark_at line i ≡ Some m → i < length line
 within line i m e = elim (cases_lt i (length line)) [
   | inl l ↦ l
-  | inr l ↦ (let n : mark_at line i ≡ None = ap (λ (o : Option Taken). option_map (λ (t : Taken). mark_by t.update) o) (slice_get_past line i l) in absurd (cc))
+  | inr l ↦ (let n : mark_at line i ≡ None = ap (λ (o : Option AcceptedUpdate). option_map (λ (t : AcceptedUpdate). mark_by t.update) o) (slice_get_past line i l) in absurd (cc))
 ]
 
-pub numbers-known : (line : List Taken) (numbers : List ℕ) (marks : List Mark) → AreMarks line numbers marks → All (λ k. k < length line) numbers
+pub numbers-known : (line : List AcceptedUpdate) (numbers : List ℕ) (marks : List Mark) → AreMarks line numbers marks → All (λ k. k < length line) numbers
 numbers-known line [] [] h = All-nil (λ k. k < length line)
 numbers-known line [] (m ∷ marks) h = absurd h
 numbers-known line (i ∷ numbers) [] h = absurd h
 numbers-known line (i ∷ numbers) (m ∷ marks) h = All-cons (λ k. k < length line) i numbers (within line i m h.0) (numbers-known line numbers marks h.1)
 
 -- the mark that is found by the numbers
-pub found-among : (session : SessionId) (line : List Taken) (numbers : List ℕ) (marks : List Mark) → AreMarks line numbers marks → mark_found session line numbers ≡ mark_among session marks
+pub found-among : (session : SessionId) (line : List AcceptedUpdate) (numbers : List ℕ) (marks : List Mark) → AreMarks line numbers marks → mark_found session line numbers ≡ mark_among session marks
 found-among session line [] [] h = refl
 found-among session line [] (m ∷ marks) h = absurd h
 found-among session line (i ∷ numbers) [] h = absurd h

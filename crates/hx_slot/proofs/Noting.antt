@@ -5,9 +5,9 @@ use Rattle.hx_types.specs.declared.snapshots.Mark.{Mark}
 use Rattle.hx_types.specs.declared.updates.Update.{Update}
 use Rattle.hx_types.specs.Words.{same_session, when_some}
 use Rattle.hx_model.specs.Slots.{mark_by, marks_after, touches_after, with_mark, with_touches}
-use Rattle.hx_slot.specs.declared.entries.Taken.{Taken}
+use Rattle.hx_slot.specs.declared.updates.AcceptedUpdate.{AcceptedUpdate}
 use Rattle.hx_slot.specs.declared.tables.Tables.{Tables}
-use Rattle.hx_slot.specs.Entries.{newest_first}
+use Rattle.hx_slot.specs.Updates.{newest_first}
 use Rattle.hx_slot.specs.Tabled.{AreMarks, AreTables, AscendByRegion, mark_at, with_number}
 use Rattle.hx_slot.proofs.Newest.{newest_first-append}
 use Rattle.hx_slot.proofs.Regions.{touches_after-ascends}
@@ -23,14 +23,14 @@ slice_get-last [] x = refl
 slice_get-last (y ∷ xs) x = slice_get-last xs x
 
 -- a mark in the line is that of the same number in a longer line
-mark_at-longer : (line more : List Taken) (i : ℕ) (m : Mark) → mark_at line i ≡ Some m → mark_at (line ++ more) i ≡ Some m
+mark_at-longer : (line more : List AcceptedUpdate) (i : ℕ) (m : Mark) → mark_at line i ≡ Some m → mark_at (line ++ more) i ≡ Some m
 mark_at-longer line more i m = by (slice_get line i) refl
   where
-    by : (o : Option Taken) → slice_get line i ≡ o → option_map (λ (t : Taken). mark_by t.update) o ≡ Some m → mark_at (line ++ more) i ≡ Some m
+    by : (o : Option AcceptedUpdate) → slice_get line i ≡ o → option_map (λ (t : AcceptedUpdate). mark_by t.update) o ≡ Some m → mark_at (line ++ more) i ≡ Some m
     by None e h = absurd (cc)
-    by (Some t) e h = ap (λ (o : Option Taken). option_map (λ (t : Taken). mark_by t.update) o) (slice_get-longer line more i t e) ∙ h
+    by (Some t) e h = ap (λ (o : Option AcceptedUpdate). option_map (λ (t : AcceptedUpdate). mark_by t.update) o) (slice_get-longer line more i t e) ∙ h
 
-AreMarks-longer : (line more : List Taken) (numbers : List ℕ) (marks : List Mark) → AreMarks line numbers marks → AreMarks (line ++ more) numbers marks
+AreMarks-longer : (line more : List AcceptedUpdate) (numbers : List ℕ) (marks : List Mark) → AreMarks line numbers marks → AreMarks (line ++ more) numbers marks
 AreMarks-longer line more [] [] h = tt
 AreMarks-longer line more [] (m ∷ marks) h = h
 AreMarks-longer line more (i ∷ numbers) [] h = h
@@ -42,7 +42,7 @@ chosen R true x y z w p q = p
 chosen R false x y z w p q = q
 
 -- the number of a further update stands where its mark does
-marks-noted : (line : List Taken) (t : Taken) (k : ℕ) (numbers : List ℕ) (marks : List Mark) → mark_at (line ++ t ∷ []) k ≡ Some (mark_by t.update) → AreMarks line numbers marks
+marks-noted : (line : List AcceptedUpdate) (t : AcceptedUpdate) (k : ℕ) (numbers : List ℕ) (marks : List Mark) → mark_at (line ++ t ∷ []) k ≡ Some (mark_by t.update) → AreMarks line numbers marks
     → AreMarks (line ++ t ∷ []) (with_number line k (mark_by t.update) numbers) (with_mark (mark_by t.update) marks)
 marks-noted line t k [] [] e h = (e, tt)
 marks-noted line t k [] (m ∷ marks) e h = absurd h
@@ -63,10 +63,10 @@ marks-noted line t k (i ∷ numbers) (x ∷ marks) e h =
     )
 
 -- the tables of a line with an update more
-pub noted : (line : List Taken) (t : Taken) (old new : Tables) → AreTables line old → new.newest.items ≡ with_number line (length line) (mark_by t.update) old.newest.items → new.touches.items ≡ with_touches t.update.version t.update.places old.touches.items → AreTables (line ++ t ∷ []) new
+pub noted : (line : List AcceptedUpdate) (t : AcceptedUpdate) (old new : Tables) → AreTables line old → new.newest.items ≡ with_number line (length line) (mark_by t.update) old.newest.items → new.touches.items ≡ with_touches t.update.version t.update.places old.touches.items → AreTables (line ++ t ∷ []) new
 noted line t old new h e f =
     let more = newest_first-append [] line (t ∷ []) in
-    let at = ap (λ (o : Option Taken). option_map (λ (x : Taken). mark_by x.update) o) (slice_get-last line t) in
+    let at = ap (λ (o : Option AcceptedUpdate). option_map (λ (x : AcceptedUpdate). mark_by x.update) o) (slice_get-last line t) in
     record {
       marks = subst (λ (numbers : List ℕ). AreMarks (line ++ t ∷ []) numbers (marks_after [] (newest_first [] (line ++ t ∷ [])))) (sym e)
           (
@@ -76,5 +76,5 @@ noted line t old new h e f =
       touches = f ∙ ap (with_touches t.update.version t.update.places) h.touches ∙ ap (touches_after []) (sym more);
     }
 
-pub touches-ascend : (line : List Taken) (tables : Tables) → AreTables line tables → AscendByRegion tables.touches.items
+pub touches-ascend : (line : List AcceptedUpdate) (tables : Tables) → AreTables line tables → AscendByRegion tables.touches.items
 touches-ascend line tables h = subst AscendByRegion (sym h.touches) (touches_after-ascends [] (newest_first [] line) tt)

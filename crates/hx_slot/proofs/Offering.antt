@@ -10,7 +10,7 @@ use Rattle.hx_types.specs.declared.updates.Update.{Update}
 use Rattle.hx_types.specs.Words.{same_region, when_some}
 use Rattle.hx_model.specs.Neighbours.{place_number}
 use Rattle.hx_model.specs.Slots.{Hold, KeyState, Move, Take, follows, moved, offer_answer, offered, place_in, taken, top_of, turns}
-use Rattle.hx_slot.specs.Entries.{IsHeld}
+use Rattle.hx_slot.specs.Updates.{IsHeld}
 use Rattle.hx_slot.specs.States.{IsLater}
 use Rattle.hx_slot.proofs.Turns.{turns-later}
 
@@ -32,6 +32,9 @@ follows-at g v u p e = ap (λ (o : Option Place). when_some (option_map (λ (q :
 -- an update up to the top is known
 pub offer-known : (g : RegionId) (s : KeyState) (u : Update) → u.version.0 ≤ top_of s → offer_answer g s u ≡ Known
 offer-known g s u l = cond-true (leb u.version.0 (top_of s)) _ _ (le-leb u.version.0 (top_of s) l)
+
+pub offered-known : (g : RegionId) (s : KeyState) (u : Update) → u.version.0 ≤ top_of s → offered g s u ≡ []
+offered-known g s u l = cond-true (leb u.version.0 (top_of s)) _ _ (le-leb u.version.0 (top_of s) l)
 
 -- one that doesn't follow is early
 pub offered-early : (g : RegionId) (s : KeyState) (u : Update) → top_of s < u.version.0 → follows g (top_of s) u ≡ false → offered g s u ≡ Hold u ∷ []

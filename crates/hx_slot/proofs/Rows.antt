@@ -3,36 +3,36 @@ use Rattle.std.proofs.Common.{◌≡◌, ℕ, ◌-◌, suc, true, false, List, [
 use Rattle.std.proofs.lemmas.Bool.{cond-true, cond-false}
 use Rattle.hx_types.specs.declared.calls.Row.{Row}
 use Rattle.hx_model.specs.Slots.{row_of}
-use Rattle.hx_slot.specs.declared.entries.Taken.{Taken}
-use Rattle.hx_slot.specs.Entries.{last_version, row_by, row_over}
+use Rattle.hx_slot.specs.declared.updates.AcceptedUpdate.{AcceptedUpdate}
+use Rattle.hx_slot.specs.Updates.{last_version, row_by, row_over}
 
 -- the version of the last update of a list that has one
-pub last_version-last : (v : ℕ) (ts : List Taken) (t : Taken) → slice_get ts (length ts - 1) ≡ Some t → t.update.version.0 ≡ last_version v ts
+pub last_version-last : (v : ℕ) (ts : List AcceptedUpdate) (t : AcceptedUpdate) → slice_get ts (length ts - 1) ≡ Some t → t.update.version.0 ≡ last_version v ts
 last_version-last v [] t e = absurd (cc)
-last_version-last v (x ∷ []) t e = let s : t ≡ x = cc in ap (λ (y : Taken). y.update.version.0) s
+last_version-last v (x ∷ []) t e = let s : t ≡ x = cc in ap (λ (y : AcceptedUpdate). y.update.version.0) s
 last_version-last v (x ∷ (y ∷ ys)) t e =
     let a : suc (suc (length ys)) - 1 ≡ suc (length ys) = omega arith in
     let b : suc (length ys) - 1 ≡ length ys = omega arith in
     last_version-last x.update.version.0 (y ∷ ys) t (ap (slice_get (y ∷ ys)) b ∙ sym (ap (slice_get (x ∷ (y ∷ ys))) a) ∙ e)
 
 -- one update more
-pub last_version_push : (v : ℕ) (ts : List Taken) (t : Taken) → last_version v (ts ++ t ∷ []) ≡ t.update.version.0
+pub last_version_push : (v : ℕ) (ts : List AcceptedUpdate) (t : AcceptedUpdate) → last_version v (ts ++ t ∷ []) ≡ t.update.version.0
 last_version_push v [] t = refl
 last_version_push v (x ∷ ts) t = last_version_push x.update.version.0 ts t
 
-pub row_over_push : (row : Option Row) (ts : List Taken) (t : Taken) → row_over row (ts ++ t ∷ []) ≡ row_by t (row_over row ts)
+pub row_over_push : (row : Option Row) (ts : List AcceptedUpdate) (t : AcceptedUpdate) → row_over row (ts ++ t ∷ []) ≡ row_by t (row_over row ts)
 row_over_push row [] t = refl
 row_over_push row (x ∷ ts) t = row_over_push (row_by x row) ts t
 
 -- an update that doesn't keep removes the row, one that changes sets it, and another leaves it
-pub removed : (row : Option Row) (rest older : List Taken) (t : Taken) → rest ≡ older ++ t ∷ [] → t.place.keeps ≡ false → None ≡ row_over row rest
+pub removed : (row : Option Row) (rest older : List AcceptedUpdate) (t : AcceptedUpdate) → rest ≡ older ++ t ∷ [] → t.place.keeps ≡ false → None ≡ row_over row rest
 removed row rest older t e k =
     sym (ap (row_over row) e ∙ row_over_push row older t ∙ cond-false t.place.keeps _ _ k)
 
-pub is_set : (row : Option Row) (rest older : List Taken) (t : Taken) → rest ≡ older ++ t ∷ [] → t.place.keeps ≡ true → t.update.changes ≡ true → row_of t.update ≡ row_over row rest
+pub is_set : (row : Option Row) (rest older : List AcceptedUpdate) (t : AcceptedUpdate) → rest ≡ older ++ t ∷ [] → t.place.keeps ≡ true → t.update.changes ≡ true → row_of t.update ≡ row_over row rest
 is_set row rest older t e k h =
     sym (ap (row_over row) e ∙ row_over_push row older t ∙ cond-true t.place.keeps _ _ k ∙ cond-true t.update.changes _ _ h)
 
-pub is_left : (row : Option Row) (rest older : List Taken) (t : Taken) → rest ≡ older ++ t ∷ [] → t.place.keeps ≡ true → t.update.changes ≡ false → row_over row older ≡ row_over row rest
+pub is_left : (row : Option Row) (rest older : List AcceptedUpdate) (t : AcceptedUpdate) → rest ≡ older ++ t ∷ [] → t.place.keeps ≡ true → t.update.changes ≡ false → row_over row older ≡ row_over row rest
 is_left row rest older t e k h =
     sym (ap (row_over row) e ∙ row_over_push row older t ∙ cond-true t.place.keeps _ _ k ∙ cond-false t.update.changes _ _ h)

@@ -1,5 +1,5 @@
 -- A slot after acknowledgements.
-use Rattle.std.proofs.Common.{◌≡◌, ℕ, zero, suc, ◌+◌, ◌<◌, ◌≤◌, Bool, true, false, not, List, [], ◌∷◌, Vec, length, take, drop, set, get_or, Some, vec_capacity, vec_len, refl, ap, sym, ◌∙◌, subst, arith, cond, eqb, ltb}
+use Rattle.std.proofs.Common.{◌≡◌, ℕ, zero, suc, ◌+◌, ◌<◌, ◌≤◌, Bool, true, false, not, ◌&&◌, ◌||◌, List, map, [], ◌∷◌, Vec, length, take, drop, set, get_or, Some, vec_capacity, vec_len, refl, ap, sym, ◌∙◌, subst, arith, cond, eqb, ltb}
 use Rattle.std.specs.List.{AllByRecursion, AllWithin, filter, list_any, position}
 use Rattle.std.specs.declared.alloc.Global.{Global}
 use Rattle.std.proofs.lemmas.Bool.{cond_both, cond-false, cond-true, eqb-true}
@@ -7,22 +7,20 @@ use Rattle.std.proofs.lemmas.List.Quantifiers.{position-Some}
 use Rattle.std.proofs.Math.Seq.{take-add}
 use Rattle.std.proofs.lemmas.List.{drop-drop, drop-set-add, get_or-drop, length-drop, length-map}
 use Rattle.hx_types.specs.declared.ids.Version.{Version}
-use Rattle.hx_types.specs.declared.outcomes.Acked.{Acked}
 use Rattle.hx_types.specs.declared.outcomes.Acked.TheVariants as an_ack
 use Rattle.hx_types.specs.declared.updates.Update.{Update}
-use Rattle.hx_model.specs.Slots.{Acknowledge, Forget, KeyState, Move, ack_answer, commits, is_pending, moved, moved_all, settled}
-use Rattle.hx_slot.specs.declared.entries.Placed.{Placed}
-use Rattle.hx_slot.specs.declared.entries.Taken.{Taken}
+use Rattle.hx_model.specs.Slots.{Acknowledge, Forget, KeyState, Move, ack_answer, commits, is_pending, moved, moved_all, pending_of, settled, waits_below}
+use Rattle.hx_slot.specs.declared.updates.PlacedUpdate.{PlacedUpdate}
+use Rattle.hx_slot.specs.declared.updates.AcceptedUpdate.{AcceptedUpdate}
 use Rattle.hx_slot.specs.declared.slots.Slot.TheInside.{Inside}
-use Rattle.hx_slot.specs.Acks.{AreAcked, AreSameEntries, count_unacked, front_acked, front_with, is_of_version}
-use Rattle.hx_slot.specs.Entries.{IsHeld, last_version, newest_first}
+use Rattle.hx_slot.specs.Acks.{AreAcked, AreSameUpdates, count_unacked, front_acked, front_with, is_of_version, is_waiting_below}
+use Rattle.hx_slot.specs.Updates.{IsHeld, last_version, newest_first}
 use Rattle.hx_slot.specs.Invariant.{IsSlot, coming, pending_in, whole, updates_of, versions_of}
-use Rattle.hx_slot.specs.States.{committed_count}
 use Rattle.hx_slot.proofs.Acking.{acked-none, acked-settled, acked-set, commits-count, commits-front, commits-state, commits-with, commits_of, count-drop, count-set, dropped, dropped-upto, length-dropped, marked-at, pending-any, versions-filter, with_ack}
-use Rattle.hx_slot.proofs.Newest.{last_version-append, pending-ascends}
+use Rattle.hx_slot.proofs.Newest.{last_version-append, pending-ascends, update_of}
 use Rattle.hx_slot.proofs.Reading.{pending-seen}
 use Rattle.hx_slot.proofs.Refitting.{count-length}
-use Rattle.hx_slot.proofs.SameEntries.{same-line, same-newest_first, same-set, same-tables}
+use Rattle.hx_slot.proofs.SameUpdates.{same-line, same-newest_first, same-set, same-tables}
 
 -- the slot with its lowest pending updates committed
 pub settled-slot : (a : Inside) (n : ℕ) (floor : Version) (acked : Vec Version Global) → IsSlot a → n ≤ length (pending_in a) → floor.0 ≡ last_version a.floor.0 (take n (pending_in a))
@@ -83,11 +81,11 @@ pub pending-version : (a : Inside) → IsSlot a → (v : ℕ) → list_any (is_o
 pending-version a h v = sym (pending-any v (pending_in a)) ∙ ap (list_any (λ (u : Update). eqb u.version.0 v)) (pending-seen a h)
 
 -- the place of a pending update in the line
-pub pending-place : (a : Inside) → IsSlot a → (i : ℕ) (t : Taken) → i < length (pending_in a) → t ≡ get_or a.accepted.items (a.committed + i) t → t ≡ get_or (pending_in a) i t
+pub pending-place : (a : Inside) → IsSlot a → (i : ℕ) (t : AcceptedUpdate) → i < length (pending_in a) → t ≡ get_or a.accepted.items (a.committed + i) t → t ≡ get_or (pending_in a) i t
 pending-place a h i t l e = e ∙ sym (get_or-drop a.committed a.accepted.items i t)
 
 -- room for one acknowledgement more
-pub ack-room : (a : Inside) → IsSlot a → (i : ℕ) (t : Taken) (acked : Vec Version Global) → i < length (pending_in a) → t ≡ get_or (pending_in a) i t
+pub ack-room : (a : Inside) → IsSlot a → (i : ℕ) (t : AcceptedUpdate) (acked : Vec Version Global) → i < length (pending_in a) → t ≡ get_or (pending_in a) i t
     → acked.items ≡ filter (λ (v : Version). not (eqb v.0 t.update.version.0)) a.acked.items
     → (vec_len acked + 1) + (count_unacked (set (pending_in a) i (record t { acknowledged = true })) + coming a) ≤ vec_capacity a.acked
 ack-room a h i t acked l e items =
@@ -104,13 +102,13 @@ ack-room a h i t acked l e items =
     omega (arith, acks, fewer, all, count, was, one, r, ok, now)
 
 -- the slot with one version more acknowledged
-pub acknowledged-slot : (a : Inside) (i : ℕ) (t : Taken) (accepted : Vec Taken Global) (acked : Vec Version Global) → IsSlot a → i < length (pending_in a) → t ≡ get_or (pending_in a) i t
+pub acknowledged-slot : (a : Inside) (i : ℕ) (t : AcceptedUpdate) (accepted : Vec AcceptedUpdate Global) (acked : Vec Version Global) → IsSlot a → i < length (pending_in a) → t ≡ get_or (pending_in a) i t
     → accepted.items ≡ set a.accepted.items (a.committed + i) (record t { acknowledged = true }) → vec_len accepted ≡ vec_len a.accepted → vec_capacity accepted ≡ vec_capacity a.accepted
     → versions_of acked.items ≡ with_ack t.update.version.0 (versions_of a.acked.items) → vec_len acked + count_unacked (set (pending_in a) i (record t { acknowledged = true })) + coming a ≤ vec_capacity acked → vec_capacity a.acked ≤ vec_capacity acked
     → IsSlot (record a { accepted = accepted; acked = acked })
 acknowledged-slot a i t accepted acked h l e items len capacity acks more grown =
     let size = length-drop a.committed a.accepted.items in
-    let same = subst (λ (ts : List Taken). AreSameEntries a.accepted.items ts) (sym items) (same-set a.accepted.items (a.committed + i) t true (omega (arith, size, l)) (e ∙ get_or-drop a.committed a.accepted.items i t)) in
+    let same = subst (λ (ts : List AcceptedUpdate). AreSameUpdates a.accepted.items ts) (sym items) (same-set a.accepted.items (a.committed + i) t true (omega (arith, size, l)) (e ∙ get_or-drop a.committed a.accepted.items i t)) in
     let pending = ap (drop a.committed) items ∙ drop-set-add a.committed a.accepted.items i (record t { acknowledged = true }) in
     let count = ap count_unacked pending in
     let room = h.room in
@@ -130,30 +128,30 @@ acknowledged-slot a i t accepted acked h l e items len capacity acks more grown 
       table_room = h.table_room;
     }
 
-pub acknowledged-state : (a : Inside) (i : ℕ) (t : Taken) (accepted : Vec Taken Global) (acked : Vec Version Global) → i < length (pending_in a) → t ≡ get_or (pending_in a) i t
+pub acknowledged-state : (a : Inside) (i : ℕ) (t : AcceptedUpdate) (accepted : Vec AcceptedUpdate Global) (acked : Vec Version Global) → i < length (pending_in a) → t ≡ get_or (pending_in a) i t
     → accepted.items ≡ set a.accepted.items (a.committed + i) (record t { acknowledged = true }) → versions_of acked.items ≡ with_ack t.update.version.0 (versions_of a.acked.items)
     → (whole (record a { accepted = accepted; acked = acked })).state ≡ moved (Acknowledge t.update.version.0) (whole a).state
 acknowledged-state a i t accepted acked l e items acks =
     let size = length-drop a.committed a.accepted.items in
-    let same = subst (λ (ts : List Taken). AreSameEntries a.accepted.items ts) (sym items) (same-set a.accepted.items (a.committed + i) t true (omega (arith, size, l)) (e ∙ get_or-drop a.committed a.accepted.items i t)) in
+    let same = subst (λ (ts : List AcceptedUpdate). AreSameUpdates a.accepted.items ts) (sym items) (same-set a.accepted.items (a.committed + i) t true (omega (arith, size, l)) (e ∙ get_or-drop a.committed a.accepted.items i t)) in
     let line = same-newest_first [] a.accepted.items accepted.items same in
     λ j. record { marks = a.marks; base = a.base; accepted = line j; floor = a.floor.0; acked = acks j; early = updates_of a.early.items }
 
 -- each of the rest
-each-drop : (P : Taken → Type 0) (n : ℕ) (ts : List Taken) → ((k : ℕ) (d : Taken) → n ≤ k → k < length ts → P (get_or ts k d)) → AllByRecursion P (drop n ts)
+each-drop : (P : AcceptedUpdate → Type 0) (n : ℕ) (ts : List AcceptedUpdate) → ((k : ℕ) (d : AcceptedUpdate) → n ≤ k → k < length ts → P (get_or ts k d)) → AllByRecursion P (drop n ts)
 each-drop P zero [] h = tt
 each-drop P zero (t ∷ rest) h = (h 0 t (omega arith) (omega arith), each-drop P zero rest (λ k d a b. h (suc k) d (omega arith) (omega arith)))
 each-drop P (suc n) [] h = tt
 each-drop P (suc n) (t ∷ rest) h = each-drop P n rest (λ k d a b. h (suc k) d (omega arith) (omega arith))
 
 -- the slot that forgets acknowledgements and early updates
-pub forgotten-slot : (a : Inside) (accepted : Vec Taken Global) (acked : Vec Version Global) (early : Vec Placed Global) → IsSlot a
-    → AreSameEntries a.accepted.items accepted.items → AllWithin (λ (t : Taken). t.acknowledged ≡ false) accepted.items a.committed (vec_len accepted) → vec_len accepted ≡ vec_len a.accepted → vec_capacity accepted ≡ vec_capacity a.accepted
+pub forgotten-slot : (a : Inside) (accepted : Vec AcceptedUpdate Global) (acked : Vec Version Global) (early : Vec PlacedUpdate Global) → IsSlot a
+    → AreSameUpdates a.accepted.items accepted.items → AllWithin (λ (t : AcceptedUpdate). t.acknowledged ≡ false) accepted.items a.committed (vec_len accepted) → vec_len accepted ≡ vec_len a.accepted → vec_capacity accepted ≡ vec_capacity a.accepted
     → acked.items ≡ [] → vec_len acked ≡ 0 → vec_capacity acked ≡ vec_capacity a.acked → early.items ≡ [] → vec_len early ≡ 0 → vec_capacity early ≡ vec_capacity a.early
     → IsSlot (record a { accepted = accepted; acked = acked; early = early })
 forgotten-slot a accepted acked early h same forgotten len capacity none_acked no_acks acked_capacity none_early no_early early_capacity =
     let ok = accepted.ok.0 in
-    let unmarked = each-drop (λ (t : Taken). t.acknowledged ≡ false) a.committed accepted.items (λ k d low high. forgotten k d low (omega (arith, ok, high))) in
+    let unmarked = each-drop (λ (t : AcceptedUpdate). t.acknowledged ≡ false) a.committed accepted.items (λ k d low high. forgotten k d low (omega (arith, ok, high))) in
     let size = length-drop a.committed accepted.items in
     let few = count-length (drop a.committed accepted.items) in
     let room = h.room in
@@ -176,26 +174,26 @@ forgotten-slot a accepted acked early h same forgotten len capacity none_acked n
           );
     }
 
-pub forgotten-state : (a : Inside) (accepted : Vec Taken Global) (acked : Vec Version Global) (early : Vec Placed Global) → AreSameEntries a.accepted.items accepted.items → acked.items ≡ [] → early.items ≡ []
+pub forgotten-state : (a : Inside) (accepted : Vec AcceptedUpdate Global) (acked : Vec Version Global) (early : Vec PlacedUpdate Global) → AreSameUpdates a.accepted.items accepted.items → acked.items ≡ [] → early.items ≡ []
     → (whole (record a { accepted = accepted; acked = acked; early = early })).state ≡ moved Forget (whole a).state
 forgotten-state a accepted acked early same none_acked none_early =
     let line = same-newest_first [] a.accepted.items accepted.items same in
     λ j. record { marks = a.marks; base = a.base; accepted = line j; floor = a.floor.0; acked = versions_of (none_acked j); early = updates_of (none_early j) }
 
 -- a pending update of the version, read at its place in the line
-pub record IsRead (a : Inside) (v i : ℕ) (t : Taken) : Type 0 where
+pub record IsRead (a : Inside) (v i : ℕ) (t : AcceptedUpdate) : Type 0 where
   pub within : i < length (pending_in a)
   pub read : t ≡ get_or (pending_in a) i t
   pub version : t.update.version.0 ≡ v
 
-pub read-at : (a : Inside) (v i : ℕ) (t : Taken) → position (is_of_version v) (pending_in a) ≡ Some i → t ≡ get_or a.accepted.items (a.committed + i) t → IsRead a v i t
+pub read-at : (a : Inside) (v i : ℕ) (t : AcceptedUpdate) → position (is_of_version v) (pending_in a) ≡ Some i → t ≡ get_or a.accepted.items (a.committed + i) t → IsRead a v i t
 read-at a v i t p e =
     let at = position-Some (is_of_version v) (pending_in a) i t p in
     let read = e ∙ sym (get_or-drop a.committed a.accepted.items i t) in
     record {
       within = at.0;
       read = read;
-      version = ap (λ (x : Taken). x.update.version.0) read ∙ eqb-true (get_or (pending_in a) i t).update.version.0 v at.1;
+      version = ap (λ (x : AcceptedUpdate). x.update.version.0) read ∙ eqb-true (get_or (pending_in a) i t).update.version.0 v at.1;
     }
 
 -- the acknowledged versions with one more
@@ -203,13 +201,18 @@ pub acks-with : (v t : ℕ) (old dropped new : List Version) (version : Version)
 acks-with v t old dropped new version e q d n =
     ap versions_of n ∙ ap (λ k. k ∷ versions_of dropped) e ∙ ap (λ (ns : List ℕ). v ∷ ns) (ap versions_of d ∙ versions-filter (λ k. not (eqb k v)) old) ∙ ap (λ k. with_ack k (versions_of old)) (sym q)
 
--- what an acknowledgement is answered
-pub ack-unknown : (s : KeyState) (v : ℕ) → is_pending v s ≡ false → committed_count (ack_answer s v) ≡ 0
-ack-unknown s v e = ap committed_count (cond-true (not (is_pending v s)) _ _ (ap not e))
+-- whether a lower update waits
+pub waits-any : (acked : List ℕ) (v : ℕ) (ts : List AcceptedUpdate) → AllByRecursion (λ (t : AcceptedUpdate). t.acknowledged ≡ list_any (λ w. eqb w t.update.version.0) acked) ts
+    → list_any (is_waiting_below v) ts ≡ waits_below acked v (map update_of ts)
+waits-any acked v [] h = refl
+waits-any acked v (t ∷ rest) h = λ j. (ltb t.update.version.0 v && not (h.0 j)) || waits-any acked v rest h.1 j
 
-pub ack-count : (s : KeyState) (v : ℕ) → is_pending v s ≡ true → committed_count (ack_answer s v) ≡ length (settled (moved (Acknowledge v) s))
-ack-count s v e =
-    ap committed_count (cond-false (not (is_pending v s)) _ _ (ap not e))
-    ∙ cond_both (eqb (length (settled (moved (Acknowledge v) s))) 0) an_ack.Kept (an_ack.Committed (length (settled (moved (Acknowledge v) s)))) (λ (x : Acked). committed_count x ≡ length (settled (moved (Acknowledge v) s)))
-    (λ q. sym (eqb-true (length (settled (moved (Acknowledge v) s))) 0 q))
-    (λ q. refl)
+-- what an acknowledgement is answered
+pub ack-unknown : (s : KeyState) (v : ℕ) → is_pending v s ≡ false → an_ack.Unknown ≡ ack_answer s v
+ack-unknown s v e = sym (cond-true (not (is_pending v s)) _ _ (ap not e))
+
+pub ack-kept : (s : KeyState) (v : ℕ) → is_pending v s ≡ true → waits_below s.acked v (pending_of s) ≡ true → an_ack.Kept ≡ ack_answer s v
+ack-kept s v e w = sym (cond-false (not (is_pending v s)) _ _ (ap not e) ∙ cond-true (waits_below s.acked v (pending_of s)) _ _ w)
+
+pub ack-commits : (s : KeyState) (v n : ℕ) → is_pending v s ≡ true → waits_below s.acked v (pending_of s) ≡ false → n ≡ length (settled (moved (Acknowledge v) s)) → an_ack.Committed n ≡ ack_answer s v
+ack-commits s v n e w r = ap an_ack.Committed r ∙ sym (cond-false (not (is_pending v s)) _ _ (ap not e) ∙ cond-false (waits_below s.acked v (pending_of s)) _ _ w)

@@ -10,25 +10,25 @@ use Rattle.hx_types.specs.declared.updates.Place.{Place}
 use Rattle.hx_types.specs.declared.updates.Update.{Update}
 use Rattle.hx_types.specs.Words.{when_some}
 use Rattle.hx_model.specs.Slots.{KeyState, Move, Take, after_at, follows, moved, moved_all, other_version, taken, top_of, turns}
-use Rattle.hx_slot.specs.declared.entries.Placed.{Placed}
-use Rattle.hx_slot.specs.Entries.{IsHeld}
+use Rattle.hx_slot.specs.declared.updates.PlacedUpdate.{PlacedUpdate}
+use Rattle.hx_slot.specs.Updates.{IsHeld}
 use Rattle.hx_slot.specs.Invariant.{updates_of}
 use Rattle.hx_slot.specs.States.{HasFewPlaces, IsLater, IsPlacedIn}
 use Rattle.hx_slot.proofs.Newest.{place_number-within}
 
-abbrev pub comes_after : ℕ → Placed → Bool
+abbrev pub comes_after : ℕ → PlacedUpdate → Bool
 comes_after v p = eqb p.place.after.0 v
 
 -- an early update's turn comes after the version of its place
-follows-held : (g : RegionId) (v : ℕ) (p : Placed) → IsHeld g p → follows g v p.update ≡ comes_after v p
+follows-held : (g : RegionId) (v : ℕ) (p : PlacedUpdate) → IsHeld g p → follows g v p.update ≡ comes_after v p
 follows-held g v p h = ap (λ (o : Option Place). when_some (option_map (λ (q : Place). q.after.0) o) false (λ after. eqb after v)) h.placed.place
 
 -- the first of them is found by its place
-pub find-held : (g : RegionId) (v : ℕ) (early : List Placed) → AllByRecursion (IsHeld g) early → find (follows g v) (updates_of early) ≡ option_map (λ (p : Placed). p.update) (find (comes_after v) early)
+pub find-held : (g : RegionId) (v : ℕ) (early : List PlacedUpdate) → AllByRecursion (IsHeld g) early → find (follows g v) (updates_of early) ≡ option_map (λ (p : PlacedUpdate). p.update) (find (comes_after v) early)
 find-held g v [] h = refl
 find-held g v (p ∷ rest) h =
     ap (λ b. cond b (Some p.update) (find (follows g v) (updates_of rest))) (follows-held g v p h.0)
-    ∙ cond_both (comes_after v p) (Some p) (find (comes_after v) rest) (λ (o : Option Placed). cond (comes_after v p) (Some p.update) (find (follows g v) (updates_of rest)) ≡ option_map (λ (q : Placed). q.update) o)
+    ∙ cond_both (comes_after v p) (Some p) (find (comes_after v) rest) (λ (o : Option PlacedUpdate). cond (comes_after v p) (Some p.update) (find (follows g v) (updates_of rest)) ≡ option_map (λ (q : PlacedUpdate). q.update) o)
     (λ e. cond-true (comes_after v p) _ _ e)
     (λ e. cond-false (comes_after v p) _ _ e ∙ find-held g v rest h.1)
 
@@ -60,39 +60,39 @@ find-some {A} P test (y ∷ xs) x h =
     (λ b e. find-some P test xs x h.1 e)
 
 -- the early update that is found by its place
-pub record IsTurn (g : RegionId) (v : ℕ) (early : List Placed) (i : ℕ) (p : Placed) : Type 0 where
+pub record IsTurn (g : RegionId) (v : ℕ) (early : List PlacedUpdate) (i : ℕ) (p : PlacedUpdate) : Type 0 where
   pub found : find (follows g v) (updates_of early) ≡ Some p.update
   pub within : i < length early
   pub held : IsHeld g p
   pub after : p.place.after.0 ≡ v
 
-pub turn-found : (g : RegionId) (v : ℕ) (early : List Placed) (i : ℕ) (p : Placed) → AllByRecursion (IsHeld g) early → position (comes_after v) early ≡ Some i → p ≡ get_or early i p → IsTurn g v early i p
+pub turn-found : (g : RegionId) (v : ℕ) (early : List PlacedUpdate) (i : ℕ) (p : PlacedUpdate) → AllByRecursion (IsHeld g) early → position (comes_after v) early ≡ Some i → p ≡ get_or early i p → IsTurn g v early i p
 turn-found g v early i p h e r =
     let within = found-within (comes_after v) early i e in
     let at = found-place (comes_after v) early i e ∙ slice_get_read early (length early) i p refl within r in
     let facts = find-some (IsHeld g) (comes_after v) early p h at in
     record {
-      found = find-held g v early h ∙ ap (λ (o : Option Placed). option_map (λ (q : Placed). q.update) o) at;
+      found = find-held g v early h ∙ ap (λ (o : Option PlacedUpdate). option_map (λ (q : PlacedUpdate). q.update) o) at;
       within = within;
       held = facts.0;
       after = eqb-true p.place.after.0 v facts.1;
     }
 
-pub turn-none : (g : RegionId) (v : ℕ) (early : List Placed) → AllByRecursion (IsHeld g) early → position (comes_after v) early ≡ None → find (follows g v) (updates_of early) ≡ None
-turn-none g v early h e = find-held g v early h ∙ ap (λ (o : Option Placed). option_map (λ (q : Placed). q.update) o) (no-place (comes_after v) early e)
+pub turn-none : (g : RegionId) (v : ℕ) (early : List PlacedUpdate) → AllByRecursion (IsHeld g) early → position (comes_after v) early ≡ None → find (follows g v) (updates_of early) ≡ None
+turn-none g v early h e = find-held g v early h ∙ ap (λ (o : Option PlacedUpdate). option_map (λ (q : PlacedUpdate). q.update) o) (no-place (comes_after v) early e)
 
 -- each early update's turn comes after a lower version
-pub later-held : (g : RegionId) (early : List Placed) → AllByRecursion (IsHeld g) early → AllByRecursion (IsLater g) (updates_of early)
+pub later-held : (g : RegionId) (early : List PlacedUpdate) → AllByRecursion (IsHeld g) early → AllByRecursion (IsLater g) (updates_of early)
 later-held g [] h = tt
 later-held g (p ∷ rest) h =
     (subst (λ (o : Option ℕ). IfSome o (λ after. after < p.update.version.0)) (sym (ap (λ (o : Option Place). option_map (λ (q : Place). q.after.0) o) h.0.placed.place)) h.0.after, later-held g rest h.1)
 
 -- each has a place in the region, and few places
-pub places-held : (g : RegionId) (early : List Placed) → AllByRecursion (IsHeld g) early → AllByRecursion (IsPlacedIn g) (updates_of early)
+pub places-held : (g : RegionId) (early : List PlacedUpdate) → AllByRecursion (IsHeld g) early → AllByRecursion (IsPlacedIn g) (updates_of early)
 places-held g [] h = tt
 places-held g (p ∷ rest) h = (place_number-within g p.update.places p.place h.0.placed.place, places-held g rest h.1)
 
-pub few-held : (g : RegionId) (early : List Placed) → AllByRecursion (IsHeld g) early → AllByRecursion HasFewPlaces (updates_of early)
+pub few-held : (g : RegionId) (early : List PlacedUpdate) → AllByRecursion (IsHeld g) early → AllByRecursion HasFewPlaces (updates_of early)
 few-held g [] h = tt
 few-held g (p ∷ rest) h = (h.0.placed.few, few-held g rest h.1)
 

@@ -1,34 +1,38 @@
 -- The acknowledgements of pending updates.
-use Rattle.std.specs.Prelude.{◌≡◌, ℕ, zero, suc, ◌+◌, ⊤, Bool, true, ◌||◌, List, [], ◌∷◌, if◌then◌else◌, ◌==◌}
+use Rattle.std.specs.Prelude.{◌≡◌, ℕ, zero, suc, ◌+◌, ⊤, Bool, true, not, nat_lt, ◌&&◌, ◌||◌, List, [], ◌∷◌, if◌then◌else◌, ◌==◌}
 use Rattle.std.specs.List.{AllByRecursion, list_any}
-use Rattle.hx_slot.specs.declared.entries.Taken.{Taken}
+use Rattle.hx_slot.specs.declared.updates.AcceptedUpdate.{AcceptedUpdate}
 
-abbrev pub is_of_version : ℕ → Taken → Bool
+abbrev pub is_of_version : ℕ → AcceptedUpdate → Bool
 is_of_version v t = t.update.version.0 == v
 
+-- an update of a lower version that isn't acknowledged
+abbrev pub is_waiting_below : ℕ → AcceptedUpdate → Bool
+is_waiting_below v t = nat_lt t.update.version.0 v && not t.acknowledged
+
 -- acknowledged is what is pending and is marked so
-pub record AreAcked (acked : List ℕ) (pending : List Taken) : Type 0 where
-  pub marked : AllByRecursion (λ (t : Taken). t.acknowledged ≡ list_any (λ v. v == t.update.version.0) acked) pending
+pub record AreAcked (acked : List ℕ) (pending : List AcceptedUpdate) : Type 0 where
+  pub marked : AllByRecursion (λ (t : AcceptedUpdate). t.acknowledged ≡ list_any (λ v. v == t.update.version.0) acked) pending
   pub known : AllByRecursion (λ v. list_any (is_of_version v) pending ≡ true) acked
 
 -- how many updates aren't acknowledged
-abbrev pub count_unacked : List Taken → ℕ
+abbrev pub count_unacked : List AcceptedUpdate → ℕ
 count_unacked [] = 0
 count_unacked (t ∷ rest) = (if t.acknowledged then 0 else 1) + count_unacked rest
 
 -- how many updates at the front are acknowledged
-abbrev pub front_acked : List Taken → ℕ
+abbrev pub front_acked : List AcceptedUpdate → ℕ
 front_acked [] = zero
 front_acked (t ∷ rest) = if t.acknowledged then suc (front_acked rest) else zero
 
 -- and how many would be with that of a version
-abbrev pub front_with : ℕ → List Taken → ℕ
+abbrev pub front_with : ℕ → List AcceptedUpdate → ℕ
 front_with v [] = zero
 front_with v (t ∷ rest) = if t.acknowledged || is_of_version v t then suc (front_with v rest) else zero
 
 -- the same updates at the same places
-abbrev pub AreSameEntries : List Taken → List Taken → Type 0
-AreSameEntries [] [] = ⊤
-AreSameEntries [] (y ∷ ys) = ⊥
-AreSameEntries (x ∷ xs) [] = ⊥
-AreSameEntries (x ∷ xs) (y ∷ ys) = (y.update ≡ x.update) × (y.place ≡ x.place) × AreSameEntries xs ys
+abbrev pub AreSameUpdates : List AcceptedUpdate → List AcceptedUpdate → Type 0
+AreSameUpdates [] [] = ⊤
+AreSameUpdates [] (y ∷ ys) = ⊥
+AreSameUpdates (x ∷ xs) [] = ⊥
+AreSameUpdates (x ∷ xs) (y ∷ ys) = (y.update ≡ x.update) × (y.place ≡ x.place) × AreSameUpdates xs ys

@@ -5,19 +5,19 @@ use Rattle.hx_types.specs.declared.ids.RegionId.{RegionId}
 use Rattle.hx_types.specs.declared.ids.Version.{Version}
 use Rattle.hx_types.specs.declared.updates.Update.{Update}
 use Rattle.hx_folds.specs.Folding.{folded}
-use Rattle.hx_slot.specs.declared.entries.Placed.{Placed}
-use Rattle.hx_slot.specs.declared.entries.Taken.{Taken}
+use Rattle.hx_slot.specs.declared.updates.PlacedUpdate.{PlacedUpdate}
+use Rattle.hx_slot.specs.declared.updates.AcceptedUpdate.{AcceptedUpdate}
 use Rattle.hx_slot.specs.declared.slots.Slot.TheInside.{Inside}
 use Rattle.hx_slot.specs.Acks.{AreAcked, count_unacked}
-use Rattle.hx_slot.specs.Entries.{Ascends, IsHeld, IsPlaced, last_version, newest_first}
+use Rattle.hx_slot.specs.Updates.{Ascends, IsHeld, IsPlaced, last_version, newest_first}
 use Rattle.hx_slot.specs.States.{IsOrderly, SlotState}
 use Rattle.hx_slot.specs.Tabled.{AreTables, HasTableRoom}
 
 abbrev pub versions_of : List Version → List ℕ
 versions_of versions = map (λ (v : Version). v.0) versions
 
-abbrev pub updates_of : List Placed → List Update
-updates_of early = map (λ (p : Placed). p.update) early
+abbrev pub updates_of : List PlacedUpdate → List Update
+updates_of early = map (λ (p : PlacedUpdate). p.update) early
 
 -- the slot with its whole past
 abbrev pub whole : Inside → SlotState
@@ -40,13 +40,13 @@ abbrev pub seen : Inside → SlotState
 seen a = record { region = a.region; state = folded a.region (whole a).state; spare = a.spare }
 
 -- versions ascend from that of the base, each update has its place, and the first ones are committed
-pub record IsLine (g : RegionId) (base : ℕ) (accepted : List Taken) (committed floor : ℕ) : Type 0 where
+pub record IsLine (g : RegionId) (base : ℕ) (accepted : List AcceptedUpdate) (committed floor : ℕ) : Type 0 where
   pub ascends : Ascends base accepted
-  pub placed : AllByRecursion (λ (t : Taken). IsPlaced g t.update t.place) accepted
+  pub placed : AllByRecursion (λ (t : AcceptedUpdate). IsPlaced g t.update t.place) accepted
   pub within : committed ≤ length accepted
   pub floor_is : floor ≡ last_version base (take committed accepted)
 
-abbrev pub pending_in : Inside → List Taken
+abbrev pub pending_in : Inside → List AcceptedUpdate
 pending_in a = drop a.committed a.accepted.items
 
 -- how many updates may still be accepted before more room is made

@@ -1,5 +1,5 @@
 pub mod States
-pub mod Entries
+pub mod Updates
 pub mod Acks
 pub mod Tabled
 pub mod Rooms

@@ -8,9 +8,9 @@ use Rattle.hx_types.specs.declared.snapshots.Touch.{Touch}
 use Rattle.hx_types.specs.Spaces.{IsAscending}
 use Rattle.hx_types.specs.Words.{same_region, same_session, when_some}
 use Rattle.hx_model.specs.Slots.{mark_by, marks_after, touches_after, with_mark, with_touches}
-use Rattle.hx_slot.specs.declared.entries.Taken.{Taken}
+use Rattle.hx_slot.specs.declared.updates.AcceptedUpdate.{AcceptedUpdate}
 use Rattle.hx_slot.specs.declared.tables.Tables.{Tables}
-use Rattle.hx_slot.specs.Entries.{newest_first}
+use Rattle.hx_slot.specs.Updates.{newest_first}
 
 abbrev pub AscendByRegion : List Touch → Type 0
 AscendByRegion touches = IsAscending (map (λ (t : Touch). t.region.0) touches)
@@ -34,24 +34,24 @@ touch_among g [] = None
 touch_among g (t ∷ rest) = if same_region t.region g then Some t.version.0 else touch_among g rest
 
 -- the mark of the update with this number in the line, from 0
-abbrev pub mark_at : List Taken → ℕ → Option Mark
-mark_at line i = option_map (λ (t : Taken). mark_by t.update) (slice_get line i)
+abbrev pub mark_at : List AcceptedUpdate → ℕ → Option Mark
+mark_at line i = option_map (λ (t : AcceptedUpdate). mark_by t.update) (slice_get line i)
 
 -- the updates of these numbers have these marks
-abbrev pub AreMarks : List Taken → List ℕ → List Mark → Type 0
+abbrev pub AreMarks : List AcceptedUpdate → List ℕ → List Mark → Type 0
 AreMarks line [] [] = ⊤
 AreMarks line [] (m ∷ marks) = ⊥
 AreMarks line (i ∷ numbers) [] = ⊥
 AreMarks line (i ∷ numbers) (m ∷ marks) = (mark_at line i ≡ Some m) × AreMarks line numbers marks
 
 -- the first mark of a session among those of these numbers
-abbrev pub mark_found : SessionId → List Taken → List ℕ → Option Mark
+abbrev pub mark_found : SessionId → List AcceptedUpdate → List ℕ → Option Mark
 mark_found session line [] = None
 mark_found session line (i ∷ rest) =
     when_some (mark_at line i) None (λ (x : Mark). if same_session x.session session then Some x else mark_found session line rest)
 
 -- the numbers with that of a further mark: it stands by its session, in place of one of no higher call number
-abbrev pub with_number : List Taken → ℕ → Mark → List ℕ → List ℕ
+abbrev pub with_number : List AcceptedUpdate → ℕ → Mark → List ℕ → List ℕ
 with_number line k m [] = k ∷ []
 with_number line k m (i ∷ rest) =
     when_some (mark_at line i) (i ∷ rest)
@@ -69,7 +69,7 @@ newer_of (Some m) None = Some m
 newer_of (Some m) (Some x) = if nat_lt m.number x.number then Some x else Some m
 
 -- the tables are those of the accepted updates
-pub record AreTables (accepted : List Taken) (tables : Tables) : Type 0 where
+pub record AreTables (accepted : List AcceptedUpdate) (tables : Tables) : Type 0 where
   pub marks : AreMarks accepted tables.newest.items (marks_after [] (newest_first [] accepted))
   pub touches : tables.touches.items ≡ touches_after [] (newest_first [] accepted)
 
@@ -86,10 +86,10 @@ pub record IsNoted (old new : Tables) : Type 0 where
   pub touches_capacity : vec_capacity old.touches ≤ vec_capacity new.touches
 
 -- the marks and the touches after updates, from those before them
-abbrev pub marks_over : List Mark → List Taken → List Mark
+abbrev pub marks_over : List Mark → List AcceptedUpdate → List Mark
 marks_over marks [] = marks
 marks_over marks (t ∷ rest) = marks_over (with_mark (mark_by t.update) marks) rest
 
-abbrev pub touches_over : List Touch → List Taken → List Touch
+abbrev pub touches_over : List Touch → List AcceptedUpdate → List Touch
 touches_over touches [] = touches
 touches_over touches (t ∷ rest) = touches_over (with_touches t.update.version t.update.places touches) rest

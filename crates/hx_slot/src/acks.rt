@@ -1,14 +1,14 @@
 ghost use Rattle.std.specs.Prelude.{◌≡◌, ◌≤◌, ◌==◌, false, filter, length, nat_lt, not, position, vec_capacity, vec_len};
 ghost use Rattle.std.specs.List.{AllWithin, list_any};
-ghost use Rattle.hx_slot.specs.Acks.{AreSameEntries, front_acked, front_with, is_of_version};
-ghost use Rattle.hx_slot.specs.declared.entries.Taken.{Taken};
+ghost use Rattle.hx_slot.specs.Acks.{AreSameUpdates, front_acked, front_with, is_of_version, is_waiting_below};
+ghost use Rattle.hx_slot.specs.declared.updates.AcceptedUpdate.{AcceptedUpdate};
 ghost use Rattle.hx_types.specs.declared.ids.Version.{Version};
 
-use crate::entries::Taken;
+use crate::updates::AcceptedUpdate;
 use hx_types::Version;
 
 /// The place of the update of a version, from 0.
-pub fn place_of(pending: &[Taken], version: Version) -> Option<usize>
+pub fn place_of(pending: &[AcceptedUpdate], version: Version) -> Option<usize>
     ensures { result ≡ position (is_of_version version.0) pending.now }
 {
     pending
@@ -17,7 +17,7 @@ pub fn place_of(pending: &[Taken], version: Version) -> Option<usize>
 }
 
 /// Whether one of the updates has the version.
-pub fn has_update(pending: &[Taken], version: Version) -> bool
+pub fn has_update(pending: &[AcceptedUpdate], version: Version) -> bool
     ensures { result ≡ list_any (is_of_version version.0) pending.now }
 {
     pending
@@ -32,8 +32,15 @@ pub fn has_version(acked: &[Version], version: Version) -> bool
     acked.iter().any(|acked| acked.0 == version.0)
 }
 
+/// Whether an update of a lower version isn't acknowledged.
+pub fn waits_below(pending: &[AcceptedUpdate], version: Version) -> bool
+    ensures { result ≡ list_any (is_waiting_below version.0) pending.now }
+{
+    pending.iter().any(|accepted| accepted.update.version.0 < version.0 && !accepted.acknowledged)
+}
+
 /// How many updates at the front are acknowledged.
-pub fn acknowledged_front(pending: &[Taken]) -> usize
+pub fn acknowledged_front(pending: &[AcceptedUpdate]) -> usize
     ensures front { result ≡ front_acked pending.now }
     ensures within { result ≤ length pending.now }
 {
@@ -46,7 +53,7 @@ pub fn acknowledged_front(pending: &[Taken]) -> usize
 }
 
 /// How many updates at the front would be acknowledged with that of the version.
-pub fn acknowledged_with(pending: &[Taken], version: Version) -> usize
+pub fn acknowledged_with(pending: &[AcceptedUpdate], version: Version) -> usize
     ensures front { result ≡ front_with version.0 pending.now }
     ensures within { result ≤ length pending.now }
 {
@@ -77,10 +84,10 @@ pub fn drop_acks_upto(acked: &mut Vec<Version>, floor: Version)
 }
 
 /// Marks the updates from a place on as not acknowledged.
-pub fn forget_acks(accepted: &mut Vec<Taken>, from: usize)
+pub fn forget_acks(accepted: &mut Vec<AcceptedUpdate>, from: usize)
     requires { from ≤ vec_len accepted.old }
-    ensures same { AreSameEntries accepted.old.items accepted.new.items }
-    ensures forgotten { AllWithin (λ (t : Taken). t.acknowledged ≡ false) accepted.new.items from (vec_len accepted.new) }
+    ensures same { AreSameUpdates accepted.old.items accepted.new.items }
+    ensures forgotten { AllWithin (λ (t : AcceptedUpdate). t.acknowledged ≡ false) accepted.new.items from (vec_len accepted.new) }
     ensures len { vec_len accepted.new ≡ vec_len accepted.old }
     ensures capacity { vec_capacity accepted.new ≡ vec_capacity accepted.old }
 {

@@ -16,7 +16,6 @@
 
 mod acks;
 mod early;
-mod entries;
 mod line;
 mod marks;
 mod renewing;
@@ -24,8 +23,9 @@ mod rooms;
 mod slots;
 mod tables;
 mod touches;
+mod updates;
 
-pub use line::Found;
+pub use line::RowRef;
 pub use slots::Slot;
 
 #[cfg(test)]

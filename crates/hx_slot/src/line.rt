@@ -1,24 +1,24 @@
 ghost use Rattle.std.specs.Prelude.{◌≡◌, ◌≤◌, IfOk, drop, length, map, slice_get};
 ghost use Rattle.std.specs.Option.{option_copied};
-ghost use Rattle.hx_slot.specs.Entries.{last_version, row_over, row_seen};
+ghost use Rattle.hx_slot.specs.Updates.{last_version, row_over, row_seen};
 ghost use Rattle.hx_model.specs.Slots.{object_in, row_of};
 ghost use Rattle.hx_slot.specs.States.{object_at, object_seen};
-ghost use Rattle.hx_slot.specs.declared.entries.Taken.{Taken};
+ghost use Rattle.hx_slot.specs.declared.updates.AcceptedUpdate.{AcceptedUpdate};
 
-use crate::entries::Taken;
-use hx_types::{Exact, Memory, Object, Row, Text, Update, Version};
+use crate::updates::AcceptedUpdate;
+use hx_types::{Exact, Memory, Object, Row, Shared, Text, Update, Version};
 use std::alloc::Global;
 
 /// A row that is lent.
 #[derive(Clone, Copy)]
-pub struct Found<'a> {
+pub struct RowRef<'a> {
     pub key: &'a Text,
     pub version: Version,
     pub object: &'a Object,
 }
 
 /// The version of the last update, or that before them.
-pub fn last_version(before: Version, line: &[Taken]) -> Version
+pub fn last_version(before: Version, line: &[AcceptedUpdate]) -> Version
     ensures { result.0 ≡ last_version before.0 line.now }
 {
     match line.last() {
@@ -28,7 +28,7 @@ pub fn last_version(before: Version, line: &[Taken]) -> Version
 }
 
 /// The updates after so many at the front.
-pub fn rest_of(line: &[Taken], count: usize) -> &[Taken]
+pub fn rest_of(line: &[AcceptedUpdate], count: usize) -> &[AcceptedUpdate]
     requires { count ≤ length line.now }
     ensures { result.now ≡ drop count line.now }
 {
@@ -37,7 +37,7 @@ pub fn rest_of(line: &[Taken], count: usize) -> &[Taken]
 
 /// The row after these updates, sought from the last one back: the first that changes, or that
 /// doesn't keep, decides.
-pub fn row_over<'a>(base: Option<&'a Row>, line: &'a [Taken]) -> Option<Found<'a>>
+pub fn row_over<'a>(base: Option<&'a Row>, line: &'a [AcceptedUpdate]) -> Option<RowRef<'a>>
     ensures { row_seen result ≡ row_over (option_copied base.entry) line.now }
 {
     let mut rest = line;
@@ -46,12 +46,12 @@ pub fn row_over<'a>(base: Option<&'a Row>, line: &'a [Taken]) -> Option<Found<'a
             return None;
         }
         if taken.update.changes {
-            return row_of(&taken.update);
+            return row_of(taken);
         }
         rest = older;
     }
     match base {
-        Some(row) => Some(Found {
+        Some(row) => Some(RowRef {
             key: &row.key,
             version: row.version,
             object: &row.object,
@@ -60,11 +60,12 @@ pub fn row_over<'a>(base: Option<&'a Row>, line: &'a [Taken]) -> Option<Found<'a
     }
 }
 
-fn row_of(update: &Update) -> Option<Found<'_>>
-    ensures { row_seen result ≡ row_of update.now }
+fn row_of(taken: &AcceptedUpdate) -> Option<RowRef<'_>>
+    ensures { row_seen result ≡ row_of taken.now.update }
 {
+    let update = taken.update.get();
     match &update.object {
-        Some(object) => Some(Found {
+        Some(object) => Some(RowRef {
             key: &update.key,
             version: update.version,
             object,
@@ -74,7 +75,7 @@ fn row_of(update: &Update) -> Option<Found<'_>>
 }
 
 /// The object of a row, with its version.
-pub fn version_and_object(found: Option<Found<'_>>) -> Option<(Version, &Object)>
+pub fn version_and_object(found: Option<RowRef<'_>>) -> Option<(Version, &Object)>
     ensures { object_seen result ≡ object_at (row_seen found.entry) }
 {
     match found {
@@ -84,7 +85,7 @@ pub fn version_and_object(found: Option<Found<'_>>) -> Option<(Version, &Object)
 }
 
 /// The object of a row.
-pub fn only_object(found: Option<Found<'_>>) -> Option<&Object>
+pub fn only_object(found: Option<RowRef<'_>>) -> Option<&Object>
     ensures { option_copied result ≡ object_in (row_seen found.entry) }
 {
     match found {
@@ -94,8 +95,8 @@ pub fn only_object(found: Option<Found<'_>>) -> Option<&Object>
 }
 
 /// The update at a place of the line, from 0.
-pub fn update_at(line: &[Taken], place: usize) -> Option<&Update>
-    ensures { option_copied result ≡ slice_get (map (λ (t : Taken). t.update) line.now) place }
+pub fn update_at(line: &[AcceptedUpdate], place: usize) -> Option<&Shared<Update>>
+    ensures { option_copied result ≡ slice_get (map (λ (t : AcceptedUpdate). t.update) line.now) place }
 {
     match line.get(place) {
         Some(taken) => Some(&taken.update),
@@ -104,7 +105,7 @@ pub fn update_at(line: &[Taken], place: usize) -> Option<&Update>
 }
 
 /// A copy of the row.
-pub fn copy_row(alloc: Global, found: Option<Found<'_>>) -> Result<Option<Row>, Memory>
+pub fn copy_row(alloc: Global, found: Option<RowRef<'_>>) -> Result<Option<Row>, Memory>
     ensures { IfOk result (λ row. row ≡ row_seen found.entry) }
 {
     match found {

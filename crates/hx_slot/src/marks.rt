@@ -6,18 +6,22 @@ ghost use Rattle.hx_types.specs.Words.{provided};
 ghost use Rattle.hx_slot.specs.States.{call_at, call_seen};
 ghost use Rattle.hx_slot.specs.Tabled.{mark_found, marks_over, newer_of, with_number};
 
-use crate::entries::Taken;
 use crate::rooms::insert_within;
+use crate::updates::AcceptedUpdate;
 use hx_types::{Answer, Exact, Mark, Marks, Memory, SessionId, Update, Version};
 use std::alloc::Global;
 
 /// The update whose mark is that of the session, among those of these numbers in the line.
-pub fn newest_of<'a>(numbers: &[u32], line: &'a [Taken], session: SessionId) -> Option<&'a Update>
+pub fn newest_of<'a>(
+    numbers: &[u32],
+    line: &'a [AcceptedUpdate],
+    session: SessionId,
+) -> Option<&'a Update>
     requires { All (λ n. n < length line.now) numbers.now }
     ensures { option_map mark_by (option_copied result) ≡ mark_found session line.now numbers.now }
 {
     for number in numbers {
-        let update = &line[*number as usize].update;
+        let update = line[*number as usize].update.get();
         if update.caller.session.0 == session.0 {
             return Some(update);
         }
@@ -61,7 +65,7 @@ fn call_of(update: &Update) -> (u32, Version, &Answer)
 
 /// Puts the number of a further update where its session's stands, unless that one has a higher
 /// call number. There is room for a number more.
-pub fn note_mark(numbers: &mut Vec<u32>, line: &[Taken], number: u32, update: &Update)
+pub fn note_mark(numbers: &mut Vec<u32>, line: &[AcceptedUpdate], number: u32, update: &Update)
     requires known { All (λ n. n < length line.now) numbers.old.items }
     requires room { vec_len numbers.old < vec_capacity numbers.old }
     ensures items { numbers.new.items ≡ with_number line.now number (mark_by update.now) numbers.old.items }
@@ -85,7 +89,12 @@ pub fn note_mark(numbers: &mut Vec<u32>, line: &[Taken], number: u32, update: &U
 }
 
 /// The marks after these updates, from those before them; none where marks aren't kept.
-pub fn marks_over(alloc: Global, kept: bool, base: &Marks, line: &[Taken]) -> Result<Marks, Memory>
+pub fn marks_over(
+    alloc: Global,
+    kept: bool,
+    base: &Marks,
+    line: &[AcceptedUpdate],
+) -> Result<Marks, Memory>
     ensures { IfOk result (λ marks. marks ≡ provided kept (marks_over base.now line.now)) }
 {
     if !kept {

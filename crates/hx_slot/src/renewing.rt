@@ -1,21 +1,21 @@
 ghost use Rattle.std.specs.Prelude.{◌≡◌, IfOk, false};
 ghost use Rattle.std.specs.List.{AllByRecursion};
-ghost use Rattle.hx_slot.specs.Acks.{AreSameEntries};
-ghost use Rattle.hx_slot.specs.declared.entries.Taken.{Taken};
+ghost use Rattle.hx_slot.specs.Acks.{AreSameUpdates};
+ghost use Rattle.hx_slot.specs.declared.updates.AcceptedUpdate.{AcceptedUpdate};
 
-use crate::entries::Taken;
 use crate::tables::Tables;
+use crate::updates::AcceptedUpdate;
 use hx_types::{Exact, Memory};
 use std::alloc::Global;
 
 /// A copy of the updates, none of which is acknowledged.
-pub fn renewed_line(alloc: Global, line: &[Taken]) -> Result<Vec<Taken>, Memory>
-    ensures same { IfOk result (λ copy. AreSameEntries line.now copy.items) }
-    ensures forgotten { IfOk result (λ copy. AllByRecursion (λ (t : Taken). t.acknowledged ≡ false) copy.items) }
+pub fn renewed_line(alloc: Global, line: &[AcceptedUpdate]) -> Result<Vec<AcceptedUpdate>, Memory>
+    ensures same { IfOk result (λ copy. AreSameUpdates line.now copy.items) }
+    ensures forgotten { IfOk result (λ copy. AllByRecursion (λ (t : AcceptedUpdate). t.acknowledged ≡ false) copy.items) }
 {
     let mut copy = Vec::new(alloc);
     for taken in line {
-        copy.push(Taken {
+        copy.push(AcceptedUpdate {
             update: taken.update.copy(alloc)?,
             place: taken.place,
             acknowledged: false,

@@ -1,12 +1,12 @@
 ghost use Rattle.std.specs.Prelude.{◌≡◌, ℕ, ◌+◌, ◌^◌, ◌<◌, ◌≤◌, ◌==◌, [], IfOk, IfSome, IsTrue, OnOk, is_some, length, true, slice_get, vec_capacity, vec_len};
 ghost use Rattle.std.specs.List.{All, AllByRecursion, find, list_any};
 ghost use Rattle.std.specs.Option.{option_copied};
-ghost use Rattle.hx_folds.specs.Folding.{IsBare, folded};
+ghost use Rattle.hx_folds.specs.Folding.{IsBare, StandsFor, folded};
 ghost use Rattle.hx_model.specs.Places.{touched_in};
 ghost use Rattle.hx_model.specs.Neighbours.{place_number};
 ghost use Rattle.hx_model.specs.ServerSteps.{state_from};
-ghost use Rattle.hx_model.specs.Slots.{Acknowledge, Forget, Hold, Take, ack_answer, acknowledged, follows, is_pending, latest_of, mark_of, moved, moved_all, new_state, object_of, offer_answer, offered, pending_of, settled, state_of_kept, taken, top_of, touches_of, turns};
-ghost use Rattle.hx_slot.specs.Entries.{IsHeld, row_seen};
+ghost use Rattle.hx_model.specs.Slots.{Acknowledge, Forget, Hold, KeyState, Take, ack_answer, acknowledged, follows, is_pending, latest_of, mark_of, moved, moved_all, new_state, object_of, offer_answer, offered, pending_of, settled, state_of_kept, taken, top_of, touches_of, turns};
+ghost use Rattle.hx_slot.specs.Updates.{IsHeld, row_seen};
 ghost use Rattle.hx_slot.specs.Rooms.{IsGrown};
 ghost use Rattle.hx_slot.specs.States.{HasFewPlaces, IsLater, IsOrderly, IsPlacedIn, accepted_count, call_at, call_seen, committed_count, committed_state, object_at, object_seen};
 ghost use Rattle.hx_types.specs.declared.calls.Answer.{Answer};
@@ -17,24 +17,27 @@ ghost use Rattle.hx_types.specs.declared.updates.Update.{Update};
 
 use crate::acks::{
     acknowledged_front, acknowledged_with, drop_ack, drop_acks_upto, forget_acks, has_update,
-    has_version, place_of,
+    has_version, place_of, waits_below,
 };
-use crate::early::{drop_version, early_at, turn_of};
-use crate::entries::{Placed, Taken};
+use crate::early::{drop_version, early_after, early_at};
 use crate::line::{
-    Found, copy_row, last_version, only_object, rest_of, row_over, update_at, version_and_object,
+    RowRef, copy_row, last_version, only_object, rest_of, row_over, update_at, version_and_object,
 };
 use crate::marks::{mark_of, marks_over, newer, newest_of};
 use crate::renewing::{renewed_line, renewed_tables};
 use crate::rooms::{grow, insert_within};
 use crate::tables::Tables;
 use crate::touches::{last_touch, touches_over};
+use crate::updates::{AcceptedUpdate, PlacedUpdate};
 use hx_types::{
-    Acked, Answer, Exact, Kept, Marks, Memory, Object, Offer, RegionId, SessionId, Text, Touches,
-    Update, Version,
+    Acked, Answer, Exact, Kept, Marks, Memory, Object, Offer, RegionId, SessionId, Shared, Text,
+    Touches, Update, Version,
 };
 use std::alloc::Global;
 use std::marker::Model;
+
+/// For how many offers at most a slot makes room ahead of those that are asked for.
+const MOST_MORE: usize = 8;
 
 /// The state of one key at one replica of a region.
 #[derive(Drop)]
@@ -44,7 +47,7 @@ pub struct Slot {
     /// The committed state that was installed, or nothing.
     base: Kept,
     /// The updates accepted since, the oldest first.
-    accepted: Vec<Taken>,
+    accepted: Vec<AcceptedUpdate>,
     /// How many of them are committed.
     committed: usize,
     /// The version of the last committed one, or that of the base.
@@ -52,7 +55,7 @@ pub struct Slot {
     /// The acknowledged pending versions, the newest acknowledgement first.
     acked: Vec<Version>,
     /// The updates that came before their turn, in the order of their coming.
-    early: Vec<Placed>,
+    early: Vec<PlacedUpdate>,
     /// Kept at a key region alone.
     tables: Tables,
     /// For how many offers there is room.
@@ -60,7 +63,7 @@ pub struct Slot {
 }
 
 impl Model for Slot {
-    ghost use Rattle.hx_slot.specs.Entries.{IsHeld};
+    ghost use Rattle.hx_slot.specs.Updates.{IsHeld};
     ghost use Rattle.hx_slot.specs.Rooms.{IsGrown};
     ghost use Rattle.hx_slot.specs.States.{SlotState};
 
@@ -181,7 +184,7 @@ impl Slot {
 
     /// The object after all committed updates as a row: its key, the last of their versions that
     /// changed it, and its values.
-    pub fn row(&self) -> Option<Found<'_>>
+    pub fn row(&self) -> Option<RowRef<'_>>
         ensures { row_seen result ≡ object_of self.now.region self.now.state }
     {
         row_over(self.base.object.as_ref(), &self.accepted[..self.committed])
@@ -245,7 +248,7 @@ impl Slot {
     }
 
     /// The pending update with this number from 0, the lowest version first.
-    pub fn pending(&self, i: u32) -> Option<&Update>
+    pub fn pending(&self, i: u32) -> Option<&Shared<Update>>
         ensures pending { option_copied result ≡ slice_get (pending_of self.now.state) i }
         ensures version { IfSome (option_copied result)
             (λ (u : Update). (self.now.state.floor < u.version.0) × (u.version.0 ≤ top_of self.now.state)) }
@@ -284,9 +287,10 @@ impl Slot {
         )
     }
 
-    /// Makes room for n offers, none of which then takes memory. A slot holds fewer than
-    /// 4,294,967,295 updates; where it would hold more, that is [`Memory`] too.
-    pub fn reserve(&mut self, n: u32) -> Result<(), Memory>
+    /// Makes room for n offers, none of which then takes memory: where there is less, for as many
+    /// as the slot has accepted, up to 8. A slot holds fewer than 4,294,967,295 updates; where it
+    /// would hold more, that is [`Memory`] too.
+    pub fn reserve(&mut self, _alloc: Global, n: u32) -> Result<(), Memory>
         ensures region { self.new.region ≡ self.old.region }
         ensures state { self.new.state ≡ self.old.state }
         ensures room { OnOk result (n ≤ self.new.spare) }
@@ -295,6 +299,7 @@ impl Slot {
         if n <= self.spare {
             return Ok(());
         }
+        let n = n.max(self.accepted.len().min(MOST_MORE) as u32);
         let coming = self.early.len() + n as usize;
         if self.accepted.len() + coming >= u32::MAX as usize {
             return Err(Memory);
@@ -321,7 +326,7 @@ impl Slot {
     }
 
     /// The early update with this number from 0, in the order of their coming.
-    pub fn early(&self, i: u32) -> Option<&Update>
+    pub fn early(&self, i: u32) -> Option<&Shared<Update>>
         ensures early { option_copied result ≡ slice_get self.now.state.early i }
         ensures place { IfSome (option_copied result) (IsPlacedIn self.now.region) }
         ensures few { IfSome (option_copied result) HasFewPlaces }
@@ -330,13 +335,13 @@ impl Slot {
     }
 
     /// The early update whose turn comes after this version.
-    pub fn turn(&self, top: Version) -> Option<&Update>
+    pub fn next_early(&self, top: Version) -> Option<&Shared<Update>>
         ensures turn { option_copied result ≡ find (follows self.now.region top.0) self.now.state.early }
         ensures later { IfSome (option_copied result) (λ (u : Update). top.0 < u.version.0) }
         ensures place { IfSome (option_copied result) (IsPlacedIn self.now.region) }
         ensures few { IfSome (option_copied result) HasFewPlaces }
     {
-        match turn_of(self.early.as_slice(), top) {
+        match early_after(self.early.as_slice(), top) {
             Some(place) => Some(&self.early[place].update),
             None => None,
         }
@@ -347,7 +352,7 @@ impl Slot {
     /// takes no memory.
     ///
     /// That an update is held until its predecessor has come is HyperDex's.
-    pub fn offer(&mut self, update: Update, place: u32) -> Offer
+    pub fn offer(&mut self, update: Shared<Update>, place: u32) -> Offer
         requires spare { 0 < self.old.spare }
         requires place { place ≡ place_number self.old.region update.places }
         requires placed { IsPlacedIn self.old.region update }
@@ -357,20 +362,21 @@ impl Slot {
         ensures state { self.new.state ≡ moved_all (offered self.old.region self.old.state update) self.old.state }
         ensures region { self.new.region ≡ self.old.region }
         ensures spare { self.old.spare ≤ self.new.spare + 1 }
+        ensures stands { (s : KeyState) → StandsFor self.old.region self.old.state s → StandsFor self.new.region self.new.state (moved_all (offered self.old.region s update) s) }
     {
         let top = self.top();
         if update.version.0 <= top.0 {
             return Offer::Known;
         }
         let place = update.places.as_slice()[place as usize];
-        let placed = Placed { update, place };
+        let placed = PlacedUpdate { update, place };
         if placed.place.after.0 != top.0 {
             self.hold(placed);
             return Offer::Early;
         }
         let most = self.early.len() as u32;
         self.accept(placed);
-        Offer::Accepted(1 + self.take_turns(most))
+        Offer::Accepted(1 + self.accept_early(most))
     }
 
     /// How many updates an offer would make pending: 0 where it is known or early.
@@ -386,7 +392,7 @@ impl Slot {
         if update.places.as_slice()[place as usize].after.0 != top.0 {
             return 0;
         }
-        1 + self.turns_after(update.version)
+        1 + self.early_count_after(update.version)
     }
 
     /// Whether the version is pending.
@@ -414,16 +420,18 @@ impl Slot {
         ensures state { self.new.state ≡ folded self.old.region (moved_all (acknowledged self.old.state version.0) self.old.state) }
         ensures region { self.new.region ≡ self.old.region }
         ensures spare { self.old.spare ≤ self.new.spare }
+        ensures stands { (s : KeyState) → StandsFor self.old.region self.old.state s → StandsFor self.new.region self.new.state (moved_all (acknowledged s version.0) s) }
     {
         let pending = rest_of(self.accepted.as_slice(), self.committed);
         if !has_update(pending, version) {
             return Acked::Unknown;
         }
+        let waits = waits_below(pending, version);
         self.acknowledge(version);
-        match self.settle() {
-            0 => Acked::Kept,
-            count => Acked::Committed(count),
+        if waits {
+            return Acked::Kept;
         }
+        Acked::Committed(self.settle())
     }
 
     /// How many updates an acknowledgement would commit: 0 where it is unknown or kept.
@@ -432,6 +440,9 @@ impl Slot {
     {
         let pending = rest_of(self.accepted.as_slice(), self.committed);
         if !has_update(pending, version) {
+            return 0;
+        }
+        if waits_below(pending, version) {
             return 0;
         }
         acknowledged_with(pending, version) as u32
@@ -459,6 +470,7 @@ impl Slot {
         ensures state { self.new.state ≡ folded self.old.region (moved_all (settled self.old.state) self.old.state) }
         ensures region { self.new.region ≡ self.old.region }
         ensures spare { self.old.spare ≤ self.new.spare }
+        ensures stands { (s : KeyState) → StandsFor self.old.region self.old.state s → StandsFor self.new.region self.new.state (moved_all (settled s) s) }
     {
         let pending = rest_of(self.accepted.as_slice(), self.committed);
         let count = acknowledged_front(pending);
@@ -473,6 +485,7 @@ impl Slot {
         ensures state { self.new.state ≡ moved Forget self.old.state }
         ensures region { self.new.region ≡ self.old.region }
         ensures spare { self.old.spare ≤ self.new.spare }
+        ensures stands { (s : KeyState) → StandsFor self.old.region self.old.state s → StandsFor self.new.region self.new.state (moved Forget s) }
     {
         self.acked.clear();
         self.early.clear();
@@ -480,14 +493,14 @@ impl Slot {
     }
 
     /// How many early updates have their turns one after another from this version on.
-    fn turns_after(&self, top: Version) -> u32
+    fn early_count_after(&self, top: Version) -> u32
         ensures count { result ≡ length (taken (turns self.now.region (length self.now.state.early) top.0 self.now.state.early)) }
         ensures small { result + 1 < 2 ^ 32 }
     {
         let most = self.early.len() as u32;
         let mut top = top;
         for count in 0..most {
-            match self.turn(top) {
+            match self.next_early(top) {
                 Some(update) => top = update.version,
                 None => return count,
             }
@@ -496,7 +509,7 @@ impl Slot {
     }
 
     /// Accepts the early updates whose turns come one after another, up to so many.
-    fn take_turns(&mut self, most: u32) -> u32
+    fn accept_early(&mut self, most: u32) -> u32
         ensures count { result ≡ length (taken (turns self.old.region most (top_of self.old.state) self.old.state.early)) }
         ensures within { result ≤ most }
         ensures state { self.new.state ≡ moved_all (turns self.old.region most (top_of self.old.state) self.old.state.early) self.old.state }
@@ -504,7 +517,7 @@ impl Slot {
         ensures spare { self.new.spare ≡ self.old.spare }
     {
         for count in 0..most {
-            if !self.take_turn() {
+            if !self.accept_next_early() {
                 return count;
             }
         }
@@ -512,7 +525,7 @@ impl Slot {
     }
 
     /// Accepts the early update whose turn has come, if there is one.
-    fn take_turn(&mut self) -> bool
+    fn accept_next_early(&mut self) -> bool
         ensures found { result ≡ is_some (find (follows self.old.region (top_of self.old.state)) self.old.state.early) }
         ensures state { self.new.state ≡ moved_all (turns self.old.region 1 (top_of self.old.state) self.old.state.early) self.old.state }
         ensures later { AllByRecursion (IsLater self.old.region) self.old.state.early }
@@ -520,7 +533,7 @@ impl Slot {
         ensures spare { self.new.spare ≡ self.old.spare }
     {
         let top = self.top();
-        let Some(place) = turn_of(self.early.as_slice(), top) else {
+        let Some(place) = early_after(self.early.as_slice(), top) else {
             return false;
         };
         let placed = self.early.remove(place);
@@ -530,7 +543,7 @@ impl Slot {
     }
 
     /// Accepts an update, of which no copy is held any more. It uses the room of one offer.
-    fn accept(&mut self, placed: Placed)
+    fn accept(&mut self, placed: PlacedUpdate)
         requires spare { 0 < self.old.spare }
         requires held { IsHeld self.old.region placed }
         requires above { top_of self.old.state < placed.update.version.0 }
@@ -538,11 +551,11 @@ impl Slot {
         ensures region { self.new.region ≡ self.old.region }
         ensures spare { self.new.spare + 1 ≡ self.old.spare }
     {
-        let Placed { update, place } = placed;
+        let PlacedUpdate { update, place } = placed;
         drop_version(&mut self.early, update.version);
         self.tables
             .note(self.marks, self.accepted.as_slice(), &update);
-        self.accepted.push_reserved(Taken {
+        self.accepted.push_reserved(AcceptedUpdate {
             update,
             place,
             acknowledged: false,
@@ -552,7 +565,7 @@ impl Slot {
 
     /// Holds an update that came before its turn, in place of a copy of it. It uses the room of
     /// one offer.
-    fn hold(&mut self, placed: Placed)
+    fn hold(&mut self, placed: PlacedUpdate)
         requires spare { 0 < self.old.spare }
         requires held { IsHeld self.old.region placed }
         ensures state { self.new.state ≡ moved (Hold placed.update) self.old.state }
@@ -582,9 +595,9 @@ fn without_marks(alloc: Global, kept: Kept) -> Kept
 
 /// Makes room for more of each list.
 fn make_room(
-    accepted: &mut Vec<Taken>,
+    accepted: &mut Vec<AcceptedUpdate>,
     more_accepted: usize,
-    early: &mut Vec<Placed>,
+    early: &mut Vec<PlacedUpdate>,
     more_early: usize,
     acked: &mut Vec<Version>,
     more_acked: usize,

@@ -2,12 +2,12 @@ ghost use Rattle.std.specs.Prelude.{◌≡◌, ◌^◌, ◌<◌, ◌∷◌, ◌+
 ghost use Rattle.hx_slot.specs.Rooms.{IsGrown};
 ghost use Rattle.hx_slot.specs.States.{HasFewPlaces};
 ghost use Rattle.hx_slot.specs.Tabled.{AreTables, HasTableRoom, IsNoted};
-ghost use Rattle.hx_slot.specs.declared.entries.Taken.{Taken};
+ghost use Rattle.hx_slot.specs.declared.updates.AcceptedUpdate.{AcceptedUpdate};
 
-use crate::entries::Taken;
 use crate::marks::note_mark;
 use crate::rooms::grow;
 use crate::touches::note_touches;
+use crate::updates::AcceptedUpdate;
 use hx_types::{Memory, Touch, Update};
 
 /// Of the accepted updates at a key region: the number of the update with the newest mark of each
@@ -37,12 +37,12 @@ impl Tables {
     }
 
     /// Notes an update that is to follow the line, where the tables are kept. There is room for it.
-    pub fn note(&mut self, kept: bool, line: &[Taken], update: &Update)
+    pub fn note(&mut self, kept: bool, line: &[AcceptedUpdate], update: &Update)
         requires few { HasFewPlaces update.now }
         requires short { length line.now < 2 ^ 32 }
         requires tables { kept ≡ true → AreTables line.now self.old }
         requires room { kept ≡ true → HasTableRoom self.old 1 }
-        ensures tables { (t : Taken) → t.update ≡ update.now → kept ≡ true → AreTables (line.now ++ t ∷ []) self.new }
+        ensures tables { (t : AcceptedUpdate) → t.update ≡ update.now → kept ≡ true → AreTables (line.now ++ t ∷ []) self.new }
         ensures sizes { IsNoted self.old self.new }
     {
         if !kept {

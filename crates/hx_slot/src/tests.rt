@@ -3,8 +3,8 @@ ghost use Rattle.hx_types.specs.declared.updates.Update.{Update};
 
 use super::*;
 use hx_types::{
-    Acked, Answer, Caller, Kept, Memory, Object, Offer, Place, Places, RegionId, SessionId, Text,
-    Update, Value, Version,
+    Acked, Answer, Caller, Kept, Memory, Object, Offer, Place, Places, RegionId, SessionId, Shared,
+    Text, Update, Value, Version,
 };
 use std::alloc::Global;
 
@@ -49,8 +49,8 @@ fn offer(alloc: Global, slot: &mut Slot, version: u32, after: u64) -> Result<Off
     requires after { after < version }
     ensures region { slot.new.region ≡ record { 0 = 7 } }
 {
-    slot.reserve(1)?;
-    let update = update(alloc, version, after)?;
+    slot.reserve(alloc, 1)?;
+    let update = Shared::new(alloc, update(alloc, version, after)?)?;
     Ok(slot.offer(update, 0))
 }
 

@@ -7,8 +7,8 @@ ghost use Rattle.hx_slot.specs.Tabled.{AscendByRegion, IsAt, IsGap, touch_among,
 ghost use Rattle.hx_types.specs.Words.{provided};
 ghost use Rattle.hx_types.specs.declared.ids.Version.{Version};
 
-use crate::entries::Taken;
 use crate::rooms::insert_within;
+use crate::updates::AcceptedUpdate;
 use hx_types::{Exact, Memory, Place, RegionId, Touch, Touches, Version};
 use std::alloc::Global;
 
@@ -79,7 +79,7 @@ pub fn touches_over(
     alloc: Global,
     kept: bool,
     base: &Touches,
-    line: &[Taken],
+    line: &[AcceptedUpdate],
 ) -> Result<Touches, Memory>
     requires { AscendByRegion base.now }
     ensures { IfOk result (λ touches. touches ≡ provided kept (touches_over base.now line.now)) }
@@ -89,9 +89,10 @@ pub fn touches_over(
     }
     let mut touches = base.copy(alloc)?.into_vec();
     for taken in line {
-        let places = taken.update.places.as_slice();
+        let update = taken.update.get();
+        let places = update.places.as_slice();
         touches.reserve(places.len())?;
-        note_touches(&mut touches, taken.update.version, places);
+        note_touches(&mut touches, update.version, places);
     }
     Ok(Touches::from_vec(touches))
 }

@@ -81,7 +81,7 @@ fn put_if(
     let Some(before) = old else {
         return left(alloc, old, Answer::NotFound);
     };
-    if !all_hold(before, tests) {
+    if !tests_hold(before, tests) {
         return left(alloc, old, Answer::CmpFail);
     }
     let mut object = before.copy(alloc)?;
@@ -116,11 +116,11 @@ fn left(alloc: Global, old: Option<&Object>, answer: Answer) -> Result<Effect, M
 fn default_object(alloc: Global, space: &Space) -> Result<Object, Memory>
     ensures { IfOk result (λ object. object ≡ defaults space.now) }
 {
-    let mut object = Object::new(alloc);
-    for attribute in space.attributes.as_slice() {
-        object.push(default_value(alloc, attribute.kind))?;
+    let mut values = Vec::with_capacity(alloc, space.attributes.len())?;
+    for attribute in &space.attributes {
+        values.push(default_value(alloc, attribute.kind))?;
     }
-    Ok(object)
+    Object::from_vec(alloc, values)
 }
 
 fn default_value(alloc: Global, kind: Kind) -> Value
@@ -156,7 +156,7 @@ fn put_at(object: &mut Object, place: usize, value: Value) -> Result<(), Memory>
 }
 
 /// Whether each tested attribute has the tested value.
-fn all_hold(object: &Object, tests: &[Assign]) -> bool
+pub fn tests_hold(object: &Object, tests: &[Assign]) -> bool
     ensures { result ≡ tests_hold object.now tests.now }
 {
     tests.iter().all(|test| holds(object, test))

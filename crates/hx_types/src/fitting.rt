@@ -1,26 +1,23 @@
 ghost use Rattle.std.specs.Prelude.{◌≡◌, ◌↔◌, ◌<◌, ◌≤◌, ◌≢◌, IsTrue, length, map};
 ghost use Rattle.std.specs.List.{All};
 ghost use Rattle.hx_types.specs.Spaces.{AllDiffer, AssignFits, AssignsFit, Fits, IsAttribute, IsIntKind, IsOfKind, IsRegionOf, IsServerOf, KeyFits, TermFits, TermsFit, attribute_of};
-ghost use Rattle.hx_types.specs.Subspaces.{kind_at};
 ghost use Rattle.hx_types.specs.declared.values.Assign.{Assign};
 ghost use Rattle.hx_types.specs.declared.values.Term.{Term};
 ghost use Rattle.hx_types.specs.Spaces.{IsSpace};
 
 use crate::calls::Op;
 use crate::ids::{RegionId, ServerId};
+use crate::limits::LONGEST_TEXT;
 use crate::spaces::{Kind, Space};
 use crate::starting::count_regions;
 use crate::texts::Text;
 use crate::values::{Assign, Term, Value};
 
-/// The greatest length of a text in bytes.
-const LONGEST_TEXT: usize = 1024;
-
 /// Whether an operation belongs to a space.
 ///
 /// Every attribute that it names is declared (in a search the key, attribute 0, too), and stands
 /// once in each group of assignments, tests or terms; every value is of its attribute's kind; no
-/// text has more than 1,024 bytes and no range has its first number above its second; a
+/// text is longer than [`LONGEST_TEXT`] and no range has its first number above its second; a
 /// conditional put has a test and an assignment at least; servers and regions exist. A number may
 /// lie outside its attribute's range. The limits are this project's choice.
 pub fn fits(space: &Space, op: &Op) -> bool
@@ -119,10 +116,10 @@ fn term_fits(space: &Space, term: &Term) -> bool
 {
     match term {
         Term::Equal { attribute, value } => {
-            is_attribute(space, *attribute) && is_of_kind(kind_of(space, *attribute), value)
+            is_attribute(space, *attribute) && is_of_kind(space.kind(*attribute), value)
         }
         Term::Range { attribute, lo, hi } => {
-            is_attribute(space, *attribute) && is_int_kind(kind_of(space, *attribute)) && *lo <= *hi
+            is_attribute(space, *attribute) && is_int_kind(space.kind(*attribute)) && *lo <= *hi
         }
     }
 }
@@ -142,39 +139,18 @@ fn is_int_kind(kind: Kind) -> bool
     }
 }
 
-/// The kind of an attribute: text for the key and for one that isn't declared.
-fn kind_of(space: &Space, attribute: u32) -> Kind
-    ensures { result ≡ kind_at space.now attribute }
-{
-    if attribute == 0 {
-        return Kind::Text;
-    }
-    match space.attributes.get(attribute as usize - 1) {
-        Some(declared) => declared.kind,
-        None => Kind::Text,
-    }
-}
-
 /// Whether nothing is asked twice of an attribute.
 fn asked_once(terms: &[Term]) -> bool
     ensures { IsTrue result ↔ AllDiffer (map attribute_of terms.now) }
 {
     match terms.split_first() {
         None => true,
-        Some((first, rest)) => lacks_term(rest, attribute_of(first)) && asked_once(rest),
+        Some((first, rest)) => lacks_term(rest, first.attribute()) && asked_once(rest),
     }
 }
 
 fn lacks_term(terms: &[Term], attribute: u32) -> bool
     ensures { IsTrue result ↔ All (λ (t : Term). attribute_of t ≢ attribute) terms.now }
 {
-    terms.iter().all(|term| attribute_of(term) != attribute)
-}
-
-fn attribute_of(term: &Term) -> u32
-    ensures { result ≡ attribute_of term.now }
-{
-    match term {
-        Term::Equal { attribute, .. } | Term::Range { attribute, .. } => *attribute,
-    }
+    terms.iter().all(|term| term.attribute() != attribute)
 }

@@ -5,9 +5,11 @@
 //! [`Same`] compares two; [`fits`] tells whether an operation belongs to a space, [`effect`] is what
 //! it does to an object, and [`first_config`] the configuration that every actor knows at the start.
 //!
+//! The limits of spaces, scripts and runs are constants, which clauses cite.
+//!
 //! No contract says that there is memory, so a function that always answered [`Memory`] would be
-//! proved. The tests of the crates above make scripts, effects, configurations and copies, and show
-//! that each can succeed.
+//! proved. The tests here and in the crates above make texts, lists, effects, configurations and
+//! copies, and show that each can succeed.
 #![tactic(auto)]
 
 mod calls;
@@ -18,6 +20,7 @@ mod errors;
 mod fitting;
 mod histories;
 mod ids;
+mod limits;
 mod lists;
 mod messages;
 mod outcomes;
@@ -33,14 +36,19 @@ mod updates;
 mod values;
 
 pub use calls::{Answer, Caller, Calls, Op, Row, Rows, Sessions};
-pub use configs::{Config, Member, Members, RegionLists};
+pub use configs::{Config, Member, Members, RegionLists, any_joining, any_ready};
 pub use copies::{Exact, Same};
-pub use effects::effect;
+pub use effects::{effect, tests_hold};
 pub use errors::Memory;
 pub use fitting::fits;
 pub use histories::{Item, Items, Record, Records, Searched, Searches};
 pub use ids::{
     Actor, Epoch, RegionId, RegionList, ServerId, ServerList, SessionId, Stamp, Version,
+};
+pub use limits::{
+    GREATEST_NUMBER, LONGEST_NAME, LONGEST_SCRIPT, LONGEST_TEXT, MOST_ACTORS, MOST_ATTRIBUTES,
+    MOST_AXES, MOST_CALLS, MOST_ENTRIES, MOST_ENTRIES_OF_ALL, MOST_FAILURES, MOST_PARTS,
+    MOST_PLACES, MOST_REGIONS, MOST_SERVERS, MOST_SESSIONS, MOST_STEPS, MOST_SUBSPACES,
 };
 pub use lists::Sequence;
 pub use messages::{Message, Post, PostId, Posts};
@@ -55,3 +63,6 @@ pub use totals::Totals;
 pub use traces::{Entry, Input, Note, Notes, Script, Step, Steps, Trace};
 pub use updates::{Place, Places, Update, Updates};
 pub use values::{Assign, Assigns, Object, Term, Terms, Value};
+
+#[cfg(test)]
+mod tests;

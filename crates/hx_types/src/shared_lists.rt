@@ -1,5 +1,8 @@
-ghost use Rattle.std.specs.Prelude.{◌≡◌, ◌<◌, ◌↔◌, [], ◌∷◌, ◌++◌, length, slice_get, slice_set, OnOk, OnErr, IfOk, IsTrue};
+ghost use Rattle.std.specs.Prelude.{◌≡◌, ◌<◌, ◌^◌, ◌↔◌, [], ◌∷◌, ◌++◌, length, slice_get, slice_set, OnOk, OnErr, IfOk, IsTrue};
+ghost use Rattle.std.specs.Iterator.Adapters.{IterYieldsInOrder};
+ghost use Rattle.std.specs.Iterator.Runs.{EveryRun, ItemsMapTo};
 ghost use Rattle.std.specs.Option.{option_copied};
+ghost use Rattle.std.specs.Slice.Iter.{iter_rest, iter_steps};
 ghost use Rattle.hx_types.specs.Lists.{items_of};
 
 use crate::copies::{Exact, Same};
@@ -8,6 +11,7 @@ use crate::lists::{all_same, clone_all};
 use std::alloc::{AllocError, Global};
 use std::marker::Model;
 use std::ops::Deref;
+use std::slice;
 use std::sync::Arc;
 
 /// A list of values in order, which copies share until one of them changes. Contracts see it as
@@ -33,6 +37,22 @@ impl<T> SharedList<T> {
         ensures { result ≡ [] }
     {
         SharedList { alloc, items: None }
+    }
+
+    /// The list of a vector's items, or [`Memory`] where there is no room for what holds them.
+    pub fn from_vec(alloc: Global, items: Vec<T>) -> Result<Self, Memory>
+    where
+        T: Drop,
+        ensures { IfOk result (λ made. made ≡ items.items) }
+    {
+        if items.is_empty() {
+            return Ok(SharedList::new(alloc));
+        }
+        let held = Arc::new(alloc, items)?;
+        Ok(SharedList {
+            alloc,
+            items: Some(held),
+        })
     }
 
     /// The items as a slice.
@@ -65,6 +85,15 @@ impl<T> SharedList<T> {
     {
         self.as_slice().get(place)
     }
+
+    /// The items in order.
+    pub fn iter(&self) -> slice::Iter<'_, T>
+        ensures rest { iter_rest result ≡ self.now }
+        ensures bound { length (iter_rest result) < 2 ^ 64 }
+        ensures runs { IterYieldsInOrder T }
+    {
+        self.as_slice().iter()
+    }
 }
 
 impl<T: Exact> SharedList<T> {
@@ -74,6 +103,12 @@ impl<T: Exact> SharedList<T> {
         ensures ok { OnOk result (self.new ≡ slice_set self.old place item) }
         ensures err { OnErr result (self.new ≡ self.old) }
     {
+        if let Some(held) = &mut self.items
+            && let Some(items) = Arc::get_mut(held)
+        {
+            items[place] = item;
+            return Ok(());
+        }
         let mut items = copy_of(self.alloc, &self.items)?;
         items[place] = item;
         self.items = Some(Arc::new(self.alloc, items)?);
@@ -92,6 +127,7 @@ impl<T: Exact> SharedList<T> {
             return Ok(());
         }
         let mut items = copy_of(self.alloc, &self.items)?;
+        items.reserve_exact(1)?;
         items.push(item)?;
         self.items = Some(Arc::new(self.alloc, items)?);
         Ok(())
@@ -105,6 +141,19 @@ fn copy_of<T: Exact>(alloc: Global, items: &Option<Arc<Vec<T>, Global>>) -> Resu
     match items {
         Some(held) => Ok(clone_all(Deref::deref(held))?),
         None => Ok(Vec::new(alloc)),
+    }
+}
+
+impl<'a, T> IntoIterator for &'a SharedList<T> {
+    type Item = &'a T;
+
+    type IntoIter = slice::Iter<'a, T>;
+
+    ghost into_iter_gives = { λ s it. (iter_rest it ≡ s.now) × (length (iter_rest it) < 2 ^ 64)
+        × EveryRun (iter_steps {A = T}) (λ p. ItemsMapTo p (λ x. x.now) (iter_rest p.from)) };
+
+    fn into_iter(self) -> slice::Iter<'a, T> {
+        self.as_slice().iter()
     }
 }
 

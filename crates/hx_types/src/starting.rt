@@ -4,6 +4,7 @@ ghost use Rattle.hx_types.specs.Configs.{first_config, first_member};
 ghost use Rattle.hx_types.specs.Spaces.{ArePart, IsSpace};
 ghost use Rattle.hx_types.specs.Subspaces.{region_count, size_of};
 ghost use Rattle.hx_types.specs.Words.{below};
+ghost use Rattle.hx_types.specs.declared.limits.TheConstants.{MOST_REGIONS, MOST_SERVERS};
 ghost use Rattle.hx_types.specs.declared.spaces.Axis.{Axis};
 
 use crate::configs::{Config, Member, Members, RegionLists};
@@ -32,10 +33,10 @@ pub fn first_config(alloc: Global, space: &Space) -> Result<Config, Memory>
 
 #[tactic(auto, using(crate::proofs::Counting::map_below_next))]
 fn all_servers(alloc: Global, count: u32) -> Result<ServerList, Memory>
-    requires { count ≤ 16 }
+    requires { count ≤ MOST_SERVERS }
     ensures { IfOk result (λ servers. servers ≡ map (λ n. record { 0 = n + 1 }) (below count)) }
 {
-    let mut servers = ServerList::new(alloc);
+    let mut servers = ServerList::with_capacity(alloc, count as usize)?;
     for place in 0..count {
         servers.push(ServerId(place + 1))?;
     }
@@ -47,8 +48,9 @@ fn all_regions(alloc: Global, space: &Space) -> Result<RegionLists, Memory>
     requires { IsSpace space.now }
     ensures { IfOk result (λ regions. regions ≡ map (λ g. map (first_member space.now g) (below (space.now.tolerate + 1))) (below (region_count space.now))) }
 {
-    let mut regions = RegionLists::new(alloc);
-    for region in 0..count_regions(space) {
+    let count = count_regions(space);
+    let mut regions = RegionLists::with_capacity(alloc, count as usize)?;
+    for region in 0..count {
         let members = first_members(alloc, space, region)?;
         regions.push(members)?;
     }
@@ -58,11 +60,12 @@ fn all_regions(alloc: Global, space: &Space) -> Result<RegionLists, Memory>
 #[tactic(auto, using(crate::proofs::Counting::map_below_next))]
 fn first_members(alloc: Global, space: &Space, region: u32) -> Result<Members, Memory>
     requires space { IsSpace space.now }
-    requires region { region ≤ 4096 }
+    requires region { region ≤ MOST_REGIONS }
     ensures { IfOk result (λ members. members ≡ map (first_member space.now region) (below (space.now.tolerate + 1))) }
 {
-    let mut members = Members::new(alloc);
-    for place in 0..space.tolerate + 1 {
+    let count = space.tolerate + 1;
+    let mut members = Members::with_capacity(alloc, count as usize)?;
+    for place in 0..count {
         let server = ServerId((region + place) % space.servers + 1);
         members.push(Member {
             server,
@@ -76,10 +79,10 @@ fn first_members(alloc: Global, space: &Space, region: u32) -> Result<Members, M
 pub fn count_regions(space: &Space) -> u32
     requires { IsSpace space.now }
     ensures exact { result ≡ region_count space.now }
-    ensures few { result ≤ 4096 }
+    ensures few { result ≤ MOST_REGIONS }
 {
     let mut count = space.key_parts;
-    for axes in space.subspaces.as_slice() {
+    for axes in &space.subspaces {
         count += size(axes.as_slice());
     }
     count
@@ -89,7 +92,7 @@ pub fn count_regions(space: &Space) -> u32
 #[tactic(auto, using(crate::proofs::Counting::parts_of_rest, crate::proofs::Counting::small_rest))]
 fn size(axes: &[Axis]) -> u32
     requires parts { All (λ (a : Axis). ArePart a.parts) axes.now }
-    requires few { size_of axes.now ≤ 4096 }
+    requires few { size_of axes.now ≤ MOST_REGIONS }
     ensures { result ≡ size_of axes.now }
 {
     match axes.split_first() {

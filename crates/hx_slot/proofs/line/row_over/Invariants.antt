@@ -1,6 +1,6 @@
 use Rattle.std.proofs.Common.{◌≡◌, length}
 use Rattle.std.specs.Option.{option_copied}
-use Rattle.hx_slot.specs.Entries.{row_over}
+use Rattle.hx_slot.specs.Updates.{row_over}
 use Rattle.hx_slot.proofs.line.row_over.Given as goal
 
 abbrev pub invariant-loop-taken : goal.invariant-loop-taken

@@ -1,4 +1,5 @@
-use Rattle.std.proofs.Common.{ℕ, List, ◌≡◌, ◌<◌, ◌∙◌, ap, arith, get_or, insert, length, set, subst}
+use Rattle.std.proofs.Common.{ℕ, List, Some, ◌≡◌, ◌<◌, ◌∙◌, ap, arith, get_or, insert, length, set, subst, sym}
+use Rattle.hx_types.specs.declared.updates.Update.{Update}
 use Rattle.hx_model.specs.Slots.{mark_by}
 use Rattle.hx_slot.proofs.Sessions.{leave, marked_at, pass, put_before, put_over}
 use Rattle.hx_slot.proofs.marks.note_mark.Goals as goal
@@ -12,7 +13,7 @@ returns-then-update-known-clause-items c =
     (
     ap (λ (ns : List ℕ). insert ns c.loop-place.place c.args.number) same
     ∙ put_before c.args.line.now c.args.number (mark_by c.args.update.now) c.args.numbers.now.items c.loop-place.place _ within
-    (marked_at c.args.line.now c.args.numbers.now.items c.loop-place.place c.index.result.now c.index-line-index.result within read c.requires.known)
+    (marked_at c.args.line.now c.args.numbers.now.items c.loop-place.place c.index.result.now c.index-line-index.result within read c.requires.known ∙ ap (λ (u : Update). Some (mark_by u)) (sym c.deref.ensures))
     c.if-update-known.true c.loop-place.invariant.passed
     )
 
@@ -23,7 +24,7 @@ returns-then-update-known-3-clause-items c =
     let read = subst (λ (ns : List ℕ). c.index.result.now ≡ get_or ns c.loop-place.place c.index.result.now) same c.index.ensures in
     ap (λ (ns : List ℕ). set ns c.loop-place.place c.args.number) same
     ∙ put_over c.args.line.now c.args.number (mark_by c.args.update.now) c.args.numbers.now.items c.loop-place.place _ within
-    (marked_at c.args.line.now c.args.numbers.now.items c.loop-place.place c.index.result.now c.index-line-index.result within read c.requires.known)
+    (marked_at c.args.line.now c.args.numbers.now.items c.loop-place.place c.index.result.now c.index-line-index.result within read c.requires.known ∙ ap (λ (u : Update). Some (mark_by u)) (sym c.deref.ensures))
     c.if-update-known-2.true c.if-update-known-3.true c.loop-place.invariant.passed
 
 pub returns-else-update-known-3-clause-items : goal.returns-else-update-known-3-clause-items
@@ -33,7 +34,7 @@ returns-else-update-known-3-clause-items c =
     let read = subst (λ (ns : List ℕ). c.index.result.now ≡ get_or ns c.loop-place.place c.index.result.now) same c.index.ensures in
     same
     ∙ leave c.args.line.now c.args.number (mark_by c.args.update.now) c.args.numbers.now.items c.loop-place.place _ within
-    (marked_at c.args.line.now c.args.numbers.now.items c.loop-place.place c.index.result.now c.index-line-index.result within read c.requires.known)
+    (marked_at c.args.line.now c.args.numbers.now.items c.loop-place.place c.index.result.now c.index-line-index.result within read c.requires.known ∙ ap (λ (u : Update). Some (mark_by u)) (sym c.deref.ensures))
     c.if-update-known-2.true c.if-update-known-3.false c.loop-place.invariant.passed
 
 pub loop-place-preserved : goal.loop-place-preserved
@@ -47,6 +48,6 @@ loop-place-preserved c =
       capacity = c.loop-place.invariant.capacity;
       end = c.loop-place.invariant.end;
       passed = pass c.args.line.now c.args.number (mark_by c.args.update.now) c.args.numbers.now.items c.loop-place.place _ within
-          (marked_at c.args.line.now c.args.numbers.now.items c.loop-place.place c.index.result.now c.index-line-index.result within read c.requires.known)
+          (marked_at c.args.line.now c.args.numbers.now.items c.loop-place.place c.index.result.now c.index-line-index.result within read c.requires.known ∙ ap (λ (u : Update). Some (mark_by u)) (sym c.deref.ensures))
           c.if-update-known.false c.if-update-known-2.false c.loop-place.invariant.passed;
     }

@@ -1,10 +1,11 @@
 -- The update follows the accepted ones, and no copy of it is held.
 use Rattle.std.proofs.Common.{◌-◌, ◌<◌, ◌++◌, ◌∷◌, [], ◌∙◌, false, List, ap, arith, not, eqb, refl, subst, sym}
-use Rattle.std.specs.List.{AllByRecursion}
+use Rattle.std.specs.List.{AllByRecursion, filter}
+use Rattle.hx_types.specs.declared.updates.Update.{Update}
 use Rattle.hx_model.specs.Slots.{Take, moved, top_of}
-use Rattle.hx_slot.specs.declared.entries.Placed.{Placed}
-use Rattle.hx_slot.specs.declared.entries.Taken.{Taken}
-use Rattle.hx_slot.specs.Entries.{IsHeld, IsPlaced, last_version}
+use Rattle.hx_slot.specs.declared.updates.PlacedUpdate.{PlacedUpdate}
+use Rattle.hx_slot.specs.declared.updates.AcceptedUpdate.{AcceptedUpdate}
+use Rattle.hx_slot.specs.Updates.{IsHeld, IsPlaced, last_version}
 use Rattle.hx_slot.specs.States.{SlotState}
 use Rattle.hx_slot.specs.Tabled.{AreTables}
 use Rattle.hx_slot.proofs.Lean.{accepted-state, floor-seen, top-seen}
@@ -14,24 +15,26 @@ use Rattle.hx_slot.proofs.slots.Slot.accept.Goals as goal
 pub invariant_of-self : goal.invariant_of-self
 invariant_of-self c =
     let a = c.self.inside in
-    let t : Taken = record { update = c.args.placed.update; place = c.args.placed.place; acknowledged = false } in
+    let t : AcceptedUpdate = record { update = c.args.placed.update; place = c.args.placed.place; acknowledged = false } in
     let placed = subst (λ (s : SlotState). IsPlaced s.region t.update t.place) (sym c.self.view_is) c.requires.held.placed in
     let top = subst (λ (s : SlotState). top_of s.state < t.update.version.0) (sym c.self.view_is) c.requires.above in
     let is = top-seen a c.self.invariant in
     let above : last_version a.base.floor.0 a.accepted.items < t.update.version.0 = omega (arith, is, top) in
-    let held = by_recursion-filter (IsHeld a.region) (λ (p : Placed). not (eqb p.update.version.0 t.update.version.0)) a.early.items c.self.invariant.early in
+    let held = by_recursion-filter (IsHeld a.region) (λ (p : PlacedUpdate). not (eqb p.update.version.0 t.update.version.0)) a.early.items c.self.invariant.early in
+    let dropped = c.drop_version.ensures.items ∙ ap (λ (u : Update). filter (λ (p : PlacedUpdate). not (eqb p.update.version.0 u.version.0)) a.early.items) c.deref.ensures in
     let spare = subst (λ (s : SlotState). 0 < s.spare) (sym c.self.view_is) c.requires.spare in
     accepted-slot a t c.push_reserved.new.self c.drop_version.new.early c.note.new.self _ c.self.invariant placed above refl
     c.push_reserved.ensures.items c.push_reserved.ensures.len c.push_reserved.ensures.capacity
-    (subst (AllByRecursion (IsHeld a.region)) (sym c.drop_version.ensures.items) held) c.drop_version.ensures.len c.drop_version.ensures.capacity
-    (λ kept. subst (λ (line : List Taken). AreTables (line ++ t ∷ []) c.note.new.self) c.as_slice.ensures.value (c.note.ensures.tables t refl kept))
+    (subst (AllByRecursion (IsHeld a.region)) (sym dropped) held) c.drop_version.ensures.len c.drop_version.ensures.capacity
+    (λ kept. subst (λ (line : List AcceptedUpdate). AreTables (line ++ t ∷ []) c.note.new.self) c.as_slice.ensures.value (c.note.ensures.tables t (sym c.deref-2.ensures) kept))
     c.note.ensures.sizes
     (omega (arith, spare))
 
 pub returns-clause-state : goal.returns-clause-state
 returns-clause-state c =
-    let t : Taken = record { update = c.args.placed.update; place = c.args.placed.place; acknowledged = false } in
+    let t : AcceptedUpdate = record { update = c.args.placed.update; place = c.args.placed.place; acknowledged = false } in
     let top = subst (λ (s : SlotState). top_of s.state < t.update.version.0) (sym c.self.view_is) c.requires.above in
+    let dropped = c.drop_version.ensures.items ∙ ap (λ (u : Update). filter (λ (p : PlacedUpdate). not (eqb p.update.version.0 u.version.0)) c.self.inside.early.items) c.deref.ensures in
     let floor = floor-seen c.self.inside c.self.invariant in
-    accepted-state c.self.inside t c.push_reserved.new.self c.drop_version.new.early c.note.new.self (c.self.inside.spare - 1) (omega (arith, top, floor)) c.push_reserved.ensures.items c.drop_version.ensures.items
+    accepted-state c.self.inside t c.push_reserved.new.self c.drop_version.new.early c.note.new.self (c.self.inside.spare - 1) (omega (arith, top, floor)) c.push_reserved.ensures.items dropped
     ∙ ap (λ (s : SlotState). moved (Take c.args.placed.update) s.state) c.self.view_is

@@ -1,9 +1,10 @@
 -- The update is held last, and no other copy of it is held.
 use Rattle.std.proofs.Common.{◌-◌, ◌<◌, ◌++◌, ◌∷◌, [], ◌∙◌, List, ap, arith, not, eqb, subst, sym}
-use Rattle.std.specs.List.{AllByRecursion}
+use Rattle.std.specs.List.{AllByRecursion, filter}
+use Rattle.hx_types.specs.declared.updates.Update.{Update}
 use Rattle.hx_model.specs.Slots.{Hold, moved}
-use Rattle.hx_slot.specs.declared.entries.Placed.{Placed}
-use Rattle.hx_slot.specs.Entries.{IsHeld}
+use Rattle.hx_slot.specs.declared.updates.PlacedUpdate.{PlacedUpdate}
+use Rattle.hx_slot.specs.Updates.{IsHeld}
 use Rattle.hx_slot.specs.States.{SlotState}
 use Rattle.hx_slot.proofs.Lean.{held-state}
 use Rattle.hx_slot.proofs.Accepting.{by_recursion-filter, by_recursion-push, held-slot}
@@ -13,10 +14,10 @@ pub invariant_of-self : goal.invariant_of-self
 invariant_of-self c =
     let a = c.self.inside in
     let p = c.args.placed in
-    let held = by_recursion-filter (IsHeld a.region) (λ (q : Placed). not (eqb q.update.version.0 p.update.version.0)) a.early.items c.self.invariant.early in
+    let held = by_recursion-filter (IsHeld a.region) (λ (q : PlacedUpdate). not (eqb q.update.version.0 p.update.version.0)) a.early.items c.self.invariant.early in
     let this = subst (λ (s : SlotState). IsHeld s.region p) (sym c.self.view_is) c.requires.held in
     let all = by_recursion-push (IsHeld a.region) _ p held this in
-    let items = c.push_reserved.ensures.items ∙ ap (λ (ps : List Placed). ps ++ p ∷ []) c.drop_version.ensures.items in
+    let items = c.push_reserved.ensures.items ∙ ap (λ (ps : List PlacedUpdate). ps ++ p ∷ []) (c.drop_version.ensures.items ∙ ap (λ (u : Update). filter (λ (q : PlacedUpdate). not (eqb q.update.version.0 u.version.0)) c.self.inside.early.items) c.deref.ensures) in
     let spare = subst (λ (s : SlotState). 0 < s.spare) (sym c.self.view_is) c.requires.spare in
     let len = c.push_reserved.ensures.len in
     let less = c.drop_version.ensures.len in
@@ -25,5 +26,5 @@ invariant_of-self c =
 pub returns-clause-state : goal.returns-clause-state
 returns-clause-state c =
     let p = c.args.placed in
-    let items = c.push_reserved.ensures.items ∙ ap (λ (ps : List Placed). ps ++ p ∷ []) c.drop_version.ensures.items in
+    let items = c.push_reserved.ensures.items ∙ ap (λ (ps : List PlacedUpdate). ps ++ p ∷ []) (c.drop_version.ensures.items ∙ ap (λ (u : Update). filter (λ (q : PlacedUpdate). not (eqb q.update.version.0 u.version.0)) c.self.inside.early.items) c.deref.ensures) in
     held-state c.self.inside p c.push_reserved.new.self (c.self.inside.spare - 1) items ∙ ap (λ (s : SlotState). moved (Hold p.update) s.state) c.self.view_is

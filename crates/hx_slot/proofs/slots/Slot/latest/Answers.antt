@@ -1,7 +1,7 @@
 use Rattle.std.proofs.Common.{◌≡◌, ◌∙◌, ap, subst}
 use Rattle.std.specs.Option.{option_copied}
 use Rattle.hx_model.specs.Slots.{latest_of, object_in}
-use Rattle.hx_slot.specs.Entries.{row_over}
+use Rattle.hx_slot.specs.Updates.{row_over}
 use Rattle.hx_slot.specs.States.{SlotState}
 use Rattle.hx_slot.proofs.Lean.{latest-seen}
 use Rattle.hx_slot.proofs.slots.Slot.latest.Goals as goal

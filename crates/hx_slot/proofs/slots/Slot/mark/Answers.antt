@@ -6,7 +6,7 @@ use Rattle.hx_types.specs.declared.calls.Answer.{Answer}
 use Rattle.hx_types.specs.declared.ids.Version.{Version}
 use Rattle.hx_types.specs.declared.snapshots.Mark.{Mark}
 use Rattle.hx_model.specs.Slots.{mark_among, mark_of, top_of}
-use Rattle.hx_slot.specs.declared.entries.Taken.{Taken}
+use Rattle.hx_slot.specs.declared.updates.AcceptedUpdate.{AcceptedUpdate}
 use Rattle.hx_slot.specs.States.{SlotState, call_at, call_seen}
 use Rattle.hx_slot.specs.Tabled.{mark_found, newer_of}
 use Rattle.hx_slot.proofs.Lean.{mark-below, mark-seen}
@@ -18,14 +18,14 @@ newest_of-newest-requires c =
     let kept = subst (λ (s : SlotState). s.state.marks ≡ _) (sym c.self.view_is) c.requires in
     let known = numbers-known c.self.inside.accepted.items c.self.inside.tables.newest.items _ (c.self.invariant.tables kept).marks in
     subst (λ (numbers : List ℕ). All (λ k. k < length c.as_slice-2.result.now) numbers) (sym c.as_slice.ensures.value)
-    (subst (λ (line : List Taken). All (λ k. k < length line) c.self.inside.tables.newest.items) (sym c.as_slice-2.ensures.value) known)
+    (subst (λ (line : List AcceptedUpdate). All (λ k. k < length line) c.self.inside.tables.newest.items) (sym c.as_slice-2.ensures.value) known)
 
 pub returns-clause-mark : goal.returns-clause-mark
 returns-clause-mark c =
     let kept = subst (λ (s : SlotState). s.state.marks ≡ _) (sym c.self.view_is) c.requires in
     let newest =
     c.newest_of-newest.ensures
-    ∙ ap (λ (line : List Taken). mark_found c.args.session line c.as_slice.result.now) c.as_slice-2.ensures.value
+    ∙ ap (λ (line : List AcceptedUpdate). mark_found c.args.session line c.as_slice.result.now) c.as_slice-2.ensures.value
     ∙ ap (mark_found c.args.session c.self.inside.accepted.items) c.as_slice.ensures.value
     in
     let base = c.mark_of.ensures ∙ ap (mark_among c.args.session) c.as_slice-3.ensures in

@@ -1,7 +1,7 @@
 -- The same entries, with room for those to come.
 use Rattle.std.proofs.Common.{List, ap, arith, drop}
 use Rattle.std.proofs.lemmas.List.{length-drop}
-use Rattle.hx_slot.specs.declared.entries.Taken.{Taken}
+use Rattle.hx_slot.specs.declared.updates.AcceptedUpdate.{AcceptedUpdate}
 use Rattle.hx_slot.specs.Acks.{count_unacked}
 use Rattle.hx_slot.specs.Invariant.{pending_in}
 use Rattle.hx_slot.proofs.Refitting.{count-length, refitted-slot}
@@ -14,11 +14,11 @@ invariant_of-self-2 c =
     let more = lists.accepted in
     let held = lists.early in
     let acks = lists.acked in
-    let count = ap (λ (ts : List Taken). count_unacked (drop a.committed ts)) more.items in
+    let count = ap (λ (ts : List AcceptedUpdate). count_unacked (drop a.committed ts)) more.items in
     let few = count-length (pending_in a) in
     let pending = length-drop a.committed a.accepted.items in
     let ok = a.accepted.ok.0 in
-    refitted-slot a c.make_room.new.accepted c.make_room.new.early c.make_room.new.acked c.reserve.new.self c.args.n c.self.invariant more held acks c.in_ok-reserve.ensures.newest c.in_ok-reserve.ensures.touches
+    refitted-slot a c.make_room.new.accepted c.make_room.new.early c.make_room.new.acked c.reserve.new.self c.max-n.result c.self.invariant more held acks c.in_ok-reserve.ensures.newest c.in_ok-reserve.ensures.touches
     (
     record {
       accepted = (let l = more.len in let e = held.len in let r = lists.accepted_room in omega (arith, l, e, r));

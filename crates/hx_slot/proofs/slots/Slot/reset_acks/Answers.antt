@@ -3,6 +3,7 @@ use Rattle.hx_model.specs.Slots.{Forget, moved}
 use Rattle.hx_slot.specs.States.{SlotState}
 use Rattle.hx_slot.proofs.Lean.{forgotten-state}
 use Rattle.hx_slot.proofs.Settling.{forgotten-slot}
+use Rattle.hx_slot.proofs.Standing.{stands-reset}
 use Rattle.hx_slot.proofs.slots.Slot.reset_acks.Goals as goal
 
 pub invariant_of-self : goal.invariant_of-self
@@ -16,3 +17,6 @@ pub returns-clause-state : goal.returns-clause-state
 returns-clause-state c =
     forgotten-state c.self.inside c.forget_acks.new.accepted c.clear.new.self c.clear-2.new.self c.forget_acks.ensures.same c.clear.ensures.items c.clear-2.ensures.items
     ∙ ap (λ (s : SlotState). moved Forget s.state) c.self.view_is
+
+pub returns-clause-stands : goal.returns-clause-stands
+returns-clause-stands c = λ s h. stands-reset c.args.self.now.region _ c.args.self.now.state _ s (returns-clause-state c) (ap (λ (x : SlotState). x.region) c.self.view_is) h

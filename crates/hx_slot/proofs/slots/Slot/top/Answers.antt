@@ -2,7 +2,7 @@ use Rattle.std.proofs.Common.{◌≡◌, ◌≤◌, ℕ, [], ◌∙◌, ap, arit
 use Rattle.std.specs.List.{All}
 use Rattle.hx_types.specs.declared.snapshots.Touch.{Touch}
 use Rattle.hx_model.specs.Slots.{top_of, touches_of}
-use Rattle.hx_slot.specs.Entries.{last_version}
+use Rattle.hx_slot.specs.Updates.{last_version}
 use Rattle.hx_slot.specs.Invariant.{seen}
 use Rattle.hx_slot.specs.States.{SlotState}
 use Rattle.hx_slot.proofs.Lean.{floor-seen, top-seen, touches-below}

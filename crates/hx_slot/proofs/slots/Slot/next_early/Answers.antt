@@ -5,7 +5,7 @@ use Rattle.hx_model.specs.Slots.{follows}
 use Rattle.hx_slot.specs.States.{IsPlacedIn, SlotState}
 use Rattle.hx_slot.proofs.Newest.{place_number-within}
 use Rattle.hx_slot.proofs.Turns.{comes_after, turn-found, turn-none}
-use Rattle.hx_slot.proofs.slots.Slot.turn.Goals as goal
+use Rattle.hx_slot.proofs.slots.Slot.next_early.Goals as goal
 
 pub returns-in-Some-clause-turn : goal.returns-in-Some-clause-turn
 returns-in-Some-clause-turn c =

@@ -1,6 +1,6 @@
 use Rattle.std.proofs.Common.{◌≡◌, ◌+◌, ◌-◌, length}
 use Rattle.hx_model.specs.Slots.{moved_all, taken, top_of, turns}
-use Rattle.hx_slot.proofs.slots.Slot.take_turns.Given as goal
+use Rattle.hx_slot.proofs.slots.Slot.accept_early.Given as goal
 
 abbrev pub invariant-loop-count : goal.invariant-loop-count
 invariant-loop-count l = record {

@@ -4,12 +4,12 @@ use Rattle.std.specs.List.{AllByRecursion, find, position}
 use Rattle.hx_types.specs.declared.updates.Update.{Update}
 use Rattle.hx_types.specs.Words.{when_some}
 use Rattle.hx_model.specs.Slots.{Take, follows, moved, moved_all, top_of}
-use Rattle.hx_slot.specs.Entries.{IsHeld}
+use Rattle.hx_slot.specs.Updates.{IsHeld}
 use Rattle.hx_slot.specs.States.{IsLater, SlotState}
 use Rattle.hx_slot.proofs.Lean.{removed-state}
 use Rattle.hx_slot.proofs.Accepting.{by_recursion-remove, held-slot}
 use Rattle.hx_slot.proofs.Turns.{comes_after, later-held, turn-found, turn-none}
-use Rattle.hx_slot.proofs.slots.Slot.take_turn.Goals as goal
+use Rattle.hx_slot.proofs.slots.Slot.accept_next_early.Goals as goal
 
 none : (c : goal.In_default) → find (follows c.args.self.now.region (top_of c.args.self.now.state)) c.args.self.now.state.early ≡ None
 none c =

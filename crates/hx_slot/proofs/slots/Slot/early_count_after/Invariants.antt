@@ -1,6 +1,6 @@
 use Rattle.std.proofs.Common.{◌≡◌, ◌+◌, ◌-◌, length}
 use Rattle.hx_model.specs.Slots.{taken, turns}
-use Rattle.hx_slot.proofs.slots.Slot.turns_after.Given as goal
+use Rattle.hx_slot.proofs.slots.Slot.early_count_after.Given as goal
 
 abbrev pub invariant-loop-count : goal.invariant-loop-count
 invariant-loop-count l =

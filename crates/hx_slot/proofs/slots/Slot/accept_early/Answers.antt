@@ -2,16 +2,16 @@ use Rattle.std.proofs.Common.{◌≡◌, ◌+◌, ◌-◌, ◌∙◌, ap, arith,
 use Rattle.hx_types.specs.declared.ids.RegionId.{RegionId}
 use Rattle.hx_model.specs.Slots.{moved_all, taken, top_of, turns}
 use Rattle.hx_slot.proofs.Turns.{turn-step}
-use Rattle.hx_slot.proofs.slots.Slot.take_turns.Goals as goal
+use Rattle.hx_slot.proofs.slots.Slot.accept_early.Goals as goal
 
 pub loop-count-preserved : goal.loop-count-preserved
 loop-count-preserved c =
     let old = c.loop-count.self in
-    let new = c.take_turn.new.self in
+    let new = c.accept_next_early.new.self in
     let m = c.args.most - (c.loop-count.count + 1) in
     let n : c.args.most - c.loop-count.count ≡ suc m = omega arith in
-    let step = turn-step old.region m old.state new.state (sym c.if-not-take_turn.false ∙ c.take_turn.ensures.found) c.take_turn.ensures.state c.take_turn.ensures.later in
-    let region = c.take_turn.ensures.region in
+    let step = turn-step old.region m old.state new.state (sym c.if-not-accept_next_early.false ∙ c.accept_next_early.ensures.found) c.accept_next_early.ensures.state c.accept_next_early.ensures.later in
+    let region = c.accept_next_early.ensures.region in
     let counted = ap (λ (g : RegionId). length (taken (turns g m (top_of new.state) new.state.early))) region in
     let now = step.count ∙ ap (λ k. length (taken (turns old.region k (top_of old.state) old.state.early))) (sym n) in
     let before = c.loop-count.invariant.count in
@@ -22,5 +22,5 @@ loop-count-preserved c =
           ∙ ap (λ k. moved_all (turns old.region k (top_of old.state) old.state.early) old.state) (sym n)
           ∙ c.loop-count.invariant.state;
       region = region ∙ c.loop-count.invariant.region;
-      spare = c.take_turn.ensures.spare ∙ c.loop-count.invariant.spare;
+      spare = c.accept_next_early.ensures.spare ∙ c.loop-count.invariant.spare;
     }

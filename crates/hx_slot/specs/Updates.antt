@@ -6,22 +6,22 @@ use Rattle.hx_types.specs.declared.ids.RegionId.{RegionId}
 use Rattle.hx_types.specs.declared.updates.Place.{Place}
 use Rattle.hx_types.specs.declared.updates.Update.{Update}
 use Rattle.hx_model.specs.Slots.{place_in, row_of}
-use Rattle.hx_slot.specs.declared.entries.Placed.{Placed}
-use Rattle.hx_slot.specs.declared.entries.Taken.{Taken}
-use Rattle.hx_slot.specs.declared.line.Found.{Found}
+use Rattle.hx_slot.specs.declared.updates.PlacedUpdate.{PlacedUpdate}
+use Rattle.hx_slot.specs.declared.updates.AcceptedUpdate.{AcceptedUpdate}
+use Rattle.hx_slot.specs.declared.line.RowRef.{RowRef}
 
 -- the updates of a list, the last one first, before older ones
-abbrev pub newest_first : List Update → List Taken → List Update
+abbrev pub newest_first : List Update → List AcceptedUpdate → List Update
 newest_first older [] = older
 newest_first older (t ∷ rest) = newest_first (t.update ∷ older) rest
 
 -- the version of the last update, or a version before them
-abbrev pub last_version : ℕ → List Taken → ℕ
+abbrev pub last_version : ℕ → List AcceptedUpdate → ℕ
 last_version v [] = v
 last_version v (t ∷ rest) = last_version t.update.version.0 rest
 
 -- each version is above the one before it
-abbrev pub Ascends : ℕ → List Taken → Type 0
+abbrev pub Ascends : ℕ → List AcceptedUpdate → Type 0
 Ascends v [] = ⊤
 Ascends v (t ∷ rest) = (v < t.update.version.0) × Ascends t.update.version.0 rest
 
@@ -31,19 +31,19 @@ pub record IsPlaced (g : RegionId) (u : Update) (p : Place) : Type 0 where
   pub few : length u.places ≤ 17
 
 -- an update with its place in the region, after a lower version
-pub record IsHeld (g : RegionId) (p : Placed) : Type 0 where
+pub record IsHeld (g : RegionId) (p : PlacedUpdate) : Type 0 where
   pub placed : IsPlaced g p.update p.place
   pub after : p.place.after.0 < p.update.version.0
 
 -- the object is set by an update that keeps and changes, and removed by one that doesn't keep
-abbrev pub row_by : Taken → Option Row → Option Row
+abbrev pub row_by : AcceptedUpdate → Option Row → Option Row
 row_by t old = if t.place.keeps then if t.update.changes then row_of t.update else old else None
 
 -- the row after updates, from the one before them
-abbrev pub row_over : Option Row → List Taken → Option Row
+abbrev pub row_over : Option Row → List AcceptedUpdate → Option Row
 row_over row [] = row
 row_over row (t ∷ rest) = row_over (row_by t row) rest
 
 -- the row that is lent
-abbrev pub row_seen : Option Found → Option Row
-row_seen found = option_map (λ (f : Found). record { key = f.key.now; version = f.version; object = f.object.now }) found
+abbrev pub row_seen : Option RowRef → Option Row
+row_seen found = option_map (λ (f : RowRef). record { key = f.key.now; version = f.version; object = f.object.now }) found

@@ -1,0 +1,484 @@
+-- The table of a server's steps, row by row, on a small space.
+use Rattle.std.specs.Prelude.{◌≡◌, ℕ, true, false, List, [], ◌∷◌, map, codes, None, Some}
+use Rattle.hx_types.specs.declared.configs.Config.{Config}
+use Rattle.hx_types.specs.declared.traces.Input.{Input}
+use Rattle.hx_types.specs.declared.snapshots.Kept.{Kept}
+use Rattle.hx_types.specs.declared.calls.Op.{Op}
+use Rattle.hx_types.specs.declared.updates.Update.{Update}
+use Rattle.hx_types.specs.declared.values.Value.TheVariants as a_value
+use Rattle.hx_types.specs.declared.calls.Answer.TheVariants as an_answer
+use Rattle.hx_types.specs.declared.messages.Message.TheVariants as a_message
+use Rattle.hx_types.specs.declared.traces.Note.TheVariants as a_note
+use Rattle.hx_types.specs.declared.calls.Op.TheVariants.{Get, Del}
+use Rattle.hx_types.specs.declared.values.Term.TheVariants.{Equal}
+use Rattle.hx_types.specs.declared.traces.Input.TheVariants.{Tick, Halt}
+use Rattle.hx_model.specs.Slots.{KeyState}
+use Rattle.hx_model.specs.ServerSteps.{ServerState, ServerStep, server_step}
+use Rattle.std.proofs.Common.{refl}
+use Rattle.hx_model.proofs.SmallSpace.{between, blue, caller, colored, configured, epoch, first_update, from_coordinator, from_server, from_session, ignoring, joining, key_slot, mark, not_installed, other_slot, place, put_color, ready, red, region, replica, row, running, second_update, shop, slot_of, stepping, the_key, third_update, to_session, touch, version, whole}
+
+abbrev step : ServerState → Input → ServerStep
+step s input = server_step shop s input
+
+-- ---- who hears
+
+-- server 1 leads region 0, server 2 follows it there and is first in region 1, server 3 follows it there and is first in region 2
+abbrev leader : KeyState → ServerState
+leader slot = running 1 whole (replica 0 (slot ∷ []) ∷ replica 2 [] ∷ [])
+
+abbrev second : KeyState → KeyState → ServerState
+second slot other = running 2 whole (replica 0 (slot ∷ []) ∷ replica 1 (other ∷ []) ∷ [])
+
+abbrev third : KeyState → KeyState → ServerState
+third low high = running 3 whole (replica 1 (low ∷ []) ∷ replica 2 (high ∷ []) ∷ [])
+
+abbrev fresh : KeyState
+fresh = key_slot [] 0 [] []
+
+abbrev bare : KeyState
+bare = other_slot [] 0 [] []
+
+abbrev empty_leader : ServerState
+empty_leader = running 1 whole (replica 0 [] ∷ replica 2 [] ∷ [])
+
+abbrev empty_second : ServerState
+empty_second = running 2 whole (replica 0 [] ∷ replica 1 [] ∷ [])
+
+-- a call, an update, an acknowledgement, a question and a snapshot of an epoch, for region 0
+abbrev heard : ℕ → List Input
+heard e =
+    from_session 1 (a_message.Call (epoch e) 1 (Get the_key))
+    ∷ from_server 1 (a_message.Update (epoch e) (region 0) first_update)
+    ∷ from_server 2 (a_message.Ack (epoch e) (region 0) the_key (version 1))
+    ∷ from_session 1 (a_message.Ask (epoch e) 1 (region 0) [])
+    ∷ from_server 2 (a_message.Snap (epoch e) (region 0) [] (first_update ∷ []))
+    ∷ []
+
+abbrev steps_of : ServerState → List Input → List ServerStep
+steps_of s inputs = map (step s) inputs
+
+-- a server that would do something on each of them
+abbrev pending_leader : ServerState
+pending_leader = leader (key_slot (first_update ∷ []) 0 [] [])
+
+abbrev joiner_config : Config
+joiner_config = configured 2 (1 ∷ 2 ∷ 3 ∷ []) ((ready 1 ∷ ready 2 ∷ joining 3 ∷ []) ∷ (ready 2 ∷ ready 3 ∷ []) ∷ (ready 3 ∷ ready 1 ∷ []) ∷ [])
+
+abbrev waiting_joiner : ServerState
+waiting_joiner = running 3 joiner_config (not_installed 0 ∷ replica 1 [] ∷ replica 2 [] ∷ [])
+
+abbrev ignores : ServerState → List ServerStep
+ignores s = ignoring s ∷ ignoring s ∷ ignoring s ∷ ignoring s ∷ ignoring s ∷ []
+
+sealed_hears_nothing : steps_of (record pending_leader { sealed = true }) (heard 2) ≡ ignores (record pending_leader { sealed = true })
+sealed_hears_nothing = refl
+
+sealed_joiner_hears_nothing : steps_of (record waiting_joiner { sealed = true }) (heard 2) ≡ ignores (record waiting_joiner { sealed = true })
+sealed_joiner_hears_nothing = refl
+
+lower_epoch_is_dropped : steps_of pending_leader (heard 1) ≡ ignores pending_leader
+lower_epoch_is_dropped = refl
+
+higher_epoch_is_dropped : steps_of pending_leader (heard 3) ≡ ignores pending_leader
+higher_epoch_is_dropped = refl
+
+joiner_drops_a_lower_epoch : steps_of waiting_joiner (heard 1) ≡ ignores waiting_joiner
+joiner_drops_a_lower_epoch = refl
+
+joiner_drops_a_higher_epoch : steps_of waiting_joiner (heard 3) ≡ ignores waiting_joiner
+joiner_drops_a_higher_epoch = refl
+
+no_replica_hears_nothing : steps_of (running 3 whole (replica 1 [] ∷ replica 2 [] ∷ [])) (heard 2) ≡ ignores (running 3 whole (replica 1 [] ∷ replica 2 [] ∷ []))
+no_replica_hears_nothing = refl
+
+-- region 0 has no ready member
+abbrev key_region_lost : Config
+key_region_lost = configured 2 (2 ∷ 3 ∷ []) ((joining 2 ∷ []) ∷ (ready 2 ∷ ready 3 ∷ []) ∷ (ready 3 ∷ []) ∷ [])
+
+abbrev of_lost_region : ServerState
+of_lost_region = running 2 key_region_lost (replica 0 (key_slot (first_update ∷ []) 0 [] [] ∷ []) ∷ replica 1 [] ∷ [])
+
+lost_region_hears_nothing : steps_of of_lost_region (heard 2) ≡ ignores of_lost_region
+lost_region_hears_nothing = refl
+
+lost_region_installs_nothing :
+    step (running 2 key_region_lost (not_installed 0 ∷ [])) (from_server 1 (a_message.Snap (epoch 2) (region 0) [] (first_update ∷ [])))
+    ≡ ignoring (running 2 key_region_lost (not_installed 0 ∷ []))
+lost_region_installs_nothing = refl
+
+-- a replica that isn't installed
+not_installed_hears_no_update : step waiting_joiner (from_server 2 (a_message.Update (epoch 2) (region 0) first_update)) ≡ ignoring waiting_joiner
+not_installed_hears_no_update = refl
+
+abbrev holding_joiner : ServerState
+holding_joiner =
+    running 3 joiner_config (record (replica 0 (key_slot (first_update ∷ []) 0 [] [] ∷ [])) { installed = false } ∷ replica 1 [] ∷ replica 2 [] ∷ [])
+
+not_installed_hears_no_ack : step holding_joiner (from_server 2 (a_message.Ack (epoch 2) (region 0) the_key (version 1))) ≡ ignoring holding_joiner
+not_installed_hears_no_ack = refl
+
+abbrev not_installed_but_ready : ServerState
+not_installed_but_ready = running 3 whole (not_installed 1 ∷ replica 2 [] ∷ [])
+
+not_installed_hears_no_question : step not_installed_but_ready (from_session 1 (a_message.Ask (epoch 2) 1 (region 1) [])) ≡ ignoring not_installed_but_ready
+not_installed_hears_no_question = refl
+
+halted_takes_no_step :
+    steps_of (record pending_leader { halted = true }) (Tick ∷ Halt ∷ from_coordinator a_message.Die ∷ from_coordinator (a_message.Seal (epoch 2)) ∷ from_session 1 (a_message.Call (epoch 2) 1 (Get the_key)) ∷ [])
+    ≡ ignores (record pending_leader { halted = true })
+halted_takes_no_step = refl
+
+-- ---- Call of a get
+
+abbrev red_then_blue : KeyState
+red_then_blue = key_slot (second_update ∷ first_update ∷ []) 1 [] []
+
+get_finds_the_committed_object :
+    step (leader red_then_blue) (from_session 3 (a_message.Call (epoch 2) 4 (Get the_key)))
+    ≡ stepping (leader red_then_blue) (to_session 1 3 (a_message.Reply 4 (version 1) (an_answer.Found (colored red))) ∷ [])
+get_finds_the_committed_object = refl
+
+get_finds_nothing :
+    step empty_leader (from_session 3 (a_message.Call (epoch 2) 4 (Get the_key)))
+    ≡ stepping (leader fresh) (to_session 1 3 (a_message.Reply 4 (version 0) an_answer.NotFound) ∷ [])
+get_finds_nothing = refl
+
+get_finds_nothing_after_a_delete :
+    step (leader (key_slot (third_update ∷ second_update ∷ first_update ∷ []) 3 [] [])) (from_session 3 (a_message.Call (epoch 2) 4 (Get the_key)))
+    ≡ stepping (leader (key_slot (third_update ∷ second_update ∷ first_update ∷ []) 3 [] [])) (to_session 1 3 (a_message.Reply 4 (version 3) an_answer.NotFound) ∷ [])
+get_finds_nothing_after_a_delete = refl
+
+-- a get asks nothing of marks: session 1 has a newer write
+get_asks_no_mark :
+    step (leader (key_slot (first_update ∷ []) 1 [] [])) (from_session 1 (a_message.Call (epoch 2) 0 (Get the_key)))
+    ≡ stepping (leader (key_slot (first_update ∷ []) 1 [] [])) (to_session 1 1 (a_message.Reply 0 (version 1) (an_answer.Found (colored red))) ∷ [])
+get_asks_no_mark = refl
+
+only_the_leader_answers_a_get :
+    step (second (key_slot (first_update ∷ []) 1 [] []) bare) (from_session 3 (a_message.Call (epoch 2) 4 (Get the_key)))
+    ≡ ignoring (second (key_slot (first_update ∷ []) 1 [] []) bare)
+only_the_leader_answers_a_get = refl
+
+-- ---- Call of a write
+
+abbrev calls : ℕ → ℕ → Op → Input
+calls u number op = from_session u (a_message.Call (epoch 2) number op)
+
+only_the_leader_takes_a_write : step (second fresh bare) (calls 1 1 (put_color red)) ≡ ignoring (second fresh bare)
+only_the_leader_takes_a_write = refl
+
+-- the first write: noted, accepted, and sent to the next replica
+assigned_first :
+    step empty_leader (calls 1 1 (put_color red))
+    ≡ record { state = leader (key_slot (first_update ∷ []) 0 [] []); posts = between 1 2 (a_message.Update (epoch 2) (region 0) first_update) ∷ []; notes = a_note.Assigned first_update ∷ [] }
+assigned_first = refl
+
+-- the next one: on the latest object, with the places of the old object and the new
+assigned_second :
+    step (leader (key_slot (first_update ∷ []) 0 [] [])) (calls 2 1 (put_color blue))
+    ≡ record { state = leader (key_slot (second_update ∷ first_update ∷ []) 0 [] []); posts = between 1 2 (a_message.Update (epoch 2) (region 0) second_update) ∷ []; notes = a_note.Assigned second_update ∷ [] }
+assigned_second = refl
+
+assigned_third :
+    step (leader red_then_blue) (calls 1 2 (Del the_key))
+    ≡ record { state = leader (key_slot (third_update ∷ second_update ∷ first_update ∷ []) 1 [] []); posts = between 1 2 (a_message.Update (epoch 2) (region 0) third_update) ∷ []; notes = a_note.Assigned third_update ∷ [] }
+assigned_third = refl
+
+-- what changes nothing goes through the key region alone
+abbrev missed : Update
+missed =
+    record {
+      key = the_key;
+      version = version 1;
+      caller = caller 1 1;
+      answer = an_answer.NotFound;
+      changes = false;
+      object = None;
+      places = place 0 0 false ∷ [];
+    }
+
+abbrev one_server : Config
+one_server = configured 2 (1 ∷ []) ((ready 1 ∷ []) ∷ (ready 1 ∷ []) ∷ [] ∷ [])
+
+abbrev alone : KeyState → ServerState
+alone slot = running 1 one_server (replica 0 (slot ∷ []) ∷ replica 1 [] ∷ [])
+
+-- a chain of one replica: acknowledged, committed and answered at once
+assigned_and_answered :
+    step (alone fresh) (calls 1 1 (Del the_key))
+    ≡ record { state = alone (key_slot (missed ∷ []) 1 [] []); posts = to_session 1 1 (a_message.Reply 1 (version 1) an_answer.NotFound) ∷ []; notes = a_note.Assigned missed ∷ [] }
+assigned_and_answered = refl
+
+-- a place of the effect is lost: refused, and nothing changes; the new object's region counts
+abbrev refused : Update
+refused =
+    record {
+      key = the_key;
+      version = version 2;
+      caller = caller 2 1;
+      answer = an_answer.Refused (region 2) (epoch 2);
+      changes = false;
+      object = Some (colored red);
+      places = place 0 1 true ∷ [];
+    }
+
+assigned_refused :
+    step (alone (key_slot (first_update ∷ []) 1 [] [])) (calls 2 1 (put_color blue))
+    ≡ record { state = alone (key_slot (refused ∷ first_update ∷ []) 2 [] []); posts = to_session 1 2 (a_message.Reply 1 (version 2) (an_answer.Refused (region 2) (epoch 2))) ∷ []; notes = a_note.Assigned refused ∷ [] }
+assigned_refused = refl
+
+-- old: session 1 has a write of a higher number
+old_is_ignored :
+    step (leader (key_slot (third_update ∷ second_update ∷ first_update ∷ []) 3 [] [])) (calls 1 1 (put_color red))
+    ≡ ignoring (leader (key_slot (third_update ∷ second_update ∷ first_update ∷ []) 3 [] []))
+old_is_ignored = refl
+
+old_is_ignored_while_pending :
+    step (leader (key_slot (third_update ∷ second_update ∷ first_update ∷ []) 0 [] [])) (calls 1 1 (put_color red))
+    ≡ ignoring (leader (key_slot (third_update ∷ second_update ∷ first_update ∷ []) 0 [] []))
+old_is_ignored_while_pending = refl
+
+-- again: the version and the answer of then
+again_is_answered :
+    step (leader red_then_blue) (calls 1 1 (put_color red))
+    ≡ stepping (leader red_then_blue) (to_session 1 1 (a_message.Reply 1 (version 1) an_answer.Done) ∷ [])
+again_is_answered = refl
+
+-- marks of an installed snapshot count too
+abbrev marked : Kept
+marked = record { key = the_key; floor = version 7; object = None; marks = mark 1 3 5 an_answer.CmpFail ∷ []; touches = touch 0 7 ∷ [] }
+
+abbrev based : KeyState
+based = record { marks = true; base = marked; accepted = []; floor = 7; acked = []; early = [] }
+
+again_by_the_snapshot :
+    step (leader based) (calls 1 3 (put_color red))
+    ≡ stepping (leader based) (to_session 1 1 (a_message.Reply 3 (version 5) an_answer.CmpFail) ∷ [])
+again_by_the_snapshot = refl
+
+old_by_the_snapshot : step (leader based) (calls 1 2 (put_color red)) ≡ ignoring (leader based)
+old_by_the_snapshot = refl
+
+-- wait: pending and not stuck
+waiting_is_silent : step (leader red_then_blue) (calls 2 1 (put_color blue)) ≡ ignoring (leader red_then_blue)
+waiting_is_silent = refl
+
+-- wait: region 2 is lost, and version 2 has a place there
+abbrev high_lost : Config
+high_lost = configured 2 (1 ∷ 2 ∷ []) ((ready 1 ∷ ready 2 ∷ []) ∷ (ready 2 ∷ []) ∷ (joining 1 ∷ []) ∷ [])
+
+abbrev stuck_leader : List Update → ServerState
+stuck_leader accepted = running 1 high_lost (replica 0 (key_slot accepted 0 [] [] ∷ []) ∷ [])
+
+waiting_is_doubted :
+    step (stuck_leader (third_update ∷ second_update ∷ first_update ∷ [])) (calls 2 1 (put_color blue))
+    ≡ stepping (stuck_leader (third_update ∷ second_update ∷ first_update ∷ [])) (to_session 1 2 (a_message.Reply 1 (version 2) (an_answer.Doubt (region 2) (epoch 2))) ∷ [])
+waiting_is_doubted = refl
+
+-- so is a later version
+later_is_doubted :
+    step (stuck_leader (third_update ∷ second_update ∷ first_update ∷ [])) (calls 1 2 (Del the_key))
+    ≡ stepping (stuck_leader (third_update ∷ second_update ∷ first_update ∷ [])) (to_session 1 1 (a_message.Reply 2 (version 3) (an_answer.Doubt (region 2) (epoch 2))) ∷ [])
+later_is_doubted = refl
+
+-- but no earlier one: version 1 isn't stuck
+earlier_is_silent : step (stuck_leader (second_update ∷ first_update ∷ [])) (calls 1 1 (put_color red)) ≡ ignoring (stuck_leader (second_update ∷ first_update ∷ []))
+earlier_is_silent = refl
+
+-- stuck: a new write behind a stuck one, with version 0
+new_is_stuck :
+    step (stuck_leader (second_update ∷ first_update ∷ [])) (calls 3 1 (put_color red))
+    ≡ stepping (stuck_leader (second_update ∷ first_update ∷ [])) (to_session 1 3 (a_message.Reply 1 (version 0) (an_answer.Doubt (region 2) (epoch 2))) ∷ [])
+new_is_stuck = refl
+
+-- only sessions call
+servers_do_not_call : step empty_leader (from_server 2 (a_message.Call (epoch 2) 1 (put_color red))) ≡ ignoring empty_leader
+servers_do_not_call = refl
+
+-- ---- Update
+
+abbrev updates : ℕ → ℕ → Update → Input
+updates s g u = from_server s (a_message.Update (epoch 2) (region g) u)
+
+-- the last member of the key region sends it to the first of the next place
+accepted_and_sent :
+    step empty_second (updates 1 0 first_update)
+    ≡ stepping (running 2 whole (replica 0 (key_slot (first_update ∷ []) 0 [] [] ∷ []) ∷ replica 1 [] ∷ [])) (between 2 2 (a_message.Update (epoch 2) (region 1) first_update) ∷ [])
+accepted_and_sent = refl
+
+-- the last of the chain acknowledges, commits, and tells the replica before it
+accepted_and_committed :
+    step (running 3 whole (replica 1 [] ∷ replica 2 [] ∷ [])) (updates 2 1 first_update)
+    ≡ stepping (running 3 whole (replica 1 (other_slot (first_update ∷ []) 1 [] [] ∷ []) ∷ replica 2 [] ∷ [])) (between 3 2 (a_message.Ack (epoch 2) (region 1) the_key (version 1)) ∷ [])
+accepted_and_committed = refl
+
+-- what came early follows, in order; what goes on is sent before what ends is acknowledged
+accepted_with_early :
+    step (third (other_slot [] 0 [] (second_update ∷ [])) bare) (updates 2 1 first_update)
+    ≡ stepping (third (other_slot (second_update ∷ first_update ∷ []) 1 [] []) bare)
+    (
+    between 3 3 (a_message.Update (epoch 2) (region 2) second_update)
+    ∷ between 3 2 (a_message.Ack (epoch 2) (region 1) the_key (version 1))
+    ∷ []
+    )
+accepted_with_early = refl
+
+-- two that came early, in the order of their turns
+accepted_with_two_early :
+    step (second (key_slot [] 0 [] (third_update ∷ second_update ∷ [])) bare) (updates 1 0 first_update)
+    ≡ stepping (second (key_slot (third_update ∷ second_update ∷ first_update ∷ []) 0 [] []) bare)
+    (
+    between 2 2 (a_message.Update (epoch 2) (region 1) first_update)
+    ∷ between 2 2 (a_message.Update (epoch 2) (region 1) second_update)
+    ∷ between 2 3 (a_message.Update (epoch 2) (region 2) third_update)
+    ∷ []
+    )
+accepted_with_two_early = refl
+
+-- the next region is lost: pending, and nothing is sent
+accepted_and_blocked :
+    step (running 2 high_lost (replica 0 [] ∷ replica 1 (other_slot (first_update ∷ []) 1 [] [] ∷ []) ∷ [])) (updates 2 1 second_update)
+    ≡ ignoring (running 2 high_lost (replica 0 [] ∷ replica 1 (other_slot (second_update ∷ first_update ∷ []) 1 [] [] ∷ []) ∷ []))
+accepted_and_blocked = refl
+
+known_and_committed :
+    step (second (key_slot (first_update ∷ []) 1 [] []) bare) (updates 1 0 first_update)
+    ≡ stepping (second (key_slot (first_update ∷ []) 1 [] []) bare) (between 2 1 (a_message.Ack (epoch 2) (region 0) the_key (version 1)) ∷ [])
+known_and_committed = refl
+
+known_and_pending : step (second (key_slot (first_update ∷ []) 0 [] []) bare) (updates 1 0 first_update) ≡ ignoring (second (key_slot (first_update ∷ []) 0 [] []) bare)
+known_and_pending = refl
+
+-- no replica before the leader
+known_to_the_leader : step (leader (key_slot (first_update ∷ []) 1 [] [])) (updates 1 0 first_update) ≡ ignoring (leader (key_slot (first_update ∷ []) 1 [] []))
+known_to_the_leader = refl
+
+-- the region before is lost
+abbrev after_lost : KeyState → ServerState
+after_lost slot = running 2 key_region_lost (replica 1 (slot ∷ []) ∷ [])
+
+known_behind_a_lost_region : step (after_lost (other_slot (first_update ∷ []) 1 [] [])) (updates 2 1 first_update) ≡ ignoring (after_lost (other_slot (first_update ∷ []) 1 [] []))
+known_behind_a_lost_region = refl
+
+-- a base makes a version known too
+known_by_the_snapshot : step (running 2 whole (replica 0 (based ∷ []) ∷ [])) (updates 1 0 first_update) ≡ stepping (running 2 whole (replica 0 (based ∷ []) ∷ [])) (between 2 1 (a_message.Ack (epoch 2) (region 0) the_key (version 1)) ∷ [])
+known_by_the_snapshot = refl
+
+too_early : step empty_second (updates 1 0 second_update) ≡ ignoring (running 2 whole (replica 0 (key_slot [] 0 [] (second_update ∷ []) ∷ []) ∷ replica 1 [] ∷ []))
+too_early = refl
+
+early_twice : step (second (key_slot [] 0 [] (second_update ∷ [])) bare) (updates 1 0 second_update) ≡ ignoring (second (key_slot [] 0 [] (second_update ∷ [])) bare)
+early_twice = refl
+
+-- the turn is told by the version before in this region: version 3 comes after 2 in region 2
+early_in_another_region : step (third bare bare) (updates 1 2 third_update) ≡ ignoring (third bare (other_slot [] 0 [] (third_update ∷ [])))
+early_in_another_region = refl
+
+-- ---- Ack
+
+abbrev acks : ℕ → ℕ → ℕ → Input
+acks s g v = from_server s (a_message.Ack (epoch 2) (region g) the_key (version v))
+
+committed_and_told :
+    step (second (key_slot (first_update ∷ []) 0 [] []) bare) (acks 2 0 1)
+    ≡ stepping (second (key_slot (first_update ∷ []) 1 [] []) bare) (between 2 1 (a_message.Ack (epoch 2) (region 0) the_key (version 1)) ∷ [])
+committed_and_told = refl
+
+committed_and_answered :
+    step pending_leader (acks 2 0 1)
+    ≡ stepping (leader (key_slot (first_update ∷ []) 1 [] [])) (to_session 1 1 (a_message.Reply 1 (version 1) an_answer.Done) ∷ [])
+committed_and_answered = refl
+
+-- from one place to the region of the place before
+committed_across_places :
+    step (second fresh (other_slot (first_update ∷ []) 0 [] [])) (acks 3 1 1)
+    ≡ stepping (second fresh (other_slot (first_update ∷ []) 1 [] [])) (between 2 2 (a_message.Ack (epoch 2) (region 0) the_key (version 1)) ∷ [])
+committed_across_places = refl
+
+committed_behind_a_lost_region : step (after_lost (other_slot (first_update ∷ []) 0 [] [])) (acks 3 1 1) ≡ ignoring (after_lost (other_slot (first_update ∷ []) 1 [] []))
+committed_behind_a_lost_region = refl
+
+kept_behind_a_lower_version :
+    step (leader (key_slot (second_update ∷ first_update ∷ []) 0 [] [])) (acks 2 0 2)
+    ≡ ignoring (leader (key_slot (second_update ∷ first_update ∷ []) 0 (2 ∷ []) []))
+kept_behind_a_lower_version = refl
+
+both_committed :
+    step (leader (key_slot (second_update ∷ first_update ∷ []) 0 (2 ∷ []) [])) (acks 2 0 1)
+    ≡ stepping (leader (key_slot (second_update ∷ first_update ∷ []) 2 [] []))
+    (
+    to_session 1 1 (a_message.Reply 1 (version 1) an_answer.Done)
+    ∷ to_session 1 2 (a_message.Reply 1 (version 2) an_answer.Done)
+    ∷ []
+    )
+both_committed = refl
+
+-- commits go on only as far as versions are acknowledged
+first_committed_alone :
+    step (leader (key_slot (third_update ∷ second_update ∷ first_update ∷ []) 0 (3 ∷ []) [])) (acks 2 0 1)
+    ≡ stepping (leader (key_slot (third_update ∷ second_update ∷ first_update ∷ []) 1 (3 ∷ []) [])) (to_session 1 1 (a_message.Reply 1 (version 1) an_answer.Done) ∷ [])
+first_committed_alone = refl
+
+unknown_version : step pending_leader (acks 2 0 5) ≡ ignoring pending_leader
+unknown_version = refl
+
+committed_version : step (leader (key_slot (first_update ∷ []) 1 [] [])) (acks 2 0 1) ≡ ignoring (leader (key_slot (first_update ∷ []) 1 [] []))
+committed_version = refl
+
+-- ---- Ask
+
+abbrev other_key : List ℕ
+other_key = codes "b"
+
+abbrev third_key : List ℕ
+third_key = codes "c"
+
+-- the key a is red and pending to be blue, b is red, c was never committed
+abbrev updated_key : List ℕ → Update
+updated_key key = record first_update { key = key }
+
+abbrev of_three_keys : ServerState
+of_three_keys =
+    running 2 whole
+    (
+    replica 0 []
+    ∷ replica 1 (other_slot (second_update ∷ first_update ∷ []) 1 [] [] ∷ slot_of other_key false (updated_key other_key ∷ []) 1 [] [] ∷ slot_of third_key false (updated_key third_key ∷ []) 0 [] [] ∷ [])
+    ∷ []
+    )
+
+abbrev asks : ℕ → List ℕ → Input
+asks g color = from_session 2 (a_message.Ask (epoch 2) 6 (region g) (Equal 1 (a_value.Text color) ∷ []))
+
+asked_and_found :
+    step of_three_keys (asks 1 red)
+    ≡ stepping of_three_keys (to_session 2 2 (a_message.Found (epoch 2) 6 (region 1) (row the_key 1 red ∷ row other_key 1 red ∷ [])) ∷ [])
+asked_and_found = refl
+
+asked_for_what_is_pending : step of_three_keys (asks 1 blue) ≡ stepping of_three_keys (to_session 2 2 (a_message.Found (epoch 2) 6 (region 1) []) ∷ [])
+asked_for_what_is_pending = refl
+
+-- an object that left the region isn't found there, and one that came is
+asked_where_it_left :
+    step (third (other_slot (second_update ∷ first_update ∷ []) 2 [] []) (other_slot (second_update ∷ []) 2 [] [])) (from_session 2 (a_message.Ask (epoch 2) 6 (region 1) []))
+    ≡ stepping (third (other_slot (second_update ∷ first_update ∷ []) 2 [] []) (other_slot (second_update ∷ []) 2 [] [])) (to_session 3 2 (a_message.Found (epoch 2) 6 (region 1) []) ∷ [])
+asked_where_it_left = refl
+
+asked_where_it_came :
+    step (third (other_slot (second_update ∷ first_update ∷ []) 2 [] []) (other_slot (second_update ∷ []) 2 [] [])) (from_session 2 (a_message.Ask (epoch 2) 6 (region 2) []))
+    ≡ stepping (third (other_slot (second_update ∷ first_update ∷ []) 2 [] []) (other_slot (second_update ∷ []) 2 [] [])) (to_session 3 2 (a_message.Found (epoch 2) 6 (region 2) (row the_key 2 blue ∷ [])) ∷ [])
+asked_where_it_came = refl
+
+-- a ready member answers, first or not
+asked_behind_the_first :
+    step (third (other_slot (first_update ∷ []) 1 [] []) bare) (from_session 2 (a_message.Ask (epoch 2) 6 (region 1) []))
+    ≡ stepping (third (other_slot (first_update ∷ []) 1 [] []) bare) (to_session 3 2 (a_message.Found (epoch 2) 6 (region 1) (row the_key 1 red ∷ [])) ∷ [])
+asked_behind_the_first = refl
+
+-- a joiner doesn't, though it is installed
+abbrev installed_joiner : KeyState → ServerState
+installed_joiner slot = running 3 joiner_config (replica 0 (slot ∷ []) ∷ replica 1 [] ∷ replica 2 [] ∷ [])
+
+joiner_answers_no_question :
+    step (installed_joiner (key_slot (first_update ∷ []) 1 [] [])) (from_session 2 (a_message.Ask (epoch 2) 6 (region 0) []))
+    ≡ ignoring (installed_joiner (key_slot (first_update ∷ []) 1 [] []))
+joiner_answers_no_question = refl
