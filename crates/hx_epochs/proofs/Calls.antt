@@ -1,4 +1,5 @@
 -- What a run says of the begins and ends of calls, of replies and of the callers of updates, in whatever configurations.
+use Rattle.hx_model.specs.Lines.{no_version, upto}
 use Rattle.std.proofs.Common.{◌≡◌, ℕ, ◌+◌, ◌-◌, ◌<◌, ◌≤◌, ◌⊎◌, inl, inr, Bool, true, false, List, [], ◌∷◌, length, Some, None, refl, sym, ap, ◌∙◌, subst, arith, eqb}
 use Rattle.std.proofs.lemmas.Bool.{cases_eq, cond-true, cond-false, eq-eqb, ne_eqb, true≢false, false≢true}
 use Rattle.hx_types.specs.declared.calls.Answer.{Answer}
@@ -23,11 +24,10 @@ use Rattle.hx_types.specs.declared.traces.Note.TheVariants as a_note
 use Rattle.hx_types.specs.Words.{IsIn, post}
 use Rattle.hx_types.specs.Effects.{is_write, key_of}
 use Rattle.hx_types.specs.Fitting.{IsScript, call_of, calls_of, is_doubt, is_refused, numbered}
-use Rattle.hx_model.specs.SessionSteps.{SessionState, no_version, session_step}
+use Rattle.hx_model.specs.SessionSteps.{SessionState, session_step}
 use Rattle.hx_model.specs.ServerSteps.{server_step}
 use Rattle.hx_model.specs.Runs.{IsRun, IsStep, MayTake, coordinator_of, has_halted, is_actor, made_of, server_of, session_after, session_of}
 use Rattle.hx_model.specs.Histories.{line_notes, line_of}
-use Rattle.hx_model.specs.Slots.{upto}
 use Rattle.hx_steady.specs.Served.{posts_of}
 use Rattle.hx_steady.proofs.Lists.{in-append, in_right}
 use Rattle.hx_steady.proofs.Turns.{noted}

@@ -22,13 +22,11 @@ use Rattle.hx_types.specs.Words.{IsBefore, IsIn, post, provided, when_some}
 use Rattle.hx_types.specs.Effects.{effect_of, is_write, key_of}
 use Rattle.hx_types.specs.Fitting.{IsScript, call_of, is_doubt, is_refused}
 use Rattle.hx_model.specs.Runs.{IsRun}
-use Rattle.hx_model.specs.Slots.{top_above, upto}
+use Rattle.hx_model.specs.Slots.{top_above}
 use Rattle.hx_model.specs.ServerSteps.{get_answer}
-use Rattle.hx_model.specs.SessionSteps.{no_version}
 use Rattle.hx_model.specs.Histories.{CallEnd, begin_of, end_of, get_item, get_items, gets_of, history_of, history_on, in_place, is_get_of, line_of, not_refused, note_of_end}
 use Rattle.hx_model.specs.Legal.{IsEffect, IsLegal, object_now}
 use Rattle.hx_model.specs.Linear.{EachOnce, IsCall, IsLinear, ended_before, was_refused}
-use Rattle.hx_steady.specs.Served.{line_object}
 use Rattle.hx_steady.proofs.Calls.{get-of}
 use Rattle.hx_steady.proofs.Lists.{in-append, in-flat_map, in-provided, in_left, in_right}
 use Rattle.hx_linear.proofs.Lines.{in-below, upto_past}
@@ -46,6 +44,7 @@ use Rattle.hx_epochs.proofs.SessionNotes.{all_notes}
 use Rattle.hx_epochs.proofs.Times.{begins_first, ended_unique, first_of, not_again}
 use Rattle.hx_epochs.proofs.World.{Lawful, Told, law-of, lawful-numbered}
 use Rattle.hx_epochs.proofs.Writes.{Write, Writes, caller-once, in-not_refused, not_refused-in, not_refused-sorted, object-after, writes}
+use Rattle.hx_model.specs.Lines.{line_object, no_version, upto}
 
 -- the item of an update and its operation
 abbrev pub write_of : Update → Op → Item

@@ -17,13 +17,13 @@ use Rattle.hx_types.specs.Words.{IsBefore, IsIn}
 use Rattle.hx_model.specs.Regions.{key_region}
 use Rattle.hx_model.specs.Slots.{Acknowledge, Commit, Forget, Hold, KeyState, Move, Take, follows, moved, moved_all}
 use Rattle.hx_model.specs.ServerSteps.{get_answer}
-use Rattle.hx_steady.specs.Served.{line_object}
 use Rattle.hx_linear.proofs.Lines.{Numbered, in-below}
 use Rattle.hx_searches.proofs.Lines.{numbered-sorted, top-least}
 use Rattle.hx_epochs.proofs.Lines.{More, more_same}
 use Rattle.hx_epochs.proofs.Order.{before-in}
 use Rattle.hx_epochs.proofs.Moves.{AllAllowed, Later, Own, Promise, accepted-in, later-all, own_forget, own_rely, promised}
 use Rattle.hx_epochs.proofs.World.{AckOk, Acking, After, Before, Everywhere, Follows, KeyIn, KeyOk, Lawful, Outer, ReplyOk, Sending, Settled, Told, UpdateOk, Valid, World, at_server-map, at_session-map, lawful-numbered, order}
+use Rattle.hx_model.specs.Lines.{line_object}
 
 -- up to n the line of a key stays; what is held, under way or shown lies there; nothing falls; fewer servers are up, and fewer are members, in the same order
 pub record Up (c c' : Config) (live live' : ServerId → Type 0) (g : RegionId) (line line' : List Update) (f f' : ServerId → KeyState) (n : ℕ) : Type 0 where

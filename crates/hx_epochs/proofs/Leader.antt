@@ -20,10 +20,9 @@ use Rattle.hx_types.specs.Fitting.{call_of}
 use Rattle.hx_types.specs.Spaces.{AllDiffer, IsSpace}
 use Rattle.hx_model.specs.Regions.{key_region}
 use Rattle.hx_model.specs.Places.{key_place, places_of}
-use Rattle.hx_model.specs.Slots.{KeyState, latest_of, mark_among, marks_after, no_kept, object_in, object_of, top_of, touches_of, upto}
+use Rattle.hx_model.specs.Slots.{KeyState, latest_of, mark_among, marks_after, no_kept, object_in, object_of, top_of, touches_of}
 use Rattle.hx_model.specs.Leading.{StuckAt, assigned, by_mark, decide, first_lost, fresh, granted, refusal, stuck_of, with_places}
 use Rattle.hx_model.specs.ServerSteps.{get_answer}
-use Rattle.hx_steady.specs.Served.{line_object}
 use Rattle.hx_steady.proofs.Leader.{effect-same}
 use Rattle.hx_steady.proofs.Lines.{kept-line, top-line}
 use Rattle.hx_steady.proofs.Lists.{all-in}
@@ -33,6 +32,7 @@ use Rattle.hx_sound.proofs.Placed.{placed}
 use Rattle.hx_sound.proofs.Slots.{touches-by}
 use Rattle.hx_linear.proofs.Lines.{in-below}
 use Rattle.hx_epochs.proofs.World.{Law, Lawful, lawful-numbered, lawful-steady, lawful-upto}
+use Rattle.hx_model.specs.Lines.{line_object, upto}
 
 -- a slot with no base, by its parts
 abbrev pub slot_of : Bool → List ℕ → List Update → ℕ → List ℕ → List Update → KeyState

@@ -1,9 +1,9 @@
 -- Lines that grow or are cut: what stays up to a version, and that each version up to the length is an update's.
+use Rattle.hx_model.specs.Lines.{upto}
 use Rattle.std.proofs.Common.{◌≡◌, ℕ, ◌+◌, ◌≤◌, inl, inr, List, [], ◌∷◌, length, refl, ap, ◌∙◌, arith, leb}
 use Rattle.std.proofs.lemmas.Bool.{cond_both, leb-true, leb-false, cases_lt}
 use Rattle.hx_types.specs.declared.updates.Update.{Update}
 use Rattle.hx_types.specs.Words.{IsIn}
-use Rattle.hx_model.specs.Slots.{upto}
 use Rattle.hx_linear.proofs.Lines.{Numbered, upto_past}
 use Rattle.hx_searches.proofs.Lines.{in-upto, in-upto_from, numbered-sorted, upto_upto}
 

@@ -1,4 +1,5 @@
 -- One replica of a server moves its slot of a key: what it knows of the updates that it holds, and that the turn of each key is kept.
+use Rattle.hx_model.specs.Lines.{upto}
 use Rattle.std.proofs.Common.{◌≡◌, ℕ, ◌+◌, ◌≤◌, ◌⊎◌, inl, inr, true, false, List, [], ◌∷◌, length, Option, Some, refl, sym, ap, ◌∙◌, subst, arith, cond, eqb}
 use Rattle.std.specs.Prelude.{⊤}
 use Rattle.std.specs.List.{flat_map}
@@ -14,7 +15,7 @@ use Rattle.hx_types.specs.declared.updates.Update.{Update}
 use Rattle.hx_types.specs.Words.{IsBefore, IsIn, same_server, when_some}
 use Rattle.hx_types.specs.Configs.{head_of, members_of}
 use Rattle.hx_model.specs.Regions.{key_region}
-use Rattle.hx_model.specs.Slots.{Acknowledge, Commit, Forget, Hold, KeyState, Move, Take, follows, moved_all, top_above, upto}
+use Rattle.hx_model.specs.Slots.{Acknowledge, Commit, Forget, Hold, KeyState, Move, Take, follows, moved_all, top_above}
 use Rattle.hx_model.specs.ServerSteps.{move_posts}
 use Rattle.hx_steady.proofs.Lines.{place-first}
 use Rattle.hx_steady.proofs.Lists.{in-flat_map}

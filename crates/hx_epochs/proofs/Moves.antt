@@ -1,4 +1,5 @@
 -- One slot at a member of a key's region: what it relies on, and that each move which is allowed keeps it.
+use Rattle.hx_model.specs.Lines.{upto}
 use Rattle.std.proofs.Common.{◌≡◌, ℕ, zero, suc, ◌+◌, ◌<◌, ◌≤◌, ◌⊎◌, inl, inr, Bool, true, false, not, List, [], ◌∷◌, ◌++◌, map, length, Some, refl, sym, ap, ◌∙◌, subst, arith, leb, eqb}
 use Rattle.std.specs.Prelude.{⊤}
 use Rattle.std.specs.List.{filter, find, list_any}
@@ -7,7 +8,7 @@ use Rattle.hx_types.specs.declared.ids.RegionId.{RegionId}
 use Rattle.hx_types.specs.declared.updates.Update.{Update}
 use Rattle.hx_types.specs.Words.{IsIn, provided}
 use Rattle.hx_model.specs.Neighbours.{is_end}
-use Rattle.hx_model.specs.Slots.{Acknowledge, Commit, Forget, Hold, KeyState, Move, Take, acknowledged, commits, follows, is_pending, moved, moved_all, no_kept, offered, other_version, pending_above, pending_of, settled, taken, top_above, top_of, turns, upto, waits_below}
+use Rattle.hx_model.specs.Slots.{Acknowledge, Commit, Forget, Hold, KeyState, Move, Take, acknowledged, commits, follows, is_pending, moved, moved_all, no_kept, offered, other_version, pending_above, pending_of, settled, taken, top_above, top_of, turns, waits_below}
 use Rattle.hx_model.specs.ServerSteps.{Spot, accepting, end_marks, next_at, resumed, with_commits}
 use Rattle.hx_steady.proofs.Lists.{any-in, in-append, in-filter, in-find, in_left, in_right, when_some_both}
 use Rattle.hx_searches.proofs.Lines.{Sorted, in-top, in-upto, in-upto_from, same_version, upto-sorted, upto_next}

@@ -1,4 +1,5 @@
 -- What a session's step does at each input: a call may begin, and one may end.
+use Rattle.hx_model.specs.Lines.{no_version}
 use Rattle.std.proofs.Common.{◌≡◌, ℕ, ◌+◌, inl, inr, true, false, List, ◌++◌, Option, Some, None, refl, ap, eqb, ltb}
 use Rattle.std.specs.Prelude.{Bool, ◌&&◌, map}
 use Rattle.std.specs.List.{list_any}
@@ -23,7 +24,7 @@ use Rattle.hx_types.specs.declared.messages.Message.TheVariants as a_message
 use Rattle.hx_types.specs.declared.traces.Input.TheVariants.{Tick, Halt, Deliver}
 use Rattle.hx_types.specs.Words.{when_some}
 use Rattle.hx_types.specs.Fitting.{numbered}
-use Rattle.hx_model.specs.SessionSteps.{Part, SessionState, SessionStep, all_parts, awaits, begin, call_under_way, end_with_parts, ending, found_step, is_administrative, is_key_call, is_search, lacks_part, merged_parts, no_version, send, session_install, session_message, session_step, session_tick, staying, with_part, with_poll}
+use Rattle.hx_model.specs.SessionSteps.{Part, SessionState, SessionStep, all_parts, awaits, begin, call_under_way, end_with_parts, ending, found_step, is_administrative, is_key_call, is_search, lacks_part, merged_parts, send, session_install, session_message, session_step, session_tick, staying, with_part, with_poll}
 use Rattle.hx_steady.proofs.Lists.{when_some_both}
 use Rattle.hx_linear.proofs.SessionMessages.{began_notes, started}
 use Rattle.hx_linear.proofs.SessionTurns.{administrative_no_key, awaited, search_no_key}

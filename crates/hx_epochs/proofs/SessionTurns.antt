@@ -1,4 +1,5 @@
 -- What a session's step does to the call under way in whatever configuration: nothing, or an end; and what it posts.
+use Rattle.hx_model.specs.Lines.{no_version}
 use Rattle.std.proofs.Common.{◌≡◌, ◌⊎◌, inl, inr, true, false, List, [], ◌∷◌, Option, Some, None, refl, sym, ap, ◌∙◌, subst}
 use Rattle.std.specs.Prelude.{Bool, ◌&&◌, ⊤}
 use Rattle.std.proofs.lemmas.Bool.{cond_both, and_parts}
@@ -27,7 +28,7 @@ use Rattle.hx_types.specs.Configs.{head_of, is_lost}
 use Rattle.hx_types.specs.Fitting.{is_doubt, is_refused, numbered}
 use Rattle.hx_model.specs.Regions.{key_region}
 use Rattle.hx_model.specs.Planning.{plan_of}
-use Rattle.hx_model.specs.SessionSteps.{SessionState, SessionStep, ask_regions, ask_to, call_to, ending, lost_answer, no_version, send, send_to, staying, with_poll}
+use Rattle.hx_model.specs.SessionSteps.{SessionState, SessionStep, ask_regions, ask_to, call_to, ending, lost_answer, send, send_to, staying, with_poll}
 use Rattle.hx_steady.proofs.Lists.{in-append, in-flat_map}
 use Rattle.hx_linear.proofs.SessionTurns.{CallStop, end_notes, goes_on}
 

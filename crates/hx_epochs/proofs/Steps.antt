@@ -35,10 +35,10 @@ use Rattle.hx_model.specs.Regions.{key_region}
 use Rattle.hx_model.specs.Places.{key_place}
 use Rattle.hx_model.specs.Neighbours.{is_end, place_number, next_of}
 use Rattle.hx_model.specs.Leading.{StuckAt, decide, stuck_of}
-use Rattle.hx_model.specs.Slots.{KeyState, Move, acknowledged, follows, found_in, moved_all, object_in, object_of, offered, top_above, top_of, upto}
+use Rattle.hx_model.specs.Slots.{KeyState, Move, acknowledged, follows, found_in, moved_all, object_in, object_of, offered, top_above, top_of}
 use Rattle.hx_model.specs.ServerSteps.{Replica, ServerState, ServerStep, SlotStep, Spot, accepting, ack_step, acked, ack_to, asked, at_slot, by_moves, by_posts, call_at, call_step, called, called_by, decided, doubt_in, get_answer, get_step, hearing, if_installed, known_to, message_step, move_posts, next_at, prev_at, replica_of, reply, saying, state_in, unmoved, update_step, updated, waiting_doubt, with_replica, with_slot, write_step}
 use Rattle.hx_model.proofs.States.{eq_of_same_text, same_text_self}
-use Rattle.hx_steady.specs.Served.{line_object, slot_in}
+use Rattle.hx_steady.specs.Served.{slot_in}
 use Rattle.hx_steady.proofs.Lines.{follows-line}
 use Rattle.hx_steady.proofs.Lists.{in-provided, when_some_both}
 use Rattle.hx_steady.proofs.Replicas.{replica-found, with_slot_at}
@@ -58,6 +58,7 @@ use Rattle.hx_epochs.proofs.Posts.{Committed, ack-fine, reply-fine, same-key, wh
 use Rattle.hx_epochs.proofs.Serving.{Assigns, LateTo, Ok, Safe, Served, all-turns, ack-late, inside-ok, inside-turn, keys-now, moved-state, moves-late, now, outside-ok, outside-turn, put, put-off, reply-late, saying-served, slot-elsewhere, slot-now, slot-served, slot-was, standing, still-after, world}
 use Rattle.hx_epochs.proofs.Shapes.{Shape, shape-moved}
 use Rattle.hx_epochs.proofs.World.{AckOk, Acking, After, Before, Everywhere, Follows, KeyIn, Law, Lawful, Sending, SettledIn, Told, UpdateOk, Valid, World, law-of, lawful-numbered, order}
+use Rattle.hx_model.specs.Lines.{line_object, upto}
 
 -- where the chain of an update of a line ends at a member of the key's region, nobody that is up stands after it
 pub ends-here : (script : Script) (c : Config) (live : ServerId → Type 0) (key : List ℕ) (line : List Update) (f : ServerId → KeyState) (i : ServerId) → Lawful script key line → Differ (members_of c (key_region script.space key))

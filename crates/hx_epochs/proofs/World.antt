@@ -24,14 +24,14 @@ use Rattle.hx_types.specs.Effects.{effect_of, is_write, key_of}
 use Rattle.hx_types.specs.Configs.{head_of, members_of}
 use Rattle.hx_types.specs.Fitting.{call_of, is_doubt, is_refused}
 use Rattle.hx_model.specs.Regions.{key_region}
-use Rattle.hx_model.specs.Slots.{KeyState, upto}
+use Rattle.hx_model.specs.Slots.{KeyState}
 use Rattle.hx_model.specs.ServerSteps.{get_answer}
-use Rattle.hx_steady.specs.Served.{line_object}
 use Rattle.hx_steady.proofs.Lines as steady
 use Rattle.hx_linear.proofs.Lines.{Numbered}
 use Rattle.hx_epochs.proofs.Holding.{Held}
 use Rattle.hx_epochs.proofs.Moves.{Own}
 use Rattle.hx_epochs.proofs.Order.{servers_of}
+use Rattle.hx_model.specs.Lines.{line_object, upto}
 
 -- an update of a line after the older ones: the effect of a write of the script, or refused, through the key's region and others
 pub record Law (script : Script) (key : List ℕ) (older : List Update) (u : Update) : Type 0 where

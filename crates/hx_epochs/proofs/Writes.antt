@@ -9,13 +9,12 @@ use Rattle.hx_types.specs.Words.{IsIn}
 use Rattle.hx_types.specs.Effects.{effect_of, is_write, key_of}
 use Rattle.hx_types.specs.Fitting.{call_of, is_refused}
 use Rattle.hx_model.specs.Histories.{not_refused}
-use Rattle.hx_model.specs.Slots.{upto}
-use Rattle.hx_steady.specs.Served.{line_object}
 use Rattle.hx_steady.proofs.Lists.{in-filter}
 use Rattle.hx_linear.proofs.EffectLaws.{effect_well}
 use Rattle.hx_linear.proofs.Lines.{in-below, upto_past}
 use Rattle.hx_searches.proofs.Lines.{Sorted, numbered-sorted, top-least, upto_all}
 use Rattle.hx_epochs.proofs.World.{Law, Lawful, lawful-numbered, lawful-upto}
+use Rattle.hx_model.specs.Lines.{line_object, upto}
 
 -- an update that wasn't refused, after the older ones that weren't
 pub record Write (script : Script) (key : List ℕ) (us : List Update) (u : Update) : Type 0 where

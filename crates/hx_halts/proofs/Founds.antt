@@ -1,4 +1,5 @@
 -- What the rows say that a member finds for a search in whatever configuration: each is of a change that every member of its key's region that is up has accepted, and in the key's own region nothing that was committed is missing.
+use Rattle.hx_model.specs.Lines.{upto}
 use Rattle.std.proofs.Common.{◌≡◌, ℕ, ◌≤◌, ◌⊎◌, inl, inr, true, false, List, [], ◌∷◌, length, Option, Some, None, refl, sym, ap, ◌∙◌, subst, arith, cond, eqb}
 use Rattle.std.specs.Option.{option_map}
 use Rattle.std.proofs.lemmas.Bool.{cond_both, cond-true, eq-eqb, false≢true}
@@ -26,7 +27,7 @@ use Rattle.hx_types.specs.Subspaces.{is_key_region}
 use Rattle.hx_model.specs.Matching.{matches}
 use Rattle.hx_model.specs.Regions.{key_region}
 use Rattle.hx_model.specs.Runs.{coordinator_of, is_actor}
-use Rattle.hx_model.specs.Slots.{Forget, KeyState, found_in, keeps_at, kept_row, moved, object_of, row_of, rows_of, top_above, upto}
+use Rattle.hx_model.specs.Slots.{Forget, KeyState, found_in, keeps_at, kept_row, moved, object_of, row_of, rows_of, top_above}
 use Rattle.hx_model.specs.ServerSteps.{Replica, ServerState, hearing, replica_of, state_in}
 use Rattle.hx_model.specs.Histories.{line_of}
 use Rattle.hx_steady.specs.Served.{slot_in}

@@ -1,4 +1,5 @@
 -- In whatever configuration a replica of another region than a key's own has accepted its region's part of the key's line, up to its top.
+use Rattle.hx_model.specs.Lines.{upto}
 use Rattle.std.proofs.Common.{◌≡◌, ℕ, inl, inr, true, false, List, [], ◌∷◌, refl, sym, ap, ◌∙◌, subst}
 use Rattle.std.proofs.lemmas.Bool.{cond_both, eqb-true}
 use Rattle.hx_types.specs.declared.ids.Actor.{Actor}
@@ -14,7 +15,7 @@ use Rattle.hx_types.specs.Configs.{first_config}
 use Rattle.hx_types.specs.Fitting.{IsScript}
 use Rattle.hx_types.specs.Subspaces.{is_key_region}
 use Rattle.hx_model.specs.Regions.{key_region}
-use Rattle.hx_model.specs.Slots.{KeyState, new_state, top_above, upto}
+use Rattle.hx_model.specs.Slots.{KeyState, new_state, top_above}
 use Rattle.hx_model.specs.ServerSteps.{Replica, ServerState, listed_regions, replica_of, server_step, state_in}
 use Rattle.hx_model.specs.Runs.{IsRun, MayTake, coordinator_of, has_halted, is_actor, server_after, server_of}
 use Rattle.hx_model.specs.Histories.{line_of}

@@ -21,12 +21,12 @@ use Rattle.hx_types.specs.Fitting.{IsScript}
 use Rattle.hx_model.specs.Leading.{assigned, first_lost, granted, refusal, with_places}
 use Rattle.hx_model.specs.Places.{places_of}
 use Rattle.hx_model.specs.Regions.{key_region}
-use Rattle.hx_model.specs.Slots.{KeyState, latest_of, no_kept, top_above, top_of, touches_of, upto}
+use Rattle.hx_model.specs.Slots.{KeyState, latest_of, no_kept, top_above, top_of, touches_of}
 use Rattle.hx_model.specs.ServerSteps.{server_step, state_in}
 use Rattle.hx_model.specs.Runs.{IsRun, IsStep, Made as MadeBy, MayTake, coordinator_of, has_halted, is_actor, made_of, server_of}
 use Rattle.hx_model.specs.Histories.{line_note, line_notes, line_of}
 use Rattle.hx_model.proofs.States.{eq_of_same_text}
-use Rattle.hx_steady.specs.Served.{line_object, posts_of}
+use Rattle.hx_steady.specs.Served.{posts_of}
 use Rattle.hx_steady.proofs.Leader.{effect-same}
 use Rattle.hx_steady.proofs.Lines.{kept-line, top-line}
 use Rattle.hx_steady.proofs.Replicas.{replica-found}
@@ -45,6 +45,7 @@ use Rattle.hx_halts.proofs.Founds.{member, slot-is}
 use Rattle.hx_halts.proofs.Searched.{searched-run}
 use Rattle.hx_halts.proofs.Servers.{effect-done, hearing-found}
 use Rattle.hx_halts.proofs.Stays.{no-snap}
+use Rattle.hx_model.specs.Lines.{line_object, upto}
 
 -- up to a version a made line is made
 pub made-upto : (space : Space) (key : List ℕ) (v : ℕ) (us : List Update) → AllMade space key us → AllMade space key (upto v us)

@@ -16,7 +16,6 @@ use Rattle.hx_model.specs.Regions.{key_region}
 use Rattle.hx_model.specs.Runs.{IsRun}
 use Rattle.hx_model.specs.Slots.{keeps_at, kept_row, place_in, row_of}
 use Rattle.hx_model.specs.Histories.{line_of}
-use Rattle.hx_steady.specs.Served.{line_object}
 use Rattle.hx_linear.proofs.Lines.{Numbered, in-below}
 use Rattle.hx_searches.proofs.Lines.{in-top, same_version}
 use Rattle.hx_searches.proofs.Rows.{row-is, row_with}
@@ -25,6 +24,7 @@ use Rattle.hx_epochs.proofs.Lines.{version-there}
 use Rattle.hx_epochs.proofs.World.{Law, Lawful, law-of, lawful-numbered}
 use Rattle.hx_halts.proofs.Founds.{KeyFound}
 use Rattle.hx_halts.proofs.Orders.{sorted}
+use Rattle.hx_model.specs.Lines.{line_object}
 
 -- at the key's region an update keeps its object where it has one
 keeps-key : (script : Script) (key : List ℕ) (older : List Update) (u : Update) → Law script key older u → keeps_at (key_region script.space key) u ≡ is_some u.object

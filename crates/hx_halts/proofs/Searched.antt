@@ -1,4 +1,5 @@
 -- What every run in which no replica is added keeps for searches.
+use Rattle.hx_model.specs.Lines.{upto}
 use Rattle.std.proofs.Common.{◌≡◌, ℕ, ◌-◌, ◌⊎◌, inl, inr, true, false, List, [], ◌∷◌, Some, refl, sym, ap, ◌∙◌, subst, arith}
 use Rattle.std.specs.Prelude.{⊤}
 use Rattle.std.proofs.lemmas.Bool.{cond_both, cond-false, cases_eq, eqb-true, ne_eqb, false≢true}
@@ -27,7 +28,7 @@ use Rattle.hx_types.specs.Words.{IsIn, post, same_server, same_session, same_tex
 use Rattle.hx_types.specs.Configs.{first_config}
 use Rattle.hx_types.specs.Effects.{key_of}
 use Rattle.hx_types.specs.Fitting.{IsScript, call_of, is_doubt, numbered}
-use Rattle.hx_model.specs.Slots.{KeyState, found_in, upto}
+use Rattle.hx_model.specs.Slots.{KeyState, found_in}
 use Rattle.hx_model.specs.ServerSteps.{Replica, ServerState, hearing, listed_regions, server_step}
 use Rattle.hx_model.specs.SessionSteps.{SessionState, session_step}
 use Rattle.hx_model.specs.Runs.{IsRun, IsStep, Made, MayTake, coordinator_of, has_halted, is_actor, made_of, server_after, server_of, session_after, session_of}

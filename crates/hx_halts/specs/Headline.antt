@@ -24,13 +24,14 @@ use Rattle.hx_model.specs.Matching.{matches}
 use Rattle.hx_model.specs.Places.{places_of}
 use Rattle.hx_model.specs.Regions.{key_region}
 use Rattle.hx_model.specs.Planning.{plan_of}
-use Rattle.hx_model.specs.Slots.{has_place, top_above, touches_after, upto}
+use Rattle.hx_model.specs.Slots.{has_place, top_above, touches_after}
 use Rattle.hx_model.specs.Runs.{IsRun, is_actor, server_of, session_of}
 use Rattle.hx_model.specs.Histories.{history_of, line_of}
 use Rattle.hx_model.specs.Linear.{began_before}
 use Rattle.hx_model.specs.Searching.{FinishedSearch, IsSearchTrue, IsSearchWhole, changes_object, search_of}
-use Rattle.hx_steady.specs.Served.{line_object, posts_of, slot_in}
+use Rattle.hx_steady.specs.Served.{posts_of, slot_in}
 use Rattle.hx_epochs.specs.Headline.{AddsNothing}
+use Rattle.hx_model.specs.Lines.{line_object, upto}
 
 -- the update stands after the older ones of its key's line, changes where it is answered Done, and goes through the places that the object before and after it ask for, in each after the last version that had a place there
 pub record IsPlaced (space : Space) (key : List ℕ) (older : List Update) (u : Update) : Type 0 where

@@ -1,4 +1,5 @@
 -- The history of a key is told by the events of the key alone.
+use Rattle.hx_model.specs.Lines.{upto}
 use Rattle.std.proofs.Common.{◌≡◌, ℕ, ◌-◌, Bool, true, false, not, ◌&&◌, cond, List, [], ◌∷◌, ◌++◌, Option, Some, None, map, reverse, refl, sym, ap, subst, ◌∙◌, append_assoc}
 use Rattle.std.proofs.lemmas.List.{reverse-append, append-nil, map-append, reverse-reverse}
 use Rattle.std.proofs.lemmas.List.Concat.{flat_map-append}
@@ -23,7 +24,6 @@ use Rattle.hx_types.specs.declared.calls.Op.TheVariants.{Put, Get, Del, Cput, Se
 use Rattle.hx_types.specs.declared.ids.Actor.TheVariants.{Coordinator, Server, Session}
 use Rattle.hx_types.specs.Words.{list_of, provided, same_text, when_some}
 use Rattle.hx_types.specs.Fitting.{call_of, is_refused}
-use Rattle.hx_model.specs.Slots.{upto}
 use Rattle.hx_model.specs.Histories.{get_item, get_items, gets_of, history_of, history_on, in_place, is_get_of, line_note, line_notes, line_of, not_refused, write_item}
 use Rattle.hx_history.specs.Events.{KeyEvent, Write, End, ReadEnd, event_of, event_view, events_in, events_of, history_by, is_at, item_on, line_by, lined, placed, read_at, read_by, read_in, reads_by, told}
 use Rattle.hx_history.proofs.Lists.{map_filter, reverse_cons, reverse_pieces}

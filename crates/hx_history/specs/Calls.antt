@@ -1,4 +1,5 @@
 -- What the notes of a trace say of each call, as a table by session and number holds it.
+use Rattle.hx_model.specs.Lines.{no_version}
 use Rattle.std.specs.Prelude.{ℕ, List, [], ◌∷◌, map, length, if◌then◌else◌, ◌==◌, Option, None, Some}
 use Rattle.std.specs.Option.{option_map}
 use Rattle.hx_types.specs.declared.calls.Caller.{Caller}
@@ -10,7 +11,6 @@ use Rattle.hx_types.specs.declared.traces.Note.TheVariants as a_note
 use Rattle.hx_types.specs.Words.{list_of, when_some}
 use Rattle.hx_types.specs.Fitting.{is_doubt, numbered}
 use Rattle.hx_model.specs.Histories.{CallEnd, begin_of, is_session, note_of_end}
-use Rattle.hx_model.specs.SessionSteps.{no_version}
 use Rattle.hx_history.specs.declared.tables.Begin.{Begin}
 use Rattle.hx_history.specs.declared.tables.End.{End}
 use Rattle.hx_history.specs.declared.tables.Slot.{Slot}

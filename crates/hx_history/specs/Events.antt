@@ -1,4 +1,5 @@
 -- What the notes of a trace say of keys, and the history of a key by what they say of it. Traces and events stand oldest first here.
+use Rattle.hx_model.specs.Lines.{upto}
 use Rattle.std.specs.Prelude.{ℕ, zero, suc, unwrap_or, ◌-◌, Bool, List, [], ◌∷◌, ◌++◌, map, fold, filter, slice_get, if◌then◌else◌, Option, None, Some}
 use Rattle.std.specs.List.{flat_map}
 use Rattle.std.specs.Option.{option_and_then, option_map}
@@ -20,7 +21,6 @@ use Rattle.hx_types.specs.declared.ids.Actor.TheVariants.{Coordinator, Server, S
 use Rattle.hx_types.specs.Words.{list_of, same_text}
 use Rattle.hx_types.specs.Fitting.{call_of, is_refused}
 use Rattle.hx_model.specs.Histories.{in_place, not_refused, write_item}
-use Rattle.hx_model.specs.Slots.{upto}
 use Rattle.hx_history.specs.declared.noted.Event.{Event}
 use Rattle.hx_history.specs.declared.noted.Read.{Read}
 use Rattle.hx_history.specs.declared.noted.Event.TheVariants as an_event

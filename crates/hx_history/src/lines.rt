@@ -1,8 +1,8 @@
+ghost use Rattle.hx_model.specs.Lines.{upto};
 ghost use Rattle.std.specs.Prelude.{◌≡◌, ◌-◌, ◌<◌, ◌≤◌, ◌∷◌, map, reverse, filter, not, length, slice_index_or, IfOk, OnOk};
 ghost use Rattle.std.specs.Borrow.{Bor};
 ghost use Rattle.std.specs.List.Sorted.{IsNonDecreasingBy};
 ghost use Rattle.hx_types.specs.Fitting.{is_refused as refuses};
-ghost use Rattle.hx_model.specs.Slots.{upto};
 ghost use Rattle.hx_history.specs.Events.{event_view, line_by, read_view, reads_by, updates_at, version_at};
 
 use crate::noted::{Event, Read, is_refused};

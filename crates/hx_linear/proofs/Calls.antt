@@ -18,13 +18,13 @@ use Rattle.hx_types.specs.declared.ids.Actor.TheVariants.{Coordinator, Server, S
 use Rattle.hx_types.specs.Words.{IsIn, post}
 use Rattle.hx_types.specs.Effects.{is_write, key_of}
 use Rattle.hx_types.specs.Fitting.{call_of, calls_of}
-use Rattle.hx_model.specs.Slots.{upto}
 use Rattle.hx_model.specs.ServerSteps.{get_answer}
 use Rattle.hx_model.specs.Runs.{session_of}
 use Rattle.hx_model.specs.Histories.{line_of}
-use Rattle.hx_steady.specs.Served.{floor_of, line_object, posts_of}
+use Rattle.hx_steady.specs.Served.{floor_of, posts_of}
 use Rattle.hx_linear.proofs.Lines.{Lawful, More}
 use Rattle.hx_linear.proofs.Traces.{BeganAt, EndedAt, EndedFirst}
+use Rattle.hx_model.specs.Lines.{line_object, upto}
 
 -- what a reply to a write tells
 pub record WriteTold (t : List Entry) (key : List ℕ) (c : Caller) (v : Version) (a : Answer) (op : Op) : Type 0 where

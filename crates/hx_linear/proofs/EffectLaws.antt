@@ -14,8 +14,8 @@ use Rattle.hx_types.specs.Effects.{changed_to, effect_of, left_as, tests_hold, w
 use Rattle.hx_types.specs.Fitting.{is_refused}
 use Rattle.hx_model.specs.ServerSteps.{get_answer}
 use Rattle.hx_model.specs.Histories.{not_refused}
-use Rattle.hx_steady.specs.Served.{line_object}
 use Rattle.hx_linear.proofs.Lines.{Lawful}
+use Rattle.hx_model.specs.Lines.{line_object}
 
 -- no effect answers Refused
 pub effect_well : (space : Space) (o : Option (List Value)) (op : Op) → is_refused (effect_of space o op).answer ≡ false

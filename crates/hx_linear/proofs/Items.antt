@@ -14,9 +14,7 @@ use Rattle.hx_types.specs.declared.calls.Op.TheVariants.{Get}
 use Rattle.hx_types.specs.Words.{IsIn}
 use Rattle.hx_types.specs.Effects.{is_write, key_of}
 use Rattle.hx_types.specs.Fitting.{call_of, is_refused}
-use Rattle.hx_model.specs.Slots.{upto}
 use Rattle.hx_model.specs.Histories.{in_place, line_of}
-use Rattle.hx_steady.specs.Served.{line_object}
 use Rattle.hx_linear.proofs.Lines.{Lawful, WriteOf, law-in, line_once}
 use Rattle.hx_linear.proofs.Traces.{BeganAt, EndedAt}
 use Rattle.hx_linear.proofs.Calls.{Calls, LaterThan}
@@ -25,6 +23,7 @@ use Rattle.hx_linear.proofs.Kept.{SteadyRun, calls_kept}
 use Rattle.hx_linear.proofs.Times.{ended_unique, first_of}
 use Rattle.hx_linear.proofs.Gets.{GetEnd}
 use Rattle.hx_linear.proofs.EffectLaws.{effect_well, get_well}
+use Rattle.hx_model.specs.Lines.{line_object, upto}
 
 -- the item of an update and its operation
 abbrev pub write_of : Update → Op → Item

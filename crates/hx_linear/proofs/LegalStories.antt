@@ -14,11 +14,9 @@ use Rattle.hx_types.specs.declared.calls.Op.TheVariants.{Get}
 use Rattle.hx_types.specs.Words.{IsIn}
 use Rattle.hx_types.specs.Effects.{effect_of, key_of}
 use Rattle.hx_types.specs.Fitting.{call_of, is_refused}
-use Rattle.hx_model.specs.Slots.{upto}
 use Rattle.hx_model.specs.ServerSteps.{get_answer}
 use Rattle.hx_model.specs.Histories.{gets_of, in_place, line_of}
 use Rattle.hx_model.specs.Legal.{IsEffect, IsLegal, object_now}
-use Rattle.hx_steady.specs.Served.{line_object}
 use Rattle.hx_steady.proofs.Lists.{in_left, in_right}
 use Rattle.hx_linear.proofs.Lines.{Lawful, upto_here, upto_past}
 use Rattle.hx_linear.proofs.Traces.{EndedAt}
@@ -29,6 +27,7 @@ use Rattle.hx_linear.proofs.Gets.{gets-in, in-gets}
 use Rattle.hx_linear.proofs.EffectLaws.{get_effect, get_leaves}
 use Rattle.hx_linear.proofs.Items.{Got, Next, calls, got_at, is_place, lawful, shown, write_of}
 use Rattle.hx_linear.proofs.Stories.{story}
+use Rattle.hx_model.specs.Lines.{line_object, upto}
 
 -- a get on an object: it leaves it and answers with it
 pub record Gets (key : List ℕ) (object : Option (List Value)) (x : Item) : Type 0 where

@@ -8,8 +8,7 @@ use Rattle.hx_types.specs.declared.calls.Caller.{Caller}
 use Rattle.hx_types.specs.Words.{IsIn}
 use Rattle.hx_types.specs.Effects.{effect_of, is_write, key_of}
 use Rattle.hx_types.specs.Fitting.{call_of}
-use Rattle.hx_model.specs.Slots.{upto}
-use Rattle.hx_steady.specs.Served.{line_object}
+use Rattle.hx_model.specs.Lines.{line_object, upto}
 
 -- the versions are 1, 2, 3 and so on
 abbrev pub Numbered : List Update → Type 0

@@ -1,4 +1,5 @@
 -- What a session's step does at each input: a call may begin, and one may end.
+use Rattle.hx_model.specs.Lines.{no_version}
 use Rattle.std.proofs.Common.{◌≡◌, ℕ, ◌+◌, ◌<◌, inl, inr, true, false, List, [], ◌∷◌, ◌++◌, Option, Some, None, refl, sym, ap, ◌∙◌, arith, eqb, ltb}
 use Rattle.std.specs.Prelude.{Bool, ◌&&◌, map}
 use Rattle.std.specs.List.{list_any}
@@ -31,7 +32,7 @@ use Rattle.hx_types.specs.Configs.{head_of, is_lost}
 use Rattle.hx_types.specs.Fitting.{numbered}
 use Rattle.hx_model.specs.Regions.{key_region}
 use Rattle.hx_model.specs.Planning.{plan_of}
-use Rattle.hx_model.specs.SessionSteps.{Part, SessionState, SessionStep, all_parts, ask_regions, awaits, begin, call_to, call_under_way, end_with_parts, ending, found_step, is_administrative, is_key_call, is_search, lacks_part, lost_answer, merged_parts, no_version, send, send_to, session_install, session_message, session_step, session_tick, staying, with_part, with_poll}
+use Rattle.hx_model.specs.SessionSteps.{Part, SessionState, SessionStep, all_parts, ask_regions, awaits, begin, call_to, call_under_way, end_with_parts, ending, found_step, is_administrative, is_key_call, is_search, lacks_part, lost_answer, merged_parts, send, send_to, session_install, session_message, session_step, session_tick, staying, with_part, with_poll}
 use Rattle.hx_linear.proofs.SessionTurns.{Turn, administrative_no_key, awaited, ends, polls, search_no_key, sends, stays}
 
 -- where all parts are there the search ends

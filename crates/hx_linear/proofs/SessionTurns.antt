@@ -1,4 +1,5 @@
 -- What a session's step does to the call under way: nothing, or an end; and what it posts.
+use Rattle.hx_model.specs.Lines.{no_version}
 use Rattle.std.proofs.Common.{cond, ◌≡◌, ℕ, ◌⊎◌, inl, inr, true, false, List, [], ◌∷◌, Option, Some, None, refl, sym, ap, ◌∙◌, subst, eqb}
 use Rattle.std.specs.Prelude.{Bool, ⊤}
 use Rattle.std.proofs.lemmas.Bool.{cond_both, eqb-true, and_parts, true≢false}
@@ -29,7 +30,7 @@ use Rattle.hx_types.specs.Configs.{head_of, is_lost}
 use Rattle.hx_types.specs.Fitting.{numbered}
 use Rattle.hx_model.specs.Regions.{key_region}
 use Rattle.hx_model.specs.Planning.{plan_of}
-use Rattle.hx_model.specs.SessionSteps.{SessionState, SessionStep, ask_regions, ask_to, awaits, call_to, call_under_way, ending, is_administrative, is_search, lost_answer, no_version, send, send_to, staying, with_poll}
+use Rattle.hx_model.specs.SessionSteps.{SessionState, SessionStep, ask_regions, ask_to, awaits, call_to, call_under_way, ending, is_administrative, is_search, lost_answer, send, send_to, staying, with_poll}
 use Rattle.hx_steady.proofs.Lists.{in-append, in-flat_map}
 
 -- how a call ended

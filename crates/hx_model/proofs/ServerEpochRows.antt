@@ -54,13 +54,20 @@ installed = refl
 abbrev of_key : List ℕ → Update → Update
 of_key key u = record u { key = key }
 
+abbrev first_of : List ℕ → Update
+first_of key = of_key key first_update
+
+abbrev taken_first : List ℕ → KeyState
+taken_first key = slot_of key true (first_of key ∷ []) 0 [] []
+
 installed_by_keys :
-    step (joiner (not_installed 0)) (from_server 2 (a_message.Snap (epoch 2) (region 0) (kept ∷ []) (of_key (codes "b") first_update ∷ second_update ∷ third_update ∷ [])))
-    ≡ stepping (joiner (replica 0 (on_base kept (third_update ∷ second_update ∷ []) 1 ∷ slot_of (codes "b") true (of_key (codes "b") first_update ∷ []) 0 [] [] ∷ [])))
+    step (joiner (not_installed 0)) (from_server 2 (a_message.Snap (epoch 2) (region 0) (kept ∷ []) (first_of (codes "b") ∷ second_update ∷ third_update ∷ first_of (codes "c") ∷ [])))
+    ≡ stepping (joiner (replica 0 (on_base kept (third_update ∷ second_update ∷ []) 1 ∷ taken_first (codes "b") ∷ taken_first (codes "c") ∷ [])))
     (
     between 3 2 (a_message.Update (epoch 2) (region 1) second_update)
     ∷ between 3 3 (a_message.Update (epoch 2) (region 2) third_update)
-    ∷ between 3 2 (a_message.Update (epoch 2) (region 1) (of_key (codes "b") first_update))
+    ∷ between 3 2 (a_message.Update (epoch 2) (region 1) (first_of (codes "b")))
+    ∷ between 3 2 (a_message.Update (epoch 2) (region 1) (first_of (codes "c")))
     ∷ to_coordinator 3 (a_message.Ready (epoch 2) (region 0))
     ∷ []
     )
@@ -160,12 +167,21 @@ pending_tick :
 pending_tick = refl
 
 -- where the chain ends nothing is sent
-idle_tick : step (running 3 whole (replica 1 (other_slot (first_update ∷ []) 0 [] [] ∷ []) ∷ replica 2 [] ∷ [])) Tick ≡ ignoring (running 3 whole (replica 1 (other_slot (first_update ∷ []) 0 [] [] ∷ []) ∷ replica 2 [] ∷ []))
+abbrev last_of_chain : ServerState
+last_of_chain = running 3 whole (replica 1 (other_slot (first_update ∷ []) 0 [] [] ∷ []) ∷ replica 2 [] ∷ [])
+
+idle_tick : step last_of_chain Tick ≡ ignoring last_of_chain
 idle_tick = refl
 
 -- the sender posts what is committed and what is pending to the joiner, and the pending updates to the next replica, which is the joiner's
 abbrev sender : ServerState
-sender = running 2 (joins_key_region 2) (replica 0 (key_slot (second_update ∷ first_update ∷ []) 1 [] [] ∷ slot_of (codes "b") true (of_key (codes "b") first_update ∷ []) 0 [] [] ∷ []) ∷ replica 1 [] ∷ [])
+sender =
+    running 2 (joins_key_region 2)
+    (
+    replica 0 (key_slot (second_update ∷ first_update ∷ []) 1 [] [] ∷ slot_of (codes "b") true (of_key (codes "b") first_update ∷ []) 0 [] [] ∷ [])
+    ∷ replica 1 []
+    ∷ []
+    )
 
 sender_tick :
     step sender Tick

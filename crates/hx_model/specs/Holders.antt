@@ -1,4 +1,4 @@
--- What holds the updates of a key: the live replicas of the newest configuration and the snapshots under way to joiners; and what each of them holds of the key's line.
+-- What holds the updates of a key, this project's words on chain replication: the live replicas of the newest configuration and the snapshots under way to joiners, and what each holds of the key's line.
 use Rattle.std.specs.Prelude.{◌≡◌, ℕ, ◌+◌, ◌≤◌, true, false, not, ◌||◌, ◌⊎◌, List, [], ◌∷◌, ◌++◌, map, reverse, length, if◌then◌else◌, ⊤, ◌≢◌, Option, None, Some}
 use Rattle.std.specs.List.{filter, flat_map, All}
 use Rattle.std.specs.Option.{option_map}
@@ -25,10 +25,10 @@ use Rattle.hx_types.specs.Subspaces.{is_key_region}
 use Rattle.hx_types.specs.Configs.{first_config, is_lost, lists, members_of}
 use Rattle.hx_types.specs.Fitting.{call_of, is_refused}
 use Rattle.hx_model.specs.Places.{places_of}
-use Rattle.hx_model.specs.Slots.{KeyState, has_place, kept_row, marks_after, no_kept, top_of, touches_after, upto}
+use Rattle.hx_model.specs.Slots.{KeyState, has_place, kept_row, marks_after, no_kept, top_of, touches_after}
 use Rattle.hx_model.specs.ServerSteps.{Replica, if_installed, replica_of, state_from, state_in}
 use Rattle.hx_model.specs.Runs.{server_of}
-use Rattle.hx_model.specs.Histories.{line_object}
+use Rattle.hx_model.specs.Lines.{line_object, upto}
 
 -- the last configuration that an entry issued
 abbrev pub config_in_notes : List Note → Option Config
@@ -46,6 +46,7 @@ pub record Position : Type 0 where
   pub region : RegionId
   pub server : ServerId
 
+-- the replicas of a region in the order of its members
 abbrev pub positions_in : Config → RegionId → List Position
 positions_in config g = map (λ (m : Member). record { region = g; server = m.server }) (members_of config g)
 
@@ -73,6 +74,7 @@ abbrev pub IsPosted : List Entry → Post → Type 0
 IsPosted [] p = ⊥
 IsPosted (x ∷ older) p = IsIn p x.outputs ⊎ IsPosted older p
 
+-- the committed state of a key in a snapshot
 abbrev pub kept_among : List ℕ → List Kept → Kept
 kept_among key [] = no_kept key
 kept_among key (k ∷ rest) = if same_text k.key key then k else kept_among key rest

@@ -3,6 +3,7 @@ pub mod Regions
 pub mod Matching
 pub mod Places
 pub mod Neighbours
+pub mod Lines
 pub mod Slots
 pub mod Leading
 pub mod Planning

@@ -1,4 +1,4 @@
--- A key's history is linear: legal, complete, honest and in the order of time.
+-- A key's history is linear, as Herlihy and Wing define it for one object: legal, complete, honest and in the order of time.
 use Rattle.std.specs.Prelude.{◌≡◌, ℕ, Bool, true, false, List, [], ◌∷◌, IsSome, nat_lt, ⊤, ◌≢◌, Some}
 use Rattle.hx_types.specs.declared.calls.Answer.{Answer}
 use Rattle.hx_types.specs.declared.calls.Caller.{Caller}
@@ -52,6 +52,7 @@ pub record IsAnswered (script : Script) (trace : List Entry) (key : List ℕ) (c
   pub ended : end_of c trace ≡ Some (record { entry = entry; version = version; answer = answer })
   pub not_refused : is_refused answer ≡ false
 
+-- the history is legal, has each answered call once with its answer, holds nothing but begun calls, each at most once, and keeps the order of calls that ended before others began: linearizability of one object
 pub record IsLinear (script : Script) (trace : List Entry) (key : List ℕ) : Type 0 where
   pub legal : IsLegal script.space (history_of script key trace)
   pub answered_once : (c : Caller) (answer : Answer) → IsAnswered script trace key c answer → (x : Item) × IsIn x (history_of script key trace) × (x.caller ≡ c) × (x.answer ≡ answer)

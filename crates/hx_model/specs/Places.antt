@@ -19,6 +19,7 @@ abbrev pub lies_in : Space → ℕ → List ℕ → RegionId → Option (List Va
 lies_in space s key g None = false
 lies_in space s key g (Some object) = same_region (place_of space s key object) g
 
+-- the place of an update in a region, after the last version with a place there
 abbrev pub place_after : Space → ℕ → List ℕ → Option (List Value) → List Touch → RegionId → Place
 place_after space s key new touches g = record { region = g; after = record { 0 = touched_in g touches }; keeps = lies_in space s key g new }
 

@@ -1,4 +1,5 @@
 -- What a sound slot has committed: its row, marks and touches are of the space and not above the floor.
+use Rattle.hx_model.specs.Lines.{upto}
 use Rattle.std.proofs.Common.{◌≡◌, ℕ, ◌+◌, ◌<◌, ◌≤◌, ◌⊎◌, inl, inr, Bool, true, false, List, [], ◌∷◌, map, Option, Some, None, refl, sym, ap, subst, arith, cond, eqb, leb, ltb}
 use Rattle.std.specs.Option.{option_map}
 use Rattle.std.proofs.lemmas.Bool.{cond_both, cases_order, eqb-false, eqb-true, leb-true, ltb-false, ltb-true}
@@ -16,7 +17,7 @@ use Rattle.hx_types.specs.declared.values.Value.{Value}
 use Rattle.hx_types.specs.Words.{IsIn, provided, same_region, same_session}
 use Rattle.hx_types.specs.Spaces.{IsAnswerOf, IsAscending, IsMaybeObjectOf, IsMaybeRowUpTo, IsRegionOf}
 use Rattle.hx_types.specs.Posts.{AnswerUpTo, IsSessionOf, IsSoundKept}
-use Rattle.hx_model.specs.Slots.{KeyState, keeps_at, kept_of, kept_row, latest_of, mark_among, mark_by, mark_of, marks_after, object_in, object_of, row_of, top_above, top_of, touches_after, touches_of, upto, with_mark, with_touch, with_touches}
+use Rattle.hx_model.specs.Slots.{KeyState, keeps_at, kept_of, kept_row, latest_of, mark_among, mark_by, mark_of, marks_after, object_in, object_of, row_of, top_above, top_of, touches_after, touches_of, with_mark, with_touch, with_touches}
 use Rattle.hx_steady.proofs.Lists.{all-in, in-provided}
 use Rattle.hx_sound.proofs.Lists.{all-of}
 use Rattle.hx_sound.proofs.Slots.{TouchedBy, in-upto}

@@ -1,4 +1,5 @@
 -- Each step of a session posts what is sound, and leaves it with a configuration of the space.
+use Rattle.hx_model.specs.Lines.{no_version}
 use Rattle.std.proofs.Common.{◌≡◌, ℕ, zero, suc, ◌+◌, ◌≤◌, inl, inr, Bool, true, false, List, [], ◌∷◌, map, length, Option, Some, None, refl, sym, ap, ◌∙◌, subst, arith, cond, ltb}
 use Rattle.std.specs.List.{All}
 use Rattle.std.proofs.lemmas.Bool.{cond_both}
@@ -29,7 +30,7 @@ use Rattle.hx_types.specs.Fitting.{IsScript, calls_of, numbered}
 use Rattle.hx_types.specs.Posts.{IsSessionOf, IsSoundMessage, IsSoundPost, goes_between}
 use Rattle.hx_model.specs.Regions.{key_region}
 use Rattle.hx_model.specs.Planning.{plan_of}
-use Rattle.hx_model.specs.SessionSteps.{Part, SessionState, SessionStep, all_parts, ask_regions, ask_to, awaits, begin, call_to, call_under_way, end_with_parts, ending, is_administrative, is_key_call, lost_answer, no_version, send, send_to, session_install, session_message, session_step, session_tick, staying, to_coordinator, with_part, with_poll}
+use Rattle.hx_model.specs.SessionSteps.{Part, SessionState, SessionStep, all_parts, ask_regions, ask_to, awaits, begin, call_to, call_under_way, end_with_parts, ending, is_administrative, is_key_call, lost_answer, send, send_to, session_install, session_message, session_step, session_tick, staying, to_coordinator, with_part, with_poll}
 use Rattle.hx_steady.proofs.Lists.{all-in, in-append, in-flat_map, in-provided, in-slice_get, when_some_both}
 use Rattle.hx_sound.proofs.Plans.{NamesRegions, plan-regions}
 use Rattle.hx_posts.proofs.Bounds.{IsSoundConfig, bounds, config-up}

@@ -1,4 +1,5 @@
 -- A step of a session in one configuration: whom it asks for a search, what parts it has, and what a search ends with.
+use Rattle.hx_model.specs.Lines.{no_version}
 use Rattle.std.proofs.Common.{◌≡◌, ℕ, ◌+◌, inl, inr, Bool, true, false, ◌&&◌, List, [], ◌∷◌, map, Option, Some, None, refl, sym, ap, ◌∙◌, subst, cond, eqb}
 use Rattle.std.specs.Prelude.{⊤}
 use Rattle.std.specs.List.{list_any}
@@ -32,7 +33,7 @@ use Rattle.hx_types.specs.Configs.{first_config, head_of, is_lost}
 use Rattle.hx_types.specs.Fitting.{numbered}
 use Rattle.hx_model.specs.Regions.{key_region}
 use Rattle.hx_model.specs.Planning.{plan_of}
-use Rattle.hx_model.specs.SessionSteps.{Part, SessionState, SessionStep, all_parts, ask_regions, ask_to, awaits, begin, call_to, end_with_parts, ending, found_step, is_key_call, is_search, lacks_part, lost_answer, merged_parts, no_version, send, send_to, session_message, session_step, session_tick, staying, to_coordinator, with_part, with_poll}
+use Rattle.hx_model.specs.SessionSteps.{Part, SessionState, SessionStep, all_parts, ask_regions, ask_to, awaits, begin, call_to, end_with_parts, ending, found_step, is_key_call, is_search, lacks_part, lost_answer, merged_parts, send, send_to, session_message, session_step, session_tick, staying, to_coordinator, with_part, with_poll}
 use Rattle.hx_steady.proofs.Lists.{in-append, in-flat_map, in-map, in-provided, when_some_both}
 use Rattle.hx_steady.proofs.Posts.{Sent}
 use Rattle.hx_linear.proofs.SessionTurns.{awaited}

@@ -23,12 +23,12 @@ use Rattle.hx_model.specs.Places.{places_of}
 use Rattle.hx_model.specs.Leading.{StuckAt, assigned, by_mark, decide, fresh, granted, refusal, stuck_of, with_places}
 use Rattle.hx_model.specs.Slots.{KeyState, latest_of, mark_of, top_of, touches_of}
 use Rattle.hx_model.specs.ServerSteps.{Spot, decided, write_step}
-use Rattle.hx_steady.specs.Served.{line_object}
 use Rattle.hx_steady.proofs.Regions.{places-not-lost}
 use Rattle.hx_steady.proofs.Lines.{Lawful, kept-line, top-line}
 use Rattle.hx_steady.proofs.Moves.{Leads}
 use Rattle.hx_steady.proofs.Leader.{effect-same, leading, leads-parts}
 use Rattle.hx_searches.proofs.Placed.{Made}
+use Rattle.hx_model.specs.Lines.{line_object}
 
 -- an effect changes the object where it is answered Done, and nowhere else
 effect-done : (space : Space) (old : Option (List Value)) (op : Op) → (effect_of space old op).changes ≡ is_done (effect_of space old op).answer

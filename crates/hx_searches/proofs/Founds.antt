@@ -1,4 +1,5 @@
 -- What the rows say that a replica finds for a search: of each key the newest committed object there, and nothing committed before the search began is missing.
+use Rattle.hx_model.specs.Lines.{upto}
 use Rattle.std.proofs.Common.{◌≡◌, ℕ, ◌≤◌, ◌⊎◌, inl, inr, Bool, true, List, [], ◌∷◌, length, Option, Some, None, refl, sym, ap, ◌∙◌, subst, arith}
 use Rattle.std.specs.List.{filter, slice_get}
 use Rattle.std.proofs.lemmas.Bool.{cond_both, false≢true}
@@ -23,7 +24,7 @@ use Rattle.hx_types.specs.Spaces.{IsSpace}
 use Rattle.hx_model.specs.Matching.{matches}
 use Rattle.hx_model.specs.Regions.{key_region}
 use Rattle.hx_model.specs.Places.{key_place}
-use Rattle.hx_model.specs.Slots.{KeyState, found_in, has_place, kept_row, object_of, rows_of, top_above, upto}
+use Rattle.hx_model.specs.Slots.{KeyState, found_in, has_place, kept_row, object_of, rows_of, top_above}
 use Rattle.hx_model.specs.ServerSteps.{Replica, replica_of, state_in}
 use Rattle.hx_model.specs.Histories.{line_of}
 use Rattle.hx_steady.specs.Served.{floor_of, leader_of, slot_in}

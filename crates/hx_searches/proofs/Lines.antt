@@ -1,11 +1,12 @@
 -- Laws of lines of updates, newest first, and of the part of a line that has a place in a region.
+use Rattle.hx_model.specs.Lines.{upto}
 use Rattle.std.proofs.Common.{◌≡◌, ℕ, ◌+◌, ◌<◌, ◌≤◌, inl, inr, true, List, [], ◌∷◌, length, refl, sym, ap, ◌∙◌, subst, arith, leb}
 use Rattle.std.proofs.lemmas.Bool.{leb-false, leb-true, cond_both, cond-true}
 use Rattle.std.specs.List.{filter}
 use Rattle.hx_types.specs.declared.ids.RegionId.{RegionId}
 use Rattle.hx_types.specs.declared.updates.Update.{Update}
 use Rattle.hx_types.specs.Words.{IsIn}
-use Rattle.hx_model.specs.Slots.{has_place, top_above, upto}
+use Rattle.hx_model.specs.Slots.{has_place, top_above}
 use Rattle.hx_steady.proofs.Lists.{in-filter}
 pub use Rattle.hx_linear.proofs.Lines.{Numbered, in-below, upto_here, upto_past}
 

@@ -14,12 +14,12 @@ use Rattle.hx_model.specs.Places.{declared_subspaces, key_place, lies_in, places
 use Rattle.hx_model.specs.Slots.{after_at, has_place, keeps_at, place_in, top_above, touches_after}
 use Rattle.hx_region.specs.Spans.{IsRegionIn, subspace_count}
 use Rattle.hx_region.proofs.Subspaces.{disjoint, places_belong}
-use Rattle.hx_steady.specs.Served.{line_object}
 use Rattle.hx_steady.proofs.Lists.{in-below, in-map}
 use Rattle.hx_steady.proofs.Regions.{between-places}
 use Rattle.hx_searches.proofs.Lines.{in-top, only, only-in, in-only, only-sorted, top-least, top-numbered}
 use Rattle.hx_searches.proofs.Lines as lines
 use Rattle.hx_searches.proofs.Placed.{AllMade, Declared, Made, between-new, between-old, changes-there, found-place, key-first, made-numbered, made-sorted, touched}
+use Rattle.hx_model.specs.Lines.{line_object}
 
 -- the place of an update in a region
 place-of : (space : Space) (key : List ℕ) (older : List Update) (u : Update) → Made space key older u → (g : RegionId)

@@ -14,10 +14,10 @@ use Rattle.hx_types.specs.Fitting.{is_done}
 use Rattle.hx_model.specs.Regions.{key_region, place_of}
 use Rattle.hx_model.specs.Places.{declared_subspaces, key_place, place_after, places_of, regions_between, touched_in}
 use Rattle.hx_model.specs.Slots.{has_place, place_in, top_above, touches_after, with_touch, with_touches}
-use Rattle.hx_steady.specs.Served.{line_object}
 use Rattle.hx_steady.proofs.Lists.{in-flat_map, in-map, in-provided}
 use Rattle.hx_linear.proofs.Lists.{in-flat}
 use Rattle.hx_searches.proofs.Lines.{Numbered, Sorted, numbered-sorted, only}
+use Rattle.hx_model.specs.Lines.{line_object}
 
 -- what an update of a line is, after the older ones
 pub record Made (space : Space) (key : List ℕ) (older : List Update) (u : Update) : Type 0 where

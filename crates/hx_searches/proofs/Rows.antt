@@ -10,11 +10,11 @@ use Rattle.hx_types.specs.declared.values.Value.{Value}
 use Rattle.hx_types.specs.Words.{IsIn}
 use Rattle.hx_types.specs.Spaces.{IsSpace}
 use Rattle.hx_model.specs.Regions.{key_region}
-use Rattle.hx_model.specs.Slots.{has_place, keeps_at, kept_after, kept_row, row_of, upto}
-use Rattle.hx_steady.specs.Served.{line_object}
+use Rattle.hx_model.specs.Slots.{has_place, keeps_at, kept_after, kept_row, row_of}
 use Rattle.hx_searches.proofs.Lines.{Sorted, in-below, only, only-in, upto_all, upto_here, top-least}
 use Rattle.hx_searches.proofs.Placed.{AllMade, Made, made-numbered}
 use Rattle.hx_searches.proofs.Passing.{keeps-key, passes-changes}
+use Rattle.hx_model.specs.Lines.{line_object, upto}
 
 -- the row of an update with an object
 abbrev pub row_with : Update → List Value → Row

@@ -1,4 +1,5 @@
 -- Each input of a server in one configuration is a turn.
+use Rattle.hx_model.specs.Lines.{upto}
 use Rattle.std.proofs.Common.{◌≡◌, ℕ, ◌-◌, ◌≤◌, inl, inr, true, false, not, ◌&&◌, List, [], ◌∷◌, ◌++◌, length, Option, Some, None, refl, sym, ap, ◌∙◌, subst, arith, leb}
 use Rattle.std.specs.Prelude.{⊤}
 use Rattle.std.specs.List.{flat_map}
@@ -29,7 +30,7 @@ use Rattle.hx_types.specs.Spaces.{IsSpace}
 use Rattle.hx_model.specs.Regions.{key_region}
 use Rattle.hx_model.specs.Neighbours.{is_end}
 use Rattle.hx_model.specs.Leading.{assigned}
-use Rattle.hx_model.specs.Slots.{KeyState, Move, Take, acknowledged, after_at, found_in, has_place, offered, pending_of, top_above, top_of, upto}
+use Rattle.hx_model.specs.Slots.{KeyState, Move, Take, acknowledged, after_at, found_in, has_place, offered, pending_of, top_above, top_of}
 use Rattle.hx_model.specs.ServerSteps.{Replica, ServerState, ServerStep, SlotStep, accepting, ack_step, acked, asked, at_slot, by_moves, by_posts, call_at, call_step, called, called_by, get_step, hearing, if_installed, known_to, message_step, move_posts, next_at, passed_on, pending_posts, ready_post, replica_of, replica_tick, reply, snap_posts, snap_to, state_in, tick_step, unmoved, update_step, updated, write_step}
 use Rattle.hx_model.proofs.States.{same_text_self}
 use Rattle.hx_steady.specs.Served.{leader_of, slot_in}

@@ -15,7 +15,7 @@ use Rattle.hx_model.specs.Regions.{key_region}
 use Rattle.hx_model.specs.Neighbours.{enters, hop_at, next_of, place_number, region_at}
 use Rattle.hx_model.specs.Leading.{first_lost}
 use Rattle.hx_model.specs.Slots.{KeyState, Move, after_at, has_place, moved_all, touches_after}
-use Rattle.hx_steady.specs.Served.{leader_of, line_object}
+use Rattle.hx_steady.specs.Served.{leader_of}
 use Rattle.hx_steady.proofs.Lists.{any-in, in-slice_get}
 use Rattle.hx_steady.proofs.Chains.{leads-head}
 use Rattle.hx_sound.proofs.Hops.{next-reaches}
@@ -26,6 +26,7 @@ use Rattle.hx_searches.proofs.Placed.{AllMade, made-numbered, made-sorted}
 use Rattle.hx_searches.proofs.Passing.{Following, follows-line}
 use Rattle.hx_searches.proofs.Moves.{AllAllowed, Own, Later, in-accepted, later-all, own_rely}
 use Rattle.hx_searches.proofs.Chains.{Apart, along, at-number, enters-at, number-is, place-in, region-is, server-same}
+use Rattle.hx_model.specs.Lines.{line_object}
 
 -- the regions of a made update's places differ
 pub places-apart : (space : Space) → IsSpace space → (key : List ℕ) (us : List Update) → AllMade space key us → (u : Update) → IsIn u us → Apart u.places

@@ -1,4 +1,5 @@
 -- Each row of a finished search is a change that matches, was under way or committed during it, and wasn't followed by a change that ended before it.
+use Rattle.hx_model.specs.Lines.{upto}
 use Rattle.std.proofs.Common.{◌≡◌, ℕ, ◌<◌, ◌≤◌, inl, inr, Bool, true, false, not, ◌&&◌, List, [], ◌∷◌, map, Option, Some, None, refl, sym, ap, ◌∙◌, subst, arith}
 use Rattle.std.specs.List.{list_any}
 use Rattle.std.proofs.lemmas.Bool.{and_from, and_parts, cases_order, true≢false}
@@ -17,7 +18,7 @@ use Rattle.hx_types.specs.Effects.{is_write}
 use Rattle.hx_types.specs.Fitting.{IsScript, is_done}
 use Rattle.hx_types.specs.Posts.{keys_ascend}
 use Rattle.hx_model.specs.Matching.{matches}
-use Rattle.hx_model.specs.Slots.{has_place, upto}
+use Rattle.hx_model.specs.Slots.{has_place}
 use Rattle.hx_model.specs.SessionSteps.{Part, merged_parts}
 use Rattle.hx_model.specs.Runs.{IsRun}
 use Rattle.hx_model.specs.Histories.{line_of}

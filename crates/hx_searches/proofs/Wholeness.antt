@@ -1,4 +1,5 @@
 -- A finished search shows the last change of each key that began before it ended, where it or a later item ended before the search began.
+use Rattle.hx_model.specs.Lines.{upto}
 use Rattle.std.proofs.Common.{◌≡◌, ℕ, zero, suc, ◌+◌, ◌<◌, ◌≤◌, ◌⊎◌, inl, inr, Bool, true, false, List, [], ◌∷◌, map, length, get_or, Option, Some, None, refl, sym, ap, ◌∙◌, subst, arith, add-one, is_some}
 use Rattle.std.specs.List.{Contains, list_all, list_any}
 use Rattle.std.proofs.lemmas.Bool.{and_from, and_parts, cases_Bool, false≢true}
@@ -20,7 +21,7 @@ use Rattle.hx_types.specs.Spaces.{IsSpace}
 use Rattle.hx_model.specs.Matching.{matches}
 use Rattle.hx_model.specs.Regions.{key_region, place_of}
 use Rattle.hx_model.specs.Places.{declared_subspaces}
-use Rattle.hx_model.specs.Slots.{has_place, keeps_at, kept_row, upto}
+use Rattle.hx_model.specs.Slots.{has_place, keeps_at, kept_row}
 use Rattle.hx_model.specs.SessionSteps.{Part, merged_parts}
 use Rattle.hx_model.specs.Runs.{IsRun}
 use Rattle.hx_model.specs.Histories.{line_of}

@@ -1,4 +1,5 @@
 -- What a session makes of the rows of a region.
+use Rattle.hx_model.specs.Lines.{no_version}
 use Rattle.std.proofs.Common.{◌≡◌, ℕ, Bool, true, false, ◌&&◌, ◌==◌, List, map, Option, None, Some, refl, ap, sym, ◌∙◌, subst}
 use Rattle.std.specs.List.{list_all, list_any, slice_get}
 use Rattle.std.specs.Prelude.{IsSomeAnd}
@@ -8,7 +9,7 @@ use Rattle.hx_types.specs.declared.calls.Row.{Row}
 use Rattle.hx_types.specs.declared.ids.Epoch.{Epoch}
 use Rattle.hx_types.specs.declared.ids.RegionId.{RegionId}
 use Rattle.hx_types.specs.Spaces.{IsAscending}
-use Rattle.hx_model.specs.SessionSteps.{Part as PartSeen, SessionState, SessionStep, all_parts, awaits, end_with_parts, ending, found_step, is_search, lacks_part, merged_parts, no_version, staying, with_part}
+use Rattle.hx_model.specs.SessionSteps.{Part as PartSeen, SessionState, SessionStep, all_parts, awaits, end_with_parts, ending, found_step, is_search, lacks_part, merged_parts, staying, with_part}
 use Rattle.hx_session.specs.declared.parts.Part.{Part}
 use Rattle.hx_session.specs.declared.plans.Made.{Made}
 use Rattle.hx_session.specs.declared.sessions.Session.TheInside.{Inside}

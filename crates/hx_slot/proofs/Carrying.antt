@@ -1,4 +1,5 @@
 -- The committed state: marks and touches carried over the committed updates.
+use Rattle.hx_model.specs.Lines.{upto}
 use Rattle.std.proofs.Common.{◌≡◌, ℕ, ◌+◌, ◌<◌, ◌≤◌, Bool, true, false, List, [], ◌∷◌, ◌++◌, length, take, drop, set, get_or, Option, Some, None, refl, ap, sym, ◌∙◌, subst, add-one, arith, cond, eqb, ltb}
 use Rattle.std.specs.Option.{option_map}
 use Rattle.std.proofs.lemmas.Bool.{cond_both, cond-false, cond-true, eq-eqb, le-ltb, ne_eqb}
@@ -12,7 +13,7 @@ use Rattle.hx_types.specs.declared.updates.Place.{Place}
 use Rattle.hx_types.specs.declared.updates.Update.{Update}
 use Rattle.hx_types.specs.declared.values.Value.{Value}
 use Rattle.hx_types.specs.Words.{provided, same_session}
-use Rattle.hx_model.specs.Slots.{KeyState, kept_of, marks_after, row_of, touches_after, upto, with_mark, with_touches}
+use Rattle.hx_model.specs.Slots.{KeyState, kept_of, marks_after, row_of, touches_after, with_mark, with_touches}
 use Rattle.hx_slot.specs.declared.updates.AcceptedUpdate.{AcceptedUpdate}
 use Rattle.hx_slot.specs.declared.slots.Slot.TheInside.{Inside}
 use Rattle.hx_slot.specs.Updates.{Ascends, last_version, newest_first, row_by, row_over}

@@ -1,4 +1,5 @@
 -- The slot as contracts see it, without its past: what is known of it with its past holds of it too.
+use Rattle.hx_model.specs.Lines.{upto}
 use Rattle.std.proofs.Common.{◌≡◌, ℕ, ◌-◌, ◌+◌, ◌<◌, ◌≤◌, true, false, List, [], ◌∷◌, ◌++◌, Vec, map, length, take, drop, get_or, set, Option, Some, None, refl, ap, sym, ◌∙◌, subst, arith, not, cond, eqb, leb, ltb}
 use Rattle.std.specs.List.{All, AllByRecursion, filter, list_any, remove}
 use Rattle.std.specs.Option.{IfSome, unwrap_or}
@@ -15,7 +16,7 @@ use Rattle.hx_types.specs.declared.snapshots.Touch.{Touch}
 use Rattle.hx_types.specs.declared.updates.Update.{Update}
 use Rattle.hx_types.specs.Words.{provided}
 use Rattle.hx_model.specs.Places.{touched_in}
-use Rattle.hx_model.specs.Slots.{Acknowledge, Commit, Forget, Hold, KeyState, Move, Take, ack_answer, acknowledged, commits, is_pending, kept_of, kept_row, latest_of, mark_among, mark_of, marks_after, moved, moved_all, object_in, object_of, other_version, pending_of, settled, state_of_kept, top_above, top_of, touches_after, touches_of, upto, waits_below}
+use Rattle.hx_model.specs.Slots.{Acknowledge, Commit, Forget, Hold, KeyState, Move, Take, ack_answer, acknowledged, commits, is_pending, kept_of, kept_row, latest_of, mark_among, mark_of, marks_after, moved, moved_all, object_in, object_of, other_version, pending_of, settled, state_of_kept, top_above, top_of, touches_after, touches_of, waits_below}
 use Rattle.hx_folds.specs.Folding.{Descends, IsSlotOf, ShowSame, above, folded}
 use Rattle.hx_types.specs.declared.outcomes.Acked.TheVariants as an_ack
 use Rattle.hx_folds.proofs.Folds.{folded-twice, kept-folded, mark-folded, object-folded, pending-folded, top-folded, touches-folded}

@@ -1,4 +1,5 @@
 -- The folds of a slot, by the list that it keeps.
+use Rattle.hx_model.specs.Lines.{upto}
 use Rattle.std.proofs.Common.{◌≡◌, ℕ, zero, suc, ◌+◌, ◌<◌, ◌≤◌, false, List, [], ◌∷◌, ◌++◌, map, length, take, drop, slice_get, Option, Some, None, refl, ap, sym, ◌∙◌, subst, arith, cond, leb, append_assoc}
 use Rattle.std.specs.List.{AllByRecursion}
 use Rattle.std.specs.Option.{IfSome}
@@ -10,7 +11,7 @@ use Rattle.hx_types.specs.declared.updates.Place.{Place}
 use Rattle.hx_types.specs.declared.updates.Update.{Update}
 use Rattle.hx_types.specs.Words.{same_region, when_some}
 use Rattle.hx_model.specs.Neighbours.{place_number}
-use Rattle.hx_model.specs.Slots.{kept_after, kept_row, pending_above, place_in, row_of, top_above, upto}
+use Rattle.hx_model.specs.Slots.{kept_after, kept_row, pending_above, place_in, row_of, top_above}
 use Rattle.hx_slot.specs.declared.updates.AcceptedUpdate.{AcceptedUpdate}
 use Rattle.hx_slot.specs.Updates.{Ascends, IsPlaced, last_version, newest_first, row_by, row_over}
 use Rattle.hx_slot.specs.Invariant.{IsLine}

@@ -1,4 +1,5 @@
 -- What the slots of one configuration hold: rows of their updates, and touches of their versions.
+use Rattle.hx_model.specs.Lines.{upto}
 use Rattle.std.proofs.Common.{◌≡◌, ℕ, ◌≤◌, inl, inr, List, [], ◌∷◌, Option, Some, None, refl, sym, ap, ◌∙◌, subst, arith, cond, leb, ltb}
 use Rattle.std.specs.Option.{option_map}
 use Rattle.std.proofs.lemmas.Bool.{cond_both}
@@ -13,7 +14,7 @@ use Rattle.hx_types.specs.declared.values.Value.{Value}
 use Rattle.hx_types.specs.Words.{IsIn, list_of, same_region}
 use Rattle.hx_model.specs.Matching.{matches}
 use Rattle.hx_model.specs.Places.{touched_in}
-use Rattle.hx_model.specs.Slots.{KeyState, found_in, keeps_at, kept_row, no_kept, object_of, row_of, rows_of, touches_after, upto, with_touch, with_touches}
+use Rattle.hx_model.specs.Slots.{KeyState, found_in, keeps_at, kept_row, no_kept, object_of, row_of, rows_of, touches_after, with_touch, with_touches}
 use Rattle.hx_steady.proofs.Lists.{in-filter, in-flat_map}
 
 -- a slot with no base of its own

@@ -1,4 +1,5 @@
 -- Calls of a server are turns.
+use Rattle.hx_model.specs.Lines.{upto}
 use Rattle.std.proofs.Common.{◌≡◌, ℕ, ◌-◌, ◌≤◌, inl, inr, true, false, not, ◌&&◌, List, [], ◌∷◌, Option, Some, None, refl, sym, ap, ◌∙◌, subst, arith}
 use Rattle.std.specs.List.{flat_map}
 use Rattle.std.proofs.lemmas.Bool.{cond_both, cond-true, cond-false, eqb-true, and_parts, false≢true, false_from_ne_true}
@@ -20,7 +21,7 @@ use Rattle.hx_types.specs.Subspaces.{is_key_region}
 use Rattle.hx_types.specs.Configs.{first_config, head_of, is_lost, is_server, leads}
 use Rattle.hx_types.specs.Spaces.{IsSpace}
 use Rattle.hx_model.specs.Regions.{key_region}
-use Rattle.hx_model.specs.Slots.{KeyState, Take, object_in, object_of, upto}
+use Rattle.hx_model.specs.Slots.{KeyState, Take, object_in, object_of}
 use Rattle.hx_model.specs.ServerSteps.{Replica, ServerState, ServerStep, SlotStep, accepting, at_slot, by_posts, call_at, call_step, called, called_by, get_answer, get_step, hearing, move_posts, replica_of, reply, state_in, unmoved, write_step}
 use Rattle.hx_model.proofs.States.{eq_of_same_text, same_text_self}
 use Rattle.hx_steady.specs.Served.{leader_of, slot_in}

@@ -23,14 +23,14 @@ use Rattle.hx_types.specs.Configs.{first_config}
 use Rattle.hx_types.specs.Spaces.{IsSpace}
 use Rattle.hx_model.specs.Regions.{key_region}
 use Rattle.hx_model.specs.Places.{key_place, places_of}
-use Rattle.hx_model.specs.Slots.{KeyState, Move, Take, follows, latest_of, mark_among, marks_after, no_kept, object_in, object_of, offered, top_of, touches_of, upto}
+use Rattle.hx_model.specs.Slots.{KeyState, Move, Take, follows, latest_of, mark_among, marks_after, no_kept, object_in, object_of, offered, top_of, touches_of}
 use Rattle.hx_model.specs.Leading.{StuckAt, assigned, by_mark, decide, first_lost, fresh, granted, refusal, with_places}
 use Rattle.hx_model.specs.ServerSteps.{SlotStep, Spot, accepting, by_moves, by_posts, decided, get_answer, move_posts, reply, waiting_doubt, write_step}
-use Rattle.hx_steady.specs.Served.{line_object}
 use Rattle.hx_steady.proofs.Regions.{places-not-lost}
 use Rattle.hx_steady.proofs.Lines.{Law, Lawful, follows-line, kept-line, pending-not_stuck, top-line, upto-lawful}
 use Rattle.hx_steady.proofs.Marks.{Newest, mark-newest}
 use Rattle.hx_steady.proofs.Moves.{Leads, offered-next}
+use Rattle.hx_model.specs.Lines.{line_object, upto}
 
 -- a leader's slot by its parts
 abbrev pub leading : Bool → List ℕ → List Update → ℕ → List ℕ → KeyState

@@ -14,10 +14,10 @@ use Rattle.hx_types.specs.Words.{IsIn, same_region, when_some}
 use Rattle.hx_types.specs.Configs.{first_config}
 use Rattle.hx_model.specs.Regions.{key_region}
 use Rattle.hx_model.specs.Places.{key_place}
-use Rattle.hx_model.specs.Slots.{follows, keeps_at, kept_row, object_in, pending_above, place_in, row_of, top_above, upto}
+use Rattle.hx_model.specs.Slots.{follows, keeps_at, kept_row, object_in, pending_above, place_in, row_of, top_above}
 use Rattle.hx_model.specs.Leading.{first_lost, stuck_among}
-use Rattle.hx_steady.specs.Served.{line_object}
 use Rattle.hx_steady.proofs.Lists.{in-append}
+use Rattle.hx_model.specs.Lines.{line_object, upto}
 
 -- what an update of a line is, after the older ones
 pub record Law (space : Space) (key : List ℕ) (older : List Update) (u : Update) : Type 0 where

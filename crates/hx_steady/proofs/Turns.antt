@@ -20,15 +20,16 @@ use Rattle.hx_types.specs.Effects.{is_write, key_of}
 use Rattle.hx_types.specs.Subspaces.{is_key_region}
 use Rattle.hx_types.specs.Configs.{first_config, lists}
 use Rattle.hx_model.specs.Regions.{key_region}
-use Rattle.hx_model.specs.Slots.{KeyState, upto}
+use Rattle.hx_model.specs.Slots.{KeyState}
 use Rattle.hx_model.specs.ServerSteps.{Replica, ServerState, ServerStep, Spot, get_answer, saying, reply, state_in, told_to, update_to}
 use Rattle.hx_model.specs.Histories.{line_notes}
-use Rattle.hx_steady.specs.Served.{leader_of, line_object, slot_in}
+use Rattle.hx_steady.specs.Served.{leader_of, slot_in}
 use Rattle.hx_steady.proofs.Lines.{Lawful, law-of}
 use Rattle.hx_steady.proofs.Moves.{Held, Leads}
 use Rattle.hx_steady.proofs.Replicas.{state-from, state-key}
 use Rattle.hx_steady.proofs.Leader.{Next}
 use Rattle.hx_steady.proofs.Posts.{Harmless}
+use Rattle.hx_model.specs.Lines.{line_object, upto}
 
 -- a server in the first configuration
 abbrev pub standing : Space → ServerId → List Replica → ServerState

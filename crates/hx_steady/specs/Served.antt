@@ -1,5 +1,5 @@
 -- What a server's entry does for the calls of a run in one configuration: the line of a key grows by its leader's updates, and each reply tells of them.
-use Rattle.std.specs.Prelude.{◌≡◌, ℕ, ◌+◌, ◌<◌, ◌≤◌, ◌⊎◌, true, false, List, [], ◌∷◌, ◌++◌, length, ⊤, Option, None, Some}
+use Rattle.std.specs.Prelude.{◌≡◌, ℕ, ◌+◌, ◌<◌, ◌≤◌, ◌⊎◌, true, false, List, [], ◌∷◌, ◌++◌, length, ⊤, Some}
 use Rattle.hx_types.specs.declared.ids.Actor.{Actor}
 use Rattle.hx_types.specs.declared.calls.Answer.{Answer}
 use Rattle.hx_types.specs.declared.traces.Entry.{Entry}
@@ -13,7 +13,6 @@ use Rattle.hx_types.specs.declared.ids.ServerId.{ServerId}
 use Rattle.hx_types.specs.declared.ids.SessionId.{SessionId}
 use Rattle.hx_types.specs.declared.spaces.Space.{Space}
 use Rattle.hx_types.specs.declared.updates.Update.{Update}
-use Rattle.hx_types.specs.declared.values.Value.{Value}
 use Rattle.hx_types.specs.declared.ids.Version.{Version}
 use Rattle.hx_types.specs.declared.messages.Message.TheVariants as a_message
 use Rattle.hx_types.specs.declared.calls.Op.TheVariants.{Get}
@@ -22,11 +21,12 @@ use Rattle.hx_types.specs.Words.{IsIn, post, when_some}
 use Rattle.hx_types.specs.Effects.{effect_of, is_write, key_of}
 use Rattle.hx_types.specs.Configs.{first_config, head_of, is_lost}
 use Rattle.hx_model.specs.Regions.{key_region}
-use Rattle.hx_model.specs.Slots.{KeyState, new_state, upto}
+use Rattle.hx_model.specs.Slots.{KeyState, new_state}
 use Rattle.hx_model.specs.ServerSteps.{Replica, ServerState, get_answer, replica_of, state_in}
 use Rattle.hx_model.specs.Runs.{IsRun, server_of, session_of}
 use Rattle.hx_model.specs.Histories.{line_of}
 use Rattle.hx_model.specs.Steady.{HasNoHalts}
+use Rattle.hx_model.specs.Lines.{line_object, upto}
 
 -- the first member of the key's region in the first configuration
 abbrev pub leader_of : Space → List ℕ → ServerId
@@ -49,11 +49,6 @@ floor_of script key trace = (leader_slot script key trace).floor
 abbrev pub posts_of : List Entry → List Post
 posts_of [] = []
 posts_of (x ∷ older) = x.outputs ++ posts_of older
-
--- the object after the updates of a line
-abbrev pub line_object : List Update → Option (List Value)
-line_object [] = None
-line_object (u ∷ older) = u.object
 
 -- the session posted a call of this operation to the actor
 abbrev pub WasCalled : List Entry → SessionId → Actor → ℕ → Op → Type 0

@@ -1,6 +1,6 @@
+use Rattle.hx_model.specs.Lines.{upto}
 use Rattle.std.proofs.Common.{◌≡◌, reverse}
 use Rattle.std.specs.List.Sorted.{IsNonDecreasingBy}
-use Rattle.hx_model.specs.Slots.{upto}
 use Rattle.hx_history.specs.Events.{updates_at, version_at}
 use Rattle.hx_history.proofs.lines.cut.Given as goal
 
