@@ -2,14 +2,14 @@ pub use Rattle.hx_types.specs.Effects
 pub use Rattle.hx_model.specs.Runs
 pub use Rattle.hx_model.specs.Schedule
 pub use Rattle.hx_model.specs.Steady
+pub mod Coordinators
 pub mod Examples
 pub mod Filing
-pub mod Hosts
 pub mod Idle
 pub mod Invariant
 pub mod Names
-pub mod Runnable
-pub mod Seats
+pub mod Servers
+pub mod Sessions
 pub mod Starting
 pub mod Turns
 pub mod Worlds

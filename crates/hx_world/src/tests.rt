@@ -1,6 +1,6 @@
 ghost use Rattle.std.specs.Prelude.{◌≡◌, [], ◌∷◌, IfOk, length};
+ghost use Rattle.hx_types.specs.Fitting.{IsScript};
 ghost use Rattle.hx_world.specs.Examples.{axis_of, books, genre_is, one, one_call, put_a, script_in, search_b, three_calls, year_is};
-ghost use Rattle.hx_world.specs.Runnable.{IsRunnable};
 
 use super::*;
 use hx_history::history;
@@ -118,17 +118,17 @@ fn script(alloc: Global, calls: Calls) -> Result<Script, Memory>
     })
 }
 
-#[tactic(auto, using(crate::proofs::Books::three_run))]
+#[tactic(auto, using(crate::proofs::Books::three_valid))]
 fn three_calls_script(alloc: Global) -> Result<Script, Memory>
-    ensures { IfOk result (λ script. IsRunnable script) }
+    ensures { IfOk result (λ script. IsScript script) }
 {
     let calls = three_calls(alloc)?;
     Ok(script(alloc, calls)?)
 }
 
-#[tactic(auto, using(crate::proofs::Books::book_runs))]
+#[tactic(auto, using(crate::proofs::Books::book_valid))]
 fn one_call_script(alloc: Global) -> Result<Script, Memory>
-    ensures { IfOk result (λ script. IsRunnable script) }
+    ensures { IfOk result (λ script. IsScript script) }
 {
     let calls = one_call(alloc)?;
     Ok(script(alloc, calls)?)
@@ -145,9 +145,9 @@ fn search(alloc: Global) -> Result<Op, Memory>
     Ok(Op::Search { terms })
 }
 
-#[tactic(auto, using(crate::proofs::Books::search_runs))]
+#[tactic(auto, using(crate::proofs::Books::search_valid))]
 fn search_script(alloc: Global) -> Result<Script, Memory>
-    ensures { IfOk result (λ script. IsRunnable script) }
+    ensures { IfOk result (λ script. IsScript script) }
 {
     let mut sets = Assigns::new(alloc);
     sets.push(genre(alloc, "b")?)?;
@@ -176,9 +176,9 @@ fn small_space(alloc: Global) -> Result<Space, Memory>
     })
 }
 
-#[tactic(auto, using(crate::proofs::Books::small_runs))]
+#[tactic(auto, using(crate::proofs::Books::small_valid))]
 fn small_script(alloc: Global) -> Result<Script, Memory>
-    ensures runs { IfOk result (λ script. IsRunnable script) }
+    ensures runs { IfOk result (λ script. IsScript script) }
     ensures sessions { IfOk result (λ script. length script.sessions ≡ 1) }
 {
     let mut sessions = Sessions::new(alloc);
@@ -192,7 +192,7 @@ fn small_script(alloc: Global) -> Result<Script, Memory>
 
 /// The trace after a drain of so many entries and then one to the end, each of which ended so.
 fn drained(alloc: Global, script: &Script, first: u64) -> Result<Trace, Fail>
-    requires { IsRunnable script.now }
+    requires { IsScript script.now }
 {
     let mut world = World::start(alloc, script)?;
     match world.drain(alloc, first) {
@@ -358,7 +358,7 @@ fn takes(alloc: Global, world: &mut World, entry: u64) -> bool
 /// The trace after session 1 has begun its call and the post of the call was delivered twice, and
 /// then a drain to the end.
 fn delivered_twice(alloc: Global, script: &Script) -> Result<Trace, Fail>
-    requires runs { IsRunnable script.now }
+    requires runs { IsScript script.now }
     requires sessions { length script.now.sessions ≡ 1 }
 {
     let mut world = World::start(alloc, script)?;
