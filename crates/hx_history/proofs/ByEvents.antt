@@ -27,7 +27,7 @@ use Rattle.hx_types.specs.Fitting.{call_of, is_refused}
 use Rattle.hx_model.specs.Histories.{get_item, get_items, gets_of, history_of, history_on, in_place, is_get_of, line_note, line_notes, line_of, not_refused, write_item}
 use Rattle.hx_history.specs.Events.{KeyEvent, Write, End, ReadEnd, event_of, event_view, events_in, events_of, history_by, is_at, item_on, line_by, lined, placed, read_at, read_by, read_in, reads_by, told}
 use Rattle.hx_history.proofs.Lists.{map_filter, reverse_cons, reverse_pieces}
-use Rattle.hx_history.specs.declared.noted.Event.{Event}
+use Rattle.hx_history.specs.declared.events.Event.{Event}
 
 -- the end of a get leaves the line
 line_passes_read : (key : List ℕ) (line : List Update) (r : Option ReadEnd) (rest : List KeyEvent)

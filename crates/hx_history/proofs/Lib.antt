@@ -5,5 +5,7 @@ pub mod ByEvents
 pub mod Listing
 pub mod Notes
 pub mod Rows
-pub mod Recorded
+pub mod Gathered
+pub mod RecordRows
+pub mod SearchRows
 pub mod Places

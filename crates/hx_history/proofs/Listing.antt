@@ -23,7 +23,7 @@ use Rattle.hx_types.specs.Words.{IsIn, text_below}
 use Rattle.hx_types.specs.Posts.{keys_ascend}
 use Rattle.hx_model.specs.Histories.{history_of}
 use Rattle.hx_history.specs.declared.key_histories.KeyHistory.{KeyHistory}
-use Rattle.hx_history.specs.declared.noted.Event.{Event}
+use Rattle.hx_history.specs.declared.events.Event.{Event}
 use Rattle.hx_history.specs.Events.{event_view, events_of, history_by, is_at as is_event_at, key_of}
 use Rattle.hx_history.specs.Listed.{AreHistories, IsHistory, keys_of_histories, listed_of}
 use Rattle.hx_history.proofs.ByEvents.{history_found}

@@ -10,37 +10,37 @@ use Rattle.hx_types.specs.declared.ids.SessionId.{SessionId}
 use Rattle.hx_types.specs.declared.traces.Note.TheVariants as a_note
 use Rattle.hx_types.specs.Words.{first_some}
 use Rattle.hx_model.specs.Histories.{CallEnd, begin_of, begins_in, ends_in, is_session, note_of_end}
-use Rattle.hx_history.specs.declared.tables.Begin.{Begin}
-use Rattle.hx_history.specs.Calls.{CallNotes, after_entry, after_note, after_notes, notes_of}
+use Rattle.hx_history.specs.declared.call_notes.Begin.{Begin}
+use Rattle.hx_history.specs.Calls.{CallSpan, after_entry, after_note, after_notes, notes_of}
 
-pub after_notes_more : (u : SessionId) (entry n : ℕ) (notes : List Note) (note : Note) (s : CallNotes)
+pub after_notes_more : (u : SessionId) (entry n : ℕ) (notes : List Note) (note : Note) (s : CallSpan)
     → after_notes u entry n (notes ++ note ∷ []) s ≡ after_notes u entry n notes (after_note u entry n note s)
 after_notes_more u entry n [] note s = refl
 after_notes_more u entry n (x ∷ notes) note s = ap (after_note u entry n x) (after_notes_more u entry n notes note s)
 
 -- the call with this begin, if it begins, and this end, if it ends
-abbrev told_of : SessionId → ℕ → ℕ → Bool → Option CallEnd → CallNotes → CallNotes
+abbrev told_of : SessionId → ℕ → ℕ → Bool → Option CallEnd → CallSpan → CallSpan
 told_of u entry n begun end s =
     record {
       begin = cond begun (Some (record { caller = record { session = u; number = n }; entry = entry })) s.begin;
       end = first_some end s.end;
     }
 
-begin_before : (u : SessionId) (entry m n : ℕ) (b begun : Bool) (end : Option CallEnd) (s : CallNotes) → (b ≡ true → m ≡ n)
+begin_before : (u : SessionId) (entry m n : ℕ) (b begun : Bool) (end : Option CallEnd) (s : CallSpan) → (b ≡ true → m ≡ n)
     → cond b (record { begin = Some (record { caller = record { session = u; number = m }; entry = entry }); end = first_some end s.end }) (told_of u entry n begun end s)
     ≡ told_of u entry n (b || begun) end s
 begin_before u entry m n true begun end s same =
     ap (λ (k : ℕ). told_of u entry k true end s) (same refl)
 begin_before u entry m n false begun end s same = refl
 
-end_before : (u : SessionId) (entry n : ℕ) (b begun : Bool) (now end : Option CallEnd) (e : CallEnd) (s : CallNotes)
+end_before : (u : SessionId) (entry n : ℕ) (b begun : Bool) (now end : Option CallEnd) (e : CallEnd) (s : CallSpan)
     → cond b (record { begin = (told_of u entry n begun end s).begin; end = Some e }) (told_of u entry n begun end s)
     ≡ told_of u entry n begun (cond b (Some e) end) s
 end_before u entry n true begun now end e s = refl
 end_before u entry n false begun now end e s = refl
 
 -- the notes of an entry say of a call whether they begin it, and its first end among them
-pub after_notes_are : (u : SessionId) (entry n : ℕ) (notes : List Note) (s : CallNotes)
+pub after_notes_are : (u : SessionId) (entry n : ℕ) (notes : List Note) (s : CallSpan)
     → after_notes u entry n notes s ≡ told_of u entry n (begins_in n notes) (ends_in entry n notes) s
 after_notes_are u entry n [] s = refl
 after_notes_are u entry n (a_note.Began m ∷ notes) s =

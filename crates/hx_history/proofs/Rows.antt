@@ -1,4 +1,4 @@
--- A table of rows of slots, and a change of one row.
+-- A table of rows of spans, and a change of one row.
 use Rattle.std.proofs.Common.{◌≡◌, ◌≢◌, ◌⊎◌, ℕ, zero, suc, ◌+◌, ◌<◌, Bool, true, false, cond, List, [], ◌∷◌, ◌++◌, Option, Some, None, map, reverse, length, get_or, set, take, replicate, refl, sym, ap, subst, ◌∙◌, inl, inr, arith}
 use Rattle.std.proofs.lemmas.Bool.{cases_eq}
 use Rattle.std.proofs.Math.Logic.{⊎_elim}
@@ -17,8 +17,8 @@ use Rattle.hx_types.specs.declared.ids.SessionId.{SessionId}
 use Rattle.hx_types.specs.Words.{when_some}
 use Rattle.hx_types.specs.Fitting.{call_of, numbered}
 use Rattle.hx_model.specs.Histories.{is_session}
-use Rattle.hx_history.specs.declared.tables.Slot.{Slot}
-use Rattle.hx_history.specs.Calls.{CallNotes, after_entry, after_notes, empty_slot, notes_of, shape, slot_in, slot_view}
+use Rattle.hx_history.specs.declared.call_notes.CallNotes.{CallNotes}
+use Rattle.hx_history.specs.Calls.{CallSpan, after_entry, after_notes, no_notes, notes_of, shape, span_in, span_of}
 use Rattle.hx_history.proofs.Notes.{notes_of_more}
 
 numbered_past : {A : Type 0} (xs : List A) (n : ℕ) → length xs < n → numbered xs n ≡ None
@@ -57,11 +57,11 @@ stays : {A : Type 0} (f : A → A) (b : Bool) → b ≡ false → (o : Option A)
 stays f b off None = refl
 stays f b off (Some x) = ap (λ t. Some (cond t (f x) x)) (sym off)
 
--- an entry of another session leaves the slot
-pub other_session : (rows : List (List Slot)) (c : Caller) (place : ℕ) (x : Entry) → is_session c.session x.actor ≡ false
-    → slot_in rows c ≡ option_map (after_entry c place x) (slot_in rows c)
+-- an entry of another session leaves what is said
+pub other_session : (rows : List (List CallNotes)) (c : Caller) (place : ℕ) (x : Entry) → is_session c.session x.actor ≡ false
+    → span_in rows c ≡ option_map (after_entry c place x) (span_in rows c)
 other_session rows c place x other =
-    stays (after_notes c.session place c.number x.notes) (is_session c.session x.actor) other (slot_in rows c)
+    stays (after_notes c.session place c.number x.notes) (is_session c.session x.actor) other (span_in rows c)
 
 apart : (u : SessionId) (c : Caller) (a : Actor) → a ≡ Session u → u.0 ≢ c.session.0 → is_session c.session a ≡ false
 apart u c a is other = ap (is_session c.session) is ∙ by_test (u.0 == c.session.0) (Decides-eqb u.0 c.session.0).0
@@ -74,8 +74,8 @@ together : (u : SessionId) (c : Caller) (a : Actor) → a ≡ Session u → u.0 
 together u c a is same = ap (is_session c.session) is ∙ (Decides-eqb u.0 c.session.0).1 same
 
 -- an entry of a session without a row changes nothing
-pub no_row : (rows : List (List Slot)) (u : SessionId) (place : ℕ) (x : Entry) → x.actor ≡ Session u → (u.0 ≡ 0) ⊎ (length rows < u.0)
-    → (c : Caller) → slot_in rows c ≡ option_map (after_entry c place x) (slot_in rows c)
+pub no_row : (rows : List (List CallNotes)) (u : SessionId) (place : ℕ) (x : Entry) → x.actor ≡ Session u → (u.0 ≡ 0) ⊎ (length rows < u.0)
+    → (c : Caller) → span_in rows c ≡ option_map (after_entry c place x) (span_in rows c)
 no_row rows u place x is none c =
     ⊎_elim (λ same. here same) (λ other. other_session rows c place x (apart u c x.actor is other)) (cases_eq u.0 c.session.0)
   where
@@ -83,46 +83,46 @@ no_row rows u place x is none c =
     missing same =
         ⊎_elim (λ zeroth. ap (numbered rows) (sym same ∙ zeroth)) (λ past. numbered_past rows c.session.0 (omega arith)) none
 
-    absent : u.0 ≡ c.session.0 → slot_in rows c ≡ None
-    absent same = ap (λ o. when_some o None (λ (row : List Slot). option_map slot_view (numbered row c.number))) (missing same)
+    absent : u.0 ≡ c.session.0 → span_in rows c ≡ None
+    absent same = ap (λ o. when_some o None (λ (row : List CallNotes). option_map span_of (numbered row c.number))) (missing same)
 
-    here : u.0 ≡ c.session.0 → slot_in rows c ≡ option_map (after_entry c place x) (slot_in rows c)
+    here : u.0 ≡ c.session.0 → span_in rows c ≡ option_map (after_entry c place x) (span_in rows c)
     here same = absent same ∙ ap (option_map (after_entry c place x)) (sym (absent same))
 
--- an entry of the session of a row changes the row's slots by its notes
-pub row_taken : (rows : List (List Slot)) (i : ℕ) (old new : List Slot) (u : SessionId) (place : ℕ) (x : Entry)
+-- an entry of the session of a row changes the row's spans by its notes
+pub row_taken : (rows : List (List CallNotes)) (i : ℕ) (old new : List CallNotes) (u : SessionId) (place : ℕ) (x : Entry)
     → i < length rows → old ≡ get_or rows i old → i + 1 ≡ u.0 → x.actor ≡ Session u
-    → ((n : ℕ) → option_map slot_view (numbered new n) ≡ option_map (after_notes u place n x.notes) (option_map slot_view (numbered old n)))
-    → (c : Caller) → slot_in (set rows i new) c ≡ option_map (after_entry c place x) (slot_in rows c)
-row_taken rows i old new u place x within read is actor slots c =
+    → ((n : ℕ) → option_map span_of (numbered new n) ≡ option_map (after_notes u place n x.notes) (option_map span_of (numbered old n)))
+    → (c : Caller) → span_in (set rows i new) c ≡ option_map (after_entry c place x) (span_in rows c)
+row_taken rows i old new u place x within read is actor spans c =
     ⊎_elim here there (cases_eq u.0 c.session.0)
   where
-    in_row : Option (List Slot) → Option CallNotes
-    in_row o = when_some o None (λ (row : List Slot). option_map slot_view (numbered row c.number))
+    in_row : Option (List CallNotes) → Option CallSpan
+    in_row o = when_some o None (λ (row : List CallNotes). option_map span_of (numbered row c.number))
 
-    there : u.0 ≢ c.session.0 → slot_in (set rows i new) c ≡ option_map (after_entry c place x) (slot_in rows c)
+    there : u.0 ≢ c.session.0 → span_in (set rows i new) c ≡ option_map (after_entry c place x) (span_in rows c)
     there other =
         ap in_row (numbered-set_other rows i c.session.0 new (λ same. other (sym is ∙ same)))
         ∙ other_session rows c place x (apart u c x.actor actor other)
 
-    here : u.0 ≡ c.session.0 → slot_in (set rows i new) c ≡ option_map (after_entry c place x) (slot_in rows c)
+    here : u.0 ≡ c.session.0 → span_in (set rows i new) c ≡ option_map (after_entry c place x) (span_in rows c)
     here same =
         let session : u ≡ c.session = ap (λ (n : ℕ). record { 0 = n }) same in
-        ap in_row (numbered-set_same rows i c.session.0 new (is ∙ same) within) ∙ slots c.number
-        ∙ ap (λ (v : SessionId). option_map (after_notes v place c.number x.notes) (option_map slot_view (numbered old c.number))) session
-        ∙ ap (λ (b : Bool). option_map (λ (s : CallNotes). cond b (after_notes c.session place c.number x.notes s) s) (option_map slot_view (numbered old c.number)))
+        ap in_row (numbered-set_same rows i c.session.0 new (is ∙ same) within) ∙ spans c.number
+        ∙ ap (λ (v : SessionId). option_map (after_notes v place c.number x.notes) (option_map span_of (numbered old c.number))) session
+        ∙ ap (λ (b : Bool). option_map (λ (s : CallSpan). cond b (after_notes c.session place c.number x.notes s) s) (option_map span_of (numbered old c.number)))
         (sym (together u c x.actor actor same))
         ∙ ap (λ o. option_map (after_entry c place x) (in_row o)) (sym (numbered_at rows i c.session.0 old (is ∙ same) within read))
 
 -- a row of the same length keeps the shape
-pub shape_kept : (rows : List (List Slot)) (i : ℕ) (old new : List Slot) → i < length rows → old ≡ get_or rows i old → length new ≡ length old
+pub shape_kept : (rows : List (List CallNotes)) (i : ℕ) (old new : List CallNotes) → i < length rows → old ≡ get_or rows i old → length new ≡ length old
     → shape (set rows i new) ≡ shape rows
 shape_kept [] i old new within read same = refl
 shape_kept (row ∷ rows) zero old new within read same = ap (λ n. n ∷ shape rows) (same ∙ ap length read)
 shape_kept (row ∷ rows) (suc i) old new within read same = ap (λ ns. length row ∷ ns) (shape_kept rows i old new (omega arith) read same)
 
 -- the same of the code's rows
-module _ {V : Type 0} (row_of : V → List Slot) (table : List V) (i : ℕ) (old new : V) (within : i < length table) (read : old ≡ get_or table i old) where
+module _ {V : Type 0} (row_of : V → List CallNotes) (table : List V) (i : ℕ) (old new : V) (within : i < length table) (read : old ≡ get_or table i old) where
   wide : i < length (map row_of table)
   wide = subst (λ n. i < n) (sym (length-map table row_of)) within
 
@@ -130,18 +130,18 @@ module _ {V : Type 0} (row_of : V → List Slot) (table : List V) (i : ℕ) (old
   old_row = ap row_of read ∙ sym (get_or-map row_of table i old (row_of old) within)
 
   pub entry_taken : (u : SessionId) (place : ℕ) (x : Entry) → i + 1 ≡ u.0 → x.actor ≡ Session u
-      → ((n : ℕ) → option_map slot_view (numbered (row_of new) n) ≡ option_map (after_notes u place n x.notes) (option_map slot_view (numbered (row_of old) n)))
-      → (c : Caller) → slot_in (map row_of (set table i new)) c ≡ option_map (after_entry c place x) (slot_in (map row_of table) c)
-  entry_taken u place x is actor slots c =
-      ap (λ rows. slot_in rows c) (map-set row_of table i new)
-      ∙ row_taken (map row_of table) i (row_of old) (row_of new) u place x wide old_row is actor slots c
+      → ((n : ℕ) → option_map span_of (numbered (row_of new) n) ≡ option_map (after_notes u place n x.notes) (option_map span_of (numbered (row_of old) n)))
+      → (c : Caller) → span_in (map row_of (set table i new)) c ≡ option_map (after_entry c place x) (span_in (map row_of table) c)
+  entry_taken u place x is actor spans c =
+      ap (λ rows. span_in rows c) (map-set row_of table i new)
+      ∙ row_taken (map row_of table) i (row_of old) (row_of new) u place x wide old_row is actor spans c
 
   pub same_shape : length (row_of new) ≡ length (row_of old) → shape (map row_of (set table i new)) ≡ shape (map row_of table)
   same_shape same =
-      ap (λ (rows : List (List Slot)). shape rows) (map-set row_of table i new) ∙ shape_kept (map row_of table) i (row_of old) (row_of new) wide old_row same
+      ap (λ (rows : List (List CallNotes)). shape rows) (map-set row_of table i new) ∙ shape_kept (map row_of table) i (row_of old) (row_of new) wide old_row same
 
-pub no_row_of : {V : Type 0} (row_of : V → List Slot) (table : List V) (count : ℕ) → count ≡ length table → (u : SessionId) (place : ℕ) (x : Entry)
-    → x.actor ≡ Session u → (u.0 ≡ 0) ⊎ (count < u.0) → (c : Caller) → slot_in (map row_of table) c ≡ option_map (after_entry c place x) (slot_in (map row_of table) c)
+pub no_row_of : {V : Type 0} (row_of : V → List CallNotes) (table : List V) (count : ℕ) → count ≡ length table → (u : SessionId) (place : ℕ) (x : Entry)
+    → x.actor ≡ Session u → (u.0 ≡ 0) ⊎ (count < u.0) → (c : Caller) → span_in (map row_of table) c ≡ option_map (after_entry c place x) (span_in (map row_of table) c)
 no_row_of row_of table count same u place x is none =
     no_row (map row_of table) u place x is
     (⊎_elim (λ zeroth. inl zeroth) (λ past. inr (subst (λ n. n < u.0) (same ∙ sym (length-map table row_of)) past)) none)
@@ -165,39 +165,39 @@ numbered-replicate : {A B : Type 0} (y : B) (xs : List A) (n : ℕ) → numbered
 numbered-replicate y xs zero = refl
 numbered-replicate y xs (suc n) = slice_get-replicate y xs n
 
-abbrev pub empty_rows : List (List Op) → List (List Slot)
-empty_rows sessions = map (λ (calls : List Op). replicate (length calls) empty_slot) sessions
+abbrev pub empty_rows : List (List Op) → List (List CallNotes)
+empty_rows sessions = map (λ (calls : List Op). replicate (length calls) no_notes) sessions
 
 no_call : (n : ℕ) → numbered {A = Op} [] n ≡ None
 no_call zero = refl
 no_call (suc n) = refl
 
-pub slots_at_start : (script : Script) (c : Caller) → slot_in (empty_rows script.sessions) c ≡ option_map (λ (op : Op). notes_of c []) (call_of script c)
-slots_at_start script c =
-    ap (λ o. when_some o None (λ (row : List Slot). option_map slot_view (numbered row c.number)))
-    (numbered-map (λ (calls : List Op). replicate (length calls) empty_slot) script.sessions c.session.0)
+pub spans_at_start : (script : Script) (c : Caller) → span_in (empty_rows script.sessions) c ≡ option_map (λ (op : Op). notes_of c []) (call_of script c)
+spans_at_start script c =
+    ap (λ o. when_some o None (λ (row : List CallNotes). option_map span_of (numbered row c.number)))
+    (numbered-map (λ (calls : List Op). replicate (length calls) no_notes) script.sessions c.session.0)
     ∙ by_session (numbered script.sessions c.session.0)
   where
-    by_call : (o : Option Op) → option_map slot_view (option_map (λ (op : Op). empty_slot) o) ≡ option_map (λ (op : Op). notes_of c []) o
+    by_call : (o : Option Op) → option_map span_of (option_map (λ (op : Op). no_notes) o) ≡ option_map (λ (op : Op). notes_of c []) o
     by_call None = refl
     by_call (Some op) = refl
 
     by_session : (o : Option (List Op))
-        → when_some (option_map (λ (calls : List Op). replicate (length calls) empty_slot) o) None (λ (row : List Slot). option_map slot_view (numbered row c.number))
+        → when_some (option_map (λ (calls : List Op). replicate (length calls) no_notes) o) None (λ (row : List CallNotes). option_map span_of (numbered row c.number))
         ≡ option_map (λ (op : Op). notes_of c []) (numbered (when_some o [] (λ (calls : List Op). calls)) c.number)
     by_session None = ap (option_map (λ (op : Op). notes_of c [])) (sym (no_call c.number))
-    by_session (Some calls) = ap (option_map slot_view) (numbered-replicate empty_slot calls c.number) ∙ by_call (numbered calls c.number)
+    by_session (Some calls) = ap (option_map span_of) (numbered-replicate no_notes calls c.number) ∙ by_call (numbered calls c.number)
 
 pub shape_at_start : (sessions : List (List Op)) → shape (empty_rows sessions) ≡ shape sessions
 shape_at_start [] = refl
-shape_at_start (calls ∷ sessions) = ap (λ n. n ∷ shape (empty_rows sessions)) (length-replicate (length calls) empty_slot) ∙ ap (λ ns. length calls ∷ ns) (shape_at_start sessions)
+shape_at_start (calls ∷ sessions) = ap (λ n. n ∷ shape (empty_rows sessions)) (length-replicate (length calls) no_notes) ∙ ap (λ ns. length calls ∷ ns) (shape_at_start sessions)
 
--- the slots one entry further
-pub slots_more : (trace : List Entry) (i : ℕ) (x : Entry) → i < length trace → x ≡ get_or trace i x → (c : Caller) (call : Option Op)
+-- the spans one entry further
+pub spans_more : (trace : List Entry) (i : ℕ) (x : Entry) → i < length trace → x ≡ get_or trace i x → (c : Caller) (call : Option Op)
     → option_map (after_entry c (i + 1) x) (option_map (λ (op : Op). notes_of c (reverse (take i trace))) call)
     ≡ option_map (λ (op : Op). notes_of c (reverse (take (i + 1) trace))) call
-slots_more trace i x within read c None = refl
-slots_more trace i x within read c (Some op) =
+spans_more trace i x within read c None = refl
+spans_more trace i x within read c (Some op) =
     let older : List Entry = reverse (take i trace) in
     let place : length older ≡ i = length-reverse (take i trace) ∙ length-take-le i trace (omega arith) in
     let newest : reverse (take (i + 1) trace) ≡ x ∷ older =

@@ -21,9 +21,9 @@ use Rattle.hx_types.specs.declared.ids.Actor.TheVariants.{Coordinator, Server, S
 use Rattle.hx_types.specs.Words.{list_of, same_text}
 use Rattle.hx_types.specs.Fitting.{call_of, is_refused}
 use Rattle.hx_model.specs.Histories.{in_place, not_refused, write_item}
-use Rattle.hx_history.specs.declared.noted.Event.{Event}
-use Rattle.hx_history.specs.declared.noted.Read.{Read}
-use Rattle.hx_history.specs.declared.noted.Event.TheVariants as an_event
+use Rattle.hx_history.specs.declared.events.Event.{Event}
+use Rattle.hx_history.specs.declared.events.Read.{Read}
+use Rattle.hx_history.specs.declared.events.Event.TheVariants as an_event
 
 -- a get that ended and was not refused
 pub record ReadEnd : Type 0 where

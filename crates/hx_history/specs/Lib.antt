@@ -1,3 +1,4 @@
 pub mod Listed
 pub mod Events
 pub mod Calls
+pub mod Searches

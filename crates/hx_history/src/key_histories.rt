@@ -8,7 +8,7 @@ ghost use Rattle.hx_model.specs.Histories.{history_of};
 ghost use Rattle.hx_history.specs.Events.{event_view, history_by, is_at, key_of};
 ghost use Rattle.hx_history.specs.Listed.{AreHistories, listed_of};
 
-use crate::noted::{Event, events};
+use crate::events::{Event, events};
 use crate::placing::history_from;
 use hx_types::{Items, Memory, Same, Script, Sequence, Text, Trace};
 use std::alloc::Global;

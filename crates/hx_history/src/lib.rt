@@ -1,17 +1,20 @@
-//! Records and histories of a trace.
+//! Records, histories and finished searches of a trace.
 //!
 //! No contract says that there is memory, so a function that always answered `Memory` would be
 //! proved. The tests show each succeed.
 #![tactic(auto)]
 
+mod call_notes;
+mod events;
 mod key_histories;
 mod lines;
-mod noted;
 mod placing;
-mod tables;
+mod recorded;
+mod searched;
 
 pub use key_histories::{Histories, KeyHistory, histories, history};
-pub use tables::records;
+pub use recorded::records;
+pub use searched::searches;
 
 #[cfg(test)]
 mod tests;

@@ -2,10 +2,10 @@ ghost use Rattle.hx_model.specs.Lines.{upto};
 ghost use Rattle.std.specs.Prelude.{◌≡◌, ◌-◌, ◌<◌, ◌≤◌, ◌∷◌, map, reverse, filter, not, length, slice_index_or, IfOk, OnOk};
 ghost use Rattle.std.specs.Borrow.{Bor};
 ghost use Rattle.std.specs.List.Sorted.{IsNonDecreasingBy};
-ghost use Rattle.hx_types.specs.Fitting.{is_refused as refuses};
+ghost use Rattle.hx_types.specs.Fitting.{is_refused};
 ghost use Rattle.hx_history.specs.Events.{event_view, line_by, read_view, reads_by, updates_at, version_at};
 
-use crate::noted::{Event, Read, is_refused};
+use crate::events::{Event, Read};
 use hx_types::{Memory, Update, Version};
 use std::alloc::Global;
 
@@ -52,11 +52,11 @@ pub fn line_of<'a>(alloc: Global, events: &[Event<'a>]) -> Result<Vec<&'a Update
 
 /// The writes of a line that were not refused.
 pub fn writes_of<'a>(alloc: Global, line: &[&'a Update]) -> Result<Vec<&'a Update>, Memory>
-    ensures { IfOk result (λ writes. writes.items ≡ filter (λ u. not (refuses u.now.answer)) line.now) }
+    ensures { IfOk result (λ writes. writes.items ≡ filter (λ u. not (is_refused u.now.answer)) line.now) }
 {
     let mut writes = Vec::new(alloc);
     for update in line {
-        if !is_refused(&update.answer) {
+        if !update.answer.is_refused() {
             writes.push(*update)?;
         }
     }

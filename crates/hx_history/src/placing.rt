@@ -4,8 +4,8 @@ ghost use Rattle.std.specs.List.Sorted.{IsNonDecreasingBy};
 ghost use Rattle.hx_model.specs.Histories.{write_item};
 ghost use Rattle.hx_history.specs.Events.{event_view, history_by, is_in_place, item_on, read_view, told, updates_at, version_at};
 
+use crate::events::{Event, Read};
 use crate::lines::{line_of, reads_of, writes_of};
-use crate::noted::{Event, Read, call_of};
 use hx_types::{Exact, Item, Items, Memory, Object, Script, Update};
 use std::alloc::Global;
 
@@ -23,7 +23,7 @@ fn rank(writes: &[&Update], version: u64) -> usize
 fn no_reads<'a>(alloc: Global, count: usize) -> Result<Vec<Vec<Read<'a>>>, Memory>
     ensures { IfOk result (λ places. map (λ reads. reads.items) places.items ≡ replicate count []) }
 {
-    let mut places = Vec::new(alloc);
+    let mut places = Vec::with_capacity(alloc, count)?;
     for _made in 0..count {
         places.push(Vec::new(alloc))?;
     }
@@ -78,7 +78,7 @@ fn push_write(
 ) -> Result<(), Memory>
     ensures { OnOk result (items.new ≡ items.old ++ write_item script.now update.now) }
 {
-    let Some(op) = call_of(script, update.caller) else {
+    let Some(op) = script.call(update.caller) else {
         return Ok(());
     };
     items.push(Item {
@@ -102,7 +102,7 @@ fn arrange(
     ensures { IfOk result (λ items. items ≡ told script.now (map read_view reads.now) None (reverse (updates_at writes.now))) }
 {
     let places = places_of(alloc, writes, reads)?;
-    let mut items = Items::new(alloc);
+    let mut items = Items::with_capacity(alloc, writes.len().saturating_add(reads.len()))?;
     push_reads(alloc, &mut items, &places[0], &None)?;
     for (place, update) in writes.iter().enumerate() {
         push_write(alloc, &mut items, script, update)?;

@@ -1,55 +1,34 @@
 use super::*;
 use hx_types::{
-    Actor, Answer, Caller, Calls, Entry, Epoch, Input, Items, Memory, Note, Notes, Object, Op,
-    Places, RegionId, Script, Sequence, ServerId, SessionId, Sessions, Space, Text, Trace, Update,
-    Version,
+    Actor, Answer, Assigns, Caller, Calls, Entry, Input, Items, Memory, Note, Notes, Object, Op,
+    Places, Rows, Script, Sequence, ServerId, SessionId, Sessions, Shared, Space, Terms, Text,
+    Trace, Update, Version,
 };
 use std::alloc::Global;
 use std::test::Fail;
-
-/// A call of session 1 on a key.
-#[derive(Clone, Copy)]
-enum Sketch {
-    Put(&'static str),
-    Get(&'static str),
-}
-
-/// How a call is answered.
-#[derive(Clone, Copy)]
-enum Reply {
-    Done,
-    Found,
-    Refused,
-    Doubt,
-}
 
 /// An entry with one note, of session 1 or, where a write is assigned, of server 1.
 #[derive(Clone, Copy)]
 enum Line {
     Begin(u32),
-    End(u32, u64, Reply),
-    Assign(&'static str, u32, u64, Reply),
+    Done(u32),
+    Found(u32),
+    Rows(u32),
+    Assign(&'static str, u32),
 }
 
-fn op(alloc: Global, call: Sketch) -> Result<Op, Memory> {
-    match call {
-        Sketch::Put(key) => {
-            let key = Text::from_str(alloc, key)?;
-            let sets = Sequence::new(alloc);
-            Ok(Op::Put { key, sets })
-        }
-        Sketch::Get(key) => {
-            let key = Text::from_str(alloc, key)?;
-            Ok(Op::Get { key })
-        }
-    }
-}
-
-fn calls(alloc: Global, sketches: &[Sketch]) -> Result<Calls, Memory> {
+/// A put of two keys, a get of the second and a search.
+fn calls(alloc: Global) -> Result<Calls, Memory> {
     let mut calls = Calls::new(alloc);
-    for sketch in sketches {
-        calls.push(op(alloc, *sketch)?)?;
+    for key in ["b", "ab"] {
+        let key = Text::from_str(alloc, key)?;
+        let sets = Assigns::new(alloc);
+        calls.push(Op::Put { key, sets })?;
     }
+    let key = Text::from_str(alloc, "ab")?;
+    calls.push(Op::Get { key })?;
+    let terms = Terms::new(alloc);
+    calls.push(Op::Search { terms })?;
     Ok(calls)
 }
 
@@ -66,9 +45,9 @@ fn space(alloc: Global) -> Space {
     }
 }
 
-fn script(alloc: Global, sketches: &[Sketch]) -> Result<Script, Memory> {
+fn script(alloc: Global) -> Result<Script, Memory> {
     let mut sessions = Sessions::new(alloc);
-    sessions.push(calls(alloc, sketches)?)?;
+    sessions.push(calls(alloc)?)?;
     Ok(Script {
         space: space(alloc),
         sessions,
@@ -76,50 +55,36 @@ fn script(alloc: Global, sketches: &[Sketch]) -> Result<Script, Memory> {
     })
 }
 
-fn answer(alloc: Global, reply: Reply) -> Answer {
-    let region = RegionId(0);
-    let epoch = Epoch(2);
-    match reply {
-        Reply::Done => Answer::Done,
-        Reply::Found => Answer::Found(Object::new(alloc)),
-        Reply::Refused => Answer::Refused { region, epoch },
-        Reply::Doubt => Answer::Doubt { region, epoch },
-    }
-}
-
-fn update(
-    alloc: Global,
-    key: &str,
-    number: u32,
-    version: u64,
-    reply: Reply,
-) -> Result<Update, Memory> {
+fn update(alloc: Global, key: &str, number: u32) -> Result<Update, Memory> {
     let session = SessionId(1);
     Ok(Update {
         key: Text::from_str(alloc, key)?,
-        version: Version(version),
+        version: Version(1),
         caller: Caller { session, number },
-        answer: answer(alloc, reply),
+        answer: Answer::Done,
         changes: true,
         object: Some(Object::new(alloc)),
         places: Places::new(alloc),
     })
 }
 
+fn ended(number: u32, answer: Answer) -> Note {
+    let version = Version(1);
+    Note::Ended {
+        number,
+        version,
+        answer,
+    }
+}
+
 fn note(alloc: Global, line: Line) -> Result<Note, Memory> {
     match line {
         Line::Begin(number) => Ok(Note::Began { number }),
-        Line::End(number, version, reply) => {
-            let version = Version(version);
-            let answer = answer(alloc, reply);
-            Ok(Note::Ended {
-                number,
-                version,
-                answer,
-            })
-        }
-        Line::Assign(key, number, version, reply) => {
-            let update = update(alloc, key, number, version, reply)?;
+        Line::Done(number) => Ok(ended(number, Answer::Done)),
+        Line::Found(number) => Ok(ended(number, Answer::Found(Object::new(alloc)))),
+        Line::Rows(number) => Ok(ended(number, Answer::Rows(Rows::new(alloc)))),
+        Line::Assign(key, number) => {
+            let update = Shared::new(alloc, update(alloc, key, number)?)?;
             Ok(Note::Assigned { update })
         }
     }
@@ -140,10 +105,21 @@ fn entry(alloc: Global, line: Line) -> Result<Entry, Memory> {
     })
 }
 
-fn trace(alloc: Global, lines: &[Line]) -> Result<Trace, Memory> {
+/// The first put is open, the second was done, the get found its object, and the search ended.
+fn trace(alloc: Global) -> Result<Trace, Memory> {
     let mut trace = Trace::new(alloc);
-    for line in lines {
-        trace.push(entry(alloc, *line)?)?;
+    for line in [
+        Line::Begin(1),
+        Line::Assign("b", 1),
+        Line::Begin(2),
+        Line::Assign("ab", 2),
+        Line::Done(2),
+        Line::Begin(3),
+        Line::Found(3),
+        Line::Begin(4),
+        Line::Rows(4),
+    ] {
+        trace.push(entry(alloc, line)?)?;
     }
     Ok(trace)
 }
@@ -157,74 +133,16 @@ fn shown(alloc: Global, items: &Items) -> Result<Vec<(u64, u32)>, Memory> {
     Ok(shown)
 }
 
-/// The items of a key's history.
-fn history_of(
-    alloc: Global,
-    sketches: &[Sketch],
-    lines: &[Line],
-    key: &str,
-) -> Result<Vec<(u64, u32)>, Memory> {
-    let script = script(alloc, sketches)?;
-    let trace = trace(alloc, lines)?;
-    let key = Text::from_str(alloc, key)?;
-    let items = history(alloc, &script, &trace, &key)?;
-    shown(alloc, &items)
-}
-
-/// The number, begin, end and version of each record.
-fn times_of(
-    alloc: Global,
-    sketches: &[Sketch],
-    lines: &[Line],
-) -> Result<Vec<(u32, u64, Option<u64>, u64)>, Memory> {
-    let script = script(alloc, sketches)?;
-    let trace = trace(alloc, lines)?;
-    let records = records(alloc, &script, &trace)?;
-    let mut times = Vec::new(alloc);
-    for record in records.as_slice() {
-        times.push((
-            record.caller.number,
-            record.begin,
-            record.end,
-            record.version.0,
-        ))?;
-    }
-    Ok(times)
-}
-
 #[test]
-fn a_put_and_a_get(rt: HostRuntime) -> Result<(), Fail> {
-    let sketches = [Sketch::Put("a"), Sketch::Get("a")];
-    let lines = [
-        Line::Begin(1),
-        Line::Assign("a", 1, 1, Reply::Done),
-        Line::End(1, 1, Reply::Done),
-        Line::Begin(2),
-        Line::End(2, 1, Reply::Found),
-    ];
-    let times = times_of(rt.alloc(), &sketches, &lines)?;
+fn histories_of_keys_are_listed(rt: HostRuntime) -> Result<(), Fail> {
+    let alloc = rt.alloc();
+    let (script, trace) = (script(alloc)?, trace(alloc)?);
+    let items = history(alloc, &script, &trace, &Text::from_str(alloc, "ab")?)?;
     assert_eq!(rt;
-        times.as_slice(),
-        [(1, 1, Some(3), 1), (2, 4, Some(5), 1)].as_slice()
+        shown(alloc, &items)?.as_slice(),
+        [(1, 2), (1, 3)].as_slice()
     );
-    let items = history_of(rt.alloc(), &sketches, &lines, "a")?;
-    assert_eq!(rt; items.as_slice(), [(1, 1), (1, 2)].as_slice());
-    let items = history_of(rt.alloc(), &sketches, &lines, "b")?;
-    assert!(rt; items.is_empty());
-    Ok(())
-}
-
-#[test]
-fn keys_in_byte_order(rt: HostRuntime) -> Result<(), Fail> {
-    let sketches = [Sketch::Put("b"), Sketch::Put("ab"), Sketch::Put("c")];
-    let lines = [
-        Line::Assign("b", 1, 1, Reply::Done),
-        Line::Assign("ab", 2, 1, Reply::Done),
-        Line::Assign("c", 3, 1, Reply::Refused),
-    ];
-    let script = script(rt.alloc(), &sketches)?;
-    let trace = trace(rt.alloc(), &lines)?;
-    let listed = histories(rt.alloc(), &script, &trace)?;
+    let listed = histories(alloc, &script, &trace)?;
     let listed = listed.as_slice();
     assert_eq!(rt; listed.len(), 2);
     assert_eq!(rt; listed[0].key.as_str(), "ab");
@@ -233,55 +151,17 @@ fn keys_in_byte_order(rt: HostRuntime) -> Result<(), Fail> {
 }
 
 #[test]
-fn a_refused_write_between_two_gets(rt: HostRuntime) -> Result<(), Fail> {
-    let sketches = [
-        Sketch::Put("a"),
-        Sketch::Put("a"),
-        Sketch::Get("a"),
-        Sketch::Get("a"),
-    ];
-    let lines = [
-        Line::Assign("a", 1, 1, Reply::Done),
-        Line::Assign("a", 2, 2, Reply::Refused),
-        Line::End(4, 2, Reply::Found),
-        Line::End(3, 1, Reply::Found),
-    ];
-    let items = history_of(rt.alloc(), &sketches, &lines, "a")?;
-    assert_eq!(rt; items.as_slice(), [(1, 1), (2, 4), (1, 3)].as_slice());
-    Ok(())
-}
-
-#[test]
-fn a_new_leader_cuts_the_line(rt: HostRuntime) -> Result<(), Fail> {
-    let sketches = [
-        Sketch::Put("a"),
-        Sketch::Put("a"),
-        Sketch::Put("a"),
-        Sketch::Put("a"),
-    ];
-    let lines = [
-        Line::Assign("a", 1, 1, Reply::Done),
-        Line::Assign("a", 2, 2, Reply::Done),
-        Line::Assign("a", 3, 3, Reply::Done),
-        Line::Assign("a", 4, 2, Reply::Done),
-    ];
-    let items = history_of(rt.alloc(), &sketches, &lines, "a")?;
-    assert_eq!(rt; items.as_slice(), [(1, 1), (2, 4)].as_slice());
-    Ok(())
-}
-
-#[test]
-fn doubtful_and_open_calls(rt: HostRuntime) -> Result<(), Fail> {
-    let sketches = [Sketch::Put("a"), Sketch::Put("a"), Sketch::Put("a")];
-    let lines = [
-        Line::Begin(3),
-        Line::Begin(1),
-        Line::End(1, 4, Reply::Doubt),
-    ];
-    let times = times_of(rt.alloc(), &sketches, &lines)?;
-    assert_eq!(rt;
-        times.as_slice(),
-        [(1, 2, None, 4), (3, 1, None, 0)].as_slice()
-    );
+fn calls_and_searches_are_listed(rt: HostRuntime) -> Result<(), Fail> {
+    let alloc = rt.alloc();
+    let (script, trace) = (script(alloc)?, trace(alloc)?);
+    let records = records(alloc, &script, &trace)?;
+    let records = records.as_slice();
+    assert_eq!(rt; records.len(), 4);
+    assert_eq!(rt; (records[0].begin, records[0].end), (1, None));
+    assert_eq!(rt; (records[2].begin, records[2].end), (6, Some(7)));
+    let searches = searches(alloc, &script, &trace)?;
+    let searches = searches.as_slice();
+    assert_eq!(rt; searches.len(), 1);
+    assert_eq!(rt; (searches[0].begin, searches[0].end), (8, 9));
     Ok(())
 }

@@ -6,6 +6,7 @@ ghost use Rattle.hx_io.specs.InMemory.{FailsNext, unread, after_read};
 
 use crate::ends::Source;
 use crate::errors::Failed;
+use std::alloc::Global;
 use std::marker::Model;
 
 /// A source over bytes in memory, which gives them in pieces and fails at chosen calls: a stand-in
@@ -45,7 +46,10 @@ impl MemorySource {
     /// A source of the bytes, which gives at most `chunk` of them in a call, and fails exactly at
     /// the calls of `read` that `fails` names. The first call has the number 1; the order of the
     /// numbers doesn't matter, and 0 names no call.
-    pub fn new(bytes: Vec<u8>, chunk: usize, fails: Vec<u64>) -> MemorySource
+    ///
+    /// It takes no memory of `_alloc`: like each constructor of a type that holds a collection it
+    /// is handed the allocator first.
+    pub fn new(_alloc: Global, bytes: Vec<u8>, chunk: usize, fails: Vec<u64>) -> MemorySource
         requires { 1 ≤ chunk }
         ensures { result ≡ unread bytes.items chunk fails.items }
     {

@@ -8,8 +8,8 @@ use hx_chain::places;
 use hx_region::RegionMap;
 use hx_slot::Slot;
 use hx_types::{
-    Answer, Caller, Config, Decision, Effect, Exact, Memory, Op, Places, RegionId, Space, Update,
-    Version, effect,
+    Answer, Caller, Config, Decision, Effect, Exact, Memory, Op, Places, RegionId, Shared, Space,
+    Update, Version, effect,
 };
 use std::alloc::Global;
 
@@ -47,10 +47,10 @@ pub fn decide(
             return Ok(Decision::Old);
         }
         if caller.number == number {
-            return Ok(repeated(alloc, slot, version, answer)?);
+            return repeated(alloc, slot, version, answer);
         }
     }
-    Ok(fresh(alloc, space, map, config, slot, caller, op)?)
+    fresh(alloc, space, map, config, slot, caller, op)
 }
 
 /// On a call that the session's mark is of: answered again once its version is committed.
@@ -89,7 +89,7 @@ fn fresh(
         None => {
             let effect = effect(alloc, space, slot.latest(), op)?;
             let update = assigned(alloc, map, config, slot, caller, effect)?;
-            Ok(Decision::Assign(update))
+            Ok(Decision::Assign(Shared::new(alloc, update)?))
         }
     }
 }
@@ -118,8 +118,8 @@ fn assigned(
         slot,
     )?;
     match first_lost(config, &places) {
-        None => Ok(granted(alloc, slot, caller, effect, places)?),
-        Some(region) => Ok(refused(alloc, map, config, slot, caller, region)?),
+        None => granted(alloc, slot, caller, effect, places),
+        Some(region) => refused(alloc, map, config, slot, caller, region),
     }
 }
 
@@ -150,7 +150,7 @@ fn refused(
         },
         changes: false,
     };
-    Ok(granted(alloc, slot, caller, effect, places)?)
+    granted(alloc, slot, caller, effect, places)
 }
 
 /// The update of this effect through these places, with the version after the top.

@@ -19,7 +19,7 @@ use Rattle.hx_model.specs.Slots.{new_state}
 use Rattle.hx_model.specs.ServerSteps.{Replica, ServerState, listed_regions, replica_of, state_in}
 use Rattle.hx_model.specs.SessionSteps.{SessionState, SessionStep, session_step}
 use Rattle.hx_model.specs.Runs.{IsRun, IsStep, MayTake, made_of, server_after, server_of, session_after, session_of}
-use Rattle.hx_model.specs.Steady.{HasNoHalts}
+use Rattle.hx_steady.specs.Calm.{HasNoHalts}
 use Rattle.hx_model.specs.Histories.{line_notes, line_of}
 use Rattle.hx_steady.specs.Served.{IsServed, Serves, floor_of, leader_of, slot_in}
 use Rattle.hx_linear.proofs.Calls.{Calls}

@@ -12,7 +12,7 @@ use Rattle.hx_types.specs.Words.{IsBefore, IsIn, when_some}
 use Rattle.hx_types.specs.Effects.{key_of}
 use Rattle.hx_types.specs.Fitting.{call_of, is_doubt, is_refused}
 use Rattle.hx_model.specs.Runs.{IsRun}
-use Rattle.hx_model.specs.Steady.{HasNoHalts}
+use Rattle.hx_steady.specs.Calm.{HasNoHalts}
 use Rattle.hx_model.specs.Histories.{CallEnd, begin_of, end_of, history_of, history_on, line_of, note_of_end}
 use Rattle.hx_model.specs.Legal.{IsLegal}
 use Rattle.hx_model.specs.Linear.{EachOnce, IsCall, IsLinear, ended_before, was_refused}

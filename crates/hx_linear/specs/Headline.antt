@@ -5,7 +5,7 @@ use Rattle.hx_types.specs.declared.traces.Script.{Script}
 use Rattle.hx_types.specs.Fitting.{IsScript}
 use Rattle.hx_model.specs.Linear.{IsLinear}
 use Rattle.hx_model.specs.Runs.{IsRun}
-use Rattle.hx_model.specs.Steady.{HasNoHalts, IsFixed}
+use Rattle.hx_steady.specs.Calm.{HasNoHalts, IsFixed}
 
 -- every run of a script without reconfiguration and halts has a linear history of every key
 abbrev pub RunsAreLinear : Type 0

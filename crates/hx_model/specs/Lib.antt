@@ -12,8 +12,6 @@ pub mod CoordinatorSteps
 pub mod SessionSteps
 pub mod Runs
 pub mod Schedule
-pub mod Steady
-pub mod Built
 pub mod Histories
 pub mod Legal
 pub mod Linear

@@ -25,12 +25,11 @@ use Rattle.hx_model.specs.Regions.{key_region}
 use Rattle.hx_model.specs.Slots.{KeyState, acknowledged, found_in, object_in, object_of, offered, top_of}
 use Rattle.hx_model.specs.Leading.{decide, stuck_of}
 use Rattle.hx_model.specs.ServerSteps.{Replica, ServerState, ServerStep, SlotStep, accepting, ack_step, acked, asked, at_slot, by_moves, by_posts, call_at, call_step, called, called_by, decided, doubt_in, get_answer, get_step, hearing, known_to, replica_of, reply, spot_of, state_in, unmoved, update_step, updated, waiting_doubt, write_step}
-use Rattle.hx_steady.proofs.Lists.{in-provided, when_some_both}
-use Rattle.hx_steady.proofs.Moves.{accepting-known, acknowledged-known, offered-known}
-use Rattle.hx_steady.proofs.Replicas.{replica-found, state-key}
-use Rattle.hx_sound.proofs.Lists.{all-of}
-use Rattle.hx_sound.proofs.Objects.{fits-key, get-sound}
-use Rattle.hx_sound.proofs.Slots.{found-row}
+use Rattle.hx_law_lemmas.proofs.Lists.{all-of, in-provided, when_some_both}
+use Rattle.hx_law_lemmas.proofs.KnownUpdates.{accepting-known, acknowledged-known, offered-known}
+use Rattle.hx_law_lemmas.proofs.Replicas.{replica-found, state-key}
+use Rattle.hx_law_lemmas.proofs.Objects.{fits-key, get-sound}
+use Rattle.hx_law_lemmas.proofs.FoundRows.{found-row}
 use Rattle.hx_posts.proofs.Bounds.{IsSoundAt, bounds}
 use Rattle.hx_posts.proofs.Moves.{accepting-rise, acknowledged-rise, offered-rise}
 use Rattle.hx_posts.proofs.Slots.{IsSoundSlot, after-of, held-together, together, top-small}

@@ -22,9 +22,9 @@ use Rattle.hx_model.specs.Regions.{key_region}
 use Rattle.hx_model.specs.Places.{places_of}
 use Rattle.hx_model.specs.Slots.{KeyState, latest_of, mark_of, top_of, touches_of}
 use Rattle.hx_model.specs.Leading.{StuckAt, assigned, by_mark, decide, first_lost, fresh, granted, refusal, stuck_of}
-use Rattle.hx_steady.proofs.Lists.{all-in, when_some_both}
-use Rattle.hx_sound.proofs.Objects.{effect-sound}
-use Rattle.hx_sound.proofs.Placed.{ArePlaced, placed}
+use Rattle.hx_law_lemmas.proofs.Lists.{all-in, when_some_both}
+use Rattle.hx_law_lemmas.proofs.Objects.{effect-sound}
+use Rattle.hx_law_lemmas.proofs.PlacesApart.{ArePlaced, placed}
 use Rattle.hx_posts.proofs.Bounds.{IsSoundAt, IsSoundConfig, bounds}
 use Rattle.hx_posts.proofs.Slots.{IsSoundSlot}
 use Rattle.hx_posts.proofs.Kept.{latest-sound, mark-sound, touches-below}

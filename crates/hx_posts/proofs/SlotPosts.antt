@@ -19,8 +19,8 @@ use Rattle.hx_types.specs.Posts.{IsSessionOf, IsSoundAnswer, IsSoundPost, IsSoun
 use Rattle.hx_model.specs.Neighbours.{place_number, region_at}
 use Rattle.hx_model.specs.Slots.{Acknowledge, Commit, Forget, Hold, Move, Take}
 use Rattle.hx_model.specs.ServerSteps.{Spot, ack_to, move_posts, next_at, prev_at, reply, told_to, update_to}
-use Rattle.hx_steady.proofs.Lists.{all-in, in-flat_map, in-slice_get}
-use Rattle.hx_steady.proofs.Moves.{AllKnown, Known}
+use Rattle.hx_law_lemmas.proofs.Lists.{all-in, in-flat_map, in-slice_get}
+use Rattle.hx_law_lemmas.proofs.KnownUpdates.{AllKnown, Known}
 use Rattle.hx_posts.proofs.Bounds.{IsSoundConfig, bounds}
 use Rattle.hx_posts.proofs.Hops.{Reaches, next-reaches, prev-reaches}
 

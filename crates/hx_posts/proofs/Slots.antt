@@ -10,9 +10,9 @@ use Rattle.hx_types.specs.Spaces.{KeyFits}
 use Rattle.hx_types.specs.Posts.{IsSoundKept}
 use Rattle.hx_model.specs.Slots.{Acknowledge, Commit, Forget, Hold, KeyState, Move, Take, moved, moved_all, new_state, pending_of, state_of_kept, top_above, top_of}
 use Rattle.hx_model.proofs.Laws.{base-moved_all}
-use Rattle.hx_steady.proofs.Lists.{in-append, in_left, in_right}
-use Rattle.hx_steady.proofs.Lines.{pending-in}
-use Rattle.hx_steady.proofs.Moves.{AllKnown, Held, Known, held-moved_all}
+use Rattle.hx_law_lemmas.proofs.Lists.{in-append, in_left, in_right}
+use Rattle.hx_law_lemmas.proofs.LeaderLines.{pending-in}
+use Rattle.hx_law_lemmas.proofs.KnownUpdates.{AllKnown, Held, Known, held-moved_all}
 use Rattle.hx_posts.proofs.Bounds.{IsSoundAt, at-up, bounds, kept-up}
 use Rattle.hx_posts.proofs.Moves.{AllRise, IsAfter, IsOrdered, ordered-moved_all}
 

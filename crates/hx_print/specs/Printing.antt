@@ -7,6 +7,7 @@ use Rattle.hx_types.specs.declared.values.Assign.{Assign}
 use Rattle.hx_types.specs.declared.spaces.Attribute.{Attribute}
 use Rattle.hx_types.specs.declared.spaces.Axis.{Axis}
 use Rattle.hx_types.specs.declared.spaces.Kind.{Kind}
+use Rattle.hx_types.specs.declared.calls.Caller.{Caller}
 use Rattle.hx_types.specs.declared.calls.Op.{Op}
 use Rattle.hx_types.specs.declared.messages.PostId.{PostId}
 use Rattle.hx_types.specs.declared.ids.RegionId.{RegionId}
@@ -23,6 +24,15 @@ use Rattle.hx_types.specs.declared.calls.Op.TheVariants.{Put, Get, Del, Cput, Se
 use Rattle.hx_types.specs.declared.values.Term.TheVariants.{Equal, Range}
 use Rattle.hx_types.specs.declared.ids.Actor.TheVariants.{Coordinator, Server, Session}
 use Rattle.hx_types.specs.Words.{when_some}
+
+-- a number after another
+unfoldable pub next_number_text : ℕ → List ℕ
+next_number_text n = codes "," ++ decimal n
+
+-- numbers with commas between them; none is `-`
+unfoldable pub numbers_text : List ℕ → List ℕ
+numbers_text [] = codes "-"
+numbers_text (n ∷ rest) = decimal n ++ flat_map next_number_text rest
 
 -- a byte of a text, as it stands between quotes
 abbrev pub escape : ℕ → List ℕ
@@ -154,6 +164,10 @@ unfoldable pub actor_text : Actor → List ℕ
 actor_text Coordinator = codes "c"
 actor_text (Server s) = codes "s" ++ decimal s.0
 actor_text (Session u) = codes "u" ++ decimal u.0
+
+-- `uS.N`
+unfoldable pub caller_text : Caller → List ℕ
+caller_text c = codes "u" ++ decimal c.session.0 ++ codes "." ++ decimal c.number
 
 unfoldable pub post_name : PostId → List ℕ
 post_name id = decimal id.entry ++ codes "." ++ decimal id.place

@@ -4,7 +4,8 @@ ghost use Rattle.std.specs.Prelude.{◌≡◌, ◌++◌, IfOk, OnOk};
 ghost use Rattle.std.specs.List.{flat_map};
 ghost use Rattle.hx_print.specs.Printing.{add_text, assigns_text, cput_text, name_of, op_text, range_text, term_text, terms_text};
 
-use crate::texts::{put_bytes, put_named, put_number, put_signed, put_text};
+use crate::numbers::{put_number, put_signed};
+use crate::texts::{put_bytes, put_named, put_text};
 use hx_types::{Assigns, Memory, Op, RegionId, ServerId, Space, Term, Terms, Text};
 use std::alloc::Global;
 
@@ -22,63 +23,50 @@ pub fn name_of(space: &Space, attribute: u32) -> &[u8]
 }
 
 /// Appends each assignment with a blank before it.
-pub fn put_assigns(
-    alloc: Global,
-    out: &mut Vec<u8>,
-    space: &Space,
-    assigns: &Assigns,
-) -> Result<(), Memory>
+pub fn put_assigns(out: &mut Vec<u8>, space: &Space, assigns: &Assigns) -> Result<(), Memory>
     ensures { OnOk result (out.new.items ≡ out.old.items ++ assigns_text space.now assigns.now) }
 {
     for assign in assigns.as_slice() {
-        put_named(alloc, out, name_of(space, assign.attribute), &assign.value)?;
+        put_named(out, name_of(space, assign.attribute), &assign.value)?;
     }
     Ok(())
 }
 
 #[tactic(auto, unfolding(crate::specs::Printing::range_text))]
-fn put_range(alloc: Global, out: &mut Vec<u8>, name: &[u8], lo: i64, hi: i64) -> Result<(), Memory>
+fn put_range(out: &mut Vec<u8>, name: &[u8], lo: i64, hi: i64) -> Result<(), Memory>
     ensures { OnOk result (out.new.items ≡ out.old.items ++ range_text name.now lo hi) }
 {
     put_bytes(out, b" ")?;
     put_bytes(out, name)?;
     put_bytes(out, b"=")?;
-    put_signed(alloc, out, lo)?;
+    put_signed(out, lo)?;
     put_bytes(out, b"..")?;
-    put_signed(alloc, out, hi)
+    put_signed(out, hi)
 }
 
-fn put_term(alloc: Global, out: &mut Vec<u8>, space: &Space, term: &Term) -> Result<(), Memory>
+fn put_term(out: &mut Vec<u8>, space: &Space, term: &Term) -> Result<(), Memory>
     ensures { OnOk result (out.new.items ≡ out.old.items ++ term_text space.now term.now) }
 {
     match term {
-        Term::Equal { attribute, value } => {
-            put_named(alloc, out, name_of(space, *attribute), value)
-        }
+        Term::Equal { attribute, value } => { put_named(out, name_of(space, *attribute), value) }
         Term::Range { attribute, lo, hi } => {
-            put_range(alloc, out, name_of(space, *attribute), *lo, *hi)
+            put_range(out, name_of(space, *attribute), *lo, *hi)
         }
     }
 }
 
 /// Appends each term with a blank before it.
-pub fn put_terms(
-    alloc: Global,
-    out: &mut Vec<u8>,
-    space: &Space,
-    terms: &Terms,
-) -> Result<(), Memory>
+pub fn put_terms(out: &mut Vec<u8>, space: &Space, terms: &Terms) -> Result<(), Memory>
     ensures { OnOk result (out.new.items ≡ out.old.items ++ terms_text space.now terms.now) }
 {
     for term in terms.as_slice() {
-        put_term(alloc, out, space, term)?;
+        put_term(out, space, term)?;
     }
     Ok(())
 }
 
 #[tactic(auto, unfolding(crate::specs::Printing::cput_text))]
 fn put_cput(
-    alloc: Global,
     out: &mut Vec<u8>,
     space: &Space,
     key: &Text,
@@ -91,36 +79,31 @@ fn put_cput(
     put_bytes(out, b"cput ")?;
     put_text(out, key)?;
     put_bytes(out, b" if")?;
-    put_assigns(alloc, out, space, tests)?;
+    put_assigns(out, space, tests)?;
     put_bytes(out, b" set")?;
-    put_assigns(alloc, out, space, sets)
+    put_assigns(out, space, sets)
 }
 
 #[tactic(auto, unfolding(crate::specs::Printing::add_text))]
-fn put_add(
-    alloc: Global,
-    out: &mut Vec<u8>,
-    server: ServerId,
-    region: RegionId,
-) -> Result<(), Memory>
+fn put_add(out: &mut Vec<u8>, server: ServerId, region: RegionId) -> Result<(), Memory>
     ensures { OnOk result (out.new.items ≡ out.old.items ++ add_text server region) }
 {
     put_bytes(out, b"add ")?;
-    put_number(alloc, out, u64::from(server.0))?;
+    put_number(out, u64::from(server.0))?;
     put_bytes(out, b" ")?;
-    put_number(alloc, out, u64::from(region.0))
+    put_number(out, u64::from(region.0))
 }
 
 /// Appends a call without a newline.
 #[tactic(auto, unfolding(crate::specs::Printing::op_text))]
-pub fn put_op(alloc: Global, out: &mut Vec<u8>, space: &Space, op: &Op) -> Result<(), Memory>
+pub fn put_op(out: &mut Vec<u8>, space: &Space, op: &Op) -> Result<(), Memory>
     ensures { OnOk result (out.new.items ≡ out.old.items ++ op_text space.now op.now) }
 {
     match op {
         Op::Put { key, sets } => {
             put_bytes(out, b"put ")?;
             put_text(out, key)?;
-            put_assigns(alloc, out, space, sets)
+            put_assigns(out, space, sets)
         }
         Op::Get { key } => {
             put_bytes(out, b"get ")?;
@@ -130,16 +113,16 @@ pub fn put_op(alloc: Global, out: &mut Vec<u8>, space: &Space, op: &Op) -> Resul
             put_bytes(out, b"del ")?;
             put_text(out, key)
         }
-        Op::Cput { key, tests, sets } => put_cput(alloc, out, space, key, tests, sets),
+        Op::Cput { key, tests, sets } => put_cput(out, space, key, tests, sets),
         Op::Search { terms } => {
             put_bytes(out, b"search")?;
-            put_terms(alloc, out, space, terms)
+            put_terms(out, space, terms)
         }
         Op::Stop { server } => {
             put_bytes(out, b"stop ")?;
-            put_number(alloc, out, u64::from(server.0))
+            put_number(out, u64::from(server.0))
         }
-        Op::Add { server, region } => put_add(alloc, out, *server, *region),
+        Op::Add { server, region } => put_add(out, *server, *region),
     }
 }
 
@@ -148,6 +131,6 @@ pub fn print_op(alloc: Global, space: &Space, op: &Op) -> Result<Vec<u8>, Memory
     ensures { IfOk result (λ bytes. bytes.items ≡ op_text space.now op.now) }
 {
     let mut out = Vec::new(alloc);
-    put_op(alloc, &mut out, space, op)?;
+    put_op(&mut out, space, op)?;
     Ok(out)
 }

@@ -5,7 +5,8 @@ ghost use Rattle.std.specs.List.{flat_map};
 ghost use Rattle.hx_print.specs.Printing.{attribute_line, axes_text, axis_text, bounds_text, int_line, key_line, next_axis_text, servers_line, space_line, space_text, string_line, subspace_line, tolerate_line};
 
 use crate::calls::name_of;
-use crate::texts::{put_bytes, put_number, put_signed};
+use crate::numbers::{put_number, put_signed};
+use crate::texts::put_bytes;
 use hx_types::{Attribute, Attributes, Axes, Axis, Kind, Memory, Space, Subspaces};
 use std::alloc::Global;
 
@@ -19,103 +20,93 @@ fn put_string(out: &mut Vec<u8>, name: &[u8]) -> Result<(), Memory>
 }
 
 #[tactic(auto, unfolding(crate::specs::Printing::bounds_text))]
-fn put_bounds(alloc: Global, out: &mut Vec<u8>, lo: i64, hi: i64) -> Result<(), Memory>
+fn put_bounds(out: &mut Vec<u8>, lo: i64, hi: i64) -> Result<(), Memory>
     ensures { OnOk result (out.new.items ≡ out.old.items ++ bounds_text lo hi) }
 {
     put_bytes(out, b" ")?;
-    put_signed(alloc, out, lo)?;
+    put_signed(out, lo)?;
     put_bytes(out, b" ")?;
-    put_signed(alloc, out, hi)
+    put_signed(out, hi)
 }
 
 #[tactic(auto, unfolding(crate::specs::Printing::int_line))]
-fn put_int(alloc: Global, out: &mut Vec<u8>, name: &[u8], lo: i64, hi: i64) -> Result<(), Memory>
+fn put_int(out: &mut Vec<u8>, name: &[u8], lo: i64, hi: i64) -> Result<(), Memory>
     ensures { OnOk result (out.new.items ≡ out.old.items ++ int_line name.now lo hi) }
 {
     put_bytes(out, b"int ")?;
     put_bytes(out, name)?;
-    put_bounds(alloc, out, lo, hi)?;
+    put_bounds(out, lo, hi)?;
     put_bytes(out, b"\n")
 }
 
-fn put_attribute(alloc: Global, out: &mut Vec<u8>, attribute: &Attribute) -> Result<(), Memory>
+fn put_attribute(out: &mut Vec<u8>, attribute: &Attribute) -> Result<(), Memory>
     ensures { OnOk result (out.new.items ≡ out.old.items ++ attribute_line attribute.now) }
 {
     match &attribute.kind {
         Kind::Text => put_string(out, attribute.name.as_bytes()),
-        Kind::Int { lo, hi } => put_int(alloc, out, attribute.name.as_bytes(), *lo, *hi),
+        Kind::Int { lo, hi } => put_int(out, attribute.name.as_bytes(), *lo, *hi),
     }
 }
 
-fn put_attributes(alloc: Global, out: &mut Vec<u8>, all: &Attributes) -> Result<(), Memory>
+fn put_attributes(out: &mut Vec<u8>, all: &Attributes) -> Result<(), Memory>
     ensures { OnOk result (out.new.items ≡ out.old.items ++ flat_map attribute_line all.now) }
 {
     for attribute in all.as_slice() {
-        put_attribute(alloc, out, attribute)?;
+        put_attribute(out, attribute)?;
     }
     Ok(())
 }
 
 #[tactic(auto, unfolding(crate::specs::Printing::axis_text))]
-fn put_axis(alloc: Global, out: &mut Vec<u8>, space: &Space, axis: &Axis) -> Result<(), Memory>
+fn put_axis(out: &mut Vec<u8>, space: &Space, axis: &Axis) -> Result<(), Memory>
     ensures { OnOk result (out.new.items ≡ out.old.items ++ axis_text space.now axis.now) }
 {
     put_bytes(out, name_of(space, axis.attribute))?;
     put_bytes(out, b" ")?;
-    put_number(alloc, out, u64::from(axis.parts))
+    put_number(out, u64::from(axis.parts))
 }
 
 #[tactic(auto, unfolding(crate::specs::Printing::next_axis_text))]
-fn put_next_axes(
-    alloc: Global,
-    out: &mut Vec<u8>,
-    space: &Space,
-    axes: &[Axis],
-) -> Result<(), Memory>
+fn put_next_axes(out: &mut Vec<u8>, space: &Space, axes: &[Axis]) -> Result<(), Memory>
     ensures { OnOk result
         (out.new.items ≡ out.old.items ++ flat_map (next_axis_text space.now) axes.now) }
 {
     for axis in axes {
         put_bytes(out, b", ")?;
-        put_axis(alloc, out, space, axis)?;
+        put_axis(out, space, axis)?;
     }
     Ok(())
 }
 
 #[tactic(auto, unfolding(crate::specs::Printing::axes_text))]
-fn put_axes(alloc: Global, out: &mut Vec<u8>, space: &Space, axes: &[Axis]) -> Result<(), Memory>
+fn put_axes(out: &mut Vec<u8>, space: &Space, axes: &[Axis]) -> Result<(), Memory>
     ensures { OnOk result (out.new.items ≡ out.old.items ++ axes_text space.now axes.now) }
 {
     match axes.split_first() {
         None => Ok(()),
         Some((first, rest)) => {
             put_bytes(out, b" ")?;
-            put_axis(alloc, out, space, first)?;
-            put_next_axes(alloc, out, space, rest)
+            put_axis(out, space, first)?;
+            put_next_axes(out, space, rest)
         }
     }
 }
 
 #[tactic(auto, unfolding(crate::specs::Printing::subspace_line))]
-fn put_subspace(alloc: Global, out: &mut Vec<u8>, space: &Space, axes: &Axes) -> Result<(), Memory>
+fn put_subspace(out: &mut Vec<u8>, space: &Space, axes: &Axes) -> Result<(), Memory>
     ensures { OnOk result (out.new.items ≡ out.old.items ++ subspace_line space.now axes.now) }
 {
     put_bytes(out, b"subspace")?;
-    put_axes(alloc, out, space, axes.as_slice())?;
+    put_axes(out, space, axes.as_slice())?;
     put_bytes(out, b"\n")
 }
 
-fn put_subspaces(
-    alloc: Global,
-    out: &mut Vec<u8>,
-    space: &Space,
-    all: &Subspaces,
-) -> Result<(), Memory>
+fn put_subspaces(out: &mut Vec<u8>, space: &Space, all: &Subspaces) -> Result<(), Memory>
     ensures { OnOk result
         (out.new.items ≡ out.old.items ++ flat_map (subspace_line space.now) all.now) }
 {
     for axes in all.as_slice() {
-        put_subspace(alloc, out, space, axes)?;
+        put_subspace(out, space, axes)?;
     }
     Ok(())
 }
@@ -130,45 +121,45 @@ fn put_space_line(out: &mut Vec<u8>, name: &[u8]) -> Result<(), Memory>
 }
 
 #[tactic(auto, unfolding(crate::specs::Printing::key_line))]
-fn put_key_line(alloc: Global, out: &mut Vec<u8>, name: &[u8], parts: u32) -> Result<(), Memory>
+fn put_key_line(out: &mut Vec<u8>, name: &[u8], parts: u32) -> Result<(), Memory>
     ensures { OnOk result (out.new.items ≡ out.old.items ++ key_line name.now parts) }
 {
     put_bytes(out, b"key ")?;
     put_bytes(out, name)?;
     put_bytes(out, b" ")?;
-    put_number(alloc, out, u64::from(parts))?;
+    put_number(out, u64::from(parts))?;
     put_bytes(out, b"\n")
 }
 
 #[tactic(auto, unfolding(crate::specs::Printing::servers_line))]
-fn put_servers_line(alloc: Global, out: &mut Vec<u8>, servers: u32) -> Result<(), Memory>
+fn put_servers_line(out: &mut Vec<u8>, servers: u32) -> Result<(), Memory>
     ensures { OnOk result (out.new.items ≡ out.old.items ++ servers_line servers) }
 {
     put_bytes(out, b"servers ")?;
-    put_number(alloc, out, u64::from(servers))?;
+    put_number(out, u64::from(servers))?;
     put_bytes(out, b"\n")
 }
 
 #[tactic(auto, unfolding(crate::specs::Printing::tolerate_line))]
-fn put_tolerate_line(alloc: Global, out: &mut Vec<u8>, tolerate: u32) -> Result<(), Memory>
+fn put_tolerate_line(out: &mut Vec<u8>, tolerate: u32) -> Result<(), Memory>
     ensures { OnOk result (out.new.items ≡ out.old.items ++ tolerate_line tolerate) }
 {
     put_bytes(out, b"tolerate ")?;
-    put_number(alloc, out, u64::from(tolerate))?;
+    put_number(out, u64::from(tolerate))?;
     put_bytes(out, b"\n")
 }
 
 /// Appends the lines from `space` to `tolerate`.
 #[tactic(auto, unfolding(crate::specs::Printing::space_text))]
-pub fn put_space(alloc: Global, out: &mut Vec<u8>, space: &Space) -> Result<(), Memory>
+pub fn put_space(out: &mut Vec<u8>, space: &Space) -> Result<(), Memory>
     ensures { OnOk result (out.new.items ≡ out.old.items ++ space_text space.now) }
 {
     put_space_line(out, space.name.as_bytes())?;
-    put_key_line(alloc, out, space.key_name.as_bytes(), space.key_parts)?;
-    put_attributes(alloc, out, &space.attributes)?;
-    put_subspaces(alloc, out, space, &space.subspaces)?;
-    put_servers_line(alloc, out, space.servers)?;
-    put_tolerate_line(alloc, out, space.tolerate)
+    put_key_line(out, space.key_name.as_bytes(), space.key_parts)?;
+    put_attributes(out, &space.attributes)?;
+    put_subspaces(out, space, &space.subspaces)?;
+    put_servers_line(out, space.servers)?;
+    put_tolerate_line(out, space.tolerate)
 }
 
 /// The lines from `space` to `tolerate`.
@@ -176,6 +167,6 @@ pub fn print_space(alloc: Global, space: &Space) -> Result<Vec<u8>, Memory>
     ensures { IfOk result (λ bytes. bytes.items ≡ space_text space.now) }
 {
     let mut out = Vec::new(alloc);
-    put_space(alloc, &mut out, space)?;
+    put_space(&mut out, space)?;
     Ok(out)
 }

@@ -1,9 +1,9 @@
-//! Numbers, texts in quotes, and values.
+//! Texts in quotes, and values.
 
 ghost use Rattle.std.specs.Prelude.{◌≡◌, ◌++◌, IfOk, OnOk};
-ghost use Rattle.std.specs.Fmt.{decimal, signed_decimal};
 ghost use Rattle.hx_print.specs.Printing.{escape, named_text, quoted, value_text};
 
+use crate::numbers::put_signed;
 use hx_types::{Memory, Text, Value};
 use std::alloc::Global;
 
@@ -13,20 +13,6 @@ pub fn put_bytes(out: &mut Vec<u8>, bytes: &[u8]) -> Result<(), Memory>
 {
     out.extend_from_slice(bytes)?;
     Ok(())
-}
-
-/// Appends a number in decimal.
-pub fn put_number(alloc: Global, out: &mut Vec<u8>, number: u64) -> Result<(), Memory>
-    ensures { OnOk result (out.new.items ≡ out.old.items ++ decimal number) }
-{
-    put_bytes(out, number.to_string(alloc)?.as_bytes())
-}
-
-/// Appends a number in decimal, with `-` before it if it is negative.
-pub fn put_signed(alloc: Global, out: &mut Vec<u8>, number: i64) -> Result<(), Memory>
-    ensures { OnOk result (out.new.items ≡ out.old.items ++ signed_decimal number) }
-{
-    put_bytes(out, number.to_string(alloc)?.as_bytes())
 }
 
 fn put_escaped(out: &mut Vec<u8>, byte: u8) -> Result<(), Memory>
@@ -55,24 +41,24 @@ pub fn put_text(out: &mut Vec<u8>, text: &Text) -> Result<(), Memory>
 
 /// Appends a value: a text in quotes or a number.
 #[tactic(auto, unfolding(crate::specs::Printing::value_text))]
-pub fn put_value(alloc: Global, out: &mut Vec<u8>, value: &Value) -> Result<(), Memory>
+pub fn put_value(out: &mut Vec<u8>, value: &Value) -> Result<(), Memory>
     ensures { OnOk result (out.new.items ≡ out.old.items ++ value_text value.now) }
 {
     match value {
         Value::Text(text) => put_text(out, text),
-        Value::Int(number) => put_signed(alloc, out, *number),
+        Value::Int(number) => put_signed(out, *number),
     }
 }
 
 /// Appends a blank, the name, `=` and the value.
 #[tactic(auto, unfolding(crate::specs::Printing::named_text))]
-pub fn put_named(alloc: Global, out: &mut Vec<u8>, name: &[u8], value: &Value) -> Result<(), Memory>
+pub fn put_named(out: &mut Vec<u8>, name: &[u8], value: &Value) -> Result<(), Memory>
     ensures { OnOk result (out.new.items ≡ out.old.items ++ named_text name.now value.now) }
 {
     put_bytes(out, b" ")?;
     put_bytes(out, name)?;
     put_bytes(out, b"=")?;
-    put_value(alloc, out, value)
+    put_value(out, value)
 }
 
 /// The text in quotes, with `\"`, `\\`, `\n` and `\t` for the quote, the backslash, the newline

@@ -1,5 +1,5 @@
+pub mod DriverLines
 pub mod LostRegions
-pub mod Numbered
 pub mod OneServer
 pub mod Reports
 pub mod Traces

@@ -1,4 +1,4 @@
--- The text of a report: the space, the begun calls, the histories of keys, the epochs and the lines of the trace; traces stand newest first.
+-- The text of a report: the space, the begun calls, the histories of keys, the epochs, the lines of the trace and the drivers; traces stand newest first.
 use Rattle.std.specs.Prelude.{◌≡◌, ℕ, Bool, List, [], ◌∷◌, ◌++◌, map, reverse, length, codes, Option, None, Some}
 use Rattle.std.specs.List.{flat_map}
 use Rattle.std.specs.Fmt.{decimal}
@@ -16,6 +16,7 @@ use Rattle.hx_types.specs.declared.calls.Row.{Row}
 use Rattle.hx_types.specs.declared.traces.Script.{Script}
 use Rattle.hx_types.specs.declared.ids.ServerId.{ServerId}
 use Rattle.hx_types.specs.declared.spaces.Space.{Space}
+use Rattle.hx_types.specs.declared.totals.Totals.{Totals}
 use Rattle.hx_types.specs.declared.values.Value.{Value}
 use Rattle.hx_types.specs.declared.ids.Version.{Version}
 use Rattle.hx_types.specs.declared.calls.Answer.TheVariants as an_answer
@@ -24,9 +25,10 @@ use Rattle.hx_types.specs.Words.{when_some}
 use Rattle.hx_types.specs.Configs.{first_config, lost_regions}
 use Rattle.hx_types.specs.Fitting.{call_of}
 use Rattle.hx_model.specs.Histories.{records_of}
-use Rattle.hx_print.specs.Printing.{named_text, op_text, quoted, space_text}
+use Rattle.hx_print.specs.Printing.{caller_text, named_text, numbers_text, op_text, quoted, space_text}
 use Rattle.hx_history.specs.declared.key_histories.KeyHistory.{KeyHistory}
 use Rattle.hx_history.specs.Listed.{AreHistories}
+use Rattle.hx_report.specs.Driving.{drivers_text}
 use Rattle.hx_report.specs.Tracing.{trace_text}
 
 -- ` N=V` for each attribute
@@ -34,19 +36,6 @@ unfoldable pub object_text : List Attribute → List Value → List ℕ
 object_text [] values = []
 object_text (a ∷ rest) [] = []
 object_text (a ∷ rest) (v ∷ values) = named_text a.name v ++ object_text rest values
-
--- `uS.N`
-unfoldable pub caller_text : Caller → List ℕ
-caller_text c = codes "u" ++ decimal c.session.0 ++ codes "." ++ decimal c.number
-
--- a number after another
-unfoldable pub next_number_text : ℕ → List ℕ
-next_number_text n = codes "," ++ decimal n
-
--- numbers with commas between them; none is `-`
-unfoldable pub numbers_text : List ℕ → List ℕ
-numbers_text [] = codes "-"
-numbers_text (n ∷ rest) = decimal n ++ flat_map next_number_text rest
 
 unfoldable pub version_text : List ℕ → Version → List ℕ
 version_text word version = word ++ codes " version " ++ decimal version.0
@@ -169,18 +158,19 @@ epochs_text script trace = epoch_line (first_config script.space) ++ flat_map en
 unfoldable pub head_text : Space → List ℕ
 head_text space = codes "report 1\n" ++ space_text space
 
--- the report of a trace, with the histories that it has, and with the lines of the trace where they are wanted
-unfoldable pub report_text : Script → List Entry → List KeyHistory → Bool → List ℕ
-report_text script trace listed with_trace =
+-- the report of a trace, with the histories that it has, the lines of the trace where they are wanted, and what each driver did
+unfoldable pub report_text : Script → List Entry → List KeyHistory → List Totals → Bool → List ℕ
+report_text script trace listed totals with_trace =
     head_text script.space
     ++ flat_map (record_lines script) (records_of script trace)
     ++ flat_map (history_lines script.space) listed
     ++ epochs_text script trace
     ++ trace_text with_trace trace
+    ++ drivers_text 1 totals
     ++ codes "end\n"
 
 -- the bytes are the report of the trace with all its histories
-pub record IsReport (script : Script) (trace : List Entry) (bytes : List ℕ) (with_trace : Bool) : Type 0 where
+pub record IsReport (script : Script) (trace : List Entry) (totals : List Totals) (bytes : List ℕ) (with_trace : Bool) : Type 0 where
   pub listed : List KeyHistory
   pub histories : AreHistories script trace listed
-  pub text : bytes ≡ report_text script trace listed with_trace
+  pub text : bytes ≡ report_text script trace listed totals with_trace

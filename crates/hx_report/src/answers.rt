@@ -7,38 +7,26 @@ ghost use Rattle.hx_report.specs.Reporting.{answer_lines, found_line, in_epoch_l
 use crate::objects::put_object;
 use hx_print::{put_bytes, put_number, put_text};
 use hx_types::{Answer, Epoch, Memory, Object, RegionId, Row, Rows, Space, Version};
-use std::alloc::Global;
 
 #[tactic(auto, unfolding(crate::specs::Reporting::version_text))]
-fn put_version(
-    alloc: Global,
-    out: &mut Vec<u8>,
-    word: &[u8],
-    version: Version,
-) -> Result<(), Memory>
+fn put_version(out: &mut Vec<u8>, word: &[u8], version: Version) -> Result<(), Memory>
     ensures { OnOk result (out.new.items ≡ out.old.items ++ version_text word.now version) }
 {
     put_bytes(out, word)?;
     put_bytes(out, b" version ")?;
-    put_number(alloc, out, version.0)
+    put_number(out, version.0)
 }
 
 #[tactic(auto, unfolding(crate::specs::Reporting::version_line))]
-fn put_version_line(
-    alloc: Global,
-    out: &mut Vec<u8>,
-    word: &[u8],
-    version: Version,
-) -> Result<(), Memory>
+fn put_version_line(out: &mut Vec<u8>, word: &[u8], version: Version) -> Result<(), Memory>
     ensures { OnOk result (out.new.items ≡ out.old.items ++ version_line word.now version) }
 {
-    put_version(alloc, out, word, version)?;
+    put_version(out, word, version)?;
     put_bytes(out, b"\n")
 }
 
 #[tactic(auto, unfolding(crate::specs::Reporting::found_line))]
 fn put_found(
-    alloc: Global,
     out: &mut Vec<u8>,
     space: &Space,
     version: Version,
@@ -47,45 +35,44 @@ fn put_found(
     ensures { OnOk result
         (out.new.items ≡ out.old.items ++ found_line space.now version object.now) }
 {
-    put_version(alloc, out, b"found", version)?;
-    put_object(alloc, out, &space.attributes, object)?;
+    put_version(out, b"found", version)?;
+    put_object(out, &space.attributes, object)?;
     put_bytes(out, b"\n")
 }
 
 #[tactic(auto, unfolding(crate::specs::Reporting::row_line))]
-fn put_row(alloc: Global, out: &mut Vec<u8>, space: &Space, row: &Row) -> Result<(), Memory>
+fn put_row(out: &mut Vec<u8>, space: &Space, row: &Row) -> Result<(), Memory>
     ensures { OnOk result (out.new.items ≡ out.old.items ++ row_line space.now row.now) }
 {
     put_bytes(out, b"row ")?;
     put_text(out, &row.key)?;
-    put_version(alloc, out, b"", row.version)?;
-    put_object(alloc, out, &space.attributes, &row.object)?;
+    put_version(out, b"", row.version)?;
+    put_object(out, &space.attributes, &row.object)?;
     put_bytes(out, b"\n")
 }
 
 #[tactic(auto, unfolding(crate::specs::Reporting::rows_lines))]
-fn put_rows(alloc: Global, out: &mut Vec<u8>, space: &Space, rows: &Rows) -> Result<(), Memory>
+fn put_rows(out: &mut Vec<u8>, space: &Space, rows: &Rows) -> Result<(), Memory>
     ensures { OnOk result (out.new.items ≡ out.old.items ++ rows_lines space.now rows.now) }
 {
     put_bytes(out, b"rows ")?;
-    put_number(alloc, out, rows.len() as u64)?;
+    put_number(out, rows.len() as u64)?;
     put_bytes(out, b"\n")?;
-    put_each_row(alloc, out, space, rows.as_slice())
+    put_each_row(out, space, rows.as_slice())
 }
 
-fn put_each_row(alloc: Global, out: &mut Vec<u8>, space: &Space, rows: &[Row]) -> Result<(), Memory>
+fn put_each_row(out: &mut Vec<u8>, space: &Space, rows: &[Row]) -> Result<(), Memory>
     ensures { OnOk result
         (out.new.items ≡ out.old.items ++ flat_map (row_line space.now) rows.now) }
 {
     for row in rows {
-        put_row(alloc, out, space, row)?;
+        put_row(out, space, row)?;
     }
     Ok(())
 }
 
 #[tactic(auto, unfolding(crate::specs::Reporting::region_line))]
 fn put_region_line(
-    alloc: Global,
     out: &mut Vec<u8>,
     word: &[u8],
     region: RegionId,
@@ -95,26 +82,25 @@ fn put_region_line(
 {
     put_bytes(out, word)?;
     put_bytes(out, b" region ")?;
-    put_number(alloc, out, u64::from(region.0))?;
+    put_number(out, u64::from(region.0))?;
     put_bytes(out, b" epoch ")?;
-    put_number(alloc, out, epoch.0)?;
+    put_number(out, epoch.0)?;
     put_bytes(out, b"\n")
 }
 
 #[tactic(auto, unfolding(crate::specs::Reporting::in_epoch_line))]
-fn put_in_epoch(alloc: Global, out: &mut Vec<u8>, word: &[u8], epoch: Epoch) -> Result<(), Memory>
+fn put_in_epoch(out: &mut Vec<u8>, word: &[u8], epoch: Epoch) -> Result<(), Memory>
     ensures { OnOk result (out.new.items ≡ out.old.items ++ in_epoch_line word.now epoch) }
 {
     put_bytes(out, word)?;
     put_bytes(out, b" epoch ")?;
-    put_number(alloc, out, epoch.0)?;
+    put_number(out, epoch.0)?;
     put_bytes(out, b"\n")
 }
 
 /// Appends what a call was answered, with the version that its end names.
 #[tactic(auto, unfolding(crate::specs::Reporting::answer_lines))]
 pub fn put_answer(
-    alloc: Global,
     out: &mut Vec<u8>,
     space: &Space,
     version: Version,
@@ -124,19 +110,17 @@ pub fn put_answer(
         (out.new.items ≡ out.old.items ++ answer_lines space.now version answer.now) }
 {
     match answer {
-        Answer::Done => put_version_line(alloc, out, b"done", version),
-        Answer::NotFound => put_version_line(alloc, out, b"notfound", version),
-        Answer::CmpFail => put_version_line(alloc, out, b"cmpfail", version),
-        Answer::Found(object) => put_found(alloc, out, space, version, object),
-        Answer::Rows(rows) => put_rows(alloc, out, space, rows),
-        Answer::Refused { region, epoch } => {
-            put_region_line(alloc, out, b"refused", *region, *epoch)
-        }
-        Answer::Doubt { region, epoch } => put_region_line(alloc, out, b"doubt", *region, *epoch),
-        Answer::Issued { epoch } => put_in_epoch(alloc, out, b"issued", *epoch),
-        Answer::Stopped { epoch } => put_in_epoch(alloc, out, b"stopped", *epoch),
-        Answer::Member { epoch } => put_in_epoch(alloc, out, b"member", *epoch),
-        Answer::Joining { epoch } => put_in_epoch(alloc, out, b"joining", *epoch),
-        Answer::Lost { epoch } => put_in_epoch(alloc, out, b"lost", *epoch),
+        Answer::Done => put_version_line(out, b"done", version),
+        Answer::NotFound => put_version_line(out, b"notfound", version),
+        Answer::CmpFail => put_version_line(out, b"cmpfail", version),
+        Answer::Found(object) => put_found(out, space, version, object),
+        Answer::Rows(rows) => put_rows(out, space, rows),
+        Answer::Refused { region, epoch } => { put_region_line(out, b"refused", *region, *epoch) }
+        Answer::Doubt { region, epoch } => put_region_line(out, b"doubt", *region, *epoch),
+        Answer::Issued { epoch } => put_in_epoch(out, b"issued", *epoch),
+        Answer::Stopped { epoch } => put_in_epoch(out, b"stopped", *epoch),
+        Answer::Member { epoch } => put_in_epoch(out, b"member", *epoch),
+        Answer::Joining { epoch } => put_in_epoch(out, b"joining", *epoch),
+        Answer::Lost { epoch } => put_in_epoch(out, b"lost", *epoch),
     }
 }

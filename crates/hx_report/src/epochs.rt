@@ -1,31 +1,14 @@
 //! The lines of epochs.
 
-ghost use Rattle.std.specs.Prelude.{◌≡◌, ◌++◌, map, reverse, IfOk, OnOk};
+ghost use Rattle.std.specs.Prelude.{◌≡◌, ◌++◌, reverse, IfOk, OnOk};
 ghost use Rattle.std.specs.List.{flat_map};
-ghost use Rattle.hx_types.specs.Configs.{any_ready, is_lost};
+ghost use Rattle.hx_types.specs.Configs.{is_lost};
 ghost use Rattle.hx_types.specs.Spaces.{IsSpace};
-ghost use Rattle.hx_report.specs.Reporting.{entry_lines, epoch_line, epochs_text, lost_numbers, lost_text, note_lines, server_numbers, servers_text};
+ghost use Rattle.hx_report.specs.Reporting.{entry_lines, epoch_line, epochs_text, lost_numbers, lost_text, note_lines, servers_text};
 
-use crate::objects::put_numbers;
-use hx_print::{put_bytes, put_number};
-use hx_types::{Config, Entry, Member, Memory, Note, Notes, Script, Trace, first_config};
+use hx_print::{put_bytes, put_number, put_numbers};
+use hx_types::{Config, Entry, Memory, Note, Notes, Script, Trace, any_ready, first_config};
 use std::alloc::Global;
-
-fn server_numbers(alloc: Global, config: &Config) -> Result<Vec<u64>, Memory>
-    ensures { IfOk result (λ numbers. numbers.items ≡ server_numbers config.now) }
-{
-    let mut numbers = Vec::new(alloc);
-    for server in config.servers.as_slice() {
-        numbers.push(u64::from(server.0))?;
-    }
-    Ok(numbers)
-}
-
-fn any_ready(members: &[Member]) -> bool
-    ensures { result ≡ any_ready members.now }
-{
-    members.iter().any(|member| member.ready)
-}
 
 /// Whether the region has no ready member.
 fn is_lost(config: &Config, region: usize) -> bool
@@ -51,12 +34,11 @@ fn lost_numbers(alloc: Global, config: &Config) -> Result<Vec<u64>, Memory>
 }
 
 #[tactic(auto, unfolding(crate::specs::Reporting::servers_text))]
-fn put_servers(alloc: Global, out: &mut Vec<u8>, config: &Config) -> Result<(), Memory>
+fn put_servers(out: &mut Vec<u8>, config: &Config) -> Result<(), Memory>
     ensures { OnOk result (out.new.items ≡ out.old.items ++ servers_text config.now) }
 {
-    let numbers = server_numbers(alloc, config)?;
     put_bytes(out, b" servers ")?;
-    put_numbers(alloc, out, &numbers)
+    put_numbers(out, config.servers.as_slice())
 }
 
 #[tactic(auto, unfolding(crate::specs::Reporting::lost_text))]
@@ -65,7 +47,7 @@ fn put_lost(alloc: Global, out: &mut Vec<u8>, config: &Config) -> Result<(), Mem
 {
     let numbers = lost_numbers(alloc, config)?;
     put_bytes(out, b" lost ")?;
-    put_numbers(alloc, out, &numbers)
+    put_numbers(out, &numbers)
 }
 
 #[tactic(auto, unfolding(crate::specs::Reporting::epoch_line))]
@@ -73,8 +55,8 @@ fn put_epoch(alloc: Global, out: &mut Vec<u8>, config: &Config) -> Result<(), Me
     ensures { OnOk result (out.new.items ≡ out.old.items ++ epoch_line config.now) }
 {
     put_bytes(out, b"epoch ")?;
-    put_number(alloc, out, config.epoch.0)?;
-    put_servers(alloc, out, config)?;
+    put_number(out, config.epoch.0)?;
+    put_servers(out, config)?;
     put_lost(alloc, out, config)?;
     put_bytes(out, b"\n")
 }

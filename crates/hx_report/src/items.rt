@@ -4,11 +4,10 @@ ghost use Rattle.std.specs.Prelude.{◌≡◌, ◌++◌, OnOk};
 ghost use Rattle.std.specs.List.{flat_map};
 ghost use Rattle.hx_report.specs.Reporting.{history_lines, item_line, item_text, state_text, word_of};
 
-use crate::objects::{put_caller, put_object};
+use crate::objects::put_object;
 use hx_history::{Histories, KeyHistory};
-use hx_print::{put_bytes, put_number, put_text};
+use hx_print::{put_bytes, put_caller, put_number, put_text};
 use hx_types::{Answer, Item, Memory, Object, Space};
-use std::alloc::Global;
 
 /// The word for the answer of an item.
 #[tactic(auto, unfolding(crate::specs::Reporting::word_of))]
@@ -25,82 +24,67 @@ fn word_of(answer: &Answer) -> &'static [u8]
 }
 
 #[tactic(auto, unfolding(crate::specs::Reporting::state_text))]
-fn put_state(
-    alloc: Global,
-    out: &mut Vec<u8>,
-    space: &Space,
-    object: &Option<Object>,
-) -> Result<(), Memory>
+fn put_state(out: &mut Vec<u8>, space: &Space, object: &Option<Object>) -> Result<(), Memory>
     ensures { OnOk result (out.new.items ≡ out.old.items ++ state_text space.now object.now) }
 {
     match object {
         Some(object) => {
             put_bytes(out, b"present")?;
-            put_object(alloc, out, &space.attributes, object)
+            put_object(out, &space.attributes, object)
         }
         None => put_bytes(out, b"absent"),
     }
 }
 
 #[tactic(auto, unfolding(crate::specs::Reporting::item_text))]
-fn put_item_head(alloc: Global, out: &mut Vec<u8>, item: &Item) -> Result<(), Memory>
+fn put_item_head(out: &mut Vec<u8>, item: &Item) -> Result<(), Memory>
     ensures { OnOk result (out.new.items ≡ out.old.items ++ item_text item.now) }
 {
     put_bytes(out, b"item ")?;
-    put_number(alloc, out, item.version.0)?;
+    put_number(out, item.version.0)?;
     put_bytes(out, b" ")?;
-    put_caller(alloc, out, &item.caller)
+    put_caller(out, &item.caller)
 }
 
 #[tactic(auto, unfolding(crate::specs::Reporting::item_line))]
-fn put_item(alloc: Global, out: &mut Vec<u8>, space: &Space, item: &Item) -> Result<(), Memory>
+fn put_item(out: &mut Vec<u8>, space: &Space, item: &Item) -> Result<(), Memory>
     ensures { OnOk result (out.new.items ≡ out.old.items ++ item_line space.now item.now) }
 {
-    put_item_head(alloc, out, item)?;
+    put_item_head(out, item)?;
     put_bytes(out, b" ")?;
     put_bytes(out, word_of(&item.answer))?;
     put_bytes(out, b" ")?;
-    put_state(alloc, out, space, &item.object)?;
+    put_state(out, space, &item.object)?;
     put_bytes(out, b"\n")
 }
 
-fn put_items(alloc: Global, out: &mut Vec<u8>, space: &Space, items: &[Item]) -> Result<(), Memory>
+fn put_items(out: &mut Vec<u8>, space: &Space, items: &[Item]) -> Result<(), Memory>
     ensures { OnOk result
         (out.new.items ≡ out.old.items ++ flat_map (item_line space.now) items.now) }
 {
     for item in items {
-        put_item(alloc, out, space, item)?;
+        put_item(out, space, item)?;
     }
     Ok(())
 }
 
 #[tactic(auto, unfolding(crate::specs::Reporting::history_lines))]
-fn put_history(
-    alloc: Global,
-    out: &mut Vec<u8>,
-    space: &Space,
-    history: &KeyHistory,
-) -> Result<(), Memory>
+fn put_history(out: &mut Vec<u8>, space: &Space, history: &KeyHistory) -> Result<(), Memory>
     ensures { OnOk result (out.new.items ≡ out.old.items ++ history_lines space.now history.now) }
 {
     put_bytes(out, b"history ")?;
     put_text(out, &history.key)?;
     put_bytes(out, b"\n")?;
-    put_items(alloc, out, space, history.items.as_slice())
+    put_items(out, space, history.items.as_slice())
 }
 
 /// Appends the histories of keys.
-pub fn put_histories(
-    alloc: Global,
-    out: &mut Vec<u8>,
-    space: &Space,
-    histories: &Histories,
-) -> Result<(), Memory>
+pub fn put_histories(out: &mut Vec<u8>, space: &Space, histories: &Histories) -> Result<(), Memory>
     ensures { OnOk result
         (out.new.items ≡ out.old.items ++ flat_map (history_lines space.now) histories.now) }
 {
     for history in histories.as_slice() {
-        put_history(alloc, out, space, history)?;
+        put_history(out, space, history)?;
     }
     Ok(())
 }

@@ -2,12 +2,10 @@ ghost use Rattle.std.specs.Prelude.{IfOk};
 ghost use Rattle.hx_types.specs.Spaces.{IsSpace};
 
 use super::*;
-use hx_history::{histories, records};
-use hx_legal::legal;
 use hx_types::{
     Actor, Answer, Assign, Assigns, Attribute, Attributes, Caller, Calls, Entry, Epoch, Input,
-    Kind, Message, Note, Notes, Object, Op, Places, Post, PostId, Posts, RegionId, Rows, ServerId,
-    SessionId, Sessions, Snapshot, Steps, Subspaces, Text, Update, Updates, Value, Version,
+    Kind, Message, Note, Notes, Object, Op, Places, Post, PostId, Posts, ServerId, SessionId,
+    Sessions, Shared, Steps, Subspaces, Text, Update, Value, Version,
 };
 use std::test::Fail;
 
@@ -58,20 +56,17 @@ fn put_x(alloc: Global) -> Result<Op, Memory> {
     Ok(Op::Put { key, sets })
 }
 
-/// One session with a put and, if it is wanted, a get.
-fn session(alloc: Global, with_get: bool) -> Result<Sessions, Memory> {
+/// One session with a put.
+fn session(alloc: Global) -> Result<Sessions, Memory> {
     let mut calls = Calls::new(alloc);
     calls.push(put_x(alloc)?)?;
-    if with_get {
-        calls.push(Op::Get { key: key_a(alloc)? })?;
-    }
     let mut sessions = Sessions::new(alloc);
     sessions.push(calls)?;
     Ok(sessions)
 }
 
-fn first_update(alloc: Global) -> Result<Update, Memory> {
-    Ok(Update {
+fn first_update(alloc: Global) -> Result<Shared<Update>, Memory> {
+    let update = Update {
         key: key_a(alloc)?,
         version: Version(1),
         caller: Caller {
@@ -82,7 +77,8 @@ fn first_update(alloc: Global) -> Result<Update, Memory> {
         changes: true,
         object: Some(object_x(alloc)?),
         places: Places::new(alloc),
-    })
+    };
+    Shared::new(alloc, update)
 }
 
 fn ended(number: u32, answer: Answer) -> Note {
@@ -128,26 +124,6 @@ fn act(
     })
 }
 
-/// Adds an entry of the actor with the note.
-fn step(alloc: Global, trace: &mut Trace, actor: Actor, note: Option<Note>) -> Result<(), Memory> {
-    act(alloc, trace, actor, Input::Tick, None, note)
-}
-
-/// The trace of the put and the get, without its posts.
-fn six_entries(alloc: Global) -> Result<Trace, Memory> {
-    let (session, server) = (first_session(), first_server());
-    let mut trace = Trace::new(alloc);
-    step(alloc, &mut trace, session, Some(Note::Began { number: 1 }))?;
-    let update = first_update(alloc)?;
-    step(alloc, &mut trace, server, Some(Note::Assigned { update }))?;
-    step(alloc, &mut trace, session, Some(ended(1, Answer::Done)))?;
-    step(alloc, &mut trace, session, Some(Note::Began { number: 2 }))?;
-    step(alloc, &mut trace, server, None)?;
-    let found = Answer::Found(object_x(alloc)?);
-    step(alloc, &mut trace, session, Some(ended(2, found)))?;
-    Ok(trace)
-}
-
 fn first_session() -> Actor {
     Actor::Session(SessionId(1))
 }
@@ -160,7 +136,7 @@ fn asked(alloc: Global) -> Result<Post, Memory> {
     let message = Message::Call {
         epoch: Epoch(1),
         number: 1,
-        op: put_x(alloc)?,
+        op: Shared::new(alloc, put_x(alloc)?)?,
     };
     Ok(Post {
         from: first_session(),
@@ -211,66 +187,21 @@ fn three_entries(alloc: Global) -> Result<Trace, Memory> {
     Ok(trace)
 }
 
-/// The report and whether each history in it is legal.
-fn reported(
-    alloc: Global,
-    script: &Script,
-    trace: &Trace,
-    with_trace: bool,
-) -> Result<(Vec<u8>, bool), Memory>
-    requires { IsSpace script.now.space }
-{
-    let records = records(alloc, script, trace)?;
-    let histories = histories(alloc, script, trace)?;
-    let bytes = report(alloc, script, trace, &records, &histories, with_trace)?;
-    Ok((bytes, all_legal(&script.space, &histories)))
-}
-
-fn all_legal(space: &Space, histories: &Histories) -> bool {
-    for history in histories.as_slice() {
-        if !legal(space, history.items.as_slice()) {
-            return false;
-        }
-    }
-    true
-}
-
-#[test]
-fn reports_a_put_and_a_get(rt: HostRuntime) -> Result<(), Fail> {
-    let alloc = rt.alloc();
-    let script = Script {
-        space: one(alloc)?,
-        sessions: session(alloc, true)?,
-        steps: Steps::new(alloc),
-    };
-    let (bytes, legal) = reported(alloc, &script, &six_entries(alloc)?, false)?;
-    let lines = "report 1\n\
-        space one\n\
-        key k 1\n\
-        string v\n\
-        servers 1\n\
-        tolerate 0\n\
-        call u1.1 begin 1 end 3 put \"a\" v=\"x\" -> done version 1\n\
-        call u1.2 begin 4 end 6 get \"a\" -> found version 1 v=\"x\"\n\
-        history \"a\"\n\
-        item 1 u1.1 done present v=\"x\"\n\
-        item 1 u1.2 found present v=\"x\"\n\
-        epoch 1 servers 1 lost -\n\
-        end\n";
-    assert_eq!(rt; bytes.as_slice(), lines.as_bytes());
-    assert!(rt; legal);
-    Ok(())
-}
-
 #[test]
 fn reports_a_put_with_its_trace(rt: HostRuntime) -> Result<(), Fail> {
     let alloc = rt.alloc();
     let script = Script {
         space: one(alloc)?,
-        sessions: session(alloc, false)?,
+        sessions: session(alloc)?,
         steps: Steps::new(alloc),
     };
-    let (bytes, legal) = reported(alloc, &script, &three_entries(alloc)?, true)?;
+    let totals = Totals {
+        posts: 2,
+        deliver: 2,
+        lose: 0,
+        twice: 0,
+    };
+    let bytes = report(alloc, &script, &three_entries(alloc)?, &[totals], true)?;
     let lines = "report 1\n\
         space one\n\
         key k 1\n\
@@ -286,79 +217,8 @@ fn reports_a_put_with_its_trace(rt: HostRuntime) -> Result<(), Fail> {
         entry 2 s1 deliver 1.0\n\
         post 2.0 u1 reply number 1 version 1\n\
         entry 3 u1 deliver 2.0\n\
+        driver 1 posts 2 deliver 2 lose 0 twice 0\n\
         end\n";
-    assert_eq!(rt; bytes.as_slice(), lines.as_bytes());
-    assert!(rt; legal);
-    Ok(())
-}
-
-fn to(server: u32, message: Message) -> Post {
-    Post {
-        from: first_server(),
-        to: Actor::Server(ServerId(server)),
-        message,
-    }
-}
-
-/// An update and an acknowledgement.
-fn add_chain_posts(alloc: Global, posts: &mut Posts) -> Result<(), Memory> {
-    let update = Message::Update {
-        epoch: Epoch(2),
-        region: RegionId(3),
-        update: first_update(alloc)?,
-    };
-    posts.push(to(2, update))?;
-    let ack = Message::Ack {
-        epoch: Epoch(2),
-        region: RegionId(4),
-        key: key_a(alloc)?,
-        version: Version(5),
-    };
-    posts.push(to(3, ack))
-}
-
-/// A part of a search and a snapshot.
-fn add_region_posts(alloc: Global, posts: &mut Posts) -> Result<(), Memory> {
-    let found = Message::Found {
-        epoch: Epoch(6),
-        number: 7,
-        region: RegionId(8),
-        rows: Rows::new(alloc),
-    };
-    posts.push(Post {
-        from: first_server(),
-        to: first_session(),
-        message: found,
-    })?;
-    let snap = Message::Snap {
-        epoch: Epoch(9),
-        region: RegionId(10),
-        snapshot: Snapshot::new(alloc),
-        pending: Updates::new(alloc),
-    };
-    posts.push(to(4, snap))
-}
-
-#[test]
-fn shows_the_numbers_of_messages(rt: HostRuntime) -> Result<(), Fail> {
-    let alloc = rt.alloc();
-    let mut outputs = Posts::new(alloc);
-    add_chain_posts(alloc, &mut outputs)?;
-    add_region_posts(alloc, &mut outputs)?;
-    let mut trace = Trace::new(alloc);
-    trace.push(Entry {
-        actor: first_server(),
-        input: Input::Halt,
-        outputs,
-        notes: Notes::new(alloc),
-    })?;
-    let mut bytes = Vec::new(alloc);
-    put_trace(alloc, &mut bytes, &trace, true)?;
-    let lines = "entry 1 s1 halt\n\
-        post 1.0 s2 update epoch 2 region 3 version 1\n\
-        post 1.1 s3 ack epoch 2 region 4 version 5\n\
-        post 1.2 u1 found epoch 6 number 7 region 8\n\
-        post 1.3 s4 snap epoch 9 region 10\n";
     assert_eq!(rt; bytes.as_slice(), lines.as_bytes());
     Ok(())
 }

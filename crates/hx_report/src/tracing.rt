@@ -7,38 +7,37 @@ use hx_print::{put_actor, put_bytes, put_number, put_post_name};
 use hx_types::{
     Entry, Epoch, Input, Memory, Message, Post, Posts, RegionId, ServerId, Trace, Version,
 };
-use std::alloc::Global;
 
+/// Appends a name and a number, each with a blank before it.
 #[tactic(auto, unfolding(crate::specs::Tracing::field_text))]
-fn put_field(alloc: Global, out: &mut Vec<u8>, name: &[u8], number: u64) -> Result<(), Memory>
+pub fn put_field(out: &mut Vec<u8>, name: &[u8], number: u64) -> Result<(), Memory>
     ensures { OnOk result (out.new.items ≡ out.old.items ++ field_text name.now number) }
 {
     put_bytes(out, b" ")?;
     put_bytes(out, name)?;
     put_bytes(out, b" ")?;
-    put_number(alloc, out, number)
+    put_number(out, number)
 }
 
 /// Appends the kind and the epoch of a message.
-fn put_in_epoch(alloc: Global, out: &mut Vec<u8>, kind: &[u8], epoch: Epoch) -> Result<(), Memory>
+fn put_in_epoch(out: &mut Vec<u8>, kind: &[u8], epoch: Epoch) -> Result<(), Memory>
     ensures { OnOk result
         (out.new.items ≡ out.old.items ++ kind.now ++ field_text (codes "epoch") epoch.0) }
 {
     put_bytes(out, kind)?;
-    put_field(alloc, out, b"epoch", epoch.0)
+    put_field(out, b"epoch", epoch.0)
 }
 
 /// Appends the kind of a message and the number of a call.
-fn put_numbered(alloc: Global, out: &mut Vec<u8>, kind: &[u8], number: u32) -> Result<(), Memory>
+fn put_numbered(out: &mut Vec<u8>, kind: &[u8], number: u32) -> Result<(), Memory>
     ensures { OnOk result
         (out.new.items ≡ out.old.items ++ kind.now ++ field_text (codes "number") number) }
 {
     put_bytes(out, kind)?;
-    put_field(alloc, out, b"number", u64::from(number))
+    put_field(out, b"number", u64::from(number))
 }
 
 fn put_in_region(
-    alloc: Global,
     out: &mut Vec<u8>,
     kind: &[u8],
     epoch: Epoch,
@@ -47,12 +46,11 @@ fn put_in_region(
     ensures { OnOk result (out.new.items ≡ out.old.items ++ kind.now
         ++ field_text (codes "epoch") epoch.0 ++ field_text (codes "region") region.0) }
 {
-    put_in_epoch(alloc, out, kind, epoch)?;
-    put_field(alloc, out, b"region", u64::from(region.0))
+    put_in_epoch(out, kind, epoch)?;
+    put_field(out, b"region", u64::from(region.0))
 }
 
 fn put_of_version(
-    alloc: Global,
     out: &mut Vec<u8>,
     kind: &[u8],
     epoch: Epoch,
@@ -63,12 +61,11 @@ fn put_of_version(
         ++ field_text (codes "epoch") epoch.0 ++ field_text (codes "region") region.0
         ++ field_text (codes "version") version.0) }
 {
-    put_in_region(alloc, out, kind, epoch, region)?;
-    put_field(alloc, out, b"version", version.0)
+    put_in_region(out, kind, epoch, region)?;
+    put_field(out, b"version", version.0)
 }
 
 fn put_of_search(
-    alloc: Global,
     out: &mut Vec<u8>,
     kind: &[u8],
     epoch: Epoch,
@@ -79,29 +76,28 @@ fn put_of_search(
         ++ field_text (codes "epoch") epoch.0 ++ field_text (codes "number") number
         ++ field_text (codes "region") region.0) }
 {
-    put_in_epoch(alloc, out, kind, epoch)?;
-    put_field(alloc, out, b"number", u64::from(number))?;
-    put_field(alloc, out, b"region", u64::from(region.0))
+    put_in_epoch(out, kind, epoch)?;
+    put_field(out, b"number", u64::from(number))?;
+    put_field(out, b"region", u64::from(region.0))
 }
 
-fn put_call(alloc: Global, out: &mut Vec<u8>, epoch: Epoch, number: u32) -> Result<(), Memory>
+fn put_call(out: &mut Vec<u8>, epoch: Epoch, number: u32) -> Result<(), Memory>
     ensures { OnOk result (out.new.items ≡ out.old.items ++ codes "call"
         ++ field_text (codes "epoch") epoch.0 ++ field_text (codes "number") number) }
 {
-    put_in_epoch(alloc, out, b"call", epoch)?;
-    put_field(alloc, out, b"number", u64::from(number))
+    put_in_epoch(out, b"call", epoch)?;
+    put_field(out, b"number", u64::from(number))
 }
 
-fn put_reply(alloc: Global, out: &mut Vec<u8>, number: u32, version: Version) -> Result<(), Memory>
+fn put_reply(out: &mut Vec<u8>, number: u32, version: Version) -> Result<(), Memory>
     ensures { OnOk result (out.new.items ≡ out.old.items ++ codes "reply"
         ++ field_text (codes "number") number ++ field_text (codes "version") version.0) }
 {
-    put_numbered(alloc, out, b"reply", number)?;
-    put_field(alloc, out, b"version", version.0)
+    put_numbered(out, b"reply", number)?;
+    put_field(out, b"version", version.0)
 }
 
 fn put_of_server(
-    alloc: Global,
     out: &mut Vec<u8>,
     kind: &[u8],
     number: u32,
@@ -110,93 +106,85 @@ fn put_of_server(
     ensures { OnOk result (out.new.items ≡ out.old.items ++ kind.now
         ++ field_text (codes "number") number ++ field_text (codes "server") server.0) }
 {
-    put_numbered(alloc, out, kind, number)?;
-    put_field(alloc, out, b"server", u64::from(server.0))
+    put_numbered(out, kind, number)?;
+    put_field(out, b"server", u64::from(server.0))
 }
 
-fn put_add(
-    alloc: Global,
-    out: &mut Vec<u8>,
-    number: u32,
-    server: ServerId,
-    region: RegionId,
-) -> Result<(), Memory>
+fn put_add(out: &mut Vec<u8>, number: u32, server: ServerId, region: RegionId) -> Result<(), Memory>
     ensures { OnOk result (out.new.items ≡ out.old.items ++ codes "add"
         ++ field_text (codes "number") number ++ field_text (codes "server") server.0
         ++ field_text (codes "region") region.0) }
 {
-    put_of_server(alloc, out, b"add", number, server)?;
-    put_field(alloc, out, b"region", u64::from(region.0))
+    put_of_server(out, b"add", number, server)?;
+    put_field(out, b"region", u64::from(region.0))
 }
 
 /// Appends the kind and the shown numbers of a message on configurations.
 #[tactic(auto, unfolding(crate::specs::Tracing::reconfiguration_text))]
-fn put_reconfiguration(alloc: Global, out: &mut Vec<u8>, message: &Message) -> Result<(), Memory>
+fn put_reconfiguration(out: &mut Vec<u8>, message: &Message) -> Result<(), Memory>
     ensures { OnOk result (out.new.items ≡ out.old.items ++ reconfiguration_text message.now) }
 {
     match message {
-        Message::Seal { epoch } => put_in_epoch(alloc, out, b"seal", *epoch),
-        Message::Sealed { epoch } => put_in_epoch(alloc, out, b"sealed", *epoch),
-        Message::Install { config } => put_in_epoch(alloc, out, b"install", config.epoch),
+        Message::Seal { epoch } => put_in_epoch(out, b"seal", *epoch),
+        Message::Sealed { epoch } => put_in_epoch(out, b"sealed", *epoch),
+        Message::Install { config } => put_in_epoch(out, b"install", config.epoch),
         Message::Die => put_bytes(out, b"die"),
         Message::Gone => put_bytes(out, b"gone"),
-        Message::StopServer { number, server } => {
-            put_of_server(alloc, out, b"stop", *number, *server)
-        }
+        Message::StopServer { number, server } => { put_of_server(out, b"stop", *number, *server) }
         Message::AddReplica {
             number,
             server,
             region,
-        } => put_add(alloc, out, *number, *server, *region),
-        Message::Outcome { number, .. } => put_numbered(alloc, out, b"answer", *number),
-        Message::Snap { epoch, region, .. } => put_in_region(alloc, out, b"snap", *epoch, *region),
-        Message::Ready { epoch, region } => put_in_region(alloc, out, b"ready", *epoch, *region),
-        Message::Poll { epoch } => put_in_epoch(alloc, out, b"poll", *epoch),
+        } => put_add(out, *number, *server, *region),
+        Message::Outcome { number, .. } => put_numbered(out, b"answer", *number),
+        Message::Snap { epoch, region, .. } => put_in_region(out, b"snap", *epoch, *region),
+        Message::Ready { epoch, region } => put_in_region(out, b"ready", *epoch, *region),
+        Message::Poll { epoch } => put_in_epoch(out, b"poll", *epoch),
         _ => Ok(()),
     }
 }
 
 /// Appends the kind of a message and the numbers that are shown of it.
 #[tactic(auto, unfolding(crate::specs::Tracing::message_text))]
-fn put_message(alloc: Global, out: &mut Vec<u8>, message: &Message) -> Result<(), Memory>
+fn put_message(out: &mut Vec<u8>, message: &Message) -> Result<(), Memory>
     ensures { OnOk result (out.new.items ≡ out.old.items ++ message_text message.now) }
 {
     match message {
-        Message::Call { epoch, number, .. } => put_call(alloc, out, *epoch, *number),
+        Message::Call { epoch, number, .. } => put_call(out, *epoch, *number),
         Message::Reply {
             number,
             version,
             ..
-        } => put_reply(alloc, out, *number, *version),
+        } => put_reply(out, *number, *version),
         Message::Update {
             epoch,
             region,
             update,
-        } => put_of_version(alloc, out, b"update", *epoch, *region, update.version),
+        } => put_of_version(out, b"update", *epoch, *region, update.version),
         Message::Ack {
             epoch,
             region,
             version,
             ..
-        } => put_of_version(alloc, out, b"ack", *epoch, *region, *version),
+        } => put_of_version(out, b"ack", *epoch, *region, *version),
         Message::Ask {
             epoch,
             number,
             region,
             ..
-        } => put_of_search(alloc, out, b"ask", *epoch, *number, *region),
+        } => put_of_search(out, b"ask", *epoch, *number, *region),
         Message::Found {
             epoch,
             number,
             region,
             ..
-        } => put_of_search(alloc, out, b"found", *epoch, *number, *region),
-        _ => put_reconfiguration(alloc, out, message),
+        } => put_of_search(out, b"found", *epoch, *number, *region),
+        _ => put_reconfiguration(out, message),
     }
 }
 
 #[tactic(auto, unfolding(crate::specs::Tracing::input_text))]
-fn put_input(alloc: Global, out: &mut Vec<u8>, input: &Input) -> Result<(), Memory>
+fn put_input(out: &mut Vec<u8>, input: &Input) -> Result<(), Memory>
     ensures { OnOk result (out.new.items ≡ out.old.items ++ input_text input.now) }
 {
     match input {
@@ -204,54 +192,42 @@ fn put_input(alloc: Global, out: &mut Vec<u8>, input: &Input) -> Result<(), Memo
         Input::Halt => put_bytes(out, b"halt"),
         Input::Deliver { id, .. } => {
             put_bytes(out, b"deliver ")?;
-            put_post_name(alloc, out, id)
+            put_post_name(out, id)
         }
     }
 }
 
 /// Appends the name of a post and its receiver.
 #[tactic(auto, unfolding(crate::specs::Tracing::post_head, hx_print::specs::Printing::post_name))]
-fn put_post_head(
-    alloc: Global,
-    out: &mut Vec<u8>,
-    entry: u64,
-    place: u64,
-    post: &Post,
-) -> Result<(), Memory>
+fn put_post_head(out: &mut Vec<u8>, entry: u64, place: u64, post: &Post) -> Result<(), Memory>
     ensures { OnOk result (out.new.items ≡ out.old.items ++ post_head entry place post.now) }
 {
     put_bytes(out, b"post ")?;
-    put_number(alloc, out, entry)?;
+    put_number(out, entry)?;
     put_bytes(out, b".")?;
-    put_number(alloc, out, place)?;
+    put_number(out, place)?;
     put_bytes(out, b" ")?;
-    put_actor(alloc, out, &post.to)
+    put_actor(out, &post.to)
 }
 
 #[tactic(auto, unfolding(crate::specs::Tracing::post_line))]
-fn put_post(
-    alloc: Global,
-    out: &mut Vec<u8>,
-    entry: u64,
-    place: u64,
-    post: &Post,
-) -> Result<(), Memory>
+fn put_post(out: &mut Vec<u8>, entry: u64, place: u64, post: &Post) -> Result<(), Memory>
     ensures { OnOk result (out.new.items ≡ out.old.items ++ post_line entry place post.now) }
 {
-    put_post_head(alloc, out, entry, place, post)?;
+    put_post_head(out, entry, place, post)?;
     put_bytes(out, b" ")?;
-    put_message(alloc, out, &post.message)?;
+    put_message(out, &post.message)?;
     put_bytes(out, b"\n")
 }
 
 #[tactic(auto, unfolding(crate::specs::Tracing::posts_text))]
-fn put_posts(alloc: Global, out: &mut Vec<u8>, entry: u64, posts: &Posts) -> Result<(), Memory>
+fn put_posts(out: &mut Vec<u8>, entry: u64, posts: &Posts) -> Result<(), Memory>
     ensures { OnOk result (out.new.items ≡ out.old.items ++ posts_text entry 0 posts.now) }
 {
     let mut place = 0;
     let mut rest = posts.as_slice();
     'posts: while let Some((post, after)) = rest.split_first() {
-        put_post(alloc, out, entry, place, post)?;
+        put_post(out, entry, place, post)?;
         place += 1;
         rest = after;
     }
@@ -260,27 +236,27 @@ fn put_posts(alloc: Global, out: &mut Vec<u8>, entry: u64, posts: &Posts) -> Res
 
 /// Appends the line of an entry itself.
 #[tactic(auto, unfolding(crate::specs::Tracing::entry_line))]
-fn put_entry(alloc: Global, out: &mut Vec<u8>, number: u64, entry: &Entry) -> Result<(), Memory>
+fn put_entry(out: &mut Vec<u8>, number: u64, entry: &Entry) -> Result<(), Memory>
     ensures { OnOk result (out.new.items ≡ out.old.items ++ entry_line number entry.now) }
 {
     put_bytes(out, b"entry ")?;
-    put_number(alloc, out, number)?;
+    put_number(out, number)?;
     put_bytes(out, b" ")?;
-    put_actor(alloc, out, &entry.actor)?;
+    put_actor(out, &entry.actor)?;
     put_bytes(out, b" ")?;
-    put_input(alloc, out, &entry.input)?;
+    put_input(out, &entry.input)?;
     put_bytes(out, b"\n")
 }
 
 #[tactic(auto, unfolding(crate::specs::Tracing::entries_text))]
-fn put_entries(alloc: Global, out: &mut Vec<u8>, entries: &[Entry]) -> Result<(), Memory>
+fn put_entries(out: &mut Vec<u8>, entries: &[Entry]) -> Result<(), Memory>
     ensures { OnOk result (out.new.items ≡ out.old.items ++ entries_text 1 entries.now) }
 {
     let mut number = 1;
     let mut rest = entries;
     'entries: while let Some((entry, after)) = rest.split_first() {
-        put_entry(alloc, out, number, entry)?;
-        put_posts(alloc, out, number, &entry.outputs)?;
+        put_entry(out, number, entry)?;
+        put_posts(out, number, &entry.outputs)?;
         number += 1;
         rest = after;
     }
@@ -289,17 +265,12 @@ fn put_entries(alloc: Global, out: &mut Vec<u8>, entries: &[Entry]) -> Result<()
 
 /// Appends the lines of a trace where they are wanted.
 #[tactic(auto, unfolding(crate::specs::Tracing::trace_text))]
-pub fn put_trace(
-    alloc: Global,
-    out: &mut Vec<u8>,
-    trace: &Trace,
-    with_trace: bool,
-) -> Result<(), Memory>
+pub fn put_trace(out: &mut Vec<u8>, trace: &Trace, with_trace: bool) -> Result<(), Memory>
     ensures { OnOk result
         (out.new.items ≡ out.old.items ++ trace_text with_trace (reverse trace.now)) }
 {
     if with_trace {
-        put_entries(alloc, out, trace.as_slice())
+        put_entries(out, trace.as_slice())
     } else {
         Ok(())
     }

@@ -6,6 +6,7 @@ pub mod Cutting
 pub mod Digits
 pub mod Lists
 pub mod Lines
+pub mod OfText
 mod Examples
 mod Yields
 mod Once

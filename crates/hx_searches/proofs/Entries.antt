@@ -35,7 +35,7 @@ use Rattle.hx_model.specs.CoordinatorSteps.{CoordinatorState, CoordinatorStep, c
 use Rattle.hx_model.specs.SessionSteps.{SessionState, SessionStep, session_step}
 use Rattle.hx_model.specs.Runs.{IsRun, IsStep, MayTake, coordinator_of, entry_of, made_of, server_of, session_of}
 use Rattle.hx_model.specs.Histories.{line_notes, line_of}
-use Rattle.hx_model.specs.Steady.{HasNoHalts, IsFixed, is_halt}
+use Rattle.hx_steady.specs.Calm.{HasNoHalts, IsFixed, is_halt}
 use Rattle.hx_steady.specs.Served.{leader_of, leader_slot, slot_in}
 use Rattle.hx_steady.proofs.Lists.{in-map, when_some_both}
 use Rattle.hx_steady.proofs.Moves.{Leads}

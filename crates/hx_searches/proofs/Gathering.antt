@@ -20,7 +20,7 @@ use Rattle.hx_types.specs.Fitting.{IsScript, call_of}
 use Rattle.hx_model.specs.Runs.{IsRun, MayTake, made_of}
 use Rattle.hx_model.specs.Histories.{CallEnd, begin_of, end_of, line_notes, line_of}
 use Rattle.hx_model.specs.Searching.{FinishedSearch, rows_in, search_of, terms_of, with_rows}
-use Rattle.hx_model.specs.Steady.{HasNoHalts, IsFixed}
+use Rattle.hx_steady.specs.Calm.{HasNoHalts, IsFixed}
 use Rattle.hx_steady.proofs.Entries.{served_lemma, still-run}
 use Rattle.hx_sound.proofs.Lengths.{session-line}
 use Rattle.hx_linear.proofs.Kept.{calls_kept}

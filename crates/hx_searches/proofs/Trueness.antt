@@ -24,7 +24,7 @@ use Rattle.hx_model.specs.Runs.{IsRun}
 use Rattle.hx_model.specs.Histories.{line_of}
 use Rattle.hx_model.specs.Linear.{began_before, ended_before}
 use Rattle.hx_model.specs.Searching.{FinishedSearch, IsSearchTrue, IsTrueRow, changes_object, cuts_of, no_change_before}
-use Rattle.hx_model.specs.Steady.{HasNoHalts, IsFixed}
+use Rattle.hx_steady.specs.Calm.{HasNoHalts, IsFixed}
 use Rattle.hx_steady.proofs.Lists.{any-in}
 use Rattle.hx_linear.proofs.Lists.{Pairwise}
 use Rattle.hx_linear.proofs.Kept.{SteadyRun}

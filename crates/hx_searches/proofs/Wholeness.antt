@@ -27,7 +27,7 @@ use Rattle.hx_model.specs.Runs.{IsRun}
 use Rattle.hx_model.specs.Histories.{line_of}
 use Rattle.hx_model.specs.Linear.{began_before, ended_before}
 use Rattle.hx_model.specs.Searching.{Cut, FinishedSearch, IsCutShown, IsSearchWhole, IsShown, changes_object, last_change}
-use Rattle.hx_model.specs.Steady.{HasNoHalts, IsFixed}
+use Rattle.hx_steady.specs.Calm.{HasNoHalts, IsFixed}
 use Rattle.hx_plan.proofs.Listing.{Contains-below}
 use Rattle.hx_plan.proofs.Planned.{all_asked, asked}
 use Rattle.hx_region.specs.Spans.{subspace_count}

@@ -6,7 +6,7 @@ use Rattle.hx_types.specs.declared.traces.Script.{Script}
 use Rattle.hx_types.specs.Fitting.{IsScript}
 use Rattle.hx_model.specs.Runs.{IsRun}
 use Rattle.hx_model.specs.Searching.{FinishedSearch, IsSearchTrue, IsSearchWhole, search_of}
-use Rattle.hx_model.specs.Steady.{HasNoHalts, IsFixed}
+use Rattle.hx_steady.specs.Calm.{HasNoHalts, IsFixed}
 
 -- in every run of a script without reconfiguration and halts each finished search is true, and whole for every key
 abbrev pub RunsSearchWell : Type 0

@@ -15,7 +15,7 @@ use Rattle.hx_types.specs.Fitting.{IsScript}
 use Rattle.hx_model.specs.SessionSteps.{session_step}
 use Rattle.hx_model.specs.Runs.{IsRun, Made, MayTake, made_of, session_of}
 use Rattle.hx_model.specs.Histories.{line_note, line_notes, line_of}
-use Rattle.hx_model.specs.Steady.{HasNoHalts, IsFixed}
+use Rattle.hx_steady.specs.Calm.{HasNoHalts, IsFixed}
 use Rattle.hx_steady.proofs.Sessions.{SessionTurn, session-turn}
 use Rattle.hx_steady.proofs.Kept.{Still, delivered-sent, lines}
 use Rattle.hx_steady.proofs.Entries.{served_lemma, still-run}

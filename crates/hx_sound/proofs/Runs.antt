@@ -25,7 +25,7 @@ use Rattle.hx_model.specs.CoordinatorSteps.{CoordinatorState, CoordinatorStep, c
 use Rattle.hx_model.specs.SessionSteps.{session_step}
 use Rattle.hx_model.specs.Runs.{IsRun, IsStep, MayTake, entry_at, entry_of, is_actor, made_of, post_named, server_of, session_of}
 use Rattle.hx_model.specs.Histories.{line_notes, line_of}
-use Rattle.hx_model.specs.Steady.{HasNoHalts, IsFixed, is_halt}
+use Rattle.hx_steady.specs.Calm.{HasNoHalts, IsFixed, is_halt}
 use Rattle.hx_steady.specs.Served.{leader_of, leader_slot}
 use Rattle.hx_steady.proofs.Lists.{in-map, in-slice_get}
 use Rattle.hx_steady.proofs.Lines.{in-line}

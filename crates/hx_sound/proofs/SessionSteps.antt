@@ -30,7 +30,7 @@ use Rattle.hx_types.specs.Posts.{IsSessionOf, IsSoundPost}
 use Rattle.hx_model.specs.Regions.{key_region}
 use Rattle.hx_model.specs.Planning.{plan_of}
 use Rattle.hx_model.specs.SessionSteps.{Part, SessionState, SessionStep, all_parts, ask_regions, ask_to, awaits, begin, call_to, end_with_parts, ending, is_key_call, lost_answer, send, send_to, session_message, session_step, session_tick, staying, with_part, with_poll}
-use Rattle.hx_model.specs.Steady.{IsFixed, reconfigures}
+use Rattle.hx_steady.specs.Calm.{IsFixed, reconfigures}
 use Rattle.hx_steady.proofs.Lists.{all-in, in-append, in-flat_map, in-provided, in-slice_get, when_some_both}
 use Rattle.hx_steady.proofs.Posts.{Sent}
 use Rattle.hx_sound.proofs.Hops.{head-server}

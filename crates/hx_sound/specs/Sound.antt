@@ -10,7 +10,7 @@ use Rattle.hx_types.specs.Posts.{IsSoundPost}
 use Rattle.hx_model.specs.Slots.{KeyState, top_of}
 use Rattle.hx_model.specs.ServerSteps.{Replica}
 use Rattle.hx_model.specs.Runs.{IsRun, post_named, server_of}
-use Rattle.hx_model.specs.Steady.{HasNoHalts}
+use Rattle.hx_steady.specs.Calm.{HasNoHalts}
 
 -- each post is sound for the script's space and sessions and its own entry
 abbrev pub PostsAreSound : Script → Type 0

@@ -21,7 +21,7 @@ use Rattle.hx_model.specs.CoordinatorSteps.{CoordinatorState, CoordinatorStep, c
 use Rattle.hx_model.specs.SessionSteps.{session_step}
 use Rattle.hx_model.specs.Runs.{IsRun, IsStep, Made, MayTake, coordinator_of, entry_of, made_of, server_of, session_of}
 use Rattle.hx_model.specs.Histories.{line_notes, line_of}
-use Rattle.hx_model.specs.Steady.{HasNoHalts, IsFixed, is_halt}
+use Rattle.hx_steady.specs.Calm.{HasNoHalts, IsFixed, is_halt}
 use Rattle.hx_steady.specs.Served.{Assigns, IsCaused, IsServed, Serves, floor_of, leader_of, leader_slot, posts_of}
 use Rattle.hx_steady.proofs.Lists.{in-append}
 use Rattle.hx_steady.proofs.Regions.{key-not-lost}

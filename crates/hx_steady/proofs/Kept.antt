@@ -28,7 +28,7 @@ use Rattle.hx_model.specs.ServerSteps.{Replica, ServerState, listed_regions, rep
 use Rattle.hx_model.specs.CoordinatorSteps.{coordinator_at_start}
 use Rattle.hx_model.specs.Runs.{MayTake, coordinator_of, entry_at, post_named, server_of, session_of}
 use Rattle.hx_model.specs.Histories.{line_of}
-use Rattle.hx_model.specs.Steady.{is_halt}
+use Rattle.hx_steady.specs.Calm.{is_halt}
 use Rattle.hx_steady.specs.Served.{WasCalled, leader_of, leader_slot, posts_of}
 use Rattle.hx_steady.proofs.Lists.{in-filter, in-map, in-slice_get, in_left, in_right, when_some_both}
 use Rattle.hx_steady.proofs.Lines.{Lawful}

@@ -30,7 +30,7 @@ use Rattle.hx_model.specs.Planning.{plan_of}
 use Rattle.hx_model.specs.SessionSteps.{SessionState, SessionStep, Part, all_parts, ask_regions, ask_to, awaits, begin, call_to, end_with_parts, ending, is_key_call, lost_answer, send, send_to, session_message, session_step, session_tick, staying, with_part, with_poll}
 use Rattle.hx_model.specs.CoordinatorSteps.{coordinator_at_start, coordinator_message, coordinator_step, resting, telling}
 use Rattle.hx_model.specs.Histories.{line_notes}
-use Rattle.hx_model.specs.Steady.{IsFixed, reconfigures}
+use Rattle.hx_steady.specs.Calm.{IsFixed, reconfigures}
 use Rattle.hx_steady.proofs.Lists.{in-append, in-flat_map, in-provided, when_some_both}
 use Rattle.hx_steady.proofs.Posts.{Sent}
 

@@ -25,7 +25,7 @@ use Rattle.hx_model.specs.Slots.{KeyState, new_state}
 use Rattle.hx_model.specs.ServerSteps.{Replica, ServerState, get_answer, replica_of, state_in}
 use Rattle.hx_model.specs.Runs.{IsRun, server_of, session_of}
 use Rattle.hx_model.specs.Histories.{line_of}
-use Rattle.hx_model.specs.Steady.{HasNoHalts}
+use Rattle.hx_steady.specs.Calm.{HasNoHalts}
 use Rattle.hx_model.specs.Lines.{line_object, upto}
 
 -- the first member of the key's region in the first configuration

@@ -1,7 +1,10 @@
 pub mod Moves
 pub mod Acknowledging
 pub mod Texts
-pub mod Finding
-pub mod Stepping
+pub mod Lists
+pub mod Setting
+pub mod Order
+pub mod Showing
 pub mod Reading
-pub mod Putting
+pub mod Finding
+pub mod ComingBack

@@ -1,127 +1,111 @@
 -- What is read of a store's slots, one after another.
-use Rattle.std.proofs.Common.{◌≡◌, ℕ, zero, suc, ◌==◌, nat_lt, Bool, true, false, cond, List, [], ◌∷◌, ◌++◌, map, Option, None, Some, refl, ap, sym, ◌∙◌, subst, arith, add-one, append_assoc, append-nil, take, ◌+◌}
-use Rattle.std.specs.Borrow.{Bor}
-use Rattle.std.specs.List.{All, AllByRecursion, filter, flat_map, slice_get}
-use Rattle.std.proofs.lemmas.Bool.{cond_both, cond-true, cond-false, lt-ltb, ne_eqb}
-use Rattle.std.proofs.lemmas.List.Elements.{All-from_recursion, filter-append, recursion_from_All}
-use Rattle.std.proofs.lemmas.Option.{same_Some}
+use Rattle.std.proofs.Common.{◌≡◌, ℕ, zero, suc, ◌+◌, ◌==◌, nat_lt, Bool, true, false, cond, List, [], ◌∷◌, ◌++◌, map, take, None, Some, refl, ap, sym, ◌∙◌, arith, append_assoc, append-nil}
+use Rattle.std.specs.List.{AllByRecursion, filter, slice_get}
+use Rattle.std.proofs.lemmas.Bool.{cond-true, cond-false, lt-ltb, ne_eqb}
+use Rattle.std.proofs.lemmas.List.Elements.{filter-append}
 use Rattle.hx_types.specs.declared.calls.Row.{Row}
 use Rattle.hx_types.specs.declared.ids.RegionId.{RegionId}
 use Rattle.hx_types.specs.declared.snapshots.Kept.{Kept}
+use Rattle.hx_types.specs.declared.updates.Update.{Update}
 use Rattle.hx_types.specs.declared.values.Term.{Term}
-use Rattle.hx_types.specs.Words.{list_of}
+use Rattle.hx_types.specs.Words.{list_of, same_text, text_below}
+use Rattle.hx_folds.specs.Folding.{KeptsAscend, KeysAscend}
 use Rattle.hx_model.specs.Matching.{matches}
-use Rattle.hx_model.specs.Slots.{KeyState, found_in, kept_of, object_of, pending_of, pending_of_all, rows_of, snapshot_of}
+use Rattle.hx_model.specs.ServerSteps.{state_from}
+use Rattle.hx_model.specs.Slots.{KeyState, found_in, kept_of, object_of, pending_of, pending_of_all, rows_of, snapshot_of, with_state}
+use Rattle.hx_folds.proofs.Texts.{below-differs}
 use Rattle.hx_slot.specs.States.{SlotState}
-use Rattle.hx_store.specs.Held.{Entry, slots_of, states_of}
 use Rattle.hx_store.specs.Reading.{committed_of, matches_of}
-use Rattle.hx_store.specs.Stores.{lent, lent_states}
-use Rattle.hx_store.proofs.Finding.{Each}
+use Rattle.hx_store.proofs.Lists.{all-at, take_next}
+use Rattle.hx_store.proofs.Order.{differ-back, not-below-back}
 
-abbrev state_in : SlotState → KeyState
-state_in s = s.state
+abbrev test : List Term → Row → Bool
+test terms r = matches terms r.key r.object
 
-states_lent : (bs : List (Bor SlotState)) → lent_states bs ≡ map state_in (lent bs)
-states_lent [] = refl
-states_lent (b ∷ rest) = ap (λ l. b.now.state ∷ l) (states_lent rest)
+found-more : (g : RegionId) (terms : List Term) (xs : List KeyState) (s : KeyState) → found_in g terms (xs ++ s ∷ []) ≡ found_in g terms xs ++ filter (test terms) (list_of (object_of g s))
+found-more g terms [] s = ap (filter (test terms)) (append-nil (list_of (object_of g s)))
+found-more g terms (x ∷ xs) s =
+    filter-append (test terms) (list_of (object_of g x)) (rows_of g (xs ++ s ∷ []))
+    ∙ ap (λ (l : List Row). filter (test terms) (list_of (object_of g x)) ++ l) (found-more g terms xs s)
+    ∙ sym (append_assoc (filter (test terms) (list_of (object_of g x))) (found_in g terms xs) (filter (test terms) (list_of (object_of g s))))
+    ∙ ap (λ (l : List Row). l ++ filter (test terms) (list_of (object_of g s))) (sym (filter-append (test terms) (list_of (object_of g x)) (rows_of g xs)))
 
-states_held : (es : List Entry) → states_of es ≡ map state_in (slots_of es)
-states_held [] = refl
-states_held (e ∷ es) = by e.1.opened (states_held es)
-  where
-    by : (o : Bool) → states_of es ≡ map state_in (slots_of es) → cond o (e.1.slot.state ∷ states_of es) (states_of es) ≡ map state_in (cond o (e.1.slot ∷ slots_of es) (slots_of es))
-    by true h = ap (λ l. e.1.slot.state ∷ l) h
-    by false h = h
+-- one slot more of those that were searched
+pub found-next : (g : RegionId) (terms : List Term) (states : List KeyState) (i : ℕ) (b : SlotState) (rows new : List Row) → slice_get states i ≡ Some b.state → b.region ≡ g → rows ≡ found_in g terms (take i states) → new ≡ rows ++ matches_of terms b
+    → new ≡ found_in g terms (take (i + 1) states)
+found-next g terms states i b rows new at region so is =
+    is
+    ∙ ap (λ (r : RegionId). rows ++ filter (test terms) (list_of (object_of r b.state))) region
+    ∙ ap (λ (l : List Row). l ++ filter (test terms) (list_of (object_of g b.state))) so
+    ∙ sym (found-more g terms (take i states) b.state)
+    ∙ ap (found_in g terms) (sym (take_next states i b.state at))
 
-pub lent_held : (bs : List (Bor SlotState)) (es : List Entry) → lent bs ≡ slots_of es → lent_states bs ≡ states_of es
-lent_held bs es h = states_lent bs ∙ ap (map state_in) h ∙ sym (states_held es)
+one_kept : (n : ℕ) (k : Kept) (g : RegionId) (s : KeyState) → kept_of g s ≡ k → map (kept_of g) (cond (nat_lt 0 n) (s ∷ []) []) ≡ list_of (cond (n == 0) None (Some k))
+one_kept zero k g s e = refl
+one_kept (suc n) k g s e =
+    ap (map (kept_of g)) (cond-true (nat_lt 0 (suc n)) (s ∷ []) [] (lt-ltb 0 (suc n) (omega arith)))
+    ∙ ap (λ (x : Kept). x ∷ []) e
+    ∙ sym (ap list_of (cond-false (suc n == 0) None (Some k) (ne_eqb (suc n) 0 (λ q. omega (arith, q)))))
 
-abbrev IsOf : RegionId → SlotState → Type 0
-IsOf g s = s.region ≡ g
+map-more : {A B : Type 0} (f : A → B) (xs ys : List A) → map f (xs ++ ys) ≡ map f xs ++ map f ys
+map-more f [] ys = refl
+map-more f (x ∷ xs) ys = ap (λ l. f x ∷ l) (map-more f xs ys)
 
-abbrev AreLentOf : RegionId → List (Bor SlotState) → Type 0
-AreLentOf g bs = AllByRecursion (λ (b : Bor SlotState). b.now.region ≡ g) bs
+abbrev above_zero : KeyState → Bool
+above_zero s = nat_lt 0 s.floor
 
-held_regions : (g : RegionId) (marks : Bool) (es : List Entry) → Each g marks es → AllByRecursion (IsOf g) (slots_of es)
-held_regions g marks [] h = tt
-held_regions g marks (e ∷ es) h =
-    cond_both e.1.opened (e.1.slot ∷ slots_of es) (slots_of es) (AllByRecursion (IsOf g))
-    (λ o. (h.0.region, held_regions g marks es h.1))
-    (λ o. held_regions g marks es h.1)
+pub kept-next : (g : RegionId) (states : List KeyState) (i : ℕ) (b : SlotState) (kept new : List Kept) → slice_get states i ≡ Some b.state → b.region ≡ g → kept ≡ snapshot_of g (take i states) → new ≡ kept ++ committed_of b → new ≡ snapshot_of g (take (i + 1) states)
+kept-next g states i b kept new at region so is =
+    is
+    ∙ ap (λ (l : List Kept). l ++ committed_of b) so
+    ∙ ap (λ (l : List Kept). snapshot_of g (take i states) ++ l) (sym (one_kept b.state.floor (kept_of b.region b.state) g b.state (ap (λ (r : RegionId). kept_of r b.state) (sym region))))
+    ∙ sym (map-more (kept_of g) (filter above_zero (take i states)) (filter above_zero (b.state ∷ [])))
+    ∙ ap (map (kept_of g)) (sym (filter-append above_zero (take i states) (b.state ∷ [])))
+    ∙ ap (snapshot_of g) (sym (take_next states i b.state at))
 
-regions_lent : (g : RegionId) (bs : List (Bor SlotState)) → AllByRecursion (IsOf g) (lent bs) → AreLentOf g bs
-regions_lent g [] h = tt
-regions_lent g (b ∷ rest) h = (h.0, regions_lent g rest h.1)
+pending-more : (xs : List KeyState) (s : KeyState) → pending_of_all (xs ++ s ∷ []) ≡ pending_of_all xs ++ pending_of s
+pending-more [] s = append-nil (pending_of s)
+pending-more (x ∷ xs) s = ap (λ (l : List Update). pending_of x ++ l) (pending-more xs s) ∙ sym (append_assoc (pending_of x) (pending_of_all xs) (pending_of s))
 
--- the slots that are lent are of the region
-pub lent_of : (g : RegionId) (marks : Bool) (bs : List (Bor SlotState)) (es : List Entry) → Each g marks es → lent bs ≡ slots_of es → All (λ (b : Bor SlotState). b.now.region ≡ g) bs
-lent_of g marks bs es h e =
-    All-from_recursion (λ (b : Bor SlotState). b.now.region ≡ g) bs
-    (regions_lent g bs (subst (AllByRecursion (IsOf g)) (sym e) (held_regions g marks es h)))
+pub pending-next : (states : List KeyState) (i : ℕ) (s : KeyState) (us new : List Update) → slice_get states i ≡ Some s → us ≡ pending_of_all (take i states) → new ≡ us ++ pending_of s → new ≡ pending_of_all (take (i + 1) states)
+pending-next states i s us new at so is = is ∙ ap (λ (l : List Update). l ++ pending_of s) so ∙ sym (pending-more (take i states) s) ∙ ap pending_of_all (sym (take_next states i s at))
 
--- one slot more was lent
-pub one_lent : (bs : List (Bor SlotState)) (b : Bor SlotState) (rest : List SlotState) → lent (bs ++ b ∷ []) ++ rest ≡ lent bs ++ b.now ∷ rest
-one_lent [] b rest = refl
-one_lent (x ∷ bs) b rest = ap (λ l. x.now ∷ l) (one_lent bs b rest)
+all-take : {A : Type 0} (P : A → Type 0) (i : ℕ) (xs : List A) → AllByRecursion P xs → AllByRecursion P (take i xs)
+all-take P zero xs h = tt
+all-take P (suc i) [] h = tt
+all-take P (suc i) (x ∷ xs) h = (h.0, all-take P i xs h.1)
 
--- an entry that is open lends its slot, one that isn't lends none
-pub open_lent : (bs : List (Bor SlotState)) (b : Bor SlotState) (e : Entry) (t u : List Entry) (all : List SlotState) → t ≡ e ∷ u → e.1.opened ≡ true → b.now ≡ e.1.slot → lent bs ++ slots_of t ≡ all → lent (bs ++ b ∷ []) ++ slots_of u ≡ all
-open_lent bs b e t u all at o is h =
-    one_lent bs b (slots_of u)
-    ∙ ap (λ (s : SlotState). lent bs ++ s ∷ slots_of u) is
-    ∙ ap (λ (l : List SlotState). lent bs ++ l) (sym (ap slots_of at ∙ cond-true e.1.opened (e.1.slot ∷ slots_of u) (slots_of u) o))
-    ∙ h
+-- the keys of the first slots ascend
+pub ascend-take : (i : ℕ) (states : List KeyState) → KeysAscend states → KeysAscend (take i states)
+ascend-take zero states h = tt
+ascend-take (suc i) [] h = tt
+ascend-take (suc i) (s ∷ rest) h = (all-take (λ (t : KeyState). text_below s.base.key t.base.key ≡ true) i rest h.0, ascend-take i rest h.1)
 
-pub closed_lent : (bs : List (Bor SlotState)) (e : Entry) (t u : List Entry) (all : List SlotState) → t ≡ e ∷ u → e.1.opened ≡ false → lent bs ++ slots_of t ≡ all → lent bs ++ slots_of u ≡ all
-closed_lent bs e t u all at o h = ap (λ (l : List SlotState). lent bs ++ l) (sym (ap slots_of at ∙ cond-false e.1.opened (e.1.slot ∷ slots_of u) (slots_of u) o)) ∙ h
+-- a slot above all others stands at their end
+put-last : (s : KeyState) (states : List KeyState) → AllByRecursion (λ (t : KeyState). text_below t.base.key s.base.key ≡ true) states → with_state s states ≡ states ++ s ∷ []
+put-last s [] h = refl
+put-last s (x ∷ rest) h =
+    cond-false (same_text x.base.key s.base.key) _ _ (differ-back s.base.key x.base.key (below-differs x.base.key s.base.key h.0))
+    ∙ cond-false (text_below s.base.key x.base.key) _ _ (not-below-back x.base.key s.base.key h.0)
+    ∙ ap (λ (l : List KeyState). x ∷ l) (put-last s rest h.1)
 
-pub all_lent : (bs : List (Bor SlotState)) (t : List Entry) (all : List SlotState) → t ≡ [] → lent bs ++ slots_of t ≡ all → lent bs ≡ all
-all_lent bs t all at h = sym (append-nil (lent bs)) ∙ ap (λ (l : List Entry). lent bs ++ slots_of l) (sym at) ∙ h
+pub from-key : (marks : Bool) (k : Kept) → (state_from marks k).base.key ≡ k.key
+from-key true k = refl
+from-key false k = refl
 
-found_by : (g : RegionId) (terms : List Term) (bs : List (Bor SlotState)) → AreLentOf g bs → flat_map (λ (b : Bor SlotState). matches_of terms b.now) bs ≡ found_in g terms (lent_states bs)
-found_by g terms [] h = refl
-found_by g terms (b ∷ rest) h =
-    let P : Row → Bool = λ r. matches terms r.key r.object in
-    ap (λ (l : List Row). matches_of terms b.now ++ l) (found_by g terms rest h.1)
-    ∙ ap (λ (x : RegionId). filter P (list_of (object_of x b.now.state)) ++ filter P (rows_of g (lent_states rest))) h.0
-    ∙ sym (filter-append P (list_of (object_of g b.now.state)) (rows_of g (lent_states rest)))
+below-front : (marks : Bool) (snapshot : List Kept) (i : ℕ) (k : Kept) → KeptsAscend snapshot → slice_get snapshot i ≡ Some k
+    → AllByRecursion (λ (t : KeyState). text_below t.base.key (state_from marks k).base.key ≡ true) (map (state_from marks) (take i snapshot))
+below-front marks [] i k h at = absurd cc
+below-front marks (x ∷ xs) zero k h at = tt
+below-front marks (x ∷ xs) (suc i) k h at = (
+  ap (λ (l : List ℕ). text_below l (state_from marks k).base.key) (from-key marks x) ∙ ap (text_below x.key) (from-key marks k) ∙ all-at (λ (y : Kept). text_below x.key y.key ≡ true) xs i k h.0 at,
+  below-front marks xs i k h.1 at,
+)
 
-pub found_lent : (g : RegionId) (terms : List Term) (bs : List (Bor SlotState)) (states : List KeyState) → All (λ (b : Bor SlotState). b.now.region ≡ g) bs → lent_states bs ≡ states → flat_map (λ (b : Bor SlotState). matches_of terms b.now) bs ≡ found_in g terms states
-found_lent g terms bs states h e = found_by g terms bs (recursion_from_All (λ (b : Bor SlotState). b.now.region ≡ g) bs h) ∙ ap (found_in g terms) e
-
-one_kept : (n : ℕ) (k : Kept) (states : List KeyState) (g : RegionId) (s : KeyState) → kept_of g s ≡ k → list_of (cond (n == 0) None (Some k)) ++ map (kept_of g) states ≡ map (kept_of g) (cond (nat_lt 0 n) (s ∷ states) states)
-one_kept zero k states g s e = refl
-one_kept (suc n) k states g s e =
-    ap (λ (o : Option Kept). list_of o ++ map (kept_of g) states) (cond-false (suc n == 0) None (Some k) (ne_eqb (suc n) 0 (λ q. omega (arith, q))))
-    ∙ ap (λ (x : Kept). x ∷ map (kept_of g) states) (sym e)
-    ∙ sym (ap (map (kept_of g)) (cond-true (nat_lt 0 (suc n)) (s ∷ states) states (lt-ltb 0 (suc n) (omega arith))))
-
-kept_by : (g : RegionId) (bs : List (Bor SlotState)) → AreLentOf g bs → flat_map (λ (b : Bor SlotState). committed_of b.now) bs ≡ snapshot_of g (lent_states bs)
-kept_by g [] h = refl
-kept_by g (b ∷ rest) h =
-    let above : List KeyState = filter (λ (s : KeyState). nat_lt 0 s.floor) (lent_states rest) in
-    ap (λ (l : List Kept). committed_of b.now ++ l) (kept_by g rest h.1)
-    ∙ one_kept b.now.state.floor (kept_of b.now.region b.now.state) above g b.now.state (ap (λ (x : RegionId). kept_of x b.now.state) (sym h.0))
-
-pub kept_lent : (g : RegionId) (bs : List (Bor SlotState)) (states : List KeyState) → All (λ (b : Bor SlotState). b.now.region ≡ g) bs → lent_states bs ≡ states → flat_map (λ (b : Bor SlotState). committed_of b.now) bs ≡ snapshot_of g states
-kept_lent g bs states h e = kept_by g bs (recursion_from_All (λ (b : Bor SlotState). b.now.region ≡ g) bs h) ∙ ap (snapshot_of g) e
-
-take_one : {A : Type 0} (xs : List A) (i : ℕ) (x : A) → slice_get xs i ≡ Some x → take (suc i) xs ≡ take i xs ++ x ∷ []
-take_one [] i x e = absurd cc
-take_one (y ∷ ys) zero x e = ap (λ z. z ∷ []) (same_Some y x e)
-take_one (y ∷ ys) (suc i) x e = ap (λ zs. y ∷ zs) (take_one ys i x e)
-
--- one item more of a list
-pub take_next : {A : Type 0} (xs : List A) (i : ℕ) (x : A) → slice_get xs i ≡ Some x → take (i + 1) xs ≡ take i xs ++ x ∷ []
-take_next xs i x e = ap (λ n. take n xs) (add-one i) ∙ take_one xs i x e
-
--- and of those that stand behind others
-pub more_of : {A : Type 0} (before new now xs : List A) (i : ℕ) (x : A) → now ≡ before ++ take i xs → slice_get xs i ≡ Some x → new ≡ now ++ x ∷ [] → new ≡ before ++ take (i + 1) xs
-more_of before new now xs i x e at is = is ∙ ap (λ l. l ++ x ∷ []) e ∙ append_assoc before (take i xs) (x ∷ []) ∙ sym (ap (λ l. before ++ l) (take_next xs i x at))
-
-pending_by : (bs : List (Bor SlotState)) → flat_map (λ (b : Bor SlotState). pending_of b.now.state) bs ≡ pending_of_all (lent_states bs)
-pending_by [] = refl
-pending_by (b ∷ rest) = ap (λ l. pending_of b.now.state ++ l) (pending_by rest)
-
-pub pending_lent : (bs : List (Bor SlotState)) (states : List KeyState) → lent_states bs ≡ states → flat_map (λ (b : Bor SlotState). pending_of b.now.state) bs ≡ pending_of_all states
-pending_lent bs states e = pending_by bs ∙ ap pending_of_all e
+-- one kept state more of those that were installed
+pub installed-next : (marks : Bool) (snapshot : List Kept) (i : ℕ) (k : Kept) → KeptsAscend snapshot → slice_get snapshot i ≡ Some k
+    → with_state (state_from marks k) (map (state_from marks) (take i snapshot)) ≡ map (state_from marks) (take (i + 1) snapshot)
+installed-next marks snapshot i k h at =
+    put-last (state_from marks k) (map (state_from marks) (take i snapshot)) (below-front marks snapshot i k h at)
+    ∙ sym (map-more (state_from marks) (take i snapshot) (k ∷ []))
+    ∙ ap (map (state_from marks)) (sym (take_next snapshot i k at))

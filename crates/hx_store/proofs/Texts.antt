@@ -1,62 +1,18 @@
--- Byte order of texts, as a map of texts keeps it and as the definitions say it.
-use Rattle.std.proofs.Common.{◌≡◌, ℕ, Bool, true, false, ◌&&◌, ◌||◌, ◌==◌, nat_lt, cond, List, [], ◌∷◌, refl, ap, sym, ◌∙◌}
+-- Byte order of texts, as it is compared and as the definitions say it.
+use Rattle.std.proofs.Common.{◌≡◌, ℕ, Bool, true, false, ◌&&◌, ◌||◌, ◌==◌, nat_lt, cond, List, [], ◌∷◌, refl}
 use Rattle.std.specs.Cmp.Lexicographic.{slice_cmp}
 use Rattle.std.specs.declared.cmp.Ordering.TheVariants.{Less, Equal, Greater}
-use Rattle.std.specs.Ordering.{is_eq, is_lt, nat_cmp, ordering_then, ordering_reverse}
+use Rattle.std.specs.Ordering.{is_lt, nat_cmp, ordering_then}
 use Rattle.std.specs.declared.cmp.Ordering.{Ordering}
-use Rattle.std.proofs.lemmas.Cmp.{nat_list_cmp_total}
-use Rattle.std.proofs.lemmas.Map.Text.{is_eq-slice_cmp}
-use Rattle.std.proofs.lemmas.Slice.Eq.{bytes_eq-Decides}
-use Rattle.hx_types.specs.Words.{same_text, text_below}
-
--- how two texts compare
-abbrev pub order : List ℕ → List ℕ → Ordering
-order a b = slice_cmp nat_cmp a b
+use Rattle.hx_types.specs.Words.{text_below}
 
 by_first : (less equal : Bool) (rest : Ordering) (below : Bool) → below ≡ is_lt rest → (less || (equal && below)) ≡ is_lt (ordering_then (cond less Less (cond equal Equal Greater)) rest)
 by_first true equal rest below h = refl
 by_first false true rest below h = h
 by_first false false rest below h = refl
 
-pub below_is : (a b : List ℕ) → text_below a b ≡ is_lt (order a b)
+pub below_is : (a b : List ℕ) → text_below a b ≡ is_lt (slice_cmp nat_cmp a b)
 below_is [] [] = refl
 below_is [] (y ∷ ys) = refl
 below_is (x ∷ xs) [] = refl
-below_is (x ∷ xs) (y ∷ ys) = by_first (nat_lt x y) (x == y) (order xs ys) (text_below xs ys) (below_is xs ys)
-
-pub same_is : (a b : List ℕ) → same_text a b ≡ is_eq (order a b)
-same_is a b = sym (is_eq-slice_cmp a b)
-
-pub equal_from : (a b : List ℕ) → is_eq (order a b) ≡ true → a ≡ b
-equal_from a b e = (bytes_eq-Decides a b).0 (same_is a b ∙ e)
-
-pub same_self : (a b : List ℕ) → a ≡ b → same_text a b ≡ true
-same_self a b e = (bytes_eq-Decides a b).1 e
-
-pub turned : (a b : List ℕ) → order a b ≡ ordering_reverse (order b a)
-turned a b = nat_list_cmp_total.antisymm a b
-
-eq_turned : (o : Ordering) → is_eq (ordering_reverse o) ≡ is_eq o
-eq_turned Less = refl
-eq_turned Equal = refl
-eq_turned Greater = refl
-
--- sameness looks the same from either side
-pub same_turned : (a b : List ℕ) → same_text a b ≡ is_eq (order b a)
-same_turned a b = same_is a b ∙ ap is_eq (turned a b) ∙ eq_turned (order b a)
-
--- of a lower text
-pub lower_differs : (a b : List ℕ) → order a b ≡ Less → same_text a b ≡ false
-lower_differs a b l = same_is a b ∙ ap is_eq l
-
-pub higher_differs : (a b : List ℕ) → order a b ≡ Less → same_text b a ≡ false
-higher_differs a b l = same_turned b a ∙ ap is_eq l
-
-pub lower_below : (a b : List ℕ) → order a b ≡ Less → text_below a b ≡ true
-lower_below a b l = below_is a b ∙ ap is_lt l
-
-pub higher_not_below : (a b : List ℕ) → order a b ≡ Less → text_below b a ≡ false
-higher_not_below a b l = below_is b a ∙ ap is_lt (turned b a) ∙ ap (λ o. is_lt (ordering_reverse o)) l
-
-pub equal_is : (a b : List ℕ) → a ≡ b → is_eq (order a b) ≡ true
-equal_is a b e = sym (same_is a b) ∙ same_self a b e
+below_is (x ∷ xs) (y ∷ ys) = by_first (nat_lt x y) (x == y) (slice_cmp nat_cmp xs ys) (text_below xs ys) (below_is xs ys)

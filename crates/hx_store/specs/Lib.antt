@@ -1,3 +1,3 @@
 pub mod Stores
-pub mod Held
+pub mod Invariant
 pub mod Reading

@@ -1,12 +1,15 @@
 -- What is read of a slot.
-use Rattle.std.specs.Prelude.{List}
-use Rattle.std.specs.List.{filter}
+use Rattle.std.specs.Prelude.{◌≡◌, ℕ, Bool, List, map}
+use Rattle.std.specs.List.{AllByRecursion, filter}
 use Rattle.hx_types.specs.declared.calls.Row.{Row}
 use Rattle.hx_types.specs.declared.snapshots.Kept.{Kept}
 use Rattle.hx_types.specs.declared.values.Term.{Term}
 use Rattle.hx_types.specs.Words.{list_of}
 use Rattle.hx_model.specs.Matching.{matches}
-use Rattle.hx_model.specs.Slots.{object_of}
+use Rattle.hx_folds.specs.Folding.{KeysAscend}
+use Rattle.hx_model.specs.ServerSteps.{state_from}
+use Rattle.hx_model.specs.Slots.{KeyState, kept_of, no_kept, object_of, snapshot_of, state_among}
+use Rattle.hx_types.specs.declared.ids.RegionId.{RegionId}
 use Rattle.hx_slot.specs.States.{SlotState, committed_state}
 
 -- the committed object, where every term holds of it
@@ -16,3 +19,13 @@ matches_of terms s = filter (λ (r : Row). matches terms r.key r.object) (list_o
 -- the committed state, where something is committed
 abbrev pub committed_of : SlotState → List Kept
 committed_of s = list_of (committed_state s.region s.state)
+
+-- below version 1 a slot is empty
+abbrev pub IsEmptyBelow : RegionId → KeyState → Type 0
+IsEmptyBelow g s = s.floor ≡ 0 → kept_of g s ≡ no_kept s.base.key
+
+-- a snapshot that is installed gives each key what was committed of it, and nothing pending
+abbrev pub SnapshotsComeBack : Type 0
+SnapshotsComeBack =
+    (g : RegionId) (marks : Bool) (states : List KeyState) → KeysAscend states → AllByRecursion (IsEmptyBelow g) states → (key : List ℕ)
+    → state_among marks key (map (state_from marks) (snapshot_of g states)) ≡ state_from marks (kept_of g (state_among marks key states))

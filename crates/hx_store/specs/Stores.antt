@@ -1,36 +1,65 @@
 -- A store as contracts see it: the slots of a region, in byte order of keys.
-use Rattle.std.specs.Prelude.{◌≡◌, ℕ, ◌<◌, ◌≤◌, Bool, true, ⊤, List, [], ◌∷◌, ◌++◌, map, length, if◌then◌else◌, IsSomeAnd, Option, None, Some}
-use Rattle.std.specs.Borrow.{Bor}
-use Rattle.std.specs.List.{All, AllByRecursion}
+use Rattle.std.specs.Prelude.{◌≡◌, ℕ, zero, suc, ◌+◌, ◌<◌, ◌≤◌, Bool, true, false, ⊤, List, [], ◌∷◌, ◌++◌, map, length}
+use Rattle.std.specs.List.{All, list_any, slice_get}
 use Rattle.hx_types.specs.declared.ids.RegionId.{RegionId}
 use Rattle.hx_types.specs.declared.ids.Version.{Version}
 use Rattle.hx_types.specs.declared.updates.Place.{Place}
 use Rattle.hx_types.specs.declared.updates.Update.{Update}
-use Rattle.hx_types.specs.Words.{same_text, text_below}
+use Rattle.hx_types.specs.Words.{same_text, when_some}
 use Rattle.hx_model.specs.Neighbours.{place_number}
 use Rattle.hx_folds.specs.Folding.{folded}
-use Rattle.hx_slot.specs.States.{SlotState}
 use Rattle.hx_model.specs.Slots.{Acknowledge, KeyState, acknowledged, Move, is_pending, moved_all, offered, settled, state_among, with_state}
 
--- for how many more updates there is room at a key
+-- a key of which a replica has heard, and for how many more updates there is room at its slot
 pub record Room : Type 0 where
   pub key : List ℕ
   pub spare : ℕ
 
--- marks: whether the slots keep marks and touches, as those of key regions do
+-- marks: whether the slots keep marks and touches, as those of key regions do; states: the slots in byte order of keys;
+-- rooms: by the places of their keys, which are the numbers in the order of coming
 pub record StoreState : Type 0 where
   pub region : RegionId
   pub marks : Bool
   pub states : List KeyState
   pub rooms : List Room
 
-abbrev pub room_in : List ℕ → List Room → Option ℕ
-room_in key [] = None
-room_in key (r ∷ rest) = if same_text r.key key then Some r.spare else room_in key rest
+-- the key at a place, and the room at its slot
+abbrev pub key_at : StoreState → ℕ → List ℕ
+key_at s place = when_some (slice_get s.rooms place) [] (λ (r : Room). r.key)
 
--- there is room for n more updates of the key
-abbrev pub HasRoom : List ℕ → ℕ → StoreState → Type 0
-HasRoom key n s = IsSomeAnd (room_in key s.rooms) (λ spare. n ≤ spare)
+abbrev pub spare_at : StoreState → ℕ → ℕ
+spare_at s place = when_some (slice_get s.rooms place) 0 (λ (r : Room). r.spare)
+
+-- the place is that of the key
+pub record IsPlace (s : StoreState) (place : ℕ) (key : List ℕ) : Type 0 where
+  pub within : place < length s.rooms
+  pub key_is : key_at s place ≡ key
+
+-- a key has a place, or a slot
+abbrev pub has_place : StoreState → List ℕ → Bool
+has_place s key = list_any (λ (r : Room). same_text r.key key) s.rooms
+
+abbrev pub has_slot : List ℕ → List KeyState → Bool
+has_slot key states = list_any (λ (s : KeyState). same_text s.base.key key) states
+
+-- every key keeps its place, and no room falls
+abbrev pub KeepsRooms : List Room → List Room → Type 0
+KeepsRooms [] new = ⊤
+KeepsRooms (r ∷ old) [] = ⊥
+KeepsRooms (r ∷ old) (q ∷ new) = (q.key ≡ r.key) × (r.spare ≤ q.spare) × KeepsRooms old new
+
+-- nor does any but that of a key
+abbrev pub KeepsOtherRooms : List ℕ → List Room → List Room → Type 0
+KeepsOtherRooms key [] new = ⊤
+KeepsOtherRooms key (r ∷ old) [] = ⊥
+KeepsOtherRooms key (r ∷ old) (q ∷ new) = (q.key ≡ r.key) × (same_text r.key key ≡ false → r.spare ≤ q.spare) × KeepsOtherRooms key old new
+
+-- nor does any but that at a place, which falls by at most 1
+abbrev pub UsesRoom : ℕ → List Room → List Room → Type 0
+UsesRoom place [] new = ⊤
+UsesRoom place (r ∷ old) [] = ⊥
+UsesRoom zero (r ∷ old) (q ∷ new) = (q.key ≡ r.key) × (r.spare ≤ q.spare + 1) × KeepsRooms old new
+UsesRoom (suc place) (r ∷ old) (q ∷ new) = (q.key ≡ r.key) × (r.spare ≤ q.spare) × UsesRoom place old new
 
 -- the slot of a key, an empty one where there is none
 abbrev pub state_at : StoreState → List ℕ → KeyState
@@ -39,21 +68,6 @@ state_at s key = state_among s.marks key s.states
 -- the slots after a step of a key's
 abbrev pub after_step : StoreState → List ℕ → (RegionId → KeyState → KeyState) → List KeyState
 after_step s key step = with_state (step s.region (state_at s key)) s.states
-
--- the keys of slots ascend
-abbrev pub KeysAscend : List KeyState → Type 0
-KeysAscend [] = ⊤
-KeysAscend (s ∷ rest) = AllByRecursion (λ (t : KeyState). text_below s.base.key t.base.key ≡ true) rest × KeysAscend rest
-
--- the slots that are lent
-abbrev pub lent : List (Bor SlotState) → List SlotState
-lent [] = []
-lent (b ∷ rest) = b.now ∷ lent rest
-
--- their states
-abbrev pub lent_states : List (Bor SlotState) → List KeyState
-lent_states [] = []
-lent_states (b ∷ rest) = b.now.state ∷ lent_states rest
 
 -- an update that the slot of a region can be offered
 pub record CanBeOffered (g : RegionId) (u : Update) (place : ℕ) : Type 0 where

@@ -1,19 +1,23 @@
 //! The slots of one region at one server, found by their keys.
 //!
-//! A [`Store`] keeps a slot for each key of which the replica has heard, in byte order of keys.
-//! Room for a step is made before it, by [`Store::reserve`], so that the step itself takes no
-//! memory; a slot that was made then is part of the store only once a step opens it.
+//! A [`Store`] numbers the keys of which the replica has heard in the order of their coming; the
+//! number is the key's place. A step looks its key up once, and goes by the place then. Room for it
+//! is made before it, by [`Store::reserve`], so that the step itself takes no memory; a slot that
+//! was made then is part of the store only once a step opens it. Searches and snapshots go through
+//! the slots in byte order of keys.
 //!
 //! That memory suffices no contract says: a test shows it.
 #![tactic(auto)]
 
 mod copying;
-mod maps;
+mod laws;
+mod places;
 mod searching;
-mod slots;
+mod store_slot;
 mod stores;
 
-pub use slots::settle_all;
+pub use laws::snapshots_come_back;
+pub use store_slot::settle_all;
 pub use stores::Store;
 
 #[cfg(test)]

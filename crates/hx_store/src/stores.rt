@@ -1,39 +1,49 @@
-ghost use Rattle.std.specs.Prelude.{◌≡◌, ◌<◌, ◌≤◌, true, [], OnErr, OnOk, IfNone, IfOk, IfSome, IsSome};
+ghost use Rattle.std.specs.Prelude.{◌≡◌, ℕ, ◌<◌, ◌≤◌, [], IfNone, IfOk, IfSome, OnErr, OnOk, false, is_some, length, map, slice_get, take};
 ghost use Rattle.std.specs.Borrow.{Bor};
 ghost use Rattle.std.specs.List.{All};
-ghost use Rattle.hx_model.specs.Slots.{found_in, moved_all, new_state, offered, pending_of_all, snapshot_of, state_among, with_state};
-ghost use Rattle.hx_slot.specs.States.{SlotState};
-ghost use Rattle.hx_store.specs.Stores.{ArePending, CanBeOffered, HasRoom, KeysAscend, accepted_at, acknowledged_at, after_step, lent_states, no_moves, state_at};
+ghost use Rattle.std.specs.Option.{option_map};
+ghost use Rattle.hx_folds.specs.Folding.{KeptsAscend, KeysAscend};
+ghost use Rattle.hx_model.specs.ServerSteps.{state_from};
+ghost use Rattle.hx_model.specs.Slots.{found_in, moved_all, offered, pending_of_all, snapshot_of, with_state};
+ghost use Rattle.hx_slot.specs.States.{IsOrderly, SlotState};
+ghost use Rattle.hx_store.specs.Stores.{ArePending, CanBeOffered, IsPlace, KeepsOtherRooms, KeepsRooms, UsesRoom, accepted_at, acknowledged_at, after_step, has_place, has_slot, key_at, no_moves, spare_at, state_at};
 
-use crate::copying::{kept_of, pending_of};
-use crate::maps::{
-    Slots, accept_at, acknowledge_at, held, make, open_at, opened, put_at, slot_of, widen,
+use crate::copying::{add_kept, add_pending};
+use crate::places::{
+    Slots, accept_at, acknowledge_at, add, insert_within, list_at, lower_count, place_of,
+    replace_at, reserve_at, stored_at,
 };
-use crate::searching::matching;
+use crate::searching::add_match;
 use hx_slot::Slot;
-use hx_types::{Memory, RegionId, Rows, Snapshot, Terms, Text, Update, Updates, Version};
+use hx_types::{
+    Exact, Memory, RegionId, Rows, Shared, Snapshot, Terms, Text, Update, Updates, Version,
+};
+use indexmap::IndexMap;
 use std::alloc::Global;
-use std::collections::BTreeMap;
 use std::marker::Model;
 
-/// The slots of a region, by their keys. Contracts see them in byte order of keys, and for how
-/// many updates of which keys there is room.
+/// The slots of a region. A key is looked up once: its place, the number of the key in the order of
+/// coming, then names its slot. Contracts see the slots in byte order of keys, and by places for
+/// how many updates of which keys there is room.
 #[derive(Drop)]
 pub struct Store {
     region: RegionId,
     marks: bool,
     slots: Slots,
+    /// The places of the slots that are part of the store, in byte order of keys.
+    order: Vec<usize>,
 }
 
 impl Model for Store {
+    ghost use Rattle.std.specs.Prelude.{vec_capacity};
     ghost use Rattle.hx_store.specs.Stores.{StoreState};
-    ghost use Rattle.hx_store.specs.Held.{AreHeld, rooms_of, states_of};
+    ghost use Rattle.hx_store.specs.Invariant.{IsStore, rooms_in, states_in};
 
     ghost Value = { StoreState };
 
-    ghost view = { λ s. record { region = s.region; marks = s.marks; states = states_of s.slots.entries; rooms = rooms_of s.slots.entries } };
+    ghost view = { λ s. record { region = s.region; marks = s.marks; states = states_in s.slots.entries s.order.items; rooms = rooms_in s.slots.entries } };
 
-    ghost invariant = { λ s. AreHeld s.region s.marks s.slots.entries };
+    ghost invariant = { λ s. IsStore s.region s.marks s.slots.entries s.order.items (vec_capacity s.order) };
 }
 
 impl Store {
@@ -45,68 +55,214 @@ impl Store {
         Store {
             region,
             marks,
-            slots: BTreeMap::new(alloc),
+            slots: IndexMap::new(alloc),
+            order: Vec::new(alloc),
         }
     }
 
-    /// The slot of a key. Where it has none yet, which is as an empty one, there may be `None`.
-    pub fn slot(&self, key: &Text) -> Option<&Slot>
-        ensures some { IfSome result (λ slot. slot.now.state ≡ state_at self.now key.now) }
-        ensures region { IfSome result (λ slot. slot.now.region ≡ self.now.region) }
-        ensures none { IfNone result (state_at self.now key.now ≡ new_state self.now.marks key.now) }
-        ensures room { HasRoom key.now 0 self.now → IsSome result }
+    /// The place of a key, or `None` where the store has never heard of it.
+    pub fn place_of(&self, key: &Text) -> Option<usize>
+        ensures some { IfSome result (λ place. IsPlace self.now place key.now) }
+        ensures none { IfNone result (has_place self.now key.now ≡ false) }
     {
-        match held(&self.slots, key) {
-            Some(held) => Some(slot_of(held)),
+        place_of(&self.slots, key)
+    }
+
+    /// The slot at a place: where none is part of the store yet, an empty one.
+    pub fn slot_at(&self, place: usize) -> &Slot
+        requires { place < length self.now.rooms }
+        ensures state { result.now.state ≡ state_at self.now (key_at self.now place) }
+        ensures region { result.now.region ≡ self.now.region }
+        ensures spare { result.now.spare ≡ spare_at self.now place }
+    {
+        &stored_at(&self.slots, place).slot
+    }
+
+    /// The slot of a key, or `None` where the key has none.
+    pub fn slot(&self, key: &Text) -> Option<&Slot>
+        ensures found { is_some result ≡ has_slot key.now self.now.states }
+        ensures state { IfSome result (λ slot. slot.now.state ≡ state_at self.now key.now) }
+        ensures region { IfSome result (λ slot. slot.now.region ≡ self.now.region) }
+    {
+        let Some(place) = place_of(&self.slots, key) else {
+            return None;
+        };
+        let stored = stored_at(&self.slots, place);
+        if stored.listed {
+            Some(&stored.slot)
+        } else {
+            None
+        }
+    }
+
+    /// How many slots there are.
+    pub fn len(&self) -> usize
+        ensures count { result ≡ length self.now.states }
+        ensures ascend { KeysAscend self.now.states }
+    {
+        self.order.len()
+    }
+
+    /// The slot with this number from 0, in byte order of keys.
+    pub fn nth(&self, i: usize) -> Option<&Slot>
+        ensures state { option_map (λ (b : Bor SlotState). b.now.state) result ≡ slice_get self.now.states i }
+        ensures region { IfSome result (λ slot. slot.now.region ≡ self.now.region) }
+        ensures marks { IfSome result (λ slot. slot.now.state.marks ≡ self.now.marks) }
+        ensures ascend { KeysAscend self.now.states }
+    {
+        match self.order.get(i) {
+            Some(place) => Some(&stored_at(&self.slots, *place).slot),
             None => None,
         }
-    }
-
-    /// The slots in byte order of their keys.
-    pub fn slots(&self, alloc: Global) -> Result<Vec<&Slot>, Memory>
-        ensures states { IfOk result (λ slots. lent_states slots.items ≡ self.now.states) }
-        ensures regions { IfOk result (λ slots. All (λ (b : Bor SlotState). b.now.region ≡ self.now.region) slots.items) }
-        ensures marks { IfOk result (λ slots. All (λ (b : Bor SlotState). b.now.state.marks ≡ self.now.marks) slots.items) }
-        ensures ascend { IfOk result (λ slots. KeysAscend (lent_states slots.items)) }
-    {
-        opened(alloc, &self.slots)
     }
 
     /// The committed objects of which every term holds, in byte order of keys: what a search finds
     /// in the region, as in HyperDex.
     pub fn find(&self, alloc: Global, terms: &Terms) -> Result<Rows, Memory>
-        ensures { IfOk result (λ rows. rows ≡ found_in self.now.region terms.now self.now.states) }
+        ensures rows { IfOk result (λ rows. rows ≡ found_in self.now.region terms.now self.now.states) }
+        ensures ascend { KeysAscend self.now.states }
     {
-        let slots = self.slots(alloc)?;
-        matching(alloc, slots.as_slice(), terms)
+        let mut rows = Rows::new(alloc);
+        for i in 0..self.len() {
+            match self.nth(i) {
+                Some(slot) => add_match(alloc, slot, terms, &mut rows)?,
+                None => unreachable!(),
+            }
+        }
+        Ok(rows)
     }
 
     /// The committed state of each key of which something is committed, in byte order of keys. With
     /// the pending updates it is all that a joiner needs; that is this project's choice.
     pub fn snapshot(&self, alloc: Global) -> Result<Snapshot, Memory>
-        ensures { IfOk result (λ snapshot. snapshot ≡ snapshot_of self.now.region self.now.states) }
+        ensures states { IfOk result (λ snapshot. snapshot ≡ snapshot_of self.now.region self.now.states) }
+        ensures ascend { IfOk result KeptsAscend }
     {
-        let slots = self.slots(alloc)?;
-        kept_of(alloc, slots.as_slice())
+        let mut snapshot = Snapshot::new(alloc);
+        for i in 0..self.len() {
+            match self.nth(i) {
+                Some(slot) => add_kept(alloc, slot, &mut snapshot)?,
+                None => unreachable!(),
+            }
+        }
+        Ok(snapshot)
     }
 
     /// The pending updates: those of each key in byte order of keys, the lowest version first.
     pub fn pending(&self, alloc: Global) -> Result<Updates, Memory>
         ensures { IfOk result (λ updates. updates ≡ pending_of_all self.now.states) }
     {
-        let slots = self.slots(alloc)?;
-        pending_of(alloc, slots.as_slice())
+        let mut updates = Updates::new(alloc);
+        for i in 0..self.len() {
+            match self.nth(i) {
+                Some(slot) => add_pending(alloc, slot, &mut updates)?,
+                None => unreachable!(),
+            }
+        }
+        Ok(updates)
     }
 
-    /// Makes room for n more updates of a key. The slots stay, whatever comes.
-    pub fn reserve(&mut self, alloc: Global, key: &Text, n: u32) -> Result<(), Memory>
+    /// Gives a key a place, and makes room for n more updates there. The slots stay, whatever comes.
+    pub fn reserve(&mut self, alloc: Global, key: &Text, n: u32) -> Result<usize, Memory>
         ensures region { self.new.region ≡ self.old.region }
         ensures marks { self.new.marks ≡ self.old.marks }
         ensures states { self.new.states ≡ self.old.states }
-        ensures room { OnOk result (HasRoom key.now n self.new) }
+        ensures rooms { KeepsRooms self.old.rooms self.new.rooms }
+        ensures place { IfOk result (λ place. IsPlace self.new place key.now) }
+        ensures room { IfOk result (λ place. n ≤ spare_at self.new place) }
     {
-        make(alloc, &mut self.slots, self.region, self.marks, key)?;
-        widen(&mut self.slots, self.region, self.marks, key, n)
+        let place = self.give_place(alloc, key)?;
+        self.widen(alloc, place, n)?;
+        Ok(place)
+    }
+
+    /// Gives a key a slot, which is empty where it had none, and tells its place.
+    pub fn ensure(&mut self, alloc: Global, key: &Text) -> Result<usize, Memory>
+        ensures region { self.new.region ≡ self.old.region }
+        ensures marks { self.new.marks ≡ self.old.marks }
+        ensures states { OnOk result (self.new.states ≡ after_step self.old key.now no_moves) }
+        ensures stays { OnErr result (self.new.states ≡ self.old.states) }
+        ensures rooms { KeepsRooms self.old.rooms self.new.rooms }
+        ensures place { IfOk result (λ place. IsPlace self.new place key.now) }
+    {
+        let place = self.give_place(alloc, key)?;
+        self.open(place);
+        Ok(place)
+    }
+
+    /// Gives a key a place where it has none.
+    fn give_place(&mut self, alloc: Global, key: &Text) -> Result<usize, Memory>
+        ensures region { self.new.region ≡ self.old.region }
+        ensures marks { self.new.marks ≡ self.old.marks }
+        ensures states { self.new.states ≡ self.old.states }
+        ensures rooms { KeepsRooms self.old.rooms self.new.rooms }
+        ensures place { IfOk result (λ place. IsPlace self.new place key.now) }
+    {
+        if let Some(place) = place_of(&self.slots, key) {
+            return Ok(place);
+        }
+        let place = self.slots.len();
+        self.order.reserve(place + 1 - self.order.len())?;
+        add(alloc, &mut self.slots, self.region, self.marks, key)?;
+        Ok(place)
+    }
+
+    /// Makes room for n more updates at a place.
+    fn widen(&mut self, alloc: Global, place: usize, n: u32) -> Result<(), Memory>
+        requires { place < length self.old.rooms }
+        ensures region { self.new.region ≡ self.old.region }
+        ensures marks { self.new.marks ≡ self.old.marks }
+        ensures states { self.new.states ≡ self.old.states }
+        ensures rooms { KeepsRooms self.old.rooms self.new.rooms }
+        ensures room { OnOk result (n ≤ spare_at self.new place) }
+    {
+        reserve_at(alloc, &mut self.slots, place, n)
+    }
+
+    /// The key at a place has a slot from now on. It takes no memory.
+    pub fn open(&mut self, place: usize)
+        requires { place < length self.old.rooms }
+        ensures region { self.new.region ≡ self.old.region }
+        ensures marks { self.new.marks ≡ self.old.marks }
+        ensures states { self.new.states ≡ after_step self.old (key_at self.old place) no_moves }
+        ensures rooms { self.new.rooms ≡ self.old.rooms }
+    {
+        let stored = stored_at(&self.slots, place);
+        if stored.listed {
+            return;
+        }
+        let number = lower_count(&self.slots, self.order.as_slice(), stored.slot.key());
+        insert_within(&mut self.order, number, place);
+        list_at(&mut self.slots, place);
+    }
+
+    /// The slot at a place is offered an update of its key, which has its place in the region at
+    /// this number; then these versions, whose chain ends here, are acknowledged, and what can be
+    /// committed is. It takes no memory.
+    pub fn accept(&mut self, place: usize, update: Shared<Update>, number: u32, ends: &[Version])
+        requires place { IsPlace self.old place update.key }
+        requires room { 0 < spare_at self.old place }
+        requires offer { CanBeOffered self.old.region update number }
+        requires pending { ArePending (moved_all (offered self.old.region (state_at self.old update.key) update) (state_at self.old update.key)) ends.now }
+        ensures region { self.new.region ≡ self.old.region }
+        ensures marks { self.new.marks ≡ self.old.marks }
+        ensures states { self.new.states ≡ after_step self.old update.key (accepted_at update ends.now) }
+        ensures rooms { UsesRoom place self.old.rooms self.new.rooms }
+    {
+        self.open(place);
+        accept_at(&mut self.slots, place, update, number, ends);
+    }
+
+    /// A version is acknowledged at a place, and what can be committed is. It takes no memory.
+    pub fn acknowledge(&mut self, place: usize, version: Version)
+        requires { place < length self.old.rooms }
+        ensures region { self.new.region ≡ self.old.region }
+        ensures marks { self.new.marks ≡ self.old.marks }
+        ensures states { self.new.states ≡ after_step self.old (key_at self.old place) (acknowledged_at version.0) }
+        ensures rooms { KeepsRooms self.old.rooms self.new.rooms }
+    {
+        self.open(place);
+        acknowledge_at(&mut self.slots, place, version);
     }
 
     /// Puts a slot at its key, in place of the one that is there.
@@ -117,40 +273,29 @@ impl Store {
         ensures marks { self.new.marks ≡ self.old.marks }
         ensures states { OnOk result (self.new.states ≡ with_state slot.state self.old.states) }
         ensures stays { OnErr result (self.new.states ≡ self.old.states) }
+        ensures others { KeepsOtherRooms slot.state.base.key self.old.rooms self.new.rooms }
     {
-        put_at(alloc, &mut self.slots, self.region, self.marks, slot)
+        let place = self.ensure(alloc, slot.key())?;
+        replace_at(&mut self.slots, place, slot);
+        Ok(())
     }
 
-    /// The key has a slot from now on. It takes no memory.
-    pub fn open(&mut self, key: &Text)
-        requires { HasRoom key.now 0 self.old }
+    /// Installs a snapshot in a store without slots: afterwards it has exactly those of the
+    /// snapshot, with nothing pending, and marks and touches only where it keeps them. Where there
+    /// is no memory it has those of a part of the snapshot, from its front on.
+    pub fn install(&mut self, alloc: Global, snapshot: &Snapshot) -> Result<(), Memory>
+        requires empty { self.old.states ≡ [] }
+        requires ascend { KeptsAscend snapshot.now }
+        requires orderly { All IsOrderly snapshot.now }
         ensures region { self.new.region ≡ self.old.region }
         ensures marks { self.new.marks ≡ self.old.marks }
-        ensures states { self.new.states ≡ after_step self.old key.now no_moves }
+        ensures states { OnOk result (self.new.states ≡ map (state_from self.old.marks) snapshot.now) }
+        ensures part { OnErr result ((n : ℕ) × (self.new.states ≡ map (state_from self.old.marks) (take n snapshot.now))) }
     {
-        open_at(&mut self.slots, key);
-    }
-
-    /// The slot of the update's key is offered it; then these versions, whose chain ends here, are
-    /// acknowledged, and what can be committed is. It takes no memory.
-    pub fn accept(&mut self, update: Update, place: u32, ends: &[Version])
-        requires room { HasRoom update.key 1 self.old }
-        requires offer { CanBeOffered self.old.region update place }
-        requires pending { ArePending (moved_all (offered self.old.region (state_at self.old update.key) update) (state_at self.old update.key)) ends.now }
-        ensures region { self.new.region ≡ self.old.region }
-        ensures marks { self.new.marks ≡ self.old.marks }
-        ensures states { self.new.states ≡ after_step self.old update.key (accepted_at update ends.now) }
-    {
-        accept_at(&mut self.slots, update, place, ends);
-    }
-
-    /// A version of a key is acknowledged, and what can be committed is. It takes no memory.
-    pub fn acknowledge(&mut self, key: &Text, version: Version)
-        requires { HasRoom key.now 0 self.old }
-        ensures region { self.new.region ≡ self.old.region }
-        ensures marks { self.new.marks ≡ self.old.marks }
-        ensures states { self.new.states ≡ after_step self.old key.now (acknowledged_at version.0) }
-    {
-        acknowledge_at(&mut self.slots, key, version);
+        for kept in snapshot.as_slice() {
+            let slot = Slot::of_kept(alloc, self.region, kept.copy(alloc)?, self.marks);
+            self.put(alloc, slot)?;
+        }
+        Ok(())
     }
 }

@@ -7,8 +7,8 @@ use Rattle.hx_types.specs.declared.calls.Op.{Op}
 use Rattle.hx_types.specs.declared.traces.Script.{Script}
 use Rattle.hx_types.specs.Fitting.{numbered}
 use Rattle.hx_types.specs.Words.{when_some}
-use Rattle.hx_model.specs.Built.{AreSteadyCalls, IsBuilt}
-use Rattle.hx_model.specs.Steady.{IsFixed, reconfigures}
+use Rattle.hx_tool.specs.Built.{AreSteadyCalls, IsBuilt}
+use Rattle.hx_steady.specs.Calm.{IsFixed, reconfigures}
 
 -- what holds of each element holds of the one that is found
 found_has : {A : Type 0} (P : A → Type 0) (xs : List A) (n : ℕ) (x : A) → AllByRecursion P xs → slice_get xs n ≡ Some x → P x

@@ -14,7 +14,7 @@ use Rattle.hx_tool.specs.declared.outcomes.Made.TheVariants.{Refused}
 use Rattle.hx_tool.specs.declared.words.Command.{Command}
 use Rattle.hx_tool.specs.declared.words.Command.TheVariants.{Replay, Plan}
 
-one_script : (text : List ℕ) (a b : Script) → script_of text ≡ Ok a → script_of text ≡ Ok b → a ≡ b
+pub one_script : (text : List ℕ) (a b : Script) → script_of text ≡ Ok a → script_of text ≡ Ok b → a ≡ b
 one_script text a b e f = cc
 
 none-refused : (command : Command) (script : Script) → Replays command → IsSteppable command script → (line : ℕ) (trace : List Entry) → IsRefusedAt script line trace → ⊥

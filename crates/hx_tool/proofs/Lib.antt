@@ -3,3 +3,4 @@ pub mod Stepping
 pub mod Scheduling
 pub mod Making
 pub mod Judging
+pub mod Wearing

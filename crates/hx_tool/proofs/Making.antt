@@ -6,7 +6,7 @@ use Rattle.std.specs.declared.alloc.Global.{Global}
 use Rattle.hx_types.specs.declared.ids.Actor.{Actor}
 use Rattle.hx_types.specs.declared.traces.Entry.{Entry}
 use Rattle.hx_types.specs.declared.traces.Script.{Script}
-use Rattle.hx_model.specs.Built.{IsBuilt}
+use Rattle.hx_tool.specs.Built.{IsBuilt}
 use Rattle.hx_script.specs.declared.errors.Reason.{Reason}
 use Rattle.hx_script.specs.declared.errors.Reason.TheVariants as a_reason
 use Rattle.hx_script.specs.Texts.{script_of}
@@ -31,7 +31,7 @@ answered-steppable : (command : Command) (script : Script) (trace : List Entry) 
 answered-steppable (Replay with_trace) script trace bytes made = taken-not-refused script made.taken
 answered-steppable Plan script trace bytes made = tt
 
-worn-steppable : (script : Script) (trace : List Entry) (a : Actor) → IsWornRun script trace a → (line : ℕ) (t : List Entry) → IsRefusedAt script line t → ⊥
+pub worn-steppable : (script : Script) (trace : List Entry) (a : Actor) → IsWornRun script trace a → (line : ℕ) (t : List Entry) → IsRefusedAt script line t → ⊥
 worn-steppable script trace a worn = by worn.ends
   where
     by : IsWornAtStep script trace a ⊎ IsWornAfterSteps script trace a → (line : ℕ) (t : List Entry) → IsRefusedAt script line t → ⊥

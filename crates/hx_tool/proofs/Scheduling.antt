@@ -5,10 +5,10 @@ use Rattle.hx_types.specs.declared.ids.Actor.{Actor}
 use Rattle.hx_types.specs.declared.traces.Entry.{Entry}
 use Rattle.hx_types.specs.declared.traces.Script.{Script}
 use Rattle.hx_types.specs.declared.traces.Step.{Step}
-use Rattle.hx_model.specs.Built.{IsBuilt}
+use Rattle.hx_tool.specs.Built.{IsBuilt}
 use Rattle.hx_model.specs.Runs.{IsRun}
 use Rattle.hx_model.specs.Schedule.{next_entry, scheduled, stepped}
-use Rattle.hx_model.specs.Steady.{HasNoHalts}
+use Rattle.hx_steady.specs.Calm.{HasNoHalts}
 use Rattle.hx_world.specs.Runnable.{IsRunnable}
 use Rattle.hx_world.specs.Worlds.{DrainFails, Drains, HasFewEntries, IsPartOf, IsWornOut, WorldState, most_entries}
 use Rattle.hx_world.specs.declared.ends.DrainError.TheVariants as an_error

@@ -38,7 +38,7 @@ stops-here script trace s rest (Refused at) so h =
     }
 stops-here script trace s rest (Worn a) so h = record { line = s.0; stops = so ∙ stop-by script (reverse trace) s rest (Some (WornFault a)) h }
 
-same_stop : (o : Option Stop) (a b : Stop) → o ≡ Some a → o ≡ Some b → a ≡ b
+pub same_stop : (o : Option Stop) (a b : Stop) → o ≡ Some a → o ≡ Some b → a ≡ b
 same_stop o a b e f = cc
 
 refused-differs : (script : Script) (line : ℕ) (trace : List Entry) (stop : Stop) → stop_of script [] script.steps ≡ Some stop → (IsRefusal stop.fault → ⊥) → IsRefusedAt script line trace → ⊥

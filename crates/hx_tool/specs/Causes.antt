@@ -10,12 +10,12 @@ use Rattle.hx_types.specs.declared.ids.Actor.{Actor}
 use Rattle.hx_types.specs.declared.traces.Entry.{Entry}
 use Rattle.hx_types.specs.declared.traces.Script.{Script}
 use Rattle.hx_types.specs.declared.traces.Step.{Step}
-use Rattle.hx_model.specs.Built.{IsBuilt}
+use Rattle.hx_tool.specs.Built.{IsBuilt}
 use Rattle.hx_model.specs.Linear.{IsLinear}
 use Rattle.hx_model.specs.Runs.{IsRun}
 use Rattle.hx_model.specs.Schedule.{IsScheduled, scheduled, stepped}
 use Rattle.hx_model.specs.Searching.{FinishedSearch, IsSearchTrue, IsSearchWhole, search_of}
-use Rattle.hx_model.specs.Steady.{HasNoHalts}
+use Rattle.hx_steady.specs.Calm.{HasNoHalts}
 use Rattle.hx_script.specs.declared.errors.Reason.{Reason}
 use Rattle.hx_script.specs.declared.errors.Reason.TheVariants as a_reason
 use Rattle.hx_script.specs.declared.errors.ScriptError.{ScriptError}
@@ -127,7 +127,7 @@ pub record IsReplayed (with_trace : Bool) (script : Script) (trace : List Entry)
   pub few : HasFewEntries (reverse trace)
   pub linear : (key : List ℕ) → IsLinear script (reverse trace) key
   pub searches : (c : Caller) (s : FinishedSearch) → search_of script (reverse trace) c ≡ Some s → IsSearchWell script (reverse trace) s
-  pub report_is : IsReport script (reverse trace) report with_trace
+  pub report_is : IsReport script (reverse trace) [] report with_trace
 
 -- the plans of the script's searches, and no trace
 pub record IsPlanned (script : Script) (trace : List Entry) (plans : List ℕ) : Type 0 where

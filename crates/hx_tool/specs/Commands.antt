@@ -4,6 +4,8 @@ use Rattle.std.specs.declared.string.String.{String}
 use Rattle.std.specs.declared.alloc.Global.{Global}
 use Rattle.hx_tool.specs.declared.words.Command.{Command}
 use Rattle.hx_tool.specs.declared.words.Command.TheVariants.{Replay, Plan}
+use Rattle.hx_tool.specs.declared.words.Question.{Question}
+use Rattle.hx_tool.specs.declared.words.Question.TheVariants.{Help, Version}
 
 -- the words of a command, its options among them
 abbrev pub words_of : Command → List (List ℕ)
@@ -19,3 +21,8 @@ Says words command = map string_bytes words ≡ words_of command
 abbrev pub Replays : Command → Type 0
 Replays (Replay with_trace) = ⊤
 Replays Plan = ⊥
+
+-- the words are the question's one word
+abbrev pub Asks : List (String Global) → Question → Type 0
+Asks words Help = map string_bytes words ≡ codes "--help" ∷ []
+Asks words Version = map string_bytes words ≡ codes "--version" ∷ []

@@ -12,7 +12,7 @@ use Rattle.hx_types.specs.declared.spaces.Space.{Space}
 use Rattle.hx_types.specs.declared.traces.Script.{Script}
 use Rattle.hx_types.specs.Configs.{first_config}
 use Rattle.hx_model.specs.Planning.{plan_of}
-use Rattle.hx_report.specs.Reporting.{caller_text, numbers_text}
+use Rattle.hx_print.specs.Printing.{caller_text, numbers_text}
 
 -- `subspace X regions R,R` or `lost R`, with a blank before it
 unfoldable pub planned_text : Planned → List ℕ

@@ -2,9 +2,9 @@ ghost use Rattle.std.specs.Prelude.{◌≡◌, ◌↔◌, ℕ, List, [], IsTrue}
 ghost use Rattle.std.specs.List.{All};
 ghost use Rattle.hx_types.specs.declared.traces.Step.{Step};
 ghost use Rattle.hx_types.specs.Fitting.{IsScript};
-ghost use Rattle.hx_model.specs.Built.{AreSteadyCalls, IsBuilt, IsBuiltStep};
+ghost use Rattle.hx_tool.specs.Built.{AreSteadyCalls, IsBuilt, IsBuiltStep};
 ghost use Rattle.hx_model.specs.Runs.{is_actor};
-ghost use Rattle.hx_model.specs.Steady.{reconfigures};
+ghost use Rattle.hx_steady.specs.Calm.{reconfigures};
 
 use hx_types::{Actor, Calls, Op, Script, Step};
 

@@ -2,8 +2,8 @@
 //!
 //! `top::hyperstore` is the call that `main` makes, and its contract the theorem. No contract says
 //! that there is memory, so a program that always ended for want of it would be proved: a test shows
-//! a report being written. The functions of `program` have no clause: they hand the words and
-//! streams of the process on, of which no contract can speak.
+//! a report being written. `program::run` says of any source and sinks what the status tells; that
+//! the words are those of the process, and the streams its standard ones, is what `main` adds.
 #![tactic(auto)]
 
 mod answering;
@@ -16,10 +16,14 @@ mod steps;
 mod top;
 mod words;
 
+use hx_io::{StdSink, StdSource};
 use std::process::ExitCode;
 
 fn main(rt: HostRuntime) -> ExitCode {
-    ExitCode::from(program::run(&rt, rt.stdin(), rt.stdout(), rt.stderr()))
+    let mut source = StdSource::new(rt.stdin());
+    let mut sink = StdSink::new(rt.stdout());
+    let mut errors = StdSink::new(rt.stderr());
+    ExitCode::from(program::run(&rt, &mut source, &mut sink, &mut errors))
 }
 
 #[cfg(test)]

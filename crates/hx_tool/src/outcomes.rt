@@ -119,45 +119,49 @@ pub fn status(outcome: Outcome) -> u8
 }
 
 /// The line that is printed on standard error, with its newline; nothing where all went well.
-pub fn fault_text(alloc: Global, outcome: Outcome) -> Result<Vec<u8>, Memory>
-    ensures { IfOk result (λ text. text.items ≡ fault_line outcome) }
+///
+/// # Errors
+///
+/// [`Memory`] alone, where there is no room for the line.
+pub fn fault_text(alloc: Global, outcome: &Outcome) -> Result<Vec<u8>, Memory>
+    ensures { IfOk result (λ text. text.items ≡ fault_line outcome.now) }
 {
     let mut text = Vec::new(alloc);
-    put_fault(alloc, &mut text, outcome)?;
+    put_fault(&mut text, *outcome)?;
     Ok(text)
 }
 
-fn put_fault(alloc: Global, out: &mut Vec<u8>, outcome: Outcome) -> Result<(), Memory>
+fn put_fault(out: &mut Vec<u8>, outcome: Outcome) -> Result<(), Memory>
     ensures { OnOk result (out.new.items ≡ out.old.items ++ fault_line outcome) }
 {
     match outcome {
         Outcome::Fine => Ok(()),
         Outcome::Usage => put_bytes(out, b"usage: hx replay or run or soak or plan\n"),
-        Outcome::Refused { line, reason } => put_refusal(alloc, out, line, reason),
+        Outcome::Refused { line, reason } => put_refusal(out, line, reason),
         Outcome::Unbuilt => put_bytes(out, b"unbuilt\n"),
         Outcome::TooLarge => put_bytes(out, b"too large\n"),
         Outcome::ReadFault => put_bytes(out, b"read fault\n"),
         Outcome::WriteFault => put_bytes(out, b"write fault\n"),
         Outcome::Memory => put_bytes(out, b"no memory\n"),
-        Outcome::Worn(actor) => put_worn(alloc, out, actor),
+        Outcome::Worn(actor) => put_worn(out, actor),
     }
 }
 
 #[tactic(auto, unfolding(crate::specs::Outcomes::worn_line))]
-fn put_worn(alloc: Global, out: &mut Vec<u8>, actor: Actor) -> Result<(), Memory>
+fn put_worn(out: &mut Vec<u8>, actor: Actor) -> Result<(), Memory>
     ensures { OnOk result (out.new.items ≡ out.old.items ++ worn_line actor) }
 {
     put_bytes(out, b"worn ")?;
-    put_actor(alloc, out, &actor)?;
+    put_actor(out, &actor)?;
     put_bytes(out, b"\n")
 }
 
 #[tactic(auto, unfolding(crate::specs::Outcomes::refusal_line))]
-fn put_refusal(alloc: Global, out: &mut Vec<u8>, line: u64, reason: Reason) -> Result<(), Memory>
+fn put_refusal(out: &mut Vec<u8>, line: u64, reason: Reason) -> Result<(), Memory>
     ensures { OnOk result (out.new.items ≡ out.old.items ++ refusal_line line reason) }
 {
     put_bytes(out, b"line ")?;
-    put_number(alloc, out, line)?;
+    put_number(out, line)?;
     put_bytes(out, b": ")?;
     put_bytes(out, reason_word(reason))?;
     put_bytes(out, b"\n")

@@ -1,13 +1,10 @@
-ghost use Rattle.std.specs.Prelude.{◌≡◌, ◌++◌, map, IfOk, OnOk};
-ghost use Rattle.std.specs.List.{flat_map};
-ghost use Rattle.hx_types.specs.declared.ids.RegionId.{RegionId};
+ghost use Rattle.std.specs.Prelude.{◌≡◌, ◌++◌, IfOk, OnOk};
 ghost use Rattle.hx_types.specs.Fitting.{IsScript};
-ghost use Rattle.hx_report.specs.Reporting.{caller_text, next_number_text, numbers_text};
 ghost use Rattle.hx_tool.specs.Plans.{call_lines, plan_line, planned_text, plans_text, session_lines, sessions_lines};
 
-use hx_print::{put_bytes, put_number};
+use hx_print::{put_bytes, put_call_name, put_number, put_numbers};
 use hx_region::RegionMap;
-use hx_types::{Calls, Config, Memory, Op, Planned, RegionId, Script, first_config};
+use hx_types::{Calls, Config, Memory, Op, Planned, Script, first_config};
 use std::alloc::Global;
 
 /// The lines of the command `plan`: for each search of the script, in order, the subspace and the
@@ -83,72 +80,37 @@ fn put_call(
     match op {
         Op::Search { terms } => {
             let planned = hx_plan::plan(alloc, map, config, terms)?;
-            put_plan(alloc, out, session, number, &planned)
+            put_plan(out, session, number, &planned)
         }
         _ => Ok(()),
     }
 }
 
-#[tactic(auto, unfolding(crate::specs::Plans::plan_line, hx_report::specs::Reporting::caller_text))]
-fn put_plan(
-    alloc: Global,
-    out: &mut Vec<u8>,
-    session: u64,
-    number: u64,
-    planned: &Planned,
-) -> Result<(), Memory>
+#[tactic(auto, unfolding(crate::specs::Plans::plan_line))]
+fn put_plan(out: &mut Vec<u8>, session: u64, number: u64, planned: &Planned) -> Result<(), Memory>
     ensures { OnOk result
         (out.new.items ≡ out.old.items ++ plan_line (record { session = record { 0 = session }; number = number }) planned.now) }
 {
-    put_bytes(out, b"plan u")?;
-    put_number(alloc, out, session)?;
-    put_bytes(out, b".")?;
-    put_number(alloc, out, number)?;
-    put_planned(alloc, out, planned)?;
+    put_bytes(out, b"plan ")?;
+    put_call_name(out, session, number)?;
+    put_planned(out, planned)?;
     put_bytes(out, b"\n")
 }
 
 #[tactic(auto, unfolding(crate::specs::Plans::planned_text))]
-fn put_planned(alloc: Global, out: &mut Vec<u8>, planned: &Planned) -> Result<(), Memory>
+fn put_planned(out: &mut Vec<u8>, planned: &Planned) -> Result<(), Memory>
     ensures { OnOk result (out.new.items ≡ out.old.items ++ planned_text planned.now) }
 {
     match planned {
         Planned::Regions { subspace, regions } => {
             put_bytes(out, b" subspace ")?;
-            put_number(alloc, out, u64::from(*subspace))?;
+            put_number(out, u64::from(*subspace))?;
             put_bytes(out, b" regions ")?;
-            put_regions(alloc, out, regions.as_slice())
+            put_numbers(out, regions.as_slice())
         }
         Planned::Lost(region) => {
             put_bytes(out, b" lost ")?;
-            put_number(alloc, out, u64::from(region.0))
+            put_number(out, u64::from(region.0))
         }
     }
-}
-
-/// Appends the numbers of the regions with commas between them, or `-` where there is none.
-#[tactic(auto, unfolding(hx_report::specs::Reporting::numbers_text))]
-fn put_regions(alloc: Global, out: &mut Vec<u8>, regions: &[RegionId]) -> Result<(), Memory>
-    ensures { OnOk result
-        (out.new.items ≡ out.old.items ++ numbers_text (map (λ (g : RegionId). g.0) regions.now)) }
-{
-    match regions.split_first() {
-        None => put_bytes(out, b"-"),
-        Some((first, rest)) => {
-            put_number(alloc, out, u64::from(first.0))?;
-            put_next_regions(alloc, out, rest)
-        }
-    }
-}
-
-#[tactic(auto, unfolding(hx_report::specs::Reporting::next_number_text))]
-fn put_next_regions(alloc: Global, out: &mut Vec<u8>, regions: &[RegionId]) -> Result<(), Memory>
-    ensures { OnOk result
-        (out.new.items ≡ out.old.items ++ flat_map next_number_text (map (λ (g : RegionId). g.0) regions.now)) }
-{
-    for region in regions {
-        put_bytes(out, b",")?;
-        put_number(alloc, out, u64::from(region.0))?;
-    }
-    Ok(())
 }

@@ -1,8 +1,22 @@
-use crate::outcomes::{Outcome, fault_text, status};
+ghost use Rattle.std.specs.Prelude.{◌≡◌, ◌≢◌, ◌⊎◌, List, IfErr, IsErrOf, OnOk};
+ghost use Rattle.std.specs.declared.string.String.{String};
+ghost use Rattle.std.specs.declared.alloc.Global.{Global};
+ghost use Rattle.std.specs.Io.KnownBytes.{Appends};
+ghost use Rattle.hx_io.specs.Causes.{Rose};
+ghost use Rattle.hx_io.specs.Pieces.{AppendsPrefix};
+ghost use Rattle.hx_types.specs.declared.traces.Entry.{Entry};
+ghost use Rattle.hx_tool.specs.Calling.{Ends, Shows, Writes};
+ghost use Rattle.hx_tool.specs.Commands.{Asks};
+ghost use Rattle.hx_tool.specs.Outcomes.{IsSilent, fault_line};
+ghost use Rattle.hx_tool.specs.Showing.{shown_text};
+ghost use Rattle.hx_tool.specs.declared.words.Question.{Question};
+
+use crate::outcomes::{Done, Outcome, fault_text, status};
 use crate::top::hyperstore;
-use hx_io::{Sink, Source, StdSink, StdSource, write_all};
+use crate::words::{Question, question_of};
+use hx_io::{Sink, Source, write_all};
+use hx_types::Memory;
 use std::alloc::Global;
-use std::io::{Read, Write};
 use std::mem::ManuallyDrop;
 use std::rt::Env;
 use std::{env, io};
@@ -30,21 +44,50 @@ Status: 0 fine, 2 usage, 3 a text that can't be run, 4 a fault of reading,
 /// What `hx --version` prints.
 const VERSION: &[u8] = b"hx 0.1.0\n";
 
-/// Runs the program on the words of the process and its standard streams, and gives its status.
-pub fn run<R, I, O, E>(rt: &R, input: I, output: O, errors: E) -> u8
+/// Why the line of an outcome wasn't printed.
+#[derive(Clone, Copy, PartialEq, Eq)]
+enum Unprinted {
+    /// There was no room for the line.
+    Memory,
+    /// The sink failed; a prefix of the line was printed.
+    WriteFault,
+}
+
+impl From<Memory> for Unprinted {
+    ghost use Rattle.hx_tool.specs.declared.program.Unprinted.TheVariants as a_reason;
+
+    ghost from_gives = { λ _ reason. reason ≡ a_reason.Memory };
+
+    fn from(_: Memory) -> Self {
+        Unprinted::Memory
+    }
+}
+
+/// Runs the program on the words of the process, and gives the status with which it ends.
+///
+/// The line of its outcome goes to `errors`. Where that can't be printed, the status alone tells.
+pub fn run<R, S, K, E>(rt: &R, source: &mut S, sink: &mut K, errors: &mut E) -> u8
 where
     R: Env + AllocGlobal,
-    I: Read + Drop,
-    O: Write + Drop,
-    E: Write + Drop,
+    S: Source,
+    K: Sink,
+    E: Sink,
+    // With status 0 what was asked was shown, or the answer to the source's text was written.
+    ensures fine { result ≡ 0 → (words : List (String Global)) × (
+        ((question : Question) × Asks words question × Appends (K.held sink.old) (K.held sink.new) (shown_text question))
+        ⊎ ((trace : List Entry) × Writes words (record { before = S.left source.old; after = S.left source.new; faults_before = S.faults source.old; faults_after = S.faults source.new })
+        (record { before = K.held sink.old; after = K.held sink.new; faults_before = K.faults sink.old; faults_after = K.faults sink.new }) trace)) }
+
+    // The status is that of the outcome: a fault has its cause, and only an answer is written.
+    ensures read_fault { result ≡ 4 → Rose (S.faults source.old) (S.faults source.new) }
+    ensures write_fault { result ≡ 5 → Rose (K.faults sink.old) (K.faults sink.new) }
+    ensures silent { result ≢ 0 → result ≢ 5 → sink.new ≡ sink.old }
 {
-    let mut source = StdSource::new(input);
-    let mut sink = StdSink::new(output);
     let outcome = match words_of(rt) {
-        Ok(words) => command(rt.alloc(), words.as_slice(), &mut source, &mut sink),
+        Ok(words) => command(rt.alloc(), words.as_slice(), source, sink),
         Err(outcome) => outcome,
     };
-    tell(rt.alloc(), &mut StdSink::new(errors), outcome);
+    let _printed = print_outcome(rt.alloc(), errors, &outcome);
     status(outcome)
 }
 
@@ -54,19 +97,35 @@ fn command<S: Source, K: Sink>(
     words: &[String],
     source: &mut S,
     sink: &mut K,
-) -> Outcome {
-    match words {
-        [word] if word.as_str() == "--help" => show(sink, HELP),
-        [word] if word.as_str() == "--version" => show(sink, VERSION),
-        _ => {
-            let answer = ManuallyDrop::new(hyperstore(alloc, words, source, sink));
-            answer.outcome
+) -> Outcome
+    ensures shown { (question : Question) → Asks words.now question → Shows (record { before = K.held sink.old; after = K.held sink.new; faults_before = K.faults sink.old; faults_after = K.faults sink.new }) (shown_text question) result }
+    ensures unread { (question : Question) → Asks words.now question → source.new ≡ source.old }
+    ensures told { ((question : Question) → ¬ Asks words.now question) → (trace : List Entry) × Ends words.now
+        (record { before = S.left source.old; after = S.left source.new; faults_before = S.faults source.old; faults_after = S.faults source.new })
+        (record { before = K.held sink.old; after = K.held sink.new; faults_before = K.faults sink.old; faults_after = K.faults sink.new })
+        result trace }
+    ensures fine { result ≡ Outcome.Fine →
+        ((question : Question) × Asks words.now question × Appends (K.held sink.old) (K.held sink.new) (shown_text question))
+        ⊎ ((trace : List Entry) × Writes words.now (record { before = S.left source.old; after = S.left source.new; faults_before = S.faults source.old; faults_after = S.faults source.new })
+        (record { before = K.held sink.old; after = K.held sink.new; faults_before = K.faults sink.old; faults_after = K.faults sink.new }) trace) }
+    ensures read_fault { result ≡ Outcome.ReadFault → Rose (S.faults source.old) (S.faults source.new) }
+    ensures write_fault { result ≡ Outcome.WriteFault → Rose (K.faults sink.old) (K.faults sink.new) }
+    ensures silent { IsSilent result → sink.new ≡ sink.old }
+{
+    match question_of(words) {
+        Some(question) => show(sink, shown_text(question)),
+        None => {
+            let Done { outcome, trace, .. } = hyperstore(alloc, words, source, sink);
+            let _left = ManuallyDrop::new(trace);
+            outcome
         }
     }
 }
 
 /// The words of the process without the program's name. A word that isn't UTF-8 is no command.
-fn words_of<R: Env + AllocGlobal>(rt: &R) -> Result<Vec<String>, Outcome> {
+fn words_of<R: Env + AllocGlobal>(rt: &R) -> Result<Vec<String>, Outcome>
+    ensures { IfErr result (λ outcome. (outcome ≡ Outcome.Memory) ⊎ (outcome ≡ Outcome.Usage)) }
+{
     let mut words = Vec::new(rt.alloc());
     let all = env::args(rt).map_err(|error| match error.kind() {
         io::ErrorKind::OutOfMemory => Outcome::Memory,
@@ -78,16 +137,35 @@ fn words_of<R: Env + AllocGlobal>(rt: &R) -> Result<Vec<String>, Outcome> {
     Ok(words)
 }
 
-fn show<K: Sink>(sink: &mut K, text: &[u8]) -> Outcome {
+/// What is shown to a question.
+fn shown_text(question: Question) -> &'static [u8]
+    ensures { result.now ≡ shown_text question }
+{
+    match question {
+        Question::Help => HELP,
+        Question::Version => VERSION,
+    }
+}
+
+fn show<K: Sink>(sink: &mut K, text: &[u8]) -> Outcome
+    ensures { Shows (record { before = K.held sink.old; after = K.held sink.new; faults_before = K.faults sink.old; faults_after = K.faults sink.new }) text.now result }
+{
     match write_all(sink, text) {
         Ok(()) => Outcome::Fine,
         Err(_) => Outcome::WriteFault,
     }
 }
 
-/// Prints an outcome's line. Where that fails too, the status alone tells.
-fn tell<K: Sink>(alloc: Global, errors: &mut K, outcome: Outcome) {
-    if let Ok(line) = fault_text(alloc, outcome) {
-        let _ = write_all(errors, line.as_slice());
+/// Prints an outcome's line.
+fn print_outcome<E: Sink>(alloc: Global, errors: &mut E, outcome: &Outcome) -> Result<(), Unprinted>
+    ensures printed { OnOk result (Appends (E.held errors.old) (E.held errors.new) (fault_line outcome.now)) }
+    ensures fault { IsErrOf result Unprinted.WriteFault → Rose (E.faults errors.old) (E.faults errors.new)
+        × AppendsPrefix (E.held errors.old) (E.held errors.new) (fault_line outcome.now) }
+    ensures memory { IsErrOf result Unprinted.Memory → errors.new ≡ errors.old }
+{
+    let line = fault_text(alloc, outcome)?;
+    match write_all(errors, line.as_slice()) {
+        Ok(()) => Ok(()),
+        Err(_) => Err(Unprinted::WriteFault),
     }
 }

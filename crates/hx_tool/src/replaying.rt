@@ -2,14 +2,14 @@ ghost use Rattle.std.specs.Prelude.{◌≡◌, ◌⊎◌, ℕ, [], IfOk, IfErr, 
 ghost use Rattle.hx_types.specs.declared.traces.Step.{Step};
 ghost use Rattle.hx_model.specs.Schedule.{stepped};
 ghost use Rattle.hx_types.specs.Fitting.{IsScript};
-ghost use Rattle.hx_model.specs.Built.{IsBuilt};
-ghost use Rattle.hx_report.specs.Reporting.{IsReport};
+ghost use Rattle.hx_tool.specs.Built.{IsBuilt};
 ghost use Rattle.hx_tool.specs.Causes.{IsReplay, IsReplayed, IsWholeRun};
 ghost use Rattle.hx_tool.specs.Steps.{AreTaken};
 
 use crate::built::is_built;
 use crate::outcomes::{Answered, Made, Outcome};
 use crate::steps::{Stopped, take_steps};
+use hx_report::report;
 use hx_types::{Memory, Script, Trace};
 use hx_world::{DrainError, Drained, World};
 use std::alloc::Global;
@@ -86,16 +86,6 @@ fn answered(
 {
     hx_linear::headline_in_one_configuration();
     hx_searches::searches_in_one_configuration();
-    let bytes = tell(alloc, script, with_trace, &trace)?;
+    let bytes = report(alloc, script, &trace, &[], with_trace)?;
     Ok(Answered { trace, bytes })
-}
-
-/// The report of a trace.
-fn tell(alloc: Global, script: &Script, with_trace: bool, trace: &Trace) -> Result<Vec<u8>, Memory>
-    requires { IsBuilt script.now }
-    ensures { IfOk result (λ report. IsReport script.now (reverse trace.now) report.items with_trace) }
-{
-    let records = hx_history::records(alloc, script, trace)?;
-    let histories = hx_history::histories(alloc, script, trace)?;
-    hx_report::report(alloc, script, trace, &records, &histories, with_trace)
 }

@@ -1,6 +1,6 @@
 ghost use Rattle.std.specs.Prelude.{◌≡◌, ℕ, [], map, IfErr, OnErr, OnOk, reverse};
 ghost use Rattle.hx_types.specs.declared.traces.Step.{Step};
-ghost use Rattle.hx_model.specs.Built.{IsBuilt, IsBuiltStep};
+ghost use Rattle.hx_tool.specs.Built.{IsBuilt, IsBuiltStep};
 ghost use Rattle.hx_model.specs.Schedule.{stepped};
 ghost use Rattle.hx_tool.specs.Steps.{AreTaken, Stops, StopsAt};
 ghost use Rattle.hx_world.specs.Worlds.{Steps};

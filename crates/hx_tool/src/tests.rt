@@ -2,7 +2,7 @@ use crate::outcomes::{Done, Outcome, fault_text, status};
 use crate::top::hyperstore;
 use hx_io::{MemorySink, MemorySource};
 use hx_script::Reason;
-use hx_types::{Actor, ServerId};
+use hx_types::{Actor, LONGEST_SCRIPT, LONGEST_TEXT, ServerId};
 use std::alloc::Global;
 use std::test::Fail;
 
@@ -94,7 +94,7 @@ fn words(alloc: Global, line: &str) -> Result<Vec<String>, Fail> {
 
 fn run(alloc: Global, line: &str, text: &[u8], sink: &mut MemorySink) -> Result<Done, Fail> {
     let words = words(alloc, line)?;
-    let mut source = MemorySource::new(text.to_vec(alloc)?, 7, Vec::new(alloc));
+    let mut source = MemorySource::new(alloc, text.to_vec(alloc)?, 7, Vec::new(alloc));
     Ok(hyperstore(alloc, words.as_slice(), &mut source, sink))
 }
 
@@ -328,7 +328,7 @@ fn faulty_calls_are_refused(rt: HostRuntime) -> Result<(), Fail> {
     ] {
         assert!(rt; refuses_call(alloc, call, reason)?, "{call}");
     }
-    let letters = vec![in alloc; b'x'; 1_025]?;
+    let letters = vec![in alloc; b'x'; LONGEST_TEXT + 1]?;
     let letters = String::from_utf8(letters)?;
     let call = format!(in alloc; "get \"{letters}\"")?;
     assert!(rt; refuses_call(alloc, call.as_str(), Reason::Limit)?);
@@ -359,11 +359,16 @@ fn a_source_may_be_too_large_or_fail(rt: HostRuntime) -> Result<(), Fail> {
     let alloc = rt.alloc();
     let plan = words(alloc, "plan")?;
     let mut sink = MemorySink::new(alloc, 16, 16, Vec::new(alloc))?;
-    let mut large = MemorySource::new(vec![in alloc; b'#'; 16_777_217]?, 65_536, Vec::new(alloc));
+    let mut large = MemorySource::new(
+        alloc,
+        vec![in alloc; b'#'; LONGEST_SCRIPT + 1]?,
+        65_536,
+        Vec::new(alloc),
+    );
     let done = hyperstore(alloc, plan.as_slice(), &mut large, &mut sink);
     assert!(rt; done.outcome == Outcome::TooLarge);
     assert_eq!(rt; done.status, 3);
-    let mut failing = MemorySource::new(Vec::new(alloc), 1, vec![in alloc; 1]?);
+    let mut failing = MemorySource::new(alloc, Vec::new(alloc), 1, vec![in alloc; 1]?);
     let done = hyperstore(alloc, plan.as_slice(), &mut failing, &mut sink);
     assert!(rt; done.outcome == Outcome::ReadFault);
     assert_eq!(rt; done.status, 4);
@@ -384,7 +389,7 @@ fn a_failing_sink_holds_a_prefix(rt: HostRuntime) -> Result<(), Fail> {
 
 #[test]
 fn a_fault_has_its_line(rt: HostRuntime) -> Result<(), Fail> {
-    let usage = fault_text(rt.alloc(), Outcome::Usage)?;
+    let usage = fault_text(rt.alloc(), &Outcome::Usage)?;
     assert_eq!(rt;
         usage.as_slice(),
         b"usage: hx replay or run or soak or plan\n".as_slice()
@@ -393,10 +398,10 @@ fn a_fault_has_its_line(rt: HostRuntime) -> Result<(), Fail> {
         line: 11,
         reason: Reason::TypeOf,
     };
-    let line = fault_text(rt.alloc(), refused)?;
+    let line = fault_text(rt.alloc(), &refused)?;
     assert_eq!(rt; line.as_slice(), b"line 11: type\n".as_slice());
     let worn = Outcome::Worn(Actor::Server(ServerId(12)));
-    let line = fault_text(rt.alloc(), worn)?;
+    let line = fault_text(rt.alloc(), &worn)?;
     assert_eq!(rt; line.as_slice(), b"worn s12\n".as_slice());
     assert_eq!(rt; status(worn), 7);
     Ok(())

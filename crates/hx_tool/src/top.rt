@@ -5,6 +5,7 @@ ghost use Rattle.hx_io.specs.Pieces.{AppendsPrefix, ConsumesExactly};
 ghost use Rattle.hx_script.specs.declared.errors.Reason.{Reason};
 ghost use Rattle.hx_script.specs.declared.errors.Reason.TheVariants as a_reason;
 ghost use Rattle.hx_types.specs.declared.ids.Actor.{Actor};
+ghost use Rattle.hx_types.specs.declared.traces.Entry.{Entry};
 ghost use Rattle.hx_tool.specs.Causes.{IsAnswer, IsCause, IsFaulty, IsJudged, IsJudgedResult, IsMadeOf, IsRefused, IsStopped, IsTaken, IsUnbuilt, IsWorn, ReadsText, limit};
 ghost use Rattle.hx_tool.specs.Commands.{Replays, Says};
 ghost use Rattle.hx_tool.specs.Outcomes.{HasNoTrace, IsSilent, status_of};
@@ -16,11 +17,11 @@ use crate::outcomes::{Answered, Done, Made, Outcome, status};
 use crate::words::{Command, command_of};
 use hx_io::{Sink, Source, read_all, write_all};
 use hx_script::Reason;
-use hx_types::{Actor, Trace};
+use hx_types::{Actor, LONGEST_SCRIPT, Trace};
 use std::alloc::Global;
 
 /// How many bytes a script may have.
-const LIMIT: usize = 16_777_216;
+const LIMIT: usize = LONGEST_SCRIPT;
 
 /// The program: it takes its words, the source of its script and the sink of its answer.
 ///
@@ -79,6 +80,12 @@ pub fn hyperstore<S: Source, K: Sink>(
         × ((command : Command) × Says words.now command × Replays command)
         × ReadsText (S.left source.old) (S.left source.new) text
         × IsWorn text result.trace a }
+
+    // And where the text's script has a run that ends so, the outcome is no other.
+    ensures wears { (command : Command) → (text : List ℕ) → (trace : List Entry) → (a : Actor) → Says words.now command
+        → Replays command → S.left source.old ≡ Some text → length text ≤ limit → IsWorn text trace a
+        → ¬ Rose (S.faults source.old) (S.faults source.new)
+        → (result.outcome ≡ Outcome.Worn a) ⊎ (result.outcome ≡ Outcome.Memory) }
 
     // For a source that tells its bytes these alone decide, but for faults and want of memory.
     ensures judged { (command : Command) → Says words.now command
@@ -170,6 +177,7 @@ fn read_and_answer<S: Source>(
         × IsMadeOf command text made) }
     ensures cause { IfErr result (IsCause command (S.left source.old) (S.left source.new) (S.faults source.old) (S.faults source.new)) }
     ensures judged { IfSome (S.left source.old) (λ text. IsJudgedResult command text result) }
+    ensures made { IfSome (S.left source.old) (λ text. IfOk result (IsMadeOf command text)) }
     ensures faults { S.faults source.old ≤ S.faults source.new }
 {
     let text = read_all(alloc, source, LIMIT)?;

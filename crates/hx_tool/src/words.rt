@@ -1,6 +1,7 @@
-ghost use Rattle.std.specs.Prelude.{◌≡◌, ◌↔◌, ◌∷◌, []};
-ghost use Rattle.hx_tool.specs.Commands.{Says, words_of};
+ghost use Rattle.std.specs.Prelude.{◌≡◌, ◌↔◌, ◌∷◌, [], codes};
+ghost use Rattle.hx_tool.specs.Commands.{Asks, Says, words_of};
 ghost use Rattle.hx_tool.specs.declared.words.Command.{Command};
+ghost use Rattle.hx_tool.specs.declared.words.Question.{Question};
 
 /// What the program can be told to do.
 #[derive(Clone, Copy, PartialEq, Eq)]
@@ -9,6 +10,38 @@ pub enum Command {
     Replay { with_trace: bool },
     /// Tell which regions each search of the script asks.
     Plan,
+}
+
+/// What the program can be asked about itself.
+#[derive(Clone, Copy, PartialEq, Eq)]
+pub enum Question {
+    /// How it is called.
+    Help,
+    /// Which version it is.
+    Version,
+}
+
+/// The question that the words are: its word, and no other beside it.
+pub fn question_of(words: &[String]) -> Option<Question>
+    ensures { (question : Question) → (result ≡ Some question) ↔ Asks words.now question }
+{
+    match words {
+        [word] => question_named(word.as_str()),
+        _ => None,
+    }
+}
+
+fn question_named(word: &str) -> Option<Question>
+    ensures help { (result ≡ Some Question.Help) ↔ (word.now ≡ codes "--help") }
+    ensures version { (result ≡ Some Question.Version) ↔ (word.now ≡ codes "--version") }
+{
+    if word == "--help" {
+        Some(Question::Help)
+    } else if word == "--version" {
+        Some(Question::Version)
+    } else {
+        None
+    }
 }
 
 /// The command that the words say: its word and its options, and no other beside them.

@@ -33,7 +33,7 @@ use Rattle.hx_model.specs.Slots.{top_of}
 use Rattle.hx_folds.specs.Folding.{InputFits, IsAfter, IsReplicaOf, IsServerOf as AreInOrder, IsSlotIn, MessageFits, folded, folded_replica, folded_server}
 use Rattle.hx_folds.proofs.Folds.{top-folded}
 use Rattle.hx_folds.proofs.Servers.{folded-server-twice}
-use Rattle.hx_steady.proofs.Lists.{in-map}
+use Rattle.hx_law_lemmas.proofs.Lists.{in-map}
 use Rattle.hx_world.specs.Invariant.{IsFewRun}
 use Rattle.hx_world.proofs.Naming.{named_within}
 use Rattle.hx_world.proofs.Tallies.{few_in_all}

@@ -1,7 +1,6 @@
 pub use Rattle.hx_types.specs.Effects
 pub use Rattle.hx_model.specs.Runs
 pub use Rattle.hx_model.specs.Schedule
-pub use Rattle.hx_model.specs.Steady
 pub mod Coordinators
 pub mod Examples
 pub mod Filing

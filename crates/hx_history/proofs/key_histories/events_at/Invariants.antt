@@ -1,6 +1,6 @@
 use Rattle.std.proofs.Common.{◌≡◌, take}
 use Rattle.std.specs.List.{filter}
-use Rattle.hx_history.specs.declared.noted.Event.{Event}
+use Rattle.hx_history.specs.declared.events.Event.{Event}
 use Rattle.hx_history.specs.Events.{event_view, is_at}
 use Rattle.hx_history.proofs.key_histories.events_at.Given as goal
 

@@ -5,7 +5,7 @@ use Rattle.std.specs.Cmp.Lexicographic.{slice_cmp}
 use Rattle.std.specs.Ordering.{nat_cmp}
 use Rattle.std.specs.Option.{option_map_or}
 use Rattle.std.specs.Str.{bytes_eq}
-use Rattle.hx_history.specs.declared.noted.Event.{Event}
+use Rattle.hx_history.specs.declared.events.Event.{Event}
 use Rattle.hx_history.specs.Events.{event_view, key_of}
 use Rattle.hx_history.proofs.key_histories.groups.Given as goal
 

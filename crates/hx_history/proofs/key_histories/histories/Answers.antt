@@ -1,7 +1,7 @@
 use Rattle.std.proofs.Common.{reverse, ap, ◌∙◌}
 use Rattle.std.specs.List.{filter}
 use Rattle.std.specs.Str.{bytes_eq}
-use Rattle.hx_history.specs.declared.noted.Event.{Event}
+use Rattle.hx_history.specs.declared.events.Event.{Event}
 use Rattle.hx_history.specs.Events.{event_view, key_of}
 use Rattle.hx_history.proofs.Listing.{are_histories, at_end}
 use Rattle.hx_history.proofs.key_histories.histories.Goals as goal

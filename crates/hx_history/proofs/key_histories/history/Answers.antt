@@ -1,6 +1,6 @@
 use Rattle.std.proofs.Common.{List, map, ap, ◌∙◌}
 use Rattle.std.specs.List.{filter}
-use Rattle.hx_history.specs.declared.noted.Event.{Event}
+use Rattle.hx_history.specs.declared.events.Event.{Event}
 use Rattle.hx_history.specs.Events.{event_view, history_by, is_at}
 use Rattle.hx_history.proofs.ByEvents.{history_found}
 use Rattle.hx_history.proofs.key_histories.history.Goals as goal

@@ -10,7 +10,7 @@ pub loop-place-init : goal.loop-place-init
 loop-place-init c =
     let within : 0 < length c.in_ok-places.places.items = omega (arith, c.in_ok-places.ensures.len) in
     c.in_ok-push_reads.ensures
-    ∙ ap (λ (xs : List Item). xs ++ map (item_on None) (map read_view c.deref.result.now)) c.new-items.ensures
+    ∙ ap (λ (xs : List Item). xs ++ map (item_on None) (map read_view c.deref.result.now)) c.in_ok-items.ensures
     ∙ ap (λ rs. map (item_on None) (map read_view rs)) c.deref.ensures.value
     ∙ placed_from (λ reads. reads.items) c.in_ok-places.places.items c.args.writes.now c.args.reads.now 0 c.index.result.now None
     c.index.ensures within (c.in_ok-places.ensures.each 0 (omega arith))

@@ -1,7 +1,7 @@
 use Rattle.std.proofs.Common.{◌≡◌, ℕ, List, [], length, map, reverse}
 use Rattle.std.specs.List.{AllByRecursion}
 use Rattle.hx_types.specs.declared.traces.Step.{Step}
-use Rattle.hx_model.specs.Built.{IsBuiltStep}
+use Rattle.hx_tool.specs.Built.{IsBuiltStep}
 use Rattle.hx_model.specs.Schedule.{stepped}
 use Rattle.hx_tool.specs.Steps.{stop_of}
 use Rattle.hx_tool.proofs.steps.take_steps.Given as goal

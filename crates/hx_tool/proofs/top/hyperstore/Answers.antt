@@ -8,6 +8,7 @@ use Rattle.hx_script.specs.declared.errors.Reason.{Reason}
 use Rattle.hx_tool.specs.declared.words.Command.{Command}
 use Rattle.hx_tool.proofs.Judging.{refused_is_not_taken}
 use Rattle.hx_tool.proofs.Making.{told_refused, told_worn}
+use Rattle.hx_tool.proofs.Wearing.{err_wears, made_wears}
 use Rattle.hx_tool.proofs.top.hyperstore.Goals as goal
 
 written_is_not_usage : (outcome : Outcome) → (outcome ≡ Fine) ⊎ (outcome ≡ WriteFault) → outcome ≡ Usage → ⊥
@@ -65,3 +66,23 @@ returns-in-Err-clause-usage g c = (
       cause_is_not_usage c.in-Some.command _ _ _ _ c.in-Err.outcome c.in-Err.ensures.cause (sym c.silent-in-Err.ensures.outcome ∙ usage),
   λ none. absurd (none c.in-Some.command ((c.in-Some.ensures c.in-Some.command).0 refl)),
 )
+
+pub returns-in-Ok-Whole-clause-wears : goal.returns-in-Ok-Whole-clause-wears
+returns-in-Ok-Whole-clause-wears g c command text trace a says replays left short worn still =
+    let never : Fine ≡ Worn a = made_wears c.in-Some.command command text _ c.in-Ok-Whole.field-0 _ trace a ((c.in-Some.ensures command).1 says) left c.in-Ok-Whole.ensures.made c.in-Ok-Whole.field-0-is replays worn in absurd (cc)
+
+pub returns-in-Ok-Refused-clause-wears : goal.returns-in-Ok-Refused-clause-wears
+returns-in-Ok-Refused-clause-wears g c command text trace a says replays left short worn still =
+    let never : Refused _ _ ≡ Worn a = made_wears c.in-Some.command command text _ c.in-Ok-Refused.field-0 _ trace a ((c.in-Some.ensures command).1 says) left c.in-Ok-Refused.ensures.made c.in-Ok-Refused.field-0-is replays worn in absurd (cc)
+
+pub returns-in-Ok-Worn-clause-wears : goal.returns-in-Ok-Worn-clause-wears
+returns-in-Ok-Worn-clause-wears g c command text trace a says replays left short worn still =
+    inl
+    ((rw c.in-Ok-Worn.field-0-is at c.worn.ensures.outcome)
+    ∙ made_wears c.in-Some.command command text _ c.in-Ok-Worn.field-0 _ trace a ((c.in-Some.ensures command).1 says) left c.in-Ok-Worn.ensures.made c.in-Ok-Worn.field-0-is replays worn)
+
+pub returns-in-Err-clause-wears : goal.returns-in-Err-clause-wears
+returns-in-Err-clause-wears g c command text trace a says replays left short worn still =
+    inr
+    (c.silent-in-Err.ensures.outcome
+    ∙ err_wears c.in-Some.command command text _ _ _ _ c.in-Err.outcome trace a ((c.in-Some.ensures command).1 says) left c.in-Err.ensures.judged c.in-Err.ensures.cause replays short worn still)

@@ -1,16 +1,10 @@
-use Rattle.std.proofs.Common.{◌≡◌, ap, subst, sym, ◌∙◌}
-use Rattle.std.specs.Borrow.{Bor}
-use Rattle.std.specs.List.{All}
-use Rattle.std.proofs.lemmas.Result.{IfOk-weaker}
-use Rattle.hx_slot.specs.States.{SlotState}
-use Rattle.hx_store.specs.Stores.{lent_states}
-use Rattle.hx_store.proofs.Reading.{found_lent}
+use Rattle.std.proofs.Common.{sym}
+use Rattle.hx_store.proofs.Reading.{found-next}
 use Rattle.hx_store.proofs.stores.Store.find.Goals as goal
 
-pub returns : goal.returns
-returns c =
-    let is = found_lent c.args.self.now.region c.args.terms.now c.as_slice.result.now c.args.self.now.states
-    (subst (All (λ (b : Bor SlotState). b.now.region ≡ c.args.self.now.region)) (sym c.as_slice.ensures.value) c.in_ok-slots.ensures.regions)
-    (ap lent_states c.as_slice.ensures.value ∙ c.in_ok-slots.ensures.states)
-    in
-    IfOk-weaker c.matching.result _ _ (λ made e. e ∙ is) c.matching.ensures
+pub loop-i-preserved : goal.loop-i-preserved
+loop-i-preserved c =
+    found-next c.args.self.now.region c.args.terms.now c.args.self.now.states c.loop-i.i c.in-Some.slot.now c.loop-i.rows c.add_match.new.rows (sym c.in-Some.ensures.state) c.in-Some.ensures.region c.loop-i.invariant c.in_ok-add_match-in-Some.ensures
+
+pub returns-clause-ascend : goal.returns-clause-ascend
+returns-clause-ascend c = c.len-i-end.ensures.ascend

@@ -1,12 +1,7 @@
-use Rattle.std.proofs.Common.{ap, ◌∙◌}
-use Rattle.std.proofs.lemmas.Result.{IfOk-weaker}
-use Rattle.hx_store.specs.Stores.{lent_states}
-use Rattle.hx_store.proofs.Reading.{pending_lent}
+use Rattle.std.proofs.Common.{sym}
+use Rattle.hx_store.proofs.Reading.{pending-next}
 use Rattle.hx_store.proofs.stores.Store.pending.Goals as goal
 
-pub returns : goal.returns
-returns c =
-    let is = pending_lent c.as_slice.result.now c.args.self.now.states
-    (ap lent_states c.as_slice.ensures.value ∙ c.in_ok-slots.ensures.states)
-    in
-    IfOk-weaker c.pending_of.result _ _ (λ made e. e ∙ is) c.pending_of.ensures
+pub loop-i-preserved : goal.loop-i-preserved
+loop-i-preserved c =
+    pending-next c.args.self.now.states c.loop-i.i c.in-Some.slot.now.state c.loop-i.updates c.add_pending.new.updates (sym c.in-Some.ensures.state) c.loop-i.invariant c.in_ok-add_pending-in-Some.ensures

@@ -1,16 +1,31 @@
-use Rattle.std.proofs.Common.{ap, sym, ◌∙◌}
-use Rattle.hx_slot.specs.States.{SlotState}
-use Rattle.hx_store.proofs.Stepping.{no_room, no_slot, slot_region, slot_state}
+use Rattle.std.proofs.Common.{List, ℕ, ap, sym, ◌∙◌, vec_capacity}
+use Rattle.hx_store.specs.Stores.{has_slot, state_at}
+use Rattle.hx_store.proofs.Showing.{no-slot, place-is, slot-is, slot-listed, slot-region}
 use Rattle.hx_store.proofs.stores.Store.slot.Goals as goal
 
-pub returns-in-Some-clause-some : goal.returns-in-Some-clause-some
-returns-in-Some-clause-some c = ap (λ (s : SlotState). s.state) c.slot_of.ensures ∙ slot_state c.self.inside.region c.self.inside.marks c.self.inside.slots.entries c.args.self.now c.self.view_is c.self.invariant c.args.key.now c.in-Some.held.now (sym c.in-Some.ensures)
+pub returns-in_default-clause-found : goal.returns-in_default-clause-found
+returns-in_default-clause-found c = sym (no-slot c.self.inside.region c.self.inside.marks c.self.inside.slots.entries c.self.inside.order.items (vec_capacity c.self.inside.order) c.args.self.now c.self.view_is c.self.invariant c.args.key.now c.in_default.ensures.none)
 
-pub returns-in-Some-clause-region : goal.returns-in-Some-clause-region
-returns-in-Some-clause-region c = ap (λ (s : SlotState). s.region) c.slot_of.ensures ∙ slot_region c.self.inside.region c.self.inside.marks c.self.inside.slots.entries c.args.self.now c.self.view_is c.self.invariant c.args.key.now c.in-Some.held.now (sym c.in-Some.ensures)
+pub returns-then-stored-clause-found : goal.returns-then-stored-clause-found
+returns-then-stored-clause-found c =
+    sym
+    (
+    ap (λ (k : List ℕ). has_slot k c.args.self.now.states) (sym (place-is c.self.inside.region c.self.inside.marks c.self.inside.slots.entries c.self.inside.order.items (vec_capacity c.self.inside.order) c.args.self.now c.self.view_is c.self.invariant c.args.key.now c.in-Some.place c.in-Some.ensures.within c.in-Some.ensures.key).key_is)
+    ∙ slot-listed c.self.inside.region c.self.inside.marks c.self.inside.slots.entries c.self.inside.order.items (vec_capacity c.self.inside.order) c.args.self.now c.self.view_is c.self.invariant c.in-Some.place c.stored_at-stored.result.now c.stored_at-stored.ensures
+    ∙ c.if-stored.true
+    )
 
-pub returns-in-None-clause-none : goal.returns-in-None-clause-none
-returns-in-None-clause-none c = no_slot c.self.inside.region c.self.inside.marks c.self.inside.slots.entries c.args.self.now c.self.view_is c.self.invariant c.args.key.now (sym c.in-None.ensures)
+pub returns-then-stored-clause-state : goal.returns-then-stored-clause-state
+returns-then-stored-clause-state c = slot-is c.self.inside.region c.self.inside.marks c.self.inside.slots.entries c.self.inside.order.items (vec_capacity c.self.inside.order) c.args.self.now c.self.view_is c.self.invariant c.in-Some.place c.stored_at-stored.result.now c.stored_at-stored.ensures ∙ ap (state_at c.args.self.now) (place-is c.self.inside.region c.self.inside.marks c.self.inside.slots.entries c.self.inside.order.items (vec_capacity c.self.inside.order) c.args.self.now c.self.view_is c.self.invariant c.args.key.now c.in-Some.place c.in-Some.ensures.within c.in-Some.ensures.key).key_is
 
-pub returns-in-None-clause-room : goal.returns-in-None-clause-room
-returns-in-None-clause-room c = λ room. absurd (no_room c.self.inside.region c.self.inside.marks c.self.inside.slots.entries c.args.self.now c.self.view_is c.self.invariant c.args.key.now (sym c.in-None.ensures) room)
+pub returns-then-stored-clause-region : goal.returns-then-stored-clause-region
+returns-then-stored-clause-region c = slot-region c.self.inside.region c.self.inside.marks c.self.inside.slots.entries c.self.inside.order.items (vec_capacity c.self.inside.order) c.args.self.now c.self.view_is c.self.invariant c.in-Some.place c.stored_at-stored.result.now c.stored_at-stored.ensures
+
+pub returns-else-stored-clause-found : goal.returns-else-stored-clause-found
+returns-else-stored-clause-found c =
+    sym
+    (
+    ap (λ (k : List ℕ). has_slot k c.args.self.now.states) (sym (place-is c.self.inside.region c.self.inside.marks c.self.inside.slots.entries c.self.inside.order.items (vec_capacity c.self.inside.order) c.args.self.now c.self.view_is c.self.invariant c.args.key.now c.in-Some.place c.in-Some.ensures.within c.in-Some.ensures.key).key_is)
+    ∙ slot-listed c.self.inside.region c.self.inside.marks c.self.inside.slots.entries c.self.inside.order.items (vec_capacity c.self.inside.order) c.args.self.now c.self.view_is c.self.invariant c.in-Some.place c.stored_at-stored.result.now c.stored_at-stored.ensures
+    ∙ c.if-stored.false
+    )

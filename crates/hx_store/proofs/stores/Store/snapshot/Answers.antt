@@ -1,16 +1,12 @@
-use Rattle.std.proofs.Common.{◌≡◌, ap, subst, sym, ◌∙◌}
-use Rattle.std.specs.Borrow.{Bor}
-use Rattle.std.specs.List.{All}
-use Rattle.std.proofs.lemmas.Result.{IfOk-weaker}
-use Rattle.hx_slot.specs.States.{SlotState}
-use Rattle.hx_store.specs.Stores.{lent_states}
-use Rattle.hx_store.proofs.Reading.{kept_lent}
+use Rattle.std.proofs.Common.{sym, subst, take}
+use Rattle.hx_folds.specs.Folding.{KeptsAscend}
+use Rattle.hx_folds.proofs.Joinable.{sent-ascends}
+use Rattle.hx_store.proofs.Reading.{ascend-take, kept-next}
 use Rattle.hx_store.proofs.stores.Store.snapshot.Goals as goal
 
-pub returns : goal.returns
-returns c =
-    let is = kept_lent c.args.self.now.region c.as_slice.result.now c.args.self.now.states
-    (subst (All (λ (b : Bor SlotState). b.now.region ≡ c.args.self.now.region)) (sym c.as_slice.ensures.value) c.in_ok-slots.ensures.regions)
-    (ap lent_states c.as_slice.ensures.value ∙ c.in_ok-slots.ensures.states)
-    in
-    IfOk-weaker c.kept_of.result _ _ (λ made e. e ∙ is) c.kept_of.ensures
+pub loop-i-preserved : goal.loop-i-preserved
+loop-i-preserved c =
+    kept-next c.args.self.now.region c.args.self.now.states c.loop-i.i c.in-Some.slot.now c.loop-i.snapshot c.add_kept.new.snapshot (sym c.in-Some.ensures.state) c.in-Some.ensures.region c.loop-i.invariant c.in_ok-add_kept-in-Some.ensures
+
+pub returns-clause-ascend : goal.returns-clause-ascend
+returns-clause-ascend c = subst KeptsAscend (sym c.loop-i.invariant) (sent-ascends c.args.self.now.region (take c.loop-i.i c.args.self.now.states) (ascend-take c.loop-i.i c.args.self.now.states c.len-i-end.ensures.ascend))

@@ -1,0 +1,361 @@
+-- In every run each outcome of an administrative call has its cause in the trace.
+use Rattle.std.proofs.Common.{◌≡◌, ℕ, ◌+◌, ◌≤◌, inl, inr, Bool, true, false, List, [], ◌∷◌, length, Option, Some, None, refl, sym, ap, ◌∙◌, subst, arith, eqb, ltb}
+use Rattle.std.proofs.lemmas.Bool.{cases_eq, cond-false, cond-true, eq-eqb, false≢true, lt-ltb, ne_eqb}
+use Rattle.hx_types.specs.declared.calls.Answer.{Answer}
+use Rattle.hx_types.specs.declared.calls.Caller.{Caller}
+use Rattle.hx_types.specs.declared.calls.Op.{Op}
+use Rattle.hx_types.specs.declared.configs.Config.{Config}
+use Rattle.hx_types.specs.declared.ids.Actor.{Actor}
+use Rattle.hx_types.specs.declared.ids.Epoch.{Epoch}
+use Rattle.hx_types.specs.declared.ids.SessionId.{SessionId}
+use Rattle.hx_types.specs.declared.messages.Message.{Message}
+use Rattle.hx_types.specs.declared.messages.Post.{Post}
+use Rattle.hx_types.specs.declared.traces.Entry.{Entry}
+use Rattle.hx_types.specs.declared.traces.Note.{Note}
+use Rattle.hx_types.specs.declared.traces.Script.{Script}
+use Rattle.hx_types.specs.declared.calls.Answer.TheVariants as an_answer
+use Rattle.hx_types.specs.declared.calls.Op.TheVariants.{Stop, Add}
+use Rattle.hx_types.specs.declared.messages.Message.TheVariants as a_message
+use Rattle.hx_types.specs.declared.ids.Actor.TheVariants.{Coordinator, Server, Session}
+use Rattle.hx_types.specs.declared.traces.Note.TheVariants as a_note
+use Rattle.hx_types.specs.Words.{IsIn, first_some, post}
+use Rattle.hx_types.specs.Configs.{is_lost, lists_ready, members_of}
+use Rattle.hx_types.specs.Fitting.{IsScript, call_of, calls_of, numbered}
+use Rattle.hx_model.specs.Causes.{config_noted, is_fulfilled, issued_after}
+use Rattle.hx_model.specs.CoordinatorSteps.{CoordinatorState, CoordinatorStep, any_joining, coordinator_step}
+use Rattle.hx_model.specs.SessionSteps.{SessionState}
+use Rattle.hx_model.specs.Runs.{IsRun, Made, MayTake, coordinator_after, coordinator_of, made_of, server_of, session_after, session_of}
+use Rattle.hx_law_lemmas.specs.Words.{posts_of}
+use Rattle.hx_law_lemmas.proofs.Lists.{in-append}
+use Rattle.hx_law_lemmas.proofs.Traces.{BeganAt, arrived}
+use Rattle.hx_law_epochs.proofs.Runs.{EpochsRun, IsKnown, Notes, epochs-run, keeps-entry, known-after, known-still}
+use Rattle.hx_law_chains.proofs.CoordinatorPosts.{OfCoordinator, coordinator-plain}
+use Rattle.hx_law_chains.proofs.ServerPosts.{AnySnapshot, OfServer, server-plain}
+use Rattle.hx_law_searches.proofs.CallsKept.{step_is}
+use Rattle.hx_law_chains.proofs.Named.{named}
+use Rattle.hx_law_causes.proofs.Coordinating.{Answers, AsksFor, ByStep, Given, Spoken, caller_of, coordinated, spoken-map, to-session}
+use Rattle.hx_law_causes.proofs.Outcomes.{Judged, administers_to, not_listed}
+use Rattle.hx_law_causes.proofs.Sessions.{Asks, SessionDoes, Starts, session-does}
+
+-- the call is the script's, and has begun
+abbrev pub Asked : Script → List Entry → Caller → Op → Type 0
+Asked script t c op = (call_of script c ≡ Some op) × ((n : ℕ) × BeganAt t c n)
+
+-- a known configuration of the epoch passes the test of the call's operation
+pub record Passes (script : Script) (t : List Entry) (c : Caller) (epoch : Epoch) (test : Op → Config → Bool) : Type 0 where
+  pub op : Op
+  pub called : call_of script c ≡ Some op
+  pub config : Config
+  pub known : IsKnown script t config
+  pub epoch_is : epoch ≡ config.epoch
+  pub holds : test op config ≡ true
+
+-- it was issued after the call began
+pub record WasFulfilled (script : Script) (t : List Entry) (c : Caller) (epoch : Epoch) : Type 0 where
+  pub passes : Passes script t c epoch is_fulfilled
+  pub entry : ℕ
+  pub began : BeganAt t c entry
+  pub issued : issued_after entry epoch t ≡ Some passes.config
+
+-- the cause of an outcome
+abbrev pub OutcomeCause : Script → List Entry → Caller → Answer → Type 0
+OutcomeCause script t c (an_answer.Issued epoch) = WasFulfilled script t c epoch
+OutcomeCause script t c (an_answer.Stopped epoch) = Passes script t c epoch not_listed
+OutcomeCause script t c (an_answer.Member epoch) = Passes script t c epoch (λ op config. administers_to (λ s g. lists_ready config g s) (λ s. false) op)
+OutcomeCause script t c (an_answer.Joining epoch) = Passes script t c epoch (λ op config. administers_to (λ s g. any_joining (members_of config g)) (λ s. false) op)
+OutcomeCause script t c (an_answer.Lost epoch) = Passes script t c epoch (λ op config. administers_to (λ s g. is_lost config g) (λ s. false) op)
+OutcomeCause script t c an_answer.Done = ⊥
+OutcomeCause script t c an_answer.NotFound = ⊥
+OutcomeCause script t c an_answer.CmpFail = ⊥
+OutcomeCause script t c (an_answer.Found object) = ⊥
+OutcomeCause script t c (an_answer.Rows rows) = ⊥
+OutcomeCause script t c (an_answer.Refused g epoch) = ⊥
+OutcomeCause script t c (an_answer.Doubt g epoch) = ⊥
+
+-- what every run keeps of administrative calls
+pub record Administers (script : Script) (t : List Entry) : Type 0 where
+  pub running : (u : SessionId) → (session_of script u t).under_way ≡ true → (n : ℕ) × BeganAt t (record { session = u; number = (session_of script u t).begun }) n
+  pub asks : (p : Post) → IsIn p (posts_of t) → AsksFor (Asked script t) (OutcomeCause script t) p.from p.message
+  pub answers : Answers (Asked script t) (OutcomeCause script t) (coordinator_of script t)
+  pub outcomes : (p : Post) → IsIn p (posts_of t) → Spoken (OutcomeCause script t) p.to p.message
+
+-- an entry that began a call is one of the trace's
+pub began-low : (t : List Entry) (c : Caller) (n : ℕ) → BeganAt t c n → n ≤ length t
+began-low [] c n h = absurd h
+began-low (x ∷ older) c n (inl h) = (let e = h.2 in omega (arith, e))
+began-low (x ∷ older) c n (inr h) = (let l = began-low older c n h in omega (arith, l))
+
+module _ (script : Script) (valid : IsScript script) (older : List Entry) (before : Administers script older) (x : Entry) (run : IsRun script (x ∷ older)) where
+  -- what holds of epochs
+  kept : EpochsRun script older
+  kept = epochs-run script valid older run.1
+
+  -- what the notes make of them
+  notes : Notes script valid older (epochs-run script valid older run.1) (coordinator_of script (x ∷ older)).config x.notes
+  notes = (keeps-entry script valid older (epochs-run script valid older run.1) x run.0).notes
+
+  -- a known configuration stays known
+  still : (c : Config) → IsKnown script older c → IsKnown script (x ∷ older) c
+  still c k = known-still script valid older (epochs-run script valid older run.1) x run.0 c k
+
+  -- no note is of an epoch that was known
+  no-note : (c : Config) → IsKnown script older c → config_noted c.epoch x.notes ≡ None
+  no-note c k = by notes
+    where
+      by : Notes script valid older (epochs-run script valid older run.1) (coordinator_of script (x ∷ older)).config x.notes → config_noted c.epoch x.notes ≡ None
+      by (inl (e, f)) = f c.epoch
+      by (inr i) =
+          let l = ((epochs-run script valid older run.1).known.on.only c.epoch c k).1 in
+          let q = i.follows.epoch in
+          ap (config_noted c.epoch) i.notes
+          ∙ cond-false (eqb (coordinator_of script (x ∷ older)).config.epoch.0 c.epoch.0) (Some (coordinator_of script (x ∷ older)).config) None
+          (ne_eqb (coordinator_of script (x ∷ older)).config.epoch.0 c.epoch.0 (λ e. omega (arith, l, q, e)))
+
+  -- what was issued after an entry still is
+  issued-still : (n : ℕ) (epoch : Epoch) (c : Config) → n ≤ length older → IsKnown script older c → epoch ≡ c.epoch → issued_after n epoch older ≡ Some c → issued_after n epoch (x ∷ older) ≡ Some c
+  issued-still n epoch c l k e i =
+      cond-true (ltb n (length older + 1)) (first_some (config_noted epoch x.notes) (issued_after n epoch older)) None (lt-ltb n (length older + 1) (omega (arith, l)))
+      ∙ ap (λ (o : Option Config). first_some o (issued_after n epoch older)) (subst (λ (y : Epoch). config_noted y x.notes ≡ None) (sym e) (no-note c k))
+      ∙ i
+
+  passes-still : (c : Caller) (epoch : Epoch) (test : Op → Config → Bool) → Passes script older c epoch test → Passes script (x ∷ older) c epoch test
+  passes-still c epoch test h = record { op = h.op; called = h.called; config = h.config; known = still h.config h.known; epoch_is = h.epoch_is; holds = h.holds }
+
+  -- a cause stays one
+  cause-still : (c : Caller) (a : Answer) → OutcomeCause script older c a → OutcomeCause script (x ∷ older) c a
+  cause-still c (an_answer.Issued epoch) h = record {
+    passes = record { op = h.passes.op; called = h.passes.called; config = h.passes.config; known = still h.passes.config h.passes.known; epoch_is = h.passes.epoch_is; holds = h.passes.holds };
+    entry = h.entry;
+    began = inr h.began;
+    issued = issued-still h.entry epoch h.passes.config (began-low older c h.entry h.began) h.passes.known h.passes.epoch_is h.issued;
+  }
+  cause-still c (an_answer.Stopped epoch) h = passes-still c epoch _ h
+  cause-still c (an_answer.Member epoch) h = passes-still c epoch _ h
+  cause-still c (an_answer.Joining epoch) h = passes-still c epoch _ h
+  cause-still c (an_answer.Lost epoch) h = passes-still c epoch _ h
+  cause-still c an_answer.Done h = absurd h
+  cause-still c an_answer.NotFound h = absurd h
+  cause-still c an_answer.CmpFail h = absurd h
+  cause-still c (an_answer.Found object) h = absurd h
+  cause-still c (an_answer.Rows rows) h = absurd h
+  cause-still c (an_answer.Refused g epoch) h = absurd h
+  cause-still c (an_answer.Doubt g epoch) h = absurd h
+
+  -- what was asked stays so
+  asked-still : (c : Caller) (op : Op) → Asked script older c op → Asked script (x ∷ older) c op
+  asked-still c op h = (h.0, (h.1.0, inr h.1.1))
+
+  asks-still : (from : Actor) (m : Message) → AsksFor (Asked script older) (OutcomeCause script older) from m → AsksFor (Asked script (x ∷ older)) (OutcomeCause script (x ∷ older)) from m
+  asks-still from (a_message.StopServer number server) h = to-session from _ _ (λ u. asked-still (record { session = u; number = number }) (Stop server)) h
+  asks-still from (a_message.AddReplica number server g) h = to-session from _ _ (λ u. asked-still (record { session = u; number = number }) (Add server g)) h
+  asks-still from (a_message.Call epoch number op) h = tt
+  asks-still from (a_message.Reply number version answer) h = tt
+  asks-still from (a_message.Update epoch g u) h = tt
+  asks-still from (a_message.Ack epoch g key version) h = tt
+  asks-still from (a_message.Ask epoch number g terms) h = tt
+  asks-still from (a_message.Found epoch number g rows) h = tt
+  asks-still from (a_message.Seal epoch) h = tt
+  asks-still from (a_message.Sealed epoch) h = tt
+  asks-still from (a_message.Install config) h = tt
+  asks-still from a_message.Die h = tt
+  asks-still from a_message.Gone h = tt
+  asks-still from (a_message.Outcome number answer) h = tt
+  asks-still from (a_message.Snap epoch g snapshot pending) h = tt
+  asks-still from (a_message.Ready epoch g) h = tt
+  asks-still from (a_message.Poll epoch) h = tt
+
+  -- what is judged now has its cause
+  now-passes : (c : Caller) (op : Op) → Asked script older c op → (config : Config) → IsKnown script (x ∷ older) config → (epoch : Epoch) (test : Op → Config → Bool) → epoch ≡ config.epoch → test op config ≡ true → Passes script (x ∷ older) c epoch test
+  now-passes c op asked config k epoch test e h = record { op = op; called = asked.0; config = config; known = k; epoch_is = e; holds = h }
+
+  judged-cause : (Now : Type 0) (c : Caller) (op : Op) → Asked script older c op → (config : Config) → IsKnown script (x ∷ older) config → (Now → x.notes ≡ a_note.Issued config ∷ []) → (a : Answer) → Judged Now config op a → OutcomeCause script (x ∷ older) c a
+  judged-cause Now c op asked config k f (an_answer.Issued epoch) h = record {
+    passes = record { op = op; called = asked.0; config = config; known = k; epoch_is = h.1; holds = h.2 };
+    entry = asked.1.0;
+    began = inr asked.1.1;
+    issued = cond-true (ltb asked.1.0 (length older + 1)) (first_some (config_noted epoch x.notes) (issued_after asked.1.0 epoch older)) None (let l = began-low older c asked.1.0 asked.1.1 in lt-ltb asked.1.0 (length older + 1) (omega (arith, l)))
+        ∙ ap (λ (l : List Note). first_some (config_noted epoch l) (issued_after asked.1.0 epoch older)) (f h.0)
+        ∙ ap (λ (o : Option Config). first_some o (issued_after asked.1.0 epoch older)) (cond-true (eqb config.epoch.0 epoch.0) (Some config) None (eq-eqb config.epoch.0 epoch.0 (ap (λ (y : Epoch). y.0) (sym h.1))));
+  }
+  judged-cause Now c op asked config k f (an_answer.Stopped epoch) h = now-passes c op asked config k epoch not_listed h.0 h.1
+  judged-cause Now c op asked config k f (an_answer.Member epoch) h = now-passes c op asked config k epoch (λ op config. administers_to (λ s g. lists_ready config g s) (λ s. false) op) h.0 h.1
+  judged-cause Now c op asked config k f (an_answer.Joining epoch) h = now-passes c op asked config k epoch (λ op config. administers_to (λ s g. any_joining (members_of config g)) (λ s. false) op) h.0 h.1
+  judged-cause Now c op asked config k f (an_answer.Lost epoch) h = now-passes c op asked config k epoch (λ op config. administers_to (λ s g. is_lost config g) (λ s. false) op) h.0 h.1
+  judged-cause Now c op asked config k f an_answer.Done h = absurd h
+  judged-cause Now c op asked config k f an_answer.NotFound h = absurd h
+  judged-cause Now c op asked config k f an_answer.CmpFail h = absurd h
+  judged-cause Now c op asked config k f (an_answer.Found object) h = absurd h
+  judged-cause Now c op asked config k f (an_answer.Rows rows) h = absurd h
+  judged-cause Now c op asked config k f (an_answer.Refused g epoch) h = absurd h
+  judged-cause Now c op asked config k f (an_answer.Doubt g epoch) h = absurd h
+
+  -- what is kept where the coordinator rests and new posts neither ask nor answer
+  elsewhere : ((u : SessionId) → (session_of script u (x ∷ older)).under_way ≡ true → (n : ℕ) × BeganAt (x ∷ older) (record { session = u; number = (session_of script u (x ∷ older)).begun }) n)
+      → coordinator_of script (x ∷ older) ≡ coordinator_of script older
+      → ((p : Post) → IsIn p x.outputs → AsksFor (Asked script (x ∷ older)) (OutcomeCause script (x ∷ older)) p.from p.message × Spoken (OutcomeCause script (x ∷ older)) p.to p.message) → Administers script (x ∷ older)
+  elsewhere running same new = record {
+    running = running;
+    asks = λ p i. elim (in-append x.outputs (posts_of older) p i) [ inl j ↦ (new p j).0 | inr j ↦ asks-still p.from p.message (before.asks p j) ];
+    answers = subst (Answers (Asked script (x ∷ older)) (OutcomeCause script (x ∷ older))) (sym same) (record {
+      todo = λ t i. asked-still t.caller t.op (before.answers.todo t i);
+      newest = λ n i a e. cause-still (caller_of n) a (before.answers.newest n i a e);
+    });
+    outcomes = λ p i. elim (in-append x.outputs (posts_of older) p i) [ inl j ↦ (new p j).1 | inr j ↦ spoken-map (OutcomeCause script older) (OutcomeCause script (x ∷ older)) cause-still p.to p.message (before.outcomes p j) ];
+  }
+
+  -- sessions that rest
+  rests : (u : SessionId) → session_of script u (x ∷ older) ≡ session_of script u older → (session_of script u (x ∷ older)).under_way ≡ true
+      → (n : ℕ) × BeganAt (x ∷ older) (record { session = u; number = (session_of script u (x ∷ older)).begun }) n
+  rests u e w =
+      let r = before.running u (sym (ap (λ (s : SessionState). s.under_way) e) ∙ w) in
+      (r.0, subst (λ k. BeganAt (x ∷ older) (record { session = u; number = k }) r.0) (sym (ap (λ (s : SessionState). s.begun) e)) (inr r.1))
+
+  -- ---- an entry of a server
+  server-asks : (m : Message) → OfServer AnySnapshot m → (from to : Actor) → AsksFor (Asked script (x ∷ older)) (OutcomeCause script (x ∷ older)) from m × Spoken (OutcomeCause script (x ∷ older)) to m
+  server-asks (a_message.StopServer number server) h from to = absurd h
+  server-asks (a_message.AddReplica number server g) h from to = absurd h
+  server-asks (a_message.Outcome number answer) h from to = absurd h
+  server-asks (a_message.Call epoch number op) h from to = (tt, tt)
+  server-asks (a_message.Reply number version answer) h from to = (tt, tt)
+  server-asks (a_message.Update epoch g u) h from to = (tt, tt)
+  server-asks (a_message.Ack epoch g key version) h from to = (tt, tt)
+  server-asks (a_message.Ask epoch number g terms) h from to = (tt, tt)
+  server-asks (a_message.Found epoch number g rows) h from to = (tt, tt)
+  server-asks (a_message.Seal epoch) h from to = (tt, tt)
+  server-asks (a_message.Sealed epoch) h from to = (tt, tt)
+  server-asks (a_message.Install config) h from to = (tt, tt)
+  server-asks a_message.Die h from to = (tt, tt)
+  server-asks a_message.Gone h from to = (tt, tt)
+  server-asks (a_message.Snap epoch g snapshot pending) h from to = (tt, tt)
+  server-asks (a_message.Ready epoch g) h from to = (tt, tt)
+  server-asks (a_message.Poll epoch) h from to = (tt, tt)
+
+  of-server : (i : _) → x.actor ≡ Server i → Administers script (x ∷ older)
+  of-server i acts =
+      let made : made_of script older (Server i) x.input ≡ record { posts = x.outputs; notes = x.notes } = subst (λ (a : Actor). made_of script older a x.input ≡ record { posts = x.outputs; notes = x.notes }) acts run.0.made in
+      let plain = server-plain AnySnapshot script.space (server_of script i older) x.input (λ r j. tt) (λ g. tt) in
+      elsewhere
+      (λ u. rests u (ap (λ (a : Actor). session_after script.space u a x.input (session_of script u older)) acts))
+      (ap (λ (a : Actor). coordinator_after a x.input (coordinator_of script older)) acts)
+      (λ p j. server-asks p.message (plain.posts p (subst (λ (ps : List Post). IsIn p ps) (sym (ap (λ (m : Made). m.posts) made)) j)) p.from p.to)
+
+  -- ---- an entry of a session
+  session-asks : (u : SessionId) (s : SessionState) → s.calls ≡ calls_of script u → (n : ℕ) × BeganAt (x ∷ older) (record { session = u; number = s.begun }) n → (m : Message) → Asks s m
+      → (to : Actor) → AsksFor (Asked script (x ∷ older)) (OutcomeCause script (x ∷ older)) (Session u) m × Spoken (OutcomeCause script (x ∷ older)) to m
+  session-asks u s e b (a_message.StopServer number server) h to =
+      (subst (λ k. Asked script (x ∷ older) (record { session = u; number = k }) (Stop server)) (sym h.0) (ap (λ (l : List Op). numbered l s.begun) (sym e) ∙ h.1, b), tt)
+  session-asks u s e b (a_message.AddReplica number server g) h to =
+      (subst (λ k. Asked script (x ∷ older) (record { session = u; number = k }) (Add server g)) (sym h.0) (ap (λ (l : List Op). numbered l s.begun) (sym e) ∙ h.1, b), tt)
+  session-asks u s e b (a_message.Outcome number answer) h to = absurd h
+  session-asks u s e b (a_message.Call epoch number op) h to = (tt, tt)
+  session-asks u s e b (a_message.Reply number version answer) h to = (tt, tt)
+  session-asks u s e b (a_message.Update epoch g w) h to = (tt, tt)
+  session-asks u s e b (a_message.Ack epoch g key version) h to = (tt, tt)
+  session-asks u s e b (a_message.Ask epoch number g terms) h to = (tt, tt)
+  session-asks u s e b (a_message.Found epoch number g rows) h to = (tt, tt)
+  session-asks u s e b (a_message.Seal epoch) h to = (tt, tt)
+  session-asks u s e b (a_message.Sealed epoch) h to = (tt, tt)
+  session-asks u s e b (a_message.Install config) h to = (tt, tt)
+  session-asks u s e b a_message.Die h to = (tt, tt)
+  session-asks u s e b a_message.Gone h to = (tt, tt)
+  session-asks u s e b (a_message.Snap epoch g snapshot pending) h to = (tt, tt)
+  session-asks u s e b (a_message.Ready epoch g) h to = (tt, tt)
+  session-asks u s e b (a_message.Poll epoch) h to = (tt, tt)
+
+  -- what the step of the session does, with the posts and notes of the entry
+  does-here : (u : SessionId) → x.actor ≡ Session u → SessionDoes script.space x.input (session_of script u older) (record { state = session_of script u (x ∷ older); posts = x.outputs; notes = x.notes })
+  does-here u acts = subst (SessionDoes script.space x.input (session_of script u older)) (step_is script older x u run.0 acts) (session-does script.space (session_of script u older) x.input)
+
+  -- the call under way when the session sends has begun
+  mid-began : (u : SessionId) → x.actor ≡ Session u → (mid : SessionState) (rest : List Note) → Starts (session_of script u older) mid x.notes rest → mid.under_way ≡ true
+      → (n : ℕ) × BeganAt (x ∷ older) (record { session = u; number = mid.begun }) n
+  mid-began u acts mid rest (inl h) w =
+      let r = before.running u (sym h.1 ∙ w) in (r.0, subst (λ k. BeganAt (x ∷ older) (record { session = u; number = k }) r.0) (sym h.0) (inr r.1))
+  mid-began u acts mid rest (inr h) w = (length older + 1, inl (acts, subst (λ (l : List Note). IsIn (a_note.Began mid.begun) l) (sym h.4) (inl refl), refl))
+
+  of-session : (u : SessionId) → x.actor ≡ Session u → Administers script (x ∷ older)
+  of-session u acts =
+      let does = does-here u acts in
+      let name = named script older u in
+      elsewhere
+      (λ v w. elim (cases_eq u.0 v.0) [
+        | inl e ↦ (let q : u ≡ v = λ j. record { 0 = e j } in subst (λ (y : SessionId). (session_of script y (x ∷ older)).under_way ≡ true → (n : ℕ) × BeganAt (x ∷ older) (record { session = y; number = (session_of script y (x ∷ older)).begun }) n) q
+            (λ w. (let r = mid-began u acts does.mid does.rest does.starts (does.goes.under_way w) in (r.0, subst (λ k. BeganAt (x ∷ older) (record { session = u; number = k }) r.0) (sym does.goes.begun) r.1))) w)
+        | inr n ↦ rests v (ap (λ (a : Actor). session_after script.space v a x.input (session_of script v older)) acts ∙ cond-false (eqb u.0 v.0) _ (session_of script v older) (ne_eqb u.0 v.0 n)) w
+      ])
+      (ap (λ (a : Actor). coordinator_after a x.input (coordinator_of script older)) acts)
+      (λ p j. (let h = does.goes.posts p j in
+      subst (λ (a : Actor). AsksFor (Asked script (x ∷ older)) (OutcomeCause script (x ∷ older)) a p.message × Spoken (OutcomeCause script (x ∷ older)) p.to p.message) (sym (h.0 ∙ ap Session (does.id ∙ name.0)))
+      (session-asks u does.mid (does.calls ∙ name.1) (mid-began u acts does.mid does.rest does.starts (does.goes.running p j)) p.message h.1 p.to)))
+
+  -- ---- an entry of the coordinator
+  coordinator-asks : (m : Message) → OfCoordinator m → (from : Actor) → AsksFor (Asked script (x ∷ older)) (OutcomeCause script (x ∷ older)) from m
+  coordinator-asks (a_message.StopServer number server) h from = absurd h
+  coordinator-asks (a_message.AddReplica number server g) h from = absurd h
+  coordinator-asks (a_message.Outcome number answer) h from = tt
+  coordinator-asks (a_message.Call epoch number op) h from = tt
+  coordinator-asks (a_message.Reply number version answer) h from = tt
+  coordinator-asks (a_message.Update epoch g u) h from = tt
+  coordinator-asks (a_message.Ack epoch g key version) h from = tt
+  coordinator-asks (a_message.Ask epoch number g terms) h from = tt
+  coordinator-asks (a_message.Found epoch number g rows) h from = tt
+  coordinator-asks (a_message.Seal epoch) h from = tt
+  coordinator-asks (a_message.Sealed epoch) h from = tt
+  coordinator-asks (a_message.Install config) h from = tt
+  coordinator-asks a_message.Die h from = tt
+  coordinator-asks a_message.Gone h from = tt
+  coordinator-asks (a_message.Snap epoch g snapshot pending) h from = tt
+  coordinator-asks (a_message.Ready epoch g) h from = tt
+  coordinator-asks (a_message.Poll epoch) h from = tt
+
+  of-coordinator : x.actor ≡ Coordinator → Administers script (x ∷ older)
+  of-coordinator acts =
+      let made : made_of script older Coordinator x.input ≡ record { posts = x.outputs; notes = x.notes } = subst (λ (a : Actor). made_of script older a x.input ≡ record { posts = x.outputs; notes = x.notes }) acts run.0.made in
+      let may : MayTake older Coordinator x.input = subst (λ (a : Actor). MayTake older a x.input) acts run.0.input in
+      let step = coordinator_step (coordinator_of script older) x.input in
+      let state : coordinator_of script (x ∷ older) ≡ step.state = ap (λ (a : Actor). coordinator_after a x.input (coordinator_of script older)) acts in
+      let does = coordinated (Asked script older) (OutcomeCause script older) (coordinator_of script older) x.input before.answers
+      (λ id from m e. before.asks (post from Coordinator m) (arrived id older (post from Coordinator m) (subst (MayTake older Coordinator) e may))) in
+      let plain = coordinator-plain (coordinator_of script older) x.input in
+      let out : (p : Post) → IsIn p x.outputs → IsIn p step.posts = λ p j. subst (λ (ps : List Post). IsIn p ps) (sym (ap (λ (m : Made). m.posts) made)) j in
+      let given : (c : Caller) (a : Answer) → Given (Asked script older) (OutcomeCause script older) (ByStep (Asked script older) (OutcomeCause script older) (coordinator_of script older) step) c a → OutcomeCause script (x ∷ older) c a =
+      λ c a. by step state (sym (ap (λ (m : Made). m.notes) made)) c a in
+      record {
+        running = λ u. rests u (ap (λ (a : Actor). session_after script.space u a x.input (session_of script u older)) acts);
+        asks = λ p i. elim (in-append x.outputs (posts_of older) p i) [ inl j ↦ coordinator-asks p.message (plain.posts p (out p j)) p.from | inr j ↦ asks-still p.from p.message (before.asks p j) ];
+        answers = subst (Answers (Asked script (x ∷ older)) (OutcomeCause script (x ∷ older))) (sym state) (record {
+          todo = λ t i. asked-still t.caller t.op (does.todo t i);
+          newest = λ n i a e. given (caller_of n) a (does.newest n i a e);
+        });
+        outcomes = λ p i. elim (in-append x.outputs (posts_of older) p i) [
+          | inl j ↦ spoken-map (Given (Asked script older) (OutcomeCause script older) (ByStep (Asked script older) (OutcomeCause script older) (coordinator_of script older) step)) (OutcomeCause script (x ∷ older)) given p.to p.message (does.posts p (out p j))
+          | inr j ↦ spoken-map (OutcomeCause script older) (OutcomeCause script (x ∷ older)) cause-still p.to p.message (before.outcomes p j)
+        ];
+      }
+    where
+      by : (step : CoordinatorStep) → coordinator_of script (x ∷ older) ≡ step.state → x.notes ≡ step.notes → (c : Caller) (a : Answer)
+          → Given (Asked script older) (OutcomeCause script older) (ByStep (Asked script older) (OutcomeCause script older) (coordinator_of script older) step) c a → OutcomeCause script (x ∷ older) c a
+      by step state ns c a (inl h) = cause-still c a h
+      by step state ns c a (inr (op, asked, inl j)) = judged-cause ⊥ c op asked (coordinator_of script older).config (still (coordinator_of script older).config (epochs-run script valid older run.1).known.newest) (λ z. absurd z) a j
+      by step state ns c a (inr (op, asked, inr j)) =
+          judged-cause (step.notes ≡ a_note.Issued step.state.config ∷ []) c op asked step.state.config
+          (subst (λ (d : CoordinatorState). IsKnown script (x ∷ older) d.config) state (known-after script valid older (epochs-run script valid older run.1) x run.0).newest) (λ z. ns ∙ z) a j
+
+  -- an entry of whoever
+  pub entry-administers : Administers script (x ∷ older)
+  entry-administers = by x.actor refl
+    where
+      by : (a : Actor) → x.actor ≡ a → Administers script (x ∷ older)
+      by Coordinator e = of-coordinator e
+      by (Server i) e = of-server i e
+      by (Session u) e = of-session u e
+
+-- every run keeps it
+pub administers-run : (script : Script) → IsScript script → (t : List Entry) → IsRun script t → Administers script t
+administers-run script valid [] run = record {
+  running = λ u w. absurd (false≢true w);
+  asks = λ p i. absurd i;
+  answers = record { todo = λ t i. absurd i; newest = λ n i a e. absurd i };
+  outcomes = λ p i. absurd i;
+}
+administers-run script valid (x ∷ older) run = entry-administers script valid older (administers-run script valid older run.1) x run

@@ -1,0 +1,166 @@
+-- Every answer of every call of a run has its cause.
+use Rattle.hx_model.specs.Lines.{no_version, upto}
+use Rattle.std.proofs.Common.{◌≡◌, ℕ, ◌-◌, ◌≢◌, ◌⊎◌, inl, Bool, true, false, not, ◌&&◌, List, Some, refl, sym, ap, ◌∙◌, subst}
+use Rattle.std.proofs.lemmas.Bool.{and_parts, cond_both, false≢true}
+use Rattle.hx_types.specs.declared.calls.Answer.{Answer}
+use Rattle.hx_types.specs.declared.calls.Caller.{Caller}
+use Rattle.hx_types.specs.declared.calls.Op.{Op}
+use Rattle.hx_types.specs.declared.configs.Config.{Config}
+use Rattle.hx_types.specs.declared.ids.Epoch.{Epoch}
+use Rattle.hx_types.specs.declared.ids.RegionId.{RegionId}
+use Rattle.hx_types.specs.declared.ids.ServerId.{ServerId}
+use Rattle.hx_types.specs.declared.ids.Version.{Version}
+use Rattle.hx_types.specs.declared.traces.Entry.{Entry}
+use Rattle.hx_types.specs.declared.traces.Script.{Script}
+use Rattle.hx_types.specs.declared.values.Term.{Term}
+use Rattle.hx_types.specs.declared.calls.Answer.TheVariants as an_answer
+use Rattle.hx_types.specs.declared.calls.Op.TheVariants.{Put, Get, Del, Cput, Search, Stop, Add}
+use Rattle.hx_types.specs.declared.outcomes.Planned.TheVariants as a_plan
+use Rattle.hx_types.specs.Words.{server_in}
+use Rattle.hx_types.specs.Configs.{is_lost, lists_ready, members_of}
+use Rattle.hx_types.specs.Effects.{is_write, key_of}
+use Rattle.hx_types.specs.Fitting.{IsScript, call_of}
+use Rattle.hx_model.specs.Causes.{AnsweredCall, HasCause, IsAddRefused, IsIssued, IsLostIn, IsRefused, IsRefusedFor, IsStopped, config_of, is_fulfilled, issued_after, refused_place, server_named, was_sent}
+use Rattle.hx_model.specs.CoordinatorSteps.{any_joining}
+use Rattle.hx_model.specs.Histories.{line_of}
+use Rattle.hx_model.specs.Planning.{plan_of}
+use Rattle.hx_model.specs.Regions.{key_region}
+use Rattle.hx_model.specs.Runs.{IsRun}
+use Rattle.hx_model.specs.SessionSteps.{SessionState, lost_answer}
+use Rattle.hx_plan.proofs.Planned.{lowest}
+use Rattle.hx_law_lemmas.proofs.Traces.{BeganAt}
+use Rattle.hx_law_epochs.proofs.Runs.{IsKnown}
+use Rattle.hx_law_causes.proofs.Administered.{OutcomeCause, Passes, WasFulfilled}
+use Rattle.hx_law_causes.proofs.Answered.{the_call}
+use Rattle.hx_law_causes.proofs.Outcomes.{administers_to, not_listed}
+
+module _ (script : Script) (valid : IsScript script) (trace : List Entry) (run : IsRun script trace) where
+  -- ---- outcomes of administrative calls
+
+  -- a known configuration is that of its epoch
+  of-epoch : (older : List Entry) (config : Config) (epoch : Epoch) → IsKnown script older config → epoch ≡ config.epoch → config_of script epoch older ≡ Some config
+  of-epoch older config epoch k e = subst (λ (y : Epoch). config_of script y older ≡ Some config) (sym e) k
+
+  -- operations of one call are one
+  pub same-op : (c : Caller) (a b : Op) → call_of script c ≡ Some a → call_of script c ≡ Some b → a ≡ b
+  same-op c a b p q = let e : Some a ≡ Some b = sym p ∙ q in cc
+
+  -- the server that is named is none of them
+  stopped-named : (op : Op) (config : Config) → not_listed op config ≡ true → (s : ServerId) × (server_named op ≡ Some s) × (server_in s config.servers ≡ false)
+  stopped-named (Put key sets) config t = absurd (false≢true t)
+  stopped-named (Get key) config t = absurd (false≢true t)
+  stopped-named (Del key) config t = absurd (false≢true t)
+  stopped-named (Cput key tests sets) config t = absurd (false≢true t)
+  stopped-named (Search terms) config t = absurd (false≢true t)
+  stopped-named (Stop s) config t = (s, refl, flip (server_in s config.servers) t)
+    where
+      flip : (b : Bool) → not b ≡ true → b ≡ false
+      flip true e = absurd (false≢true e)
+      flip false e = refl
+  stopped-named (Add s g) config t = (s, refl, flip (server_in s config.servers) t)
+    where
+      flip : (b : Bool) → not b ≡ true → b ≡ false
+      flip true e = absurd (false≢true e)
+      flip false e = refl
+
+  -- a call that adds passes the test
+  adds-named : (test : ServerId → RegionId → Bool) (op : Op) → administers_to test (λ s. false) op ≡ true → (s : ServerId) × ((g : RegionId) × (op ≡ Add s g) × (test s g ≡ true))
+  adds-named test (Put key sets) t = absurd (false≢true t)
+  adds-named test (Get key) t = absurd (false≢true t)
+  adds-named test (Del key) t = absurd (false≢true t)
+  adds-named test (Cput key tests sets) t = absurd (false≢true t)
+  adds-named test (Search terms) t = absurd (false≢true t)
+  adds-named test (Stop s) t = absurd (false≢true t)
+  adds-named test (Add s g) t = (s, (g, refl, t))
+
+  module _ (older : List Entry) (c : Caller) (op : Op) (n : ℕ) (v : Version) (called : call_of script c ≡ Some op) where
+    -- the call that was answered
+    abbrev call : AnsweredCall
+    call = the_call script valid trace run older c op n v
+
+    stopped : (epoch : Epoch) → Passes script older c epoch not_listed → IsStopped call epoch
+    stopped epoch h =
+        let s = stopped-named op h.config (subst (λ (o : Op). not_listed o h.config ≡ true) (same-op c h.op op h.called called) h.holds) in
+        record { config = h.config; of_epoch = of-epoch older h.config epoch h.known h.epoch_is; server = s.0; named = s.1; stopped = s.2 }
+
+    add-refused : (epoch : Epoch) (test : Config → ServerId → RegionId → Bool) → Passes script older c epoch (λ op config. administers_to (test config) (λ s. false) op) → IsAddRefused call epoch test
+    add-refused epoch test h =
+        let s = adds-named (test h.config) op (subst (λ (o : Op). administers_to (test h.config) (λ s. false) o ≡ true) (same-op c h.op op h.called called) h.holds) in
+        record { config = h.config; of_epoch = of-epoch older h.config epoch h.known h.epoch_is; server = s.0; region = s.1.0; adds = s.1.1; holds = s.1.2 }
+
+    issued : (epoch : Epoch) → WasFulfilled script older c epoch → ((m : ℕ) → BeganAt older c m → m ≡ n) → IsIssued call epoch
+    issued epoch h same = record {
+      config = h.passes.config;
+      issued = subst (λ k. issued_after k epoch older ≡ Some h.passes.config) (same h.entry h.began) h.issued;
+      fulfilled = subst (λ (o : Op). is_fulfilled o h.passes.config ≡ true) (same-op c h.passes.op op h.passes.called called) h.passes.holds;
+    }
+
+    pub outcome-has : (a : Answer) → OutcomeCause script older c a → ((m : ℕ) → BeganAt older c m → m ≡ n) → HasCause call a
+    outcome-has (an_answer.Issued epoch) h same = issued epoch h same
+    outcome-has (an_answer.Stopped epoch) h same = stopped epoch h
+    outcome-has (an_answer.Member epoch) h same = add-refused epoch (λ config s g. lists_ready config g s) h
+    outcome-has (an_answer.Joining epoch) h same = add-refused epoch (λ config s g. any_joining (members_of config g)) h
+    outcome-has (an_answer.Lost epoch) h same = add-refused epoch (λ config s g. is_lost config g) h
+    outcome-has an_answer.Done h same = absurd h
+    outcome-has an_answer.NotFound h same = absurd h
+    outcome-has an_answer.CmpFail h same = absurd h
+    outcome-has (an_answer.Found object) h same = absurd h
+    outcome-has (an_answer.Rows rows) h same = absurd h
+    outcome-has (an_answer.Refused g epoch) h same = absurd h
+    outcome-has (an_answer.Doubt g epoch) h same = absurd h
+
+    -- ---- a lost region of the session's configuration
+
+    -- a write that wasn't counted as sent was never sent
+    key-refused : (config : Config) (key : List ℕ) → key_of op ≡ Some key → v ≡ no_version → (is_write op ≡ true → was_sent c older ≡ false) → IsRefusedFor call config (key_region script.space key) op
+    key-refused config key on_key ver never = by op on_key never
+      where
+        write : (k : List ℕ) → Some k ≡ Some key → was_sent c older ≡ false
+            → ((v.0 ≡ 0) × (key_region script.space k ≡ key_region script.space key) × (was_sent c older ≡ false)) ⊎ ((v.0 ≢ 0) × (refused_place script.space config k op (upto (v.0 - 1) (line_of k older)) ≡ Some (key_region script.space key)))
+        write k e h = let q : k ≡ key = cc in inl (ap (λ (x : Version). x.0) ver, ap (key_region script.space) q, h)
+
+        by : (o : Op) → key_of o ≡ Some key → (is_write o ≡ true → was_sent c older ≡ false) → IsRefusedFor call config (key_region script.space key) o
+        by (Put k sets) e f = write k e (f refl)
+        by (Get k) e f = (let q : k ≡ key = cc in ap (key_region script.space) q)
+        by (Del k) e f = write k e (f refl)
+        by (Cput k tests sets) e f = write k e (f refl)
+        by (Search terms) e f = absurd (cc)
+        by (Stop s) e f = absurd (cc)
+        by (Add s g) e f = absurd (cc)
+
+    -- lost in a configuration that is known
+    lost-in : (config : Config) (g : RegionId) → IsKnown script older config → is_lost config g ≡ true → IsLostIn call config g config.epoch
+    lost-in config g k l = record { of_epoch = k; lost = l }
+
+    pub key-lost : (s : SessionState) (o : Op) (key : List ℕ) → o ≡ op → key_of op ≡ Some key → IsKnown script older s.config → is_lost s.config (key_region script.space key) ≡ true → v ≡ no_version
+        → (is_write op ≡ true → s.sent ≡ true → was_sent c older ≡ true) → (is_write op ≡ true → s.sent ≡ false → was_sent c older ≡ false) → HasCause call (lost_answer s o (key_region script.space key))
+    key-lost s o key e on_key k l ver was never =
+        subst (λ (x : Op). HasCause call (lost_answer s x (key_region script.space key))) (sym e)
+        (
+        cond_both (is_write op && s.sent) (an_answer.Doubt (key_region script.space key) s.config.epoch) (an_answer.Refused (key_region script.space key) s.config.epoch) (HasCause call)
+        (λ t. (let a = and_parts (is_write op) s.sent t in record {
+          config = s.config;
+          lost = lost-in s.config (key_region script.space key) k l;
+          writes = a.0;
+          key = key;
+          on_key = on_key;
+          doubted = inl (refl, was a.0 a.1);
+        }))
+        (λ t. record {
+          config = s.config;
+          lost = lost-in s.config (key_region script.space key) k l;
+          refused = key-refused s.config key on_key ver (λ w. never w (unsent s.sent (ap (λ b. b && s.sent) (sym w) ∙ t)));
+        })
+        )
+      where
+        unsent : (b : Bool) → (true && b) ≡ false → b ≡ false
+        unsent b e = e
+
+  -- a plan that is lost names a lost region
+  pub plan-lost : (older : List Entry) (c : Caller) (terms : List Term) (n : ℕ) (v : Version) (config : Config) (g : RegionId) → IsKnown script older config → plan_of script.space config terms ≡ a_plan.Lost g
+      → IsRefused (the_call script valid trace run older c (Search terms) n v) g config.epoch
+  plan-lost older c terms n v config g k e = record {
+    config = config;
+    lost = record { of_epoch = k; lost = (lowest script.space config terms g e).lost };
+    refused = e;
+  }

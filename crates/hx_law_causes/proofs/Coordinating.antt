@@ -1,0 +1,400 @@
+-- Each step of the coordinator: what it answers was answered before, or is judged on its configuration or on the one that it issues.
+use Rattle.std.proofs.Common.{◌≡◌, ℕ, ◌+◌, ◌⊎◌, inl, inr, Bool, true, not, ◌&&◌, List, [], ◌∷◌, ◌++◌, map, Option, Some, None, refl, sym, ap, ◌∙◌, subst, eqb, ltb}
+use Rattle.std.specs.Prelude.{⊤}
+use Rattle.std.proofs.lemmas.Bool.{cond_both, eqb-true}
+use Rattle.hx_types.specs.declared.calls.Answer.{Answer}
+use Rattle.hx_types.specs.declared.calls.Caller.{Caller}
+use Rattle.hx_types.specs.declared.calls.Op.{Op}
+use Rattle.hx_types.specs.declared.configs.Config.{Config}
+use Rattle.hx_types.specs.declared.ids.Actor.{Actor}
+use Rattle.hx_types.specs.declared.ids.Epoch.{Epoch}
+use Rattle.hx_types.specs.declared.ids.RegionId.{RegionId}
+use Rattle.hx_types.specs.declared.ids.ServerId.{ServerId}
+use Rattle.hx_types.specs.declared.ids.SessionId.{SessionId}
+use Rattle.hx_types.specs.declared.messages.Message.{Message}
+use Rattle.hx_types.specs.declared.messages.Post.{Post}
+use Rattle.hx_types.specs.declared.traces.Input.{Input}
+use Rattle.hx_types.specs.declared.calls.Answer.TheVariants as an_answer
+use Rattle.hx_types.specs.declared.calls.Op.TheVariants.{Put, Get, Del, Cput, Search, Stop, Add}
+use Rattle.hx_types.specs.declared.messages.Message.TheVariants as a_message
+use Rattle.hx_types.specs.declared.ids.Actor.TheVariants.{Coordinator, Server, Session}
+use Rattle.hx_types.specs.declared.traces.Input.TheVariants.{Tick, Halt, Deliver}
+use Rattle.hx_types.specs.declared.traces.Note.TheVariants as a_note
+use Rattle.hx_types.specs.Words.{IsIn, below, post, provided, same_session, server_in, without_server}
+use Rattle.hx_types.specs.Configs.{is_lost, lists_joining}
+use Rattle.hx_model.specs.CoordinatorSteps.{Answered, CoordinatorState, CoordinatorStep, Newest, Phase, Sealing, Steady, Task, add_step, adds, adds_steady, again, by_number, coordinator_message, coordinator_step, coordinator_tick, die_for, die_posts, gone_step, goes, is_newest_call, is_out, issue, issuing, judged, newest_answered, newest_of, outcome, ready_now, ready_step, remaining, resting, seal, sealed_now, sealed_step, sealing_or_issue, session_posts, still_sealing, stop_step, stops, telling, to_server, waits_less, with_answer, with_newest, with_number, with_server, with_task}
+use Rattle.hx_law_lemmas.proofs.Lists.{in-append, in-flat_map, in-map, in-provided}
+use Rattle.hx_law_causes.proofs.Outcomes.{Judged, issuing-well, judged-is}
+
+-- what is said of the session that is answered
+abbrev pub ToSession : Actor → (SessionId → Type 0) → Type 0
+ToSession Coordinator P = ⊤
+ToSession (Server s) P = ⊤
+ToSession (Session u) P = P u
+
+-- what an outcome tells
+abbrev pub Spoken : (Caller → Answer → Type 0) → Actor → Message → Type 0
+Spoken G to (a_message.Outcome number a) = ToSession to (λ u. G (record { session = u; number = number }) a)
+Spoken G to other = ⊤
+
+pub to-session : (a : Actor) (P Q : SessionId → Type 0) → ((u : SessionId) → P u → Q u) → ToSession a P → ToSession a Q
+to-session Coordinator P Q f h = tt
+to-session (Server s) P Q f h = tt
+to-session (Session u) P Q f h = f u h
+
+pub spoken-map : (G H : Caller → Answer → Type 0) → ((c : Caller) (a : Answer) → G c a → H c a) → (to : Actor) (m : Message) → Spoken G to m → Spoken H to m
+spoken-map G H f to (a_message.Outcome number a) h = to-session to (λ u. G (record { session = u; number = number }) a) (λ u. H (record { session = u; number = number }) a) (λ u. f (record { session = u; number = number }) a) h
+spoken-map G H f to (a_message.Call epoch number op) h = tt
+spoken-map G H f to (a_message.Reply number version answer) h = tt
+spoken-map G H f to (a_message.Update epoch g u) h = tt
+spoken-map G H f to (a_message.Ack epoch g key version) h = tt
+spoken-map G H f to (a_message.Ask epoch number g terms) h = tt
+spoken-map G H f to (a_message.Found epoch number g rows) h = tt
+spoken-map G H f to (a_message.Seal epoch) h = tt
+spoken-map G H f to (a_message.Sealed epoch) h = tt
+spoken-map G H f to (a_message.Install config) h = tt
+spoken-map G H f to a_message.Die h = tt
+spoken-map G H f to a_message.Gone h = tt
+spoken-map G H f to (a_message.StopServer number server) h = tt
+spoken-map G H f to (a_message.AddReplica number server g) h = tt
+spoken-map G H f to (a_message.Snap epoch g snapshot pending) h = tt
+spoken-map G H f to (a_message.Ready epoch g) h = tt
+spoken-map G H f to (a_message.Poll epoch) h = tt
+
+-- a newest call of a changed list is the new one or an old one
+in-with_newest : (n : Newest) (ns : List Newest) (x : Newest) → IsIn x (with_newest n ns) → (x ≡ n) ⊎ IsIn x ns
+in-with_newest n [] x = λ i. elim i [ inl e ↦ inl e | inr j ↦ absurd j ]
+in-with_newest n (y ∷ ns) x =
+    cond_both (same_session y.session n.session) (n ∷ ns) (y ∷ with_newest n ns) (λ (l : List Newest). IsIn x l → (x ≡ n) ⊎ IsIn x (y ∷ ns))
+    (λ t i. elim i [ inl e ↦ inl e | inr j ↦ inr (inr j) ])
+    (λ t i. elim i [ inl e ↦ inr (inl e) | inr j ↦ elim (in-with_newest n ns x j) [ inl e ↦ inl e | inr k ↦ inr (inr k) ] ])
+
+-- the newest call of a session stands in the list, with the session
+newest-in : (u : SessionId) (ns : List Newest) (x : Newest) → newest_of u ns ≡ Some x → IsIn x ns × (x.session ≡ u)
+newest-in u [] x = λ e. absurd (cc)
+newest-in u (y ∷ ns) x =
+    cond_both (same_session y.session u) (Some y) (newest_of u ns) (λ o. o ≡ Some x → IsIn x (y ∷ ns) × (x.session ≡ u))
+    (λ t e. let q : x ≡ y = cc in (inl q, ap (λ (z : Newest). z.session) q ∙ (let e = eqb-true y.session.0 u.0 t in λ j. record { 0 = e j })))
+    (λ t e. let r = newest-in u ns x e in (inr r.0, r.1))
+
+-- the caller of a newest call
+abbrev pub caller_of : Newest → Caller
+caller_of x = record { session = x.session; number = x.number }
+
+module _ (Asked : Caller → Op → Type 0) (Old : Caller → Answer → Type 0) where
+  -- what the coordinator has to do was asked, and what it has answered was answered
+  pub record Answers (d : CoordinatorState) : Type 0 where
+    pub todo : (t : Task) → IsIn t d.todo → Asked t.caller t.op
+    pub newest : (x : Newest) → IsIn x d.newest → (a : Answer) → x.answer ≡ Some a → Old (caller_of x) a
+
+  -- answered before, or judged so
+  abbrev pub Given : (Op → Answer → Type 0) → Caller → Answer → Type 0
+  Given J c a = Old c a ⊎ ((op : Op) × Asked c op × J op a)
+
+  -- judged on the configuration before the step, or on the one issued in it
+  abbrev pub ByStep : CoordinatorState → CoordinatorStep → Op → Answer → Type 0
+  ByStep d step op a = Judged ⊥ d.config op a ⊎ Judged (step.notes ≡ a_note.Issued step.state.config ∷ []) step.state.config op a
+
+  -- what a step answers
+  pub record Coordinated (d : CoordinatorState) (step : CoordinatorStep) : Type 0 where
+    pub todo : (t : Task) → IsIn t step.state.todo → Asked t.caller t.op
+    pub newest : (x : Newest) → IsIn x step.state.newest → (a : Answer) → x.answer ≡ Some a → Given (ByStep d step) (caller_of x) a
+    pub posts : (p : Post) → IsIn p step.posts → Spoken (Given (ByStep d step)) p.to p.message
+
+  -- what is judged on the configuration before
+  abbrev Now : CoordinatorState → Caller → Answer → Type 0
+  Now d = Given (λ op a. Judged ⊥ d.config op a)
+
+  -- posts alone, with what has been answered
+  tells : (d d' : CoordinatorState) → d'.config ≡ d.config → ((t : Task) → IsIn t d'.todo → Asked t.caller t.op) → ((x : Newest) → IsIn x d'.newest → (a : Answer) → x.answer ≡ Some a → Now d (caller_of x) a)
+      → (new : List Post) → ((p : Post) → IsIn p new → Spoken (Now d) p.to p.message) → Coordinated d (telling d' new)
+  tells d d' e todo newest new f = record {
+    todo = todo;
+    newest = λ x i a q. up (caller_of x) a (newest x i a q);
+    posts = λ p i. spoken-map (Now d) (Given (ByStep d (telling d' new))) up p.to p.message (f p i);
+  }
+    where
+      up : (c : Caller) (a : Answer) → Now d c a → Given (ByStep d (telling d' new)) c a
+      up c a (inl h) = inl h
+      up c a (inr (op, asked, j)) = inr (op, asked, inl j)
+
+  -- with the state as it was
+  keeps : (d : CoordinatorState) → Answers d → (new : List Post) → ((p : Post) → IsIn p new → Spoken (Now d) p.to p.message) → Coordinated d (telling d new)
+  keeps d h new f = tells d d refl h.todo (λ x i a q. inl (h.newest x i a q)) new f
+
+  rests : (d : CoordinatorState) → Answers d → Coordinated d (resting d)
+  rests d h = keeps d h [] (λ p i. absurd i)
+
+  -- posts of one message to each of some servers are no outcomes
+  to-each : (G : Caller → Answer → Type 0) (m : Message) (servers : List ServerId) (p : Post) → IsIn p (map (to_server m) servers) → Spoken G p.to p.message
+  to-each G m servers p i = let r = in-map (to_server m) servers p i in subst (λ (q : Post). Spoken G q.to q.message) (sym r.2) (at r.0 m)
+    where
+      at : (s : ServerId) (m : Message) → Spoken G (Server s) m
+      at s (a_message.Outcome number a) = tt
+      at s (a_message.Call epoch number op) = tt
+      at s (a_message.Reply number version answer) = tt
+      at s (a_message.Update epoch g u) = tt
+      at s (a_message.Ack epoch g key version) = tt
+      at s (a_message.Ask epoch number g terms) = tt
+      at s (a_message.Found epoch number g rows) = tt
+      at s (a_message.Seal epoch) = tt
+      at s (a_message.Sealed epoch) = tt
+      at s (a_message.Install config) = tt
+      at s a_message.Die = tt
+      at s a_message.Gone = tt
+      at s (a_message.StopServer number server) = tt
+      at s (a_message.AddReplica number server g) = tt
+      at s (a_message.Snap epoch g snapshot pending) = tt
+      at s (a_message.Ready epoch g) = tt
+      at s (a_message.Poll epoch) = tt
+
+  -- one post
+  one : (G : Caller → Answer → Type 0) (p : Post) → Spoken G p.to p.message → (q : Post) → IsIn q (p ∷ []) → Spoken G q.to q.message
+  one G p h q i = elim i [ inl e ↦ subst (λ (x : Post). Spoken G x.to x.message) (sym e) h | inr j ↦ absurd j ]
+
+  -- ---- an issue
+
+  -- the answers of those that are answered
+  answered-newest : (G : Caller → Answer → Type 0) (xs : List Answered) → ((a : Answered) → IsIn a xs → G a.caller a.answer) → (ns : List Newest) → ((x : Newest) → IsIn x ns → (a : Answer) → x.answer ≡ Some a → G (caller_of x) a)
+      → (x : Newest) → IsIn x (newest_answered xs ns) → (a : Answer) → x.answer ≡ Some a → G (caller_of x) a
+  answered-newest G [] f ns h = h
+  answered-newest G (y ∷ ys) f ns h =
+      answered-newest G ys (λ z j. f z (inr j)) (with_answer y ns)
+      (cond_both (is_newest_call y.caller ns) (with_newest (record { session = y.caller.session; number = y.caller.number; answer = Some y.answer }) ns) ns
+      (λ (l : List Newest). (x : Newest) → IsIn x l → (a : Answer) → x.answer ≡ Some a → G (caller_of x) a)
+      (λ t x i a e. elim (in-with_newest (record { session = y.caller.session; number = y.caller.number; answer = Some y.answer }) ns x i) [
+        | inl q ↦ (let z : Some y.answer ≡ Some a = sym (ap (λ (w : Newest). w.answer) q) ∙ e in let k : y.answer ≡ a = cc in
+            subst (λ (w : Newest). G (caller_of w) a) (sym q) (subst (G y.caller) k (f y (inl refl))))
+        | inr j ↦ h x j a e
+      ])
+      (λ t. h))
+
+  -- the next configuration is issued
+  issues : (d d' : CoordinatorState) → d'.config ≡ d.config → ((t : Task) → IsIn t d'.todo → Asked t.caller t.op) → ((x : Newest) → IsIn x d'.newest → (a : Answer) → x.answer ≡ Some a → Now d (caller_of x) a) → Coordinated d (issue d')
+  issues d d' e todo newest =
+      let w = issuing-well Asked d' todo in
+      record {
+        todo = w.left;
+        newest = answered-newest (Given (ByStep d (issue d'))) (issuing d').answered (λ a i. answered a (w.answered a i)) d'.newest (λ x i a q. up (caller_of x) a (newest x i a q));
+        posts = λ p i. elim (in-append (map (to_server (a_message.Install (issuing d').config)) (issuing d').config.servers ++ session_posts d'.sessions (a_message.Install (issuing d').config)) (map (λ (a : Answered). outcome a.caller a.answer) (issuing d').answered) p i) [
+          | inl j ↦ elim (in-append (map (to_server (a_message.Install (issuing d').config)) (issuing d').config.servers) (session_posts d'.sessions (a_message.Install (issuing d').config)) p j) [
+            | inl x ↦ to-each (Given (ByStep d (issue d'))) (a_message.Install (issuing d').config) (issuing d').config.servers p x
+            | inr x ↦ (let r = in-map (λ n. post Coordinator (Session (record { 0 = n + 1 })) (a_message.Install (issuing d').config)) (below d'.sessions) p x in
+                subst (λ (q : Post). Spoken (Given (ByStep d (issue d'))) q.to q.message) (sym r.2) tt)
+          ]
+          | inr j ↦ (let r = in-map (λ (a : Answered). outcome a.caller a.answer) (issuing d').answered p j in
+              subst (λ (q : Post). Spoken (Given (ByStep d (issue d'))) q.to q.message) (sym r.2) (answered r.0 (w.answered r.0 r.1)))
+        ];
+      }
+    where
+      up : (c : Caller) (a : Answer) → Now d c a → Given (ByStep d (issue d')) c a
+      up c a (inl h) = inl h
+      up c a (inr (op, asked, j)) = inr (op, asked, inl j)
+
+      here : (c : Config) (Note : Type 0) → Note → (op : Op) (a : Answer) → Judged ⊤ c op a → Judged Note c op a
+      here c Note n op (an_answer.Issued epoch) h = (n, h.1, h.2)
+      here c Note n op (an_answer.Stopped epoch) h = h
+      here c Note n op (an_answer.Member epoch) h = h
+      here c Note n op (an_answer.Joining epoch) h = h
+      here c Note n op (an_answer.Lost epoch) h = h
+      here c Note n op an_answer.Done h = h
+      here c Note n op an_answer.NotFound h = h
+      here c Note n op an_answer.CmpFail h = h
+      here c Note n op (an_answer.Found object) h = h
+      here c Note n op (an_answer.Rows rows) h = h
+      here c Note n op (an_answer.Refused g epoch) h = h
+      here c Note n op (an_answer.Doubt g epoch) h = h
+
+      answered : (a : Answered) → (op : Op) × Asked a.caller op × Judged ⊤ (issuing d').config op a.answer → Given (ByStep d (issue d')) a.caller a.answer
+      answered a (op, asked, j) = inr (op, asked, inr (here (issuing d').config ((issue d').notes ≡ a_note.Issued (issue d').state.config ∷ []) refl op a.answer j))
+
+  -- what a state with other parts has answered
+  pub record Parts (d d' : CoordinatorState) : Type 0 where
+    pub config : d'.config ≡ d.config
+    pub todo : (t : Task) → IsIn t d'.todo → Asked t.caller t.op
+    pub newest : (x : Newest) → IsIn x d'.newest → (a : Answer) → x.answer ≡ Some a → Now d (caller_of x) a
+
+  same : (d : CoordinatorState) → Answers d → Parts d d
+  same d h = record { config = refl; todo = h.todo; newest = λ x i a q. inl (h.newest x i a q) }
+
+  -- waits for these, or issues
+  seals : (d d' : CoordinatorState) (ws : List ServerId) → Parts d d' → Coordinated d (sealing_or_issue d' ws)
+  seals d d' [] p = issues d d' p.config p.todo p.newest
+  seals d d' (w ∷ ws) p = tells d (record d' { phase = Sealing (w ∷ ws) }) p.config p.todo p.newest (map (to_server (a_message.Seal d'.config.epoch)) (w ∷ ws)) (to-each (Now d) (a_message.Seal d'.config.epoch) (w ∷ ws))
+
+  still-seals : (d d' : CoordinatorState) (ws : List ServerId) → Parts d d' → Coordinated d (still_sealing d' ws)
+  still-seals d d' [] p = issues d d' p.config p.todo p.newest
+  still-seals d d' (w ∷ ws) p = tells d (record d' { phase = Sealing (w ∷ ws) }) p.config p.todo p.newest [] (λ q i. absurd i)
+
+  waits-less : (d d' : CoordinatorState) (waited : List ServerId) (s : ServerId) → Parts d d' → Coordinated d (waits_less d' waited s)
+  waits-less d d' waited s p =
+      cond_both (server_in s waited) (still_sealing d' (without_server s waited)) (resting d') (Coordinated d)
+      (λ t. still-seals d d' (without_server s waited) p)
+      (λ t. tells d d' p.config p.todo p.newest [] (λ q i. absurd i))
+
+  -- ---- messages
+
+  hears-gone : (d : CoordinatorState) (from : Actor) → Answers d → Coordinated d (gone_step d from)
+  hears-gone d Coordinator h = rests d h
+  hears-gone d (Session u) h = rests d h
+  hears-gone d (Server s) h = cond_both (server_in s d.config.servers && not (is_out d.gone s)) (goes d s d.phase) (resting d) (Coordinated d) (λ t. by d.phase) (λ t. rests d h)
+    where
+      by : (ph : Phase) → Coordinated d (goes d s ph)
+      by Steady = seals d (record d { gone = with_server s d.gone }) (remaining (with_server s d.gone) d.config.servers) (record { config = refl; todo = h.todo; newest = λ x i a q. inl (h.newest x i a q) })
+      by (Sealing waited) = waits-less d (record d { gone = with_server s d.gone }) waited s (record { config = refl; todo = h.todo; newest = λ x i a q. inl (h.newest x i a q) })
+
+  hears-sealed : (d : CoordinatorState) (epoch : Epoch) (from : Actor) → Answers d → Coordinated d (sealed_step d epoch from)
+  hears-sealed d epoch Coordinator h = rests d h
+  hears-sealed d epoch (Session u) h = rests d h
+  hears-sealed d epoch (Server s) h =
+      cond_both (eqb epoch.0 d.config.epoch.0) (sealed_now d s d.phase) _ (Coordinated d)
+      (λ t. by d.phase)
+      (λ t. cond_both (ltb epoch.0 d.config.epoch.0 && server_in s d.config.servers) (telling d (to_server (a_message.Install d.config) s ∷ [])) (resting d) (Coordinated d)
+      (λ q. keeps d h (to_server (a_message.Install d.config) s ∷ []) (to-each (Now d) (a_message.Install d.config) (s ∷ [])))
+      (λ q. rests d h))
+    where
+      by : (ph : Phase) → Coordinated d (sealed_now d s ph)
+      by Steady = rests d h
+      by (Sealing waited) = waits-less d d waited s (same d h)
+
+  hears-ready : (d : CoordinatorState) (epoch : Epoch) (g : RegionId) (from : Actor) → Answers d → Coordinated d (ready_step d epoch g from)
+  hears-ready d epoch g Coordinator h = rests d h
+  hears-ready d epoch g (Session u) h = rests d h
+  hears-ready d epoch g (Server s) h = cond_both (eqb epoch.0 d.config.epoch.0) (ready_now d s g d.phase) (resting d) (Coordinated d) (λ t. by d.phase) (λ t. rests d h)
+    where
+      by : (ph : Phase) → Coordinated d (ready_now d s g ph)
+      by (Sealing waited) = rests d h
+      by Steady =
+          cond_both (not (is_lost d.config g) && lists_joining d.config g s) (seal (record d { joined = d.joined ++ record { server = s; region = g } ∷ [] })) (resting d) (Coordinated d)
+          (λ t. seals d (record d { joined = d.joined ++ record { server = s; region = g } ∷ [] }) (remaining d.gone d.config.servers) (record { config = refl; todo = h.todo; newest = λ x i a q. inl (h.newest x i a q) }))
+          (λ t. rests d h)
+
+  -- ---- calls
+
+  -- with the number of a call, and its answer if it has one
+  numbers : (d : CoordinatorState) → Answers d → (caller : Caller) (o : Option Answer) → ((a : Answer) → o ≡ Some a → Now d caller a) → (x : Newest) → IsIn x (with_number d caller o).newest → (a : Answer) → x.answer ≡ Some a → Now d (caller_of x) a
+  numbers d h caller o f x i a q = elim (in-with_newest (record { session = caller.session; number = caller.number; answer = o }) d.newest x i) [
+    | inl e ↦ subst (λ (y : Newest). Now d (caller_of y) a) (sym e) (f a (sym (ap (λ (y : Newest). y.answer) e) ∙ q))
+    | inr j ↦ inl (h.newest x j a q)
+  ]
+
+  -- one more to do
+  more-todo : (d : CoordinatorState) → Answers d → (caller : Caller) (op : Op) → Asked caller op → Parts d (with_task d caller op)
+  more-todo d h caller op asked = record {
+    config = refl;
+    todo = λ t i. elim (in-append d.todo (record { caller = caller; op = op } ∷ []) t i) [
+      | inl j ↦ h.todo t j
+      | inr (inl e) ↦ subst (λ (y : Task). Asked y.caller y.op) (sym e) asked
+      | inr (inr j) ↦ absurd j
+    ];
+    newest = numbers d h caller None (λ a q. absurd (cc));
+  }
+
+  -- a call is answered at once
+  answers-now : (d : CoordinatorState) → Answers d → (caller : Caller) (op : Op) (answer : Answer) → Asked caller op → Judged ⊥ d.config op answer → Coordinated d (telling (with_number d caller (Some answer)) (outcome caller answer ∷ []))
+  answers-now d h caller op answer asked j =
+      tells d (with_number d caller (Some answer)) refl h.todo
+      (numbers d h caller (Some answer) (λ a q. (let z : answer ≡ a = cc in subst (Now d caller) z (inr (op, asked, j)))))
+      (outcome caller answer ∷ []) (one (Now d) (outcome caller answer) (inr (op, asked, j)))
+
+  -- an old call is dropped, the newest is answered again
+  by-number : (d : CoordinatorState) → Answers d → (caller : Caller) (new : CoordinatorStep) → Coordinated d new → Coordinated d (by_number d caller (newest_of caller.session d.newest) new)
+  by-number d h caller new good = by (newest_of caller.session d.newest) refl
+    where
+      told : (n : Newest) → IsIn n d.newest → caller_of n ≡ caller → (o : Option Answer) → n.answer ≡ o → Coordinated d (again d caller o)
+      told n i c None e = rests d h
+      told n i c (Some a) e = keeps d h (outcome caller a ∷ []) (one (Now d) (outcome caller a) (inl (subst (λ (y : Caller). Old y a) c (h.newest n i a e))))
+
+      by : (o : Option Newest) → newest_of caller.session d.newest ≡ o → Coordinated d (by_number d caller o new)
+      by None e = good
+      by (Some n) e =
+          let r = newest-in caller.session d.newest n e in
+          cond_both (ltb caller.number n.number) (resting d) _ (Coordinated d) (λ t. rests d h)
+          (λ t. cond_both (eqb caller.number n.number) (again d caller n.answer) new (Coordinated d)
+          (λ q. told n r.0 (let z = eqb-true caller.number n.number q in λ j. record { session = r.1 j; number = sym z j }) n.answer refl)
+          (λ q. good))
+
+  hears-stop : (d : CoordinatorState) (number : ℕ) (s : ServerId) (u : SessionId) → Answers d → Asked (record { session = u; number = number }) (Stop s) → Coordinated d (stop_step d number s u)
+  hears-stop d number s u h asked =
+      let caller : Caller = record { session = u; number = number } in
+      by-number d h caller (stops d caller s)
+      (
+      cond_both (server_in s d.config.servers) _ _ (Coordinated d)
+      (λ t. (let p = more-todo d h caller (Stop s) asked in
+      tells d (with_task d caller (Stop s)) refl p.todo p.newest (provided (not (is_out d.gone s)) (to_server a_message.Die s ∷ []))
+      (λ q i. to-each (Now d) a_message.Die (s ∷ []) q (in-provided (not (is_out d.gone s)) (to_server a_message.Die s ∷ []) q i).1)))
+      (λ t. answers-now d h caller (Stop s) (an_answer.Stopped d.config.epoch) asked (refl, ap not t))
+      )
+
+  hears-add : (d : CoordinatorState) (number : ℕ) (s : ServerId) (g : RegionId) (u : SessionId) → Answers d → Asked (record { session = u; number = number }) (Add s g) → Coordinated d (add_step d number s g u)
+  hears-add d number s g u h asked = by-number d h (record { session = u; number = number }) (adds d (record { session = u; number = number }) s g d.phase) (by d.phase)
+    where
+      steady : (o : Option Answer) → judged d.config s g ≡ o → Coordinated d (adds_steady d (record { session = u; number = number }) s g o)
+      steady None e = seals d (with_task d (record { session = u; number = number }) (Add s g)) (remaining d.gone d.config.servers) (more-todo d h (record { session = u; number = number }) (Add s g) asked)
+      steady (Some answer) e = answers-now d h (record { session = u; number = number }) (Add s g) answer asked (judged-is ⊥ d.config s g answer e)
+
+      by : (ph : Phase) → Coordinated d (adds d (record { session = u; number = number }) s g ph)
+      by (Sealing waited) = (let p = more-todo d h (record { session = u; number = number }) (Add s g) asked in tells d (with_task d (record { session = u; number = number }) (Add s g)) refl p.todo p.newest [] (λ q i. absurd i))
+      by Steady = steady (judged d.config s g) refl
+
+  -- what is posted to stop servers
+  dies : (G : Caller → Answer → Type 0) (test : ServerId → Bool) (ts : List Task) (p : Post) → IsIn p (die_posts test ts) → Spoken G p.to p.message
+  dies G test ts p i = let r = in-flat_map (λ (t : Task). die_for test t.op) ts p i in by r.0.op r.2
+    where
+      by : (op : Op) → IsIn p (die_for test op) → Spoken G p.to p.message
+      by (Put key sets) j = absurd j
+      by (Get key) j = absurd j
+      by (Del key) j = absurd j
+      by (Cput key tests sets) j = absurd j
+      by (Search terms) j = absurd j
+      by (Stop s) j = to-each G a_message.Die (s ∷ []) p (in-provided (test s) (to_server a_message.Die s ∷ []) p j).1
+      by (Add s g) j = absurd j
+
+  ticks : (d : CoordinatorState) → Answers d → Coordinated d (coordinator_tick d d.phase)
+  ticks d h = by d.phase
+    where
+      by : (ph : Phase) → Coordinated d (coordinator_tick d ph)
+      by Steady = keeps d h (die_posts (λ s. true) d.todo) (dies (Now d) (λ s. true) d.todo)
+      by (Sealing waited) = keeps d h (map (to_server (a_message.Seal d.config.epoch)) waited ++ die_posts (λ (s : ServerId). not (is_out d.gone s)) d.todo)
+          (λ p i. elim (in-append (map (to_server (a_message.Seal d.config.epoch)) waited) (die_posts (λ (s : ServerId). not (is_out d.gone s)) d.todo) p i) [
+            | inl j ↦ to-each (Now d) (a_message.Seal d.config.epoch) waited p j
+            | inr j ↦ dies (Now d) (λ (s : ServerId). not (is_out d.gone s)) d.todo p j
+          ])
+
+  -- what a message asks of the coordinator
+  abbrev pub AsksFor : Actor → Message → Type 0
+  AsksFor from (a_message.StopServer number server) = ToSession from (λ u. Asked (record { session = u; number = number }) (Stop server))
+  AsksFor from (a_message.AddReplica number server g) = ToSession from (λ u. Asked (record { session = u; number = number }) (Add server g))
+  AsksFor from other = ⊤
+
+  hears : (d : CoordinatorState) (from : Actor) (m : Message) → Answers d → AsksFor from m → Coordinated d (coordinator_message d from m)
+  hears d from (a_message.Call epoch number op) h v = rests d h
+  hears d from (a_message.Reply number version answer) h v = rests d h
+  hears d from (a_message.Update epoch g u) h v = rests d h
+  hears d from (a_message.Ack epoch g key version) h v = rests d h
+  hears d from (a_message.Ask epoch number g terms) h v = rests d h
+  hears d from (a_message.Found epoch number g rows) h v = rests d h
+  hears d from (a_message.Seal epoch) h v = rests d h
+  hears d from (a_message.Sealed epoch) h v = hears-sealed d epoch from h
+  hears d from (a_message.Install config) h v = rests d h
+  hears d from a_message.Die h v = rests d h
+  hears d from a_message.Gone h v = hears-gone d from h
+  hears d Coordinator (a_message.StopServer number server) h v = rests d h
+  hears d (Server s) (a_message.StopServer number server) h v = rests d h
+  hears d (Session u) (a_message.StopServer number server) h v = hears-stop d number server u h v
+  hears d Coordinator (a_message.AddReplica number server g) h v = rests d h
+  hears d (Server s) (a_message.AddReplica number server g) h v = rests d h
+  hears d (Session u) (a_message.AddReplica number server g) h v = hears-add d number server g u h v
+  hears d from (a_message.Outcome number answer) h v = rests d h
+  hears d from (a_message.Snap epoch g snapshot pending) h v = rests d h
+  hears d from (a_message.Ready epoch g) h v = hears-ready d epoch g from h
+  hears d from (a_message.Poll epoch) h v =
+      cond_both (ltb epoch.0 d.config.epoch.0) (telling d (post Coordinator from (a_message.Install d.config) ∷ [])) (resting d) (Coordinated d)
+      (λ t. keeps d h (post Coordinator from (a_message.Install d.config) ∷ []) (one (Now d) (post Coordinator from (a_message.Install d.config)) tt))
+      (λ t. rests d h)
+
+  -- each step
+  pub coordinated : (d : CoordinatorState) (input : Input) → Answers d → ((id : _) (from : Actor) (m : Message) → input ≡ Deliver id from m → AsksFor from m) → Coordinated d (coordinator_step d input)
+  coordinated d Tick h v = ticks d h
+  coordinated d Halt h v = rests d h
+  coordinated d (Deliver id from m) h v = hears d from m h (v id from m refl)

@@ -1,0 +1,107 @@
+-- What the schedule adds to a run is a run.
+use Rattle.std.proofs.Common.{◌≡◌, ℕ, zero, suc, ◌+◌, ◌<◌, inl, inr, Bool, true, false, not, ◌&&◌, if◌then◌else◌, List, [], ◌∷◌, length, Option, Some, None, refl, sym, ap, ◌∙◌, subst, arith, add-one, ltb, leb}
+use Rattle.std.specs.Option.{option_map}
+use Rattle.std.proofs.lemmas.Bool.{and_from, and_parts, cond_both, cond-false, false≢true, le-leb, lt-ltb, ltb-true}
+use Rattle.hx_types.specs.declared.calls.Op.{Op}
+use Rattle.hx_types.specs.declared.ids.Actor.{Actor}
+use Rattle.hx_types.specs.declared.messages.Post.{Post}
+use Rattle.hx_types.specs.declared.messages.PostId.{PostId}
+use Rattle.hx_types.specs.declared.spaces.Space.{Space}
+use Rattle.hx_types.specs.declared.traces.Entry.{Entry}
+use Rattle.hx_types.specs.declared.traces.Script.{Script}
+use Rattle.hx_types.specs.declared.ids.Actor.TheVariants.{Coordinator, Server, Session}
+use Rattle.hx_types.specs.declared.traces.Input.TheVariants.{Tick}
+use Rattle.hx_types.specs.Words.{IsIn, below, first_some, when_some}
+use Rattle.hx_types.specs.Fitting.{IsScript, numbered}
+use Rattle.hx_types.specs.Posts.{ActorExists}
+use Rattle.hx_model.specs.Runs.{IsRun, MayTake, has_halted, is_actor, is_empty, made_of, makes_enough, post_named, session_of}
+use Rattle.hx_model.specs.Schedule.{Next, delivery_of, entry_by, first_delivery, idle_among, is_idle, next_input, scheduled, undelivered, with_entry}
+use Rattle.hx_model.specs.SessionSteps.{SessionState, SessionStep, begin, session_tick, staying}
+use Rattle.hx_law_lemmas.proofs.Lists.{in-below, when_some_both}
+use Rattle.hx_posts.proofs.Bounds.{bounds}
+use Rattle.hx_posts.proofs.Runs.{posts_stay_sound}
+use Rattle.hx_law_epochs.proofs.Positions.{index-some}
+
+-- an input that may come next
+record MayCome (script : Script) (older : List Entry) (next : Next) : Type 0 where
+  pub actor : is_actor script next.actor ≡ true
+  pub running : has_halted script older next.actor ≡ false
+  pub input : MayTake older next.actor next.input
+  pub enough : makes_enough next.input (made_of script older next.actor next.input) ≡ true
+
+-- an actor that exists is one of the script's
+actor-exists : (script : Script) (n : ℕ) (a : Actor) → ActorExists (bounds script.space (length script.sessions) n) a → is_actor script a ≡ true
+actor-exists script n Coordinator h = refl
+actor-exists script n (Server s) h = and_from (ltb 0 s.0) (leb s.0 script.space.servers) (lt-ltb 0 s.0 h.0) (le-leb s.0 script.space.servers h.1)
+actor-exists script n (Session u) h = and_from (ltb 0 u.0) (leb u.0 (length script.sessions)) (lt-ltb 0 u.0 h.0) (le-leb u.0 (length script.sessions) h.1)
+
+-- a call that begins is noted
+begun-enough : (space : Space) (s : SessionState) (op : Op) → makes_enough Tick (record { posts = (begin space s op).posts; notes = (begin space s op).notes }) ≡ true
+begun-enough space s op = of (begin space s op).posts
+  where
+    of : (ps : List Post) → not (is_empty ps && false) ≡ true
+    of [] = refl
+    of (p ∷ ps) = refl
+
+-- so the tick of an idle session makes enough
+idle-enough : (space : Space) (s : SessionState) → is_idle s ≡ true → makes_enough Tick (record { posts = (session_tick space s).posts; notes = (session_tick space s).notes }) ≡ true
+idle-enough space s t =
+    let a = and_parts (not s.under_way) (ltb s.begun (length s.calls)) t in
+    let i = index-some s.calls s.begun (ltb-true s.begun (length s.calls) a.1) in
+    let e : numbered s.calls (s.begun + 1) ≡ Some i.0 = ap (numbered s.calls) (add-one s.begun) ∙ i.1 in
+    subst (λ (x : SessionStep). makes_enough Tick (record { posts = x.posts; notes = x.notes }) ≡ true) (sym (tick (flip s.under_way a.0) ∙ ap (λ (o : Option Op). when_some o (staying s) (begin space s)) e)) (begun-enough space s i.0)
+  where
+    flip : (b : Bool) → not b ≡ true → b ≡ false
+    flip true e = absurd (false≢true e)
+    flip false e = refl
+
+    tick : s.under_way ≡ false → session_tick space s ≡ when_some (numbered s.calls (s.begun + 1)) (staying s) (begin space s)
+    tick e = cond-false s.under_way _ (when_some (numbered s.calls (s.begun + 1)) (staying s) (begin space s)) e
+
+module _ (script : Script) (valid : IsScript script) where
+  -- a delivery of the schedule
+  delivery-may : (older : List Entry) → IsRun script older → (ids : List PostId) (next : Next) → first_delivery script older ids ≡ Some next → MayCome script older next
+  delivery-may older run [] next = λ e. absurd (cc)
+  delivery-may older run (id ∷ rest) next =
+      when_some_both (post_named id older) (first_delivery script older rest) (λ (p : Post). if has_halted script older p.to then first_delivery script older rest else Some (delivery_of id p)) (λ o. o ≡ Some next → MayCome script older next)
+      (λ q e. delivery-may older run rest next e)
+      (λ p q. cond_both (has_halted script older p.to) (first_delivery script older rest) (Some (delivery_of id p)) (λ o. o ≡ Some next → MayCome script older next)
+      (λ t e. delivery-may older run rest next e)
+      (λ t e. (let r : delivery_of id p ≡ next = cc in subst (MayCome script older) r (record {
+        actor = actor-exists script id.entry p.to (posts_stay_sound script valid older run id p q).to;
+        running = t;
+        input = q;
+        enough = refl;
+      }))))
+
+  -- a tick of the schedule
+  idle-may : (older : List Entry) (ns : List ℕ) → ((n : ℕ) → IsIn n ns → n < length script.sessions) → (next : Next) → idle_among script older ns ≡ Some next → MayCome script older next
+  idle-may older [] f next = λ e. absurd (cc)
+  idle-may older (n ∷ ns) f next =
+      cond_both (is_idle (session_of script (record { 0 = n + 1 }) older)) (Some (record { actor = Session (record { 0 = n + 1 }); input = Tick })) (idle_among script older ns) (λ o. o ≡ Some next → MayCome script older next)
+      (λ t e. (let tick : Next = record { actor = Session (record { 0 = n + 1 }); input = Tick } in let r : tick ≡ next = cc in subst (MayCome script older) r (record {
+        actor = (let l = f n (inl refl) in and_from (ltb 0 (n + 1)) (leb (n + 1) (length script.sessions)) (lt-ltb 0 (n + 1) (omega arith)) (le-leb (n + 1) (length script.sessions) (omega (arith, l))));
+        running = refl;
+        input = tt;
+        enough = idle-enough script.space (session_of script (record { 0 = n + 1 }) older) t;
+      })))
+      (λ t e. idle-may older ns (λ m i. f m (inr i)) next e)
+
+  -- whatever comes next
+  next-may : (older : List Entry) → IsRun script older → (next : Next) → next_input script older ≡ Some next → MayCome script older next
+  next-may older run next = by (first_delivery script older (undelivered older)) refl
+    where
+      by : (o : Option Next) → first_delivery script older (undelivered older) ≡ o → first_some o (idle_among script older (below (length script.sessions))) ≡ Some next → MayCome script older next
+      by None q e = idle-may older (below (length script.sessions)) (λ n i. in-below (length script.sessions) n i) next e
+      by (Some x) q e = delivery-may older run (undelivered older) next (q ∙ e)
+
+  -- a run goes on by the schedule
+  pub scheduled-run : (t : List Entry) → IsRun script t → (n : ℕ) → IsRun script (scheduled script t n)
+  scheduled-run t run zero = run
+  scheduled-run t run (suc n) = goes (scheduled script t n) (scheduled-run t run n) (next_input script (scheduled script t n)) refl
+    where
+      goes : (older : List Entry) → IsRun script older → (o : Option Next) → next_input script older ≡ o → IsRun script (with_entry older (option_map (entry_by script older) o))
+      goes older run None q = run
+      goes older run (Some next) q =
+          let m = next-may older run next q in
+          (record { actor = m.actor; running = m.running; input = m.input; made = refl; enough = m.enough }, run)

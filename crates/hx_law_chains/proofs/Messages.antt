@@ -1,0 +1,387 @@
+-- Updates and acknowledgements that a server of the newest epoch hears, and calls that its leader hears.
+use Rattle.hx_model.specs.Lines.{line_object, upto}
+use Rattle.std.proofs.Common.{◌≡◌, ℕ, ◌+◌, ◌-◌, ◌≤◌, inl, inr, true, false, List, [], ◌∷◌, length, Option, Some, None, refl, sym, ap, ◌∙◌, subst, arith, leb}
+use Rattle.std.specs.List.{flat_map}
+use Rattle.std.proofs.lemmas.Bool.{cond_both, cond-true, cond-false, cases_Bool, cases_eq, leb-true}
+use Rattle.hx_types.specs.declared.calls.Caller.{Caller}
+use Rattle.hx_types.specs.declared.calls.Op.{Op}
+use Rattle.hx_types.specs.declared.calls.Op.TheVariants.{Get}
+use Rattle.hx_types.specs.declared.ids.RegionId.{RegionId}
+use Rattle.hx_types.specs.declared.ids.ServerId.{ServerId}
+use Rattle.hx_types.specs.declared.ids.Version.{Version}
+use Rattle.hx_types.specs.declared.messages.Post.{Post}
+use Rattle.hx_types.specs.declared.outcomes.Decision.{Decision}
+use Rattle.hx_types.specs.declared.outcomes.Decision.TheVariants as a_decision
+use Rattle.hx_types.specs.declared.traces.Note.{Note}
+use Rattle.hx_types.specs.declared.traces.Note.TheVariants as a_note
+use Rattle.hx_types.specs.declared.updates.Update.{Update}
+use Rattle.hx_types.specs.Words.{IsIn, same_text}
+use Rattle.hx_types.specs.Configs.{head_of, is_lost, members_of}
+use Rattle.hx_types.specs.Effects.{is_write, key_of}
+use Rattle.hx_types.specs.Fitting.{call_of}
+use Rattle.hx_types.specs.Spaces.{IsSpace}
+use Rattle.hx_types.specs.Subspaces.{is_key_region}
+use Rattle.hx_model.specs.Leading.{StuckAt, decide, stuck_of}
+use Rattle.hx_model.specs.Neighbours.{place_number}
+use Rattle.hx_model.specs.Regions.{key_region}
+use Rattle.hx_model.specs.ServerSteps.{Replica, ServerState, SlotStep, Spot, accepting, ack_step, ack_to, at_slot, by_moves, by_posts, call_step, decided, doubt_in, get_answer, get_step, known_to, move_posts, prev_at, replica_of, reply, state_in, update_step, waiting_doubt, write_step}
+use Rattle.hx_model.specs.Slots.{KeyState, Move, acknowledged, follows, has_place, object_in, object_of, offered, top_of}
+use Rattle.hx_model.proofs.States.{same_text_self}
+use Rattle.hx_law_lemmas.proofs.LeaderLines as leader_lines
+use Rattle.hx_law_lemmas.proofs.Lists.{in-provided}
+use Rattle.hx_law_lemmas.proofs.Replicas.{state-key}
+use Rattle.hx_law_lemmas.specs.Words.{noted, standing}
+use Rattle.hx_law_lemmas.proofs.Chains.{Differ}
+use Rattle.hx_law_lemmas.proofs.Lines.{in-upto}
+use Rattle.hx_law_lemmas.proofs.Passing.{passes-key}
+use Rattle.hx_law_lemmas.proofs.UpdatesApart.{places-apart}
+use Rattle.hx_law_lemmas.proofs.Cuts.{More, length-upto, more_cut, version-there}
+use Rattle.hx_law_lemmas.proofs.Leader.{slot_of}
+use Rattle.hx_law_lemmas.proofs.Cases.{same-key}
+use Rattle.hx_law_lemmas.proofs.Lawful as script_lines
+use Rattle.hx_folds.specs.Folding.{IsSlotOf}
+use Rattle.hx_folds.proofs.Deciding.{decide-same}
+use Rattle.hx_law_epochs.proofs.Facts.{Installed}
+use Rattle.hx_law_epochs.proofs.Neighbours.{leader-first}
+use Rattle.hx_law_chains.proofs.Holders.{Up}
+use Rattle.hx_law_chains.proofs.Joining.{acking_joined, fixed_joined, sending_joined}
+use Rattle.hx_law_chains.proofs.Keys.{Below, below-lead, following, low-in}
+use Rattle.hx_law_chains.proofs.Late.{SlotLate, ack-late, doubt-fine, moves-nosnap, reply-late}
+use Rattle.hx_law_chains.proofs.Leader.{Decided, decided-is, steady-lawful}
+use Rattle.hx_law_chains.proofs.Moves.{AllAllowed, Around, Own, accepting-allowed, acknowledged-allowed, kept_same, offered-allowed, own_rely}
+use Rattle.hx_law_chains.proofs.Places.{key-first}
+use Rattle.hx_law_chains.proofs.Posts.{Committed, Seat, ack-fine, lead-along, reply-fine}
+use Rattle.hx_law_chains.proofs.Rows.{middle, moving-served, posts-served, quiet-served}
+use Rattle.hx_law_chains.proofs.Serving.{Asked, Scene, Sent, Served, world}
+use Rattle.hx_law_chains.proofs.Shown.{object-same, shows-line, floor-part}
+use Rattle.hx_law_chains.proofs.Slotted.{between-ok, ends-here, held-between, only-between, seat-now, this-key, twins}
+use Rattle.hx_law_chains.proofs.World.{Acking, Along, KeyOk, Law, Lawful, Sending, Told, Valid, World, around, law-of, lawful-made, lawful-numbered, lawful-sorted, lawful-upto, spot}
+
+module _ (e : Scene) (asked : Asked) (valid : IsSpace e.script.space) (ok : (key : List ℕ) → KeyOk e.script (world e) key) (differ : (g : RegionId) → Differ (members_of e.config g)) (i : ServerId) (here : Up e.Real e.servers i)
+    (rs : List Replica) (same : e.servers i ≡ standing e.config i rs) (r : Replica) (found : replica_of r.region rs ≡ Some r) (installed : r.installed ≡ true) (alive : is_lost e.config r.region ≡ false) where
+  -- the server's state
+  abbrev st : ServerState
+  st = standing e.config i rs
+
+  -- the replica is installed
+  abbrev at0 : Installed st r.region
+  at0 = record { replica = r; found = found; installed = installed }
+
+  -- it is a seat
+  abbrev seat : Seat e.script (world e) r.region i
+  seat = seat-now e valid ok differ i here rs same r.region at0 alive
+
+  -- where its slots stand
+  abbrev at : Spot
+  at = spot e.script (world e) r.region i
+
+  module _ (key : List ℕ) where
+    -- the slot
+    abbrev t : KeyState
+    t = state_in e.script.space r key
+
+    module _ (ms : List Move) where
+      -- where all stand in between
+      abbrev mid : World
+      mid = middle e asked valid ok differ i here rs same r found installed alive key ms [] (λ j z. refl)
+
+      -- what holds of the key there
+      abbrev mid-ok : KeyOk e.script mid key
+      mid-ok = between-ok e valid ok differ i here rs same r found installed key ms [] (flat_map (move_posts at) ms) (moves-nosnap at ms) (λ j z. refl) key
+
+      -- what is said around the slot
+      abbrev near : Around
+      near = around e.script mid key r.region i
+
+      -- what the slot relies on
+      own : Own (e.line key) r.region near t
+      own = mid-ok.own r.region i t (held-between e valid ok differ i here rs same r found installed key ms [] (flat_map (move_posts at) ms) (moves-nosnap at ms) (λ j z. refl))
+
+  -- ---- an update
+  pub update-served : (u : Update) → Sending e.script (world e) u.key r.region i u
+      → let step = at_slot st r (state_in e.script.space r u.key) (update_step at (state_in e.script.space r u.key) u) in Served e asked i step.state step.notes step.posts
+  update-served u s =
+      cond_both (leb u.version.0 (top_of (t u.key))) (by_posts (known_to at (t u.key) u)) (by_moves at (accepting at (t u.key) (offered r.region (t u.key) u)))
+      (λ (x : SlotStep). let step = at_slot st r (t u.key) x in Served e asked i step.state step.notes step.posts)
+      (λ b. posts-served e asked valid ok differ i here rs same r found installed alive u.key (known_to at (t u.key) u) (λ p j.
+      let k = in-provided (leb u.version.0 (t u.key).floor) (ack_to at u (prev_at at u)) p j in
+      let c : Committed e.script valid (world e) ok differ r.region i seat u = record {
+        known = record { stands = s.stands; placed = s.placed; low = leb-true u.version.0 (top_of (t u.key)) b };
+        done = leb-true u.version.0 (t u.key).floor k.0;
+      } in (ack-fine e.script valid (world e) ok differ r.region i seat u c p k.1, ack-late e asked i (world e) valid ok differ r.region seat u (prev_at at u) p k.1)))
+      (λ b. quiet-served e asked valid ok differ i here rs same r found installed alive u.key ms allowed)
+    where
+      ms : List Move
+      ms = accepting at (state_in e.script.space r u.key) (offered r.region (state_in e.script.space r u.key) u)
+
+      allowed : AllAllowed (e.line u.key) r.region (near u.key ms) (state_in e.script.space r u.key) ms
+      allowed =
+          let law = (ok u.key).lawful in
+          let z = sending_joined e.script valid (world e) differ (Sent e valid ok differ i here _ [] (flat_map (move_posts at) ms)) (twins e valid ok differ i here rs same r found installed u.key ms [] (flat_map (move_posts at) ms) (moves-nosnap at ms) (λ j z. refl)) u.key (ok u.key) r.region i u s in
+          accepting-allowed (e.line u.key) r.region (near u.key ms) (lawful-sorted e.script e.known u.key (e.line u.key) law) (low-in e.script (world e) u.key (e.line u.key) law) (following e.script (world e) u.key (e.line u.key) law r.region)
+          at (t u.key) (offered r.region (t u.key) u) (ends-here e valid (mid u.key ms) differ u.key (e.line u.key) law r.region i) (own u.key ms)
+          (offered-allowed (e.line u.key) r.region (near u.key ms) (lawful-sorted e.script e.known u.key (e.line u.key) law) (low-in e.script (world e) u.key (e.line u.key) law) (following e.script (world e) u.key (e.line u.key) law r.region)
+          (t u.key) u (own u.key ms) s.stands s.placed z.before (inl z.follows))
+
+  -- ---- an acknowledgement
+  pub ack-served : (key : List ℕ) (v : ℕ) → Acking e.script (world e) key r.region i v
+      → let step = at_slot st r (state_in e.script.space r key) (ack_step at (state_in e.script.space r key) v) in Served e asked i step.state step.notes step.posts
+  ack-served key v a = quiet-served e asked valid ok differ i here rs same r found installed alive key ms
+      (let law = (ok key).lawful in
+      let z = acking_joined e.script valid (world e) differ (Sent e valid ok differ i here _ [] (flat_map (move_posts at) ms)) (twins e valid ok differ i here rs same r found installed key ms [] (flat_map (move_posts at) ms) (moves-nosnap at ms) (λ j z. refl)) key (ok key) r.region i v a in
+      acknowledged-allowed (e.line key) r.region (near key ms) (lawful-sorted e.script e.known key (e.line key) law) (low-in e.script (world e) key (e.line key) law) (following e.script (world e) key (e.line key) law r.region)
+      (t key) v (own key ms) (record {
+        update = z.update;
+        stands = z.stands;
+        version = z.version;
+        placed = z.placed;
+        before = z.before;
+        after = z.after;
+        closed = z.closed;
+        low = (let b = a.here (t key) (seat.held key) in let q = a.version in omega (arith, b, q));
+      }))
+    where
+      ms : List Move
+      ms = acknowledged (state_in e.script.space r key) v
+
+  -- ---- a call at the leader
+  module _ (key : List ℕ) (leads : r.region ≡ key_region e.script.space key) (head : head_of e.config r.region ≡ Some i) (slot : IsSlotOf r.region (state_in e.script.space r key)) (marks : (state_in e.script.space r key).marks ≡ true) (is_known : e.known e.config)
+      (caller : Caller) (op : Op) (called : call_of e.script caller ≡ Some op) (on_key : key_of op ≡ Some key) (asks : asked.call caller) where
+    -- the line
+    abbrev line : List Update
+    line = e.line key
+
+    -- its law
+    abbrev law : Lawful e.script e.known key line
+    law = (ok key).lawful
+
+    -- what the leader relies on
+    abbrev own0 : Own line r.region (around e.script (world e) key r.region i) (t key)
+    own0 = (ok key).own r.region i (t key) (seat.held key)
+
+    -- in the key's region
+    own1 : Own line (key_region e.script.space key) (around e.script (world e) key r.region i) (t key)
+    own1 = subst (λ (g : RegionId). Own line g (around e.script (world e) key r.region i) (t key)) leads own0
+
+    -- its top
+    abbrev n : ℕ
+    n = top_of (t key)
+
+    -- the line up to it
+    abbrev us : List Update
+    us = upto n line
+
+    -- that has the law
+    pub us-law : Lawful e.script e.known key us
+    us-law = lawful-upto e.script e.known key n line law
+
+    -- the slot has its key
+    key-is : (t key).base.key ≡ key
+    key-is = state-key (is_key_region e.script.space r.region) key r.states
+
+    -- what is committed along chains isn't above the leader's floor
+    late-floor : (v : ℕ) → v ≤ length line → Along e.script (world e) key v → v ≤ (t key).floor
+    late-floor v l a = elim (cases_eq v 0) [
+      | inl z ↦ omega (arith, z)
+      | inr d ↦ (let u = version-there line (lawful-numbered e.script e.known key line law) v (omega (arith, d)) l in
+          let o = law-of e.script e.known key line u.0 law u.1 in
+          let q = u.2 in
+          let b = a u.0 u.1 (omega (arith, q)) r.region i (t key) (seat.held key) (ap (λ (g : RegionId). has_place g u.0) leads ∙ passes-key e.script.space key o.0 u.0 o.1.made) in
+          omega (arith, b, q))
+    ]
+
+    -- ---- a get
+    get-served : is_write op ≡ false → let step = at_slot st r (t key) (get_step at (t key) caller) in Served e asked i step.state step.notes step.posts
+    get-served reads = posts-served e asked valid ok differ i here rs same r found installed alive key _ (λ p j. elim j [
+      | inl z ↦ subst (λ (x : Post). Valid e.script (world e) x.from x.to x.message × SlotLate e asked i x) (sym z) (told, ((λ key' get. (asks, λ v l a. late key' get v l a)), tt))
+      | inr k ↦ absurd k
+    ])
+      where
+        the-call : (op' : Op) → call_of e.script caller ≡ Some op' → op ≡ op'
+        the-call op' q = (let s : Some op ≡ Some op' = sym called ∙ q in cc)
+
+        answer : get_answer (object_in (object_of r.region (t key))) ≡ get_answer (line_object (upto (t key).floor line))
+        answer =
+            ap (λ (g : RegionId). get_answer (object_in (object_of g (t key)))) leads
+            ∙ ap (λ o. get_answer (object_in o)) (object-same e.script.space key line (lawful-made e.script e.known key line law) (around e.script (world e) key r.region i) (t key) own1 (subst (λ (g : RegionId). IsSlotOf g (t key)) leads slot) marks key-is)
+            ∙ ap get_answer (leader_lines.kept-line e.script.space key (upto (t key).floor us)
+            (script_lines.lawful-steady e.script key (upto (t key).floor us) (steady-lawful e.script valid e.known key (upto (t key).floor us) (lawful-upto e.script e.known key (t key).floor us us-law))))
+            ∙ ap (λ (l : List Update). get_answer (line_object l)) (floor-part e.script.space key line (lawful-made e.script e.known key line law) (around e.script (world e) key r.region i) (t key) own1 (subst (λ (g : RegionId). IsSlotOf g (t key)) leads slot) marks key-is)
+
+        told : (op' : Op) (key' : List ℕ) → call_of e.script caller ≡ Some op' → key_of op' ≡ Some key' → Told e.script (world e) key' caller (record { 0 = (t key).floor }) (get_answer (object_in (object_of r.region (t key)))) op'
+        told op' key' called' on_key' =
+            let z = same-key op op' key key' (sym called ∙ called') on_key on_key' in
+            let x = the-call op' called' in
+            subst (λ (k : List ℕ). Told e.script (world e) k caller (record { 0 = (t key).floor }) (get_answer (object_in (object_of r.region (t key)))) op') z
+            (inr (inr (sym (ap is_write x) ∙ reads, (let a = own0.content.floor in let b = own0.top_line in omega (arith, a, b)), answer, lead-along e.script valid (world e) ok differ r.region i seat key leads head)))
+
+        late : (key' : List ℕ) → call_of e.script caller ≡ Some (Get key') → (v : ℕ) → v ≤ length (e.line key') → Along e.script (world e) key' v → v ≤ (t key).floor
+        late key' get v =
+            let z = same-key op (Get key') key key' (sym called ∙ get) on_key refl in
+            subst (λ (k : List ℕ). v ≤ length (e.line k) → Along e.script (world e) k v → v ≤ (t key).floor) z (late-floor v)
+
+    -- the step of a decision
+    abbrev Decides : Decision → Type 0
+    Decides d = let step = at_slot st r (t key) (decided at (t key) caller d) in Served e asked i step.state step.notes step.posts
+
+    -- an update that is committed is answered again
+    again-served : (u : Update) → IsIn u us → u.caller ≡ caller → u.version.0 ≤ (t key).floor → Decides (a_decision.Again u.version u.answer)
+    again-served u j c l = posts-served e asked valid ok differ i here rs same r found installed alive key (reply at caller u.version u.answer ∷ []) (λ p k. elim k [
+      | inl z ↦ subst (λ (x : Post). Valid e.script (world e) x.from x.to x.message × SlotLate e asked i x) (sym (z ∙ ap (λ (y : Caller). reply at y u.version u.answer) (sym c)))
+          (reply-fine e.script valid (world e) ok differ r.region i seat u known (leads ∙ ap (key_region e.script.space) (sym uk)) head, reply-late e asked i (world e) valid ok differ r.region seat u known (reply at u.caller u.version u.answer) refl)
+      | inr z ↦ absurd z
+    ])
+      where
+        stands : IsIn u line
+        stands = in-upto n line u j
+
+        o : (older : List Update) × Law e.script e.known key older u
+        o = law-of e.script e.known key line u law stands
+
+        uk : u.key ≡ key
+        uk = o.1.made.key_is
+
+        known : Committed e.script valid (world e) ok differ r.region i seat u
+        known = record {
+          known = record {
+            stands = subst (λ (k : List ℕ). IsIn u (e.line k)) (sym uk) stands;
+            placed = ap (λ (g : RegionId). has_place g u) leads ∙ passes-key e.script.space key o.0 u o.1.made;
+            low = subst (λ (k : List ℕ). u.version.0 ≤ top_of (state_in e.script.space r k)) (sym uk) (let f = own0.content.floor in omega (arith, f, l));
+          };
+          done = subst (λ (k : List ℕ). u.version.0 ≤ (state_in e.script.space r k).floor) (sym uk) l;
+        }
+
+    -- the next update is assigned
+    module _ (u : Update) (u_law : Law e.script e.known key us u) (u_caller : u.caller ≡ caller) where
+      abbrev ms : List Move
+      ms = accepting at (t key) (offered r.region (t key) u)
+
+      abbrev notes : List Note
+      notes = a_note.Assigned u ∷ []
+
+      -- the line after
+      abbrev line1 : List Update
+      line1 = u ∷ us
+
+      -- its law
+      law1 : Lawful e.script e.known key line1
+      law1 = (u_law, us-law)
+
+      -- how many updates the leader has
+      count : length us ≡ n
+      count = length-upto n line (lawful-numbered e.script e.known key line law) own0.top_line
+
+      version : u.version.0 ≡ n + 1
+      version = (let v = u_law.made.version in let c = count in omega (arith, v, c))
+
+      others : (j : List ℕ) → same_text key j ≡ false → noted e.line notes j ≡ e.line j
+      others j f = cond-false (same_text u.key j) (u ∷ upto (u.version.0 - 1) (e.line j)) (e.line j) (ap (λ (k : List ℕ). same_text k j) u_law.made.key_is ∙ f)
+
+      line-is : noted e.line notes key ≡ u ∷ upto (u.version.0 - 1) line
+      line-is = cond-true (same_text u.key key) (u ∷ upto (u.version.0 - 1) line) line (ap (λ (k : List ℕ). same_text k key) u_law.made.key_is ∙ same_text_self key)
+
+      line-now : noted e.line notes key ≡ line1
+      line-now = line-is ∙ ap (λ m. u ∷ upto m line) (let v = version in let q : u.version.0 - 1 ≡ n = omega (arith, v) in q)
+
+      more1 : More n line line1
+      more1 = more_cut n line u (lawful-numbered e.script e.known key line law) own0.top_line version
+
+      -- where all stand in between
+      abbrev mid1 : World
+      mid1 = middle e asked valid ok differ i here rs same r found installed alive key ms notes others
+
+      -- what holds there
+      mid1-ok : KeyOk e.script mid1 key
+      mid1-ok = between-ok e valid ok differ i here rs same r found installed key ms notes (flat_map (move_posts at) ms) (moves-nosnap at ms) others key
+
+      -- the slot is held there
+      held1 : mid1.holds key r.region i (t key)
+      held1 = held-between e valid ok differ i here rs same r found installed key ms notes (flat_map (move_posts at) ms) (moves-nosnap at ms) others
+
+      below1 : Below e.script mid1 key n
+      below1 = below-lead e.script mid1 differ valid key mid1-ok i (t key) (subst (λ (g : RegionId). mid1.holds key g i (t key)) leads held1)
+          (λ x h. (let q = only-between e valid ok differ i here rs same r found installed key ms notes (flat_map (move_posts at) ms) (moves-nosnap at ms) others x (subst (λ (g : RegionId). mid1.holds key g i x) (sym leads) h) in
+          let z : top_of x ≡ n = ap top_of q in omega (arith, z)))
+          (ap (head_of e.config) (sym leads) ∙ head)
+
+      -- what is said around the slot
+      abbrev near1 : Around
+      near1 = around e.script mid1 key r.region i
+
+      own-line : Own line1 r.region near1 (t key)
+      own-line = own_rely r.region n line line1 near1 near1 (t key) more1 (omega arith)
+          (λ w k. below1.sent r.region i w (record { stands = k.stands; placed = k.placed; listed = mid1-ok.listed r.region i (t key) held1; before = k.before; follows = k.waits }))
+          (kept_same near1) (mid1-ok.own r.region i (t key) held1)
+
+      placed : has_place r.region u ≡ true
+      placed = ap (λ (g : RegionId). has_place g u) leads ∙ passes-key e.script.space key us u u_law.made
+
+      alone : near1.before u
+      alone h x y k a = absurd (leader-first e.config u.places (places-apart e.script.space valid key line1 (lawful-made e.script e.known key line1 law1) u (inl refl)) differ r.region
+          (ap (λ (g : RegionId). place_number g u.places) leads ∙ key-first e.script.space key us u u_law.made) i head h x a)
+
+      follow : follows r.region n u ≡ true
+      follow =
+          ap (λ (g : RegionId). follows g n u) leads ∙ ap (λ m. follows (key_region e.script.space key) m u) (sym count)
+          ∙ leader_lines.follows-line e.script.space key us u (steady-lawful e.script valid e.known key line1 law1).0.lawful
+
+      allowed1 : AllAllowed line1 r.region near1 (t key) ms
+      allowed1 =
+          accepting-allowed line1 r.region near1 (lawful-sorted e.script e.known key line1 law1) (low-in e.script (world e) key line1 law1) (following e.script (world e) key line1 law1 r.region)
+          at (t key) (offered r.region (t key) u) (ends-here e valid mid1 differ key line1 law1 r.region i) own-line
+          (offered-allowed line1 r.region near1 (lawful-sorted e.script e.known key line1 law1) (low-in e.script (world e) key line1 law1) (following e.script (world e) key line1 law1 r.region)
+          (t key) u own-line (inl refl) placed alone (inr follow))
+
+      allowed-now : AllAllowed (noted e.line notes key) r.region near1 (t key) ms
+      allowed-now = subst (λ (l : List Update). AllAllowed l r.region near1 (t key) ms) (sym line-now) allowed1
+
+      assign-served : Decides (a_decision.Assign u)
+      assign-served = moving-served e asked valid ok differ i here rs same r found installed alive key ms notes others
+          (this-key e valid ok differ i here rs same r found installed key ms notes (flat_map (move_posts at) ms) (moves-nosnap at ms) others n
+          (subst (More n line) (sym line-now) more1) (subst (Lawful e.script e.known key) (sym line-now) law1) below1 allowed-now)
+          allowed-now
+          (inr (record {
+            update = u;
+            asks = subst asked.call (sym u_caller) asks;
+            above = λ v f. (let b = below1.fixed v (fixed_joined e.script valid (world e) differ (Sent e valid ok differ i here _ notes (flat_map (move_posts at) ms)) (twins e valid ok differ i here rs same r found installed key ms notes (flat_map (move_posts at) ms) (moves-nosnap at ms) others) key (ok key) v f) in
+                let z = version in omega (arith, b, z));
+            line = line-is;
+          }))
+
+    -- what the leader decides on a write
+    module _ (writes : is_write op ≡ true) where
+      abbrev pub Choice : Decision → Type 0
+      Choice = Decided e.script valid e.known key us us-law (t key).marks (t key).floor (t key).acked (t key).early e.config is_known caller op called writes on_key
+
+      decides : decide e.script.space e.config r.region (t key) caller op ≡ decide e.script.space e.config (key_region e.script.space key) (slot_of (t key).marks key us (t key).floor (t key).acked (t key).early) caller op
+      decides =
+          ap (λ (g : RegionId). decide e.script.space e.config g (t key) caller op) leads
+          ∙ decide-same e.script.space e.config (key_region e.script.space key) (t key) (slot_of (t key).marks key us (t key).floor (t key).acked (t key).early) marks
+          (shows-line e.script.space key line (lawful-made e.script e.known key line law) (around e.script (world e) key r.region i) (t key) own1 (subst (λ (g : RegionId). IsSlotOf g (t key)) leads slot) marks key-is) caller op
+
+      -- it is one of these
+      pub choice : Choice (decide e.script.space e.config r.region (t key) caller op)
+      choice = subst Choice (sym decides) (decided-is e.script valid e.known key us us-law (t key).marks (t key).floor (t key).acked (t key).early e.config is_known caller op called writes on_key)
+
+    -- a write
+    write-served : is_write op ≡ true → let step = at_slot st r (t key) (write_step at (t key) caller op) in Served e asked i step.state step.notes step.posts
+    write-served writes = by (decide e.script.space e.config r.region (t key) caller op) (choice writes)
+      where
+        waits : (v : Version) (o : Option StuckAt) (p : Post) → IsIn p (waiting_doubt at caller v o) → Valid e.script (world e) p.from p.to p.message × SlotLate e asked i p
+        waits v None p j = absurd j
+        waits v (Some x) p j = elim (in-provided (leb x.version.0 v.0) (doubt_in at caller v x.region ∷ []) p j).1 [ inl q ↦ doubt-fine e asked i (world e) r.region caller op called writes v x.region p q | inr k ↦ absurd k ]
+
+        by : (d : Decision) → Choice writes d → Decides d
+        by d (inl z) = subst Decides (sym z) (posts-served e asked valid ok differ i here rs same r found installed alive key [] (λ p j. absurd j))
+        by d (inr (inl (inl z))) = subst Decides (sym z.1) (posts-served e asked valid ok differ i here rs same r found installed alive key (waiting_doubt at caller z.0 (stuck_of e.config (t key))) (waits z.0 (stuck_of e.config (t key))))
+        by d (inr (inl (inr z))) = subst Decides (sym z.1) (posts-served e asked valid ok differ i here rs same r found installed alive key (doubt_in at caller (record { 0 = 0 }) z.0 ∷ [])
+            (λ p j. elim j [ inl q ↦ doubt-fine e asked i (world e) r.region caller op called writes (record { 0 = 0 }) z.0 p q | inr k ↦ absurd k ]))
+        by d (inr (inr (inl z))) = subst Decides (sym z.4) (again-served z.0 z.1 z.2 z.3)
+        by d (inr (inr (inr z))) = subst Decides (sym z.3) (assign-served z.0 z.1 z.2)
+
+    -- a call
+    pub call-served : let step = at_slot st r (t key) (call_step at (t key) caller op) in Served e asked i step.state step.notes step.posts
+    call-served = elim (cases_Bool (is_write op)) [
+      | inl z ↦ subst (λ (x : SlotStep). let step = at_slot st r (t key) x in Served e asked i step.state step.notes step.posts) (sym (cond-true (is_write op) (write_step at (t key) caller op) (get_step at (t key) caller) z)) (write-served z)
+      | inr z ↦ subst (λ (x : SlotStep). let step = at_slot st r (t key) x in Served e asked i step.state step.notes step.posts) (sym (cond-false (is_write op) (write_step at (t key) caller op) (get_step at (t key) caller) z)) (get-served z)
+    ]

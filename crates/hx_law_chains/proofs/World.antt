@@ -1,0 +1,235 @@
+-- Where all stand: the lines, what holds updates at each position of a region, and what is said of a key's holders and of posts.
+use Rattle.hx_model.specs.Lines.{line_object, upto}
+use Rattle.std.proofs.Common.{◌≡◌, ℕ, ◌<◌, ◌≤◌, ◌⊎◌, inl, inr, true, false, List, [], ◌∷◌, length, Some, sym, subst}
+use Rattle.std.specs.Prelude.{⊤}
+use Rattle.std.proofs.lemmas.Bool.{cond_both}
+use Rattle.hx_types.specs.declared.calls.Answer.{Answer}
+use Rattle.hx_types.specs.declared.calls.Caller.{Caller}
+use Rattle.hx_types.specs.declared.calls.Op.{Op}
+use Rattle.hx_types.specs.declared.configs.Config.{Config}
+use Rattle.hx_types.specs.declared.messages.Message.{Message}
+use Rattle.hx_types.specs.declared.messages.Post.{Post}
+use Rattle.hx_types.specs.declared.ids.Actor.{Actor}
+use Rattle.hx_types.specs.declared.ids.Epoch.{Epoch}
+use Rattle.hx_types.specs.declared.ids.RegionId.{RegionId}
+use Rattle.hx_types.specs.declared.ids.ServerId.{ServerId}
+use Rattle.hx_types.specs.declared.ids.SessionId.{SessionId}
+use Rattle.hx_types.specs.declared.ids.Version.{Version}
+use Rattle.hx_types.specs.declared.spaces.Space.{Space}
+use Rattle.hx_types.specs.declared.traces.Script.{Script}
+use Rattle.hx_types.specs.declared.updates.Update.{Update}
+use Rattle.hx_types.specs.declared.calls.Answer.TheVariants as an_answer
+use Rattle.hx_types.specs.declared.messages.Message.TheVariants as a_message
+use Rattle.hx_types.specs.declared.outcomes.Hop.{Hop}
+use Rattle.hx_types.specs.declared.outcomes.Hop.TheVariants.{At, End, Blocked}
+use Rattle.hx_types.specs.Words.{IsIn}
+use Rattle.hx_types.specs.Effects.{effect_of, is_write, key_of}
+use Rattle.hx_types.specs.Configs.{head_of}
+use Rattle.hx_types.specs.Fitting.{call_of, is_doubt}
+use Rattle.hx_model.specs.Regions.{key_region}
+use Rattle.hx_model.specs.Places.{places_of}
+use Rattle.hx_model.specs.Leading.{first_lost}
+use Rattle.hx_model.specs.Neighbours.{region_at}
+use Rattle.hx_model.specs.Slots.{KeyState, has_place, top_of, touches_after}
+use Rattle.hx_model.specs.ServerSteps.{Spot, get_answer, next_at}
+use Rattle.hx_law_lemmas.proofs.Numbered.{Numbered}
+use Rattle.hx_law_lemmas.proofs.Lines.{Sorted, numbered-sorted}
+use Rattle.hx_law_lemmas.proofs.Placed.{AllMade, Made}
+use Rattle.hx_law_lemmas.proofs.Lawful.{at_server, at_session}
+use Rattle.hx_law_epochs.proofs.Members.{order}
+use Rattle.hx_law_epochs.proofs.Positions.{StandsBefore}
+use Rattle.hx_law_chains.proofs.Moves.{Around, Own}
+
+-- ---- lines
+
+-- an update is given by the effect of its operation on the object before it, or refused: a known configuration has lost the first place that the effect asks for and that it has lost
+abbrev pub Effected : Space → (Config → Type 0) → List ℕ → List Update → Update → Op → Type 0
+Effected space known key older u op =
+    ((u.answer ≡ (effect_of space (line_object older) op).answer) × (u.object ≡ (effect_of space (line_object older) op).object))
+    ⊎ ((u.object ≡ line_object older)
+    × ((g : RegionId) × (c : Config) × known c × (u.answer ≡ an_answer.Refused g c.epoch)
+    × (first_lost c (places_of space key (line_object older) (effect_of space (line_object older) op).object (effect_of space (line_object older) op).changes (length older) (touches_after [] older)) ≡ Some g)))
+
+-- an update of a line after the older ones: placed, the effect of a write of the script or refused, and newer than its session's earlier ones
+pub record Law (script : Script) (known : Config → Type 0) (key : List ℕ) (older : List Update) (u : Update) : Type 0 where
+  pub made : Made script.space key older u
+  pub op : Op
+  pub called : call_of script u.caller ≡ Some op
+  pub writes : is_write op ≡ true
+  pub on_key : key_of op ≡ Some key
+  pub effect : Effected script.space known key older u op
+  pub newer : (w : Update) → IsIn w older → w.caller.session ≡ u.caller.session → w.caller.number < u.caller.number
+
+-- each update of the line is
+abbrev pub Lawful : Script → (Config → Type 0) → List ℕ → List Update → Type 0
+Lawful script known key [] = Unit {0}
+Lawful script known key (u ∷ us) = Law script known key us u × Lawful script known key us
+
+-- so it is made
+pub lawful-made : (script : Script) (known : Config → Type 0) (key : List ℕ) (us : List Update) → Lawful script known key us → AllMade script.space key us
+lawful-made script known key [] h = tt
+lawful-made script known key (u ∷ us) h = (h.0.made, lawful-made script known key us h.1)
+
+-- and numbered
+pub lawful-numbered : (script : Script) (known : Config → Type 0) (key : List ℕ) (us : List Update) → Lawful script known key us → Numbered us
+lawful-numbered script known key [] h = tt
+lawful-numbered script known key (u ∷ us) h = (h.0.made.version, lawful-numbered script known key us h.1)
+
+-- and sorted
+pub lawful-sorted : (script : Script) (known : Config → Type 0) (key : List ℕ) (us : List Update) → Lawful script known key us → Sorted us
+lawful-sorted script known key us h = numbered-sorted us (lawful-numbered script known key us h)
+
+-- up to a version it is lawful
+pub lawful-upto : (script : Script) (known : Config → Type 0) (key : List ℕ) (n : ℕ) (us : List Update) → Lawful script known key us → Lawful script known key (upto n us)
+lawful-upto script known key n [] h = tt
+lawful-upto script known key n (u ∷ us) h = cond_both (_) (u ∷ us) (upto n us) (Lawful script known key) (λ t. h) (λ t. lawful-upto script known key n us h.1)
+
+-- each update of a lawful line has the law at its own place
+pub law-of : (script : Script) (known : Config → Type 0) (key : List ℕ) (line : List Update) (w : Update) → Lawful script known key line → IsIn w line → (older : List Update) × Law script known key older w
+law-of script known key [] w h i = absurd i
+law-of script known key (u ∷ line) w h (inl e) = (line, subst (λ (x : Update). Law script known key line x) (sym e) h.0)
+law-of script known key (u ∷ line) w h (inr i) = law-of script known key line w h.1 i
+
+-- it stays so where more configurations are known
+pub lawful-known : (script : Script) (known known' : Config → Type 0) (key : List ℕ) (us : List Update) → ((c : Config) → known c → known' c) → Lawful script known key us → Lawful script known' key us
+lawful-known script known known' key [] f h = tt
+lawful-known script known known' key (u ∷ us) f h = (
+  record { made = h.0.made; op = h.0.op; called = h.0.called; writes = h.0.writes; on_key = h.0.on_key; effect = by h.0.effect; newer = h.0.newer },
+  lawful-known script known known' key us f h.1,
+)
+  where
+    by : Effected script.space known key us u h.0.op → Effected script.space known' key us u h.0.op
+    by (inl e) = inl e
+    by (inr e) = inr (e.0, (e.1.0, e.1.1, f e.1.1 e.1.2, e.1.3, e.1.4))
+
+-- ---- where all stand
+
+-- the newest configuration, the lines, what holds updates of a key at a position, which replicas are installed, and which configurations are known
+pub record World : Type 1 where
+  pub config : Config
+  pub line : List ℕ → List Update
+  pub holds : List ℕ → RegionId → ServerId → KeyState → Type 0
+  pub installed : RegionId → ServerId → Type 0
+  pub known : Config → Type 0
+
+-- where a slot stands
+abbrev pub spot : Script → World → RegionId → ServerId → Spot
+spot script w g s = record { space = script.space; config = w.config; server = s; region = g }
+
+module _ (script : Script) (w : World) (key : List ℕ) where
+  -- one position stands before another in an update's chain
+  abbrev pub Ahead : Update → RegionId → ServerId → RegionId → ServerId → Type 0
+  Ahead u g s h x = StandsBefore w.config u.places g s h x
+
+  -- each holder before a position has accepted the update
+  abbrev pub Before : RegionId → ServerId → Update → Type 0
+  Before g s u = (h : RegionId) (x : ServerId) (t : KeyState) → w.holds key h x t → Ahead u h x g s → u.version.0 ≤ top_of t
+
+  -- each holder after it has committed it
+  abbrev pub After : RegionId → ServerId → Update → Type 0
+  After g s u = (h : RegionId) (x : ServerId) (t : KeyState) → w.holds key h x t → Ahead u g s h x → u.version.0 ≤ t.floor
+
+  -- each holder at the position has accepted it
+  abbrev pub Here : RegionId → ServerId → Update → Type 0
+  Here g s u = (t : KeyState) → w.holds key g s t → u.version.0 ≤ top_of t
+
+  -- the position isn't the leader's
+  abbrev pub Follows : RegionId → ServerId → Type 0
+  Follows g s = g ≡ key_region script.space key → head_of w.config g ≡ Some s → ⊥
+
+  -- the next position is an installed replica's
+  abbrev pub Filled : Update → Hop → Type 0
+  Filled u (At y n) = w.installed (region_at u.places n) y
+  Filled u End = ⊤
+  Filled u (Blocked g) = ⊥
+
+  -- no joiner can come to stand right after the position: the chain ends there, or the next replica is installed
+  abbrev pub Closed : RegionId → ServerId → Update → Type 0
+  Closed g s u = Filled u (next_at (spot script w g s) u)
+
+  -- what is said at a position
+  abbrev pub around : RegionId → ServerId → Around
+  around g s = record { waits = λ u. Follows g s; before = Before g s; after = After g s; closed = Closed g s }
+
+  -- each update of the line up to a version is committed by each holder of its chain
+  abbrev pub Along : ℕ → Type 0
+  Along v = (u : Update) → IsIn u (w.line key) → u.version.0 ≤ v → (g : RegionId) (s : ServerId) (t : KeyState) → w.holds key g s t → has_place g u ≡ true → u.version.0 ≤ t.floor
+
+  -- each holder of the key's region has accepted the version
+  abbrev pub Fixed : ℕ → Type 0
+  Fixed v = (v ≤ length (w.line key)) × ((s : ServerId) (t : KeyState) → w.holds key (key_region script.space key) s t → v ≤ top_of t)
+
+  -- what is kept of a key
+  pub record KeyOk : Type 0 where
+    pub lawful : Lawful script w.known key (w.line key)
+    pub listed : (g : RegionId) (s : ServerId) (t : KeyState) → w.holds key g s t → IsIn s (order w.config g)
+    pub own : (g : RegionId) (s : ServerId) (t : KeyState) → w.holds key g s t → Own (w.line key) g (around g s) t
+
+  -- an update under way to a position
+  pub record Sending (g : RegionId) (s : ServerId) (u : Update) : Type 0 where
+    pub stands : IsIn u (w.line key)
+    pub placed : has_place g u ≡ true
+    pub listed : IsIn s (order w.config g)
+    pub before : Before g s u
+    pub follows : Follows g s
+
+  -- an acknowledgement under way to a position
+  pub record Acking (g : RegionId) (s : ServerId) (v : ℕ) : Type 0 where
+    pub update : Update
+    pub stands : IsIn update (w.line key)
+    pub version : update.version.0 ≡ v
+    pub placed : has_place g update ≡ true
+    pub listed : IsIn s (order w.config g)
+    pub before : Before g s update
+    pub here : Here g s update
+    pub after : After g s update
+    pub closed : Closed g s update
+
+  -- what a reply tells: a doubt about a write, a committed update, or the object after a committed version
+  abbrev pub Told : Caller → Version → Answer → Op → Type 0
+  Told c v a op =
+      ((is_write op ≡ true) × (is_doubt a ≡ true))
+      ⊎ (((is_write op ≡ true) × ((u : Update) × IsIn u (w.line key) × (u.caller ≡ c) × (u.version ≡ v) × (u.answer ≡ a)) × Along v.0)
+      ⊎ ((is_write op ≡ false) × (v.0 ≤ length (w.line key)) × (a ≡ get_answer (line_object (upto v.0 (w.line key)))) × Along v.0))
+
+-- ---- posts
+
+module _ (script : Script) (w : World) where
+  -- an update post is of no later epoch than the newest, and of that one it is true
+  abbrev pub UpdateOk : Epoch → RegionId → Update → ServerId → Type 0
+  UpdateOk e g u s = (e.0 ≤ w.config.epoch.0) × (e.0 ≡ w.config.epoch.0 → Sending script w u.key g s u)
+
+  -- so is an acknowledgement
+  abbrev pub AckOk : Epoch → RegionId → List ℕ → ℕ → ServerId → Type 0
+  AckOk e g key v s = (e.0 ≤ w.config.epoch.0) × (e.0 ≡ w.config.epoch.0 → Acking script w key g s v)
+
+  -- what a reply tells the caller on its key
+  abbrev pub ReplyOk : ℕ → Version → Answer → SessionId → Type 0
+  ReplyOk number v a s =
+      (op : Op) (key : List ℕ) → call_of script (record { session = s; number = number }) ≡ Some op → key_of op ≡ Some key
+      → Told script w key (record { session = s; number = number }) v a op
+
+  -- what a post says of keys
+  abbrev pub Valid : Actor → Actor → Message → Type 0
+  Valid from to (a_message.Call epoch number op) = at_session from (λ u. call_of script (record { session = u; number = number }) ≡ Some op)
+  Valid from to (a_message.Reply number version answer) = at_session to (ReplyOk number version answer)
+  Valid from to (a_message.Update epoch g u) = at_server to (UpdateOk epoch g u)
+  Valid from to (a_message.Ack epoch g key version) = at_server to (AckOk epoch g key version.0)
+  Valid from to (a_message.Ask epoch number g terms) = ⊤
+  Valid from to (a_message.Found epoch number g rows) = ⊤
+  Valid from to (a_message.Seal epoch) = ⊤
+  Valid from to (a_message.Sealed epoch) = ⊤
+  Valid from to (a_message.Install config) = ⊤
+  Valid from to a_message.Die = ⊤
+  Valid from to a_message.Gone = ⊤
+  Valid from to (a_message.StopServer number server) = ⊤
+  Valid from to (a_message.AddReplica number server g) = ⊤
+  Valid from to (a_message.Outcome number answer) = ⊤
+  Valid from to (a_message.Snap epoch g snapshot pending) = ⊤
+  Valid from to (a_message.Ready epoch g) = ⊤
+  Valid from to (a_message.Poll epoch) = ⊤
+
+  -- what holds of all keys and posts
+  pub record Chained (posts : List Post) : Type 0 where
+    pub keyed : (key : List ℕ) → KeyOk script w key
+    pub valid : (p : Post) → IsIn p posts → Valid p.from p.to p.message

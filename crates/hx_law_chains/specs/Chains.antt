@@ -1,0 +1,138 @@
+-- What every run keeps of chains: lines, what replicas and snapshots hold of them, the order in which chains accept and commit, and what answers rest on.
+use Rattle.hx_model.specs.Lines.{line_object}
+use Rattle.std.specs.Prelude.{◌≡◌, ℕ, ◌+◌, ◌<◌, ◌≤◌, ◌⊎◌, true, false, List, [], ◌∷◌, length, map, ⊤, Some}
+use Rattle.hx_types.specs.declared.calls.Answer.{Answer}
+use Rattle.hx_types.specs.declared.calls.Answer.TheVariants as an_answer
+use Rattle.hx_types.specs.declared.calls.Caller.{Caller}
+use Rattle.hx_types.specs.declared.calls.Op.{Op}
+use Rattle.hx_types.specs.declared.configs.Config.{Config}
+use Rattle.hx_types.specs.declared.configs.Member.{Member}
+use Rattle.hx_types.specs.declared.ids.Actor.{Actor}
+use Rattle.hx_types.specs.declared.ids.Actor.TheVariants.{Server, Session}
+use Rattle.hx_types.specs.declared.ids.RegionId.{RegionId}
+use Rattle.hx_types.specs.declared.ids.ServerId.{ServerId}
+use Rattle.hx_types.specs.declared.ids.Version.{Version}
+use Rattle.hx_types.specs.declared.messages.Message.TheVariants as a_message
+use Rattle.hx_types.specs.declared.snapshots.Kept.{Kept}
+use Rattle.hx_types.specs.declared.traces.Entry.{Entry}
+use Rattle.hx_types.specs.declared.traces.Script.{Script}
+use Rattle.hx_types.specs.declared.updates.Update.{Update}
+use Rattle.hx_types.specs.Words.{IsBefore, IsIn, post}
+use Rattle.hx_types.specs.Configs.{members_of}
+use Rattle.hx_types.specs.Effects.{effect_of, is_write, key_of}
+use Rattle.hx_types.specs.Fitting.{IsScript, call_of, is_done, is_doubt}
+use Rattle.hx_model.specs.Causes.{config_of}
+use Rattle.hx_model.specs.Holders.{IsPrefix, snap_state}
+use Rattle.hx_model.specs.Leading.{first_lost}
+use Rattle.hx_model.specs.Neighbours.{place_number}
+use Rattle.hx_model.specs.Places.{places_of}
+use Rattle.hx_model.specs.Slots.{KeyState, has_place, top_of, touches_after}
+use Rattle.hx_model.specs.ServerSteps.{Replica, if_installed, replica_of, state_in}
+use Rattle.hx_model.specs.Runs.{IsRun, coordinator_of, is_actor, server_of}
+use Rattle.hx_model.specs.Histories.{line_of}
+use Rattle.hx_law_lemmas.specs.Words.{posts_of}
+
+-- ---- lines
+
+-- the update is refused: of the places that the effect on the object before asks for, a configuration of the run has lost this one first
+pub record IsRefusedFor (script : Script) (trace : List Entry) (key : List ℕ) (older : List Update) (u : Update) (op : Op) : Type 0 where
+  pub region : RegionId
+  pub config : Config
+  pub issued : config_of script config.epoch trace ≡ Some config
+  pub answer : u.answer ≡ an_answer.Refused region config.epoch
+  pub object : u.object ≡ line_object older
+  pub first : first_lost config (places_of script.space key (line_object older) (effect_of script.space (line_object older) op).object (effect_of script.space (line_object older) op).changes (length older) (touches_after [] older)) ≡ Some region
+
+-- the update follows on the older ones of its key's line: the effect of a write of the script on the object before, or refused, through the places that its objects before and after ask for, and newer than its session's earlier ones
+pub record IsAssigned (script : Script) (trace : List Entry) (key : List ℕ) (older : List Update) (u : Update) : Type 0 where
+  pub key_is : u.key ≡ key
+  pub version : u.version.0 ≡ length older + 1
+  pub op : Op
+  pub called : call_of script u.caller ≡ Some op
+  pub writes : is_write op ≡ true
+  pub on_key : key_of op ≡ Some key
+  pub effect : ((u.answer ≡ (effect_of script.space (line_object older) op).answer) × (u.object ≡ (effect_of script.space (line_object older) op).object)) ⊎ IsRefusedFor script trace key older u op
+  pub done : u.changes ≡ is_done u.answer
+  pub places : u.places ≡ places_of script.space key (line_object older) u.object u.changes (length older) (touches_after [] older)
+  pub newer : (w : Update) → IsIn w older → w.caller.session ≡ u.caller.session → w.caller.number < u.caller.number
+
+-- each update of the line does
+abbrev pub AreAssigned : Script → List Entry → List ℕ → List Update → Type 0
+AreAssigned script trace key [] = ⊤
+AreAssigned script trace key (u ∷ older) = IsAssigned script trace key older u × AreAssigned script trace key older
+
+-- in every run each update of a line follows so
+abbrev pub RunsAssignUpdates : Type 0
+RunsAssignUpdates = (script : Script) → IsScript script → (trace : List Entry) → IsRun script trace → (key : List ℕ) → AreAssigned script trace key (line_of key trace)
+
+-- ---- what holds updates
+
+-- an installed replica of a server that hasn't halted
+pub record IsUp (script : Script) (trace : List Entry) (g : RegionId) (s : ServerId) (r : Replica) : Type 0 where
+  pub server : is_actor script (Server s) ≡ true
+  pub running : (server_of script s trace).halted ≡ false
+  pub installed : if_installed (replica_of g (server_of script s trace).replicas) ≡ Some r
+
+-- in every run such a replica holds of each key, as base and list together, its region's part of the key's line up to some version
+abbrev pub RunsHoldParts : Type 0
+RunsHoldParts =
+    (script : Script) → IsScript script → (trace : List Entry) → IsRun script trace
+    → (g : RegionId) (s : ServerId) (r : Replica) → IsUp script trace g s r
+    → (key : List ℕ) → IsPrefix g (line_of key trace) (state_in script.space r key)
+
+-- in every run so does a snapshot of the newest epoch, under way to a server that hasn't halted and whose replica isn't installed
+abbrev pub RunsSendParts : Type 0
+RunsSendParts =
+    (script : Script) → IsScript script → (trace : List Entry) → IsRun script trace
+    → (from : Actor) (g : RegionId) (s : ServerId) (snapshot : List Kept) (pending : List Update)
+    → IsIn (post from (Server s) (a_message.Snap (coordinator_of script trace).config.epoch g snapshot pending)) (posts_of trace)
+    → is_actor script (Server s) ≡ true → (server_of script s trace).halted ≡ false → ((r : Replica) → IsUp script trace g s r → ⊥)
+    → (key : List ℕ) → IsPrefix g (line_of key trace) (snap_state script.space g key snapshot pending)
+
+-- a snapshot of the newest epoch is under way with this slot to a server that hasn't halted and has no installed replica there
+pub record IsComing (script : Script) (trace : List Entry) (key : List ℕ) (g : RegionId) (s : ServerId) (t : KeyState) : Type 0 where
+  pub from : Actor
+  pub snapshot : List Kept
+  pub pending : List Update
+  pub posted : IsIn (post from (Server s) (a_message.Snap (coordinator_of script trace).config.epoch g snapshot pending)) (posts_of trace)
+  pub server : is_actor script (Server s) ≡ true
+  pub running : (server_of script s trace).halted ≡ false
+  pub empty : (r : Replica) → IsUp script trace g s r → ⊥
+  pub is : t ≡ snap_state script.space g key snapshot pending
+
+-- the slot of a key that stands for a region at a server: that of an installed replica, or of a snapshot under way
+abbrev pub IsHeld : Script → List Entry → List ℕ → RegionId → ServerId → KeyState → Type 0
+IsHeld script trace key g s t = ((r : Replica) × IsUp script trace g s r × (t ≡ state_in script.space r key)) ⊎ IsComing script trace key g s t
+
+-- ---- chains
+
+-- in the update's chain the first position stands before the second: at an earlier place, or earlier in the same region's list
+abbrev pub StandsEarlier : Config → Update → RegionId → ServerId → RegionId → ServerId → Type 0
+StandsEarlier config u g s h x =
+    (place_number g u.places < place_number h u.places) ⊎ ((g ≡ h) × IsBefore s x (map (λ (m : Member). m.server) (members_of config g)))
+
+-- what the second of two slots has accepted the first has, and what the first has committed the second has
+pub record InOrder (u : Update) (first second : KeyState) : Type 0 where
+  pub accepted : u.version.0 ≤ top_of second → u.version.0 ≤ top_of first
+  pub committed : u.version.0 ≤ first.floor → u.version.0 ≤ second.floor
+
+-- in every run updates are accepted down their chains and committed up them, whatever servers halted and whoever joins
+abbrev pub RunsKeepOrder : Type 0
+RunsKeepOrder =
+    (script : Script) → IsScript script → (trace : List Entry) → IsRun script trace
+    → (key : List ℕ) (u : Update) → IsIn u (line_of key trace)
+    → (g h : RegionId) (s x : ServerId) (t y : KeyState) → has_place g u ≡ true → has_place h u ≡ true
+    → IsHeld script trace key g s t → IsHeld script trace key h x y → StandsEarlier (coordinator_of script trace).config u g s h x
+    → InOrder u t y
+
+-- ---- answers
+
+-- in every run, where a call on a key was answered with a version and no doubt, each update of the key's line up to that version is committed wherever its chain holds it at a server that hasn't halted
+abbrev pub RunsAnswerCommitted : Type 0
+RunsAnswerCommitted =
+    (script : Script) → IsScript script → (trace : List Entry) → IsRun script trace
+    → (from : Actor) (c : Caller) (v : Version) (answer : Answer) → IsIn (post from (Session c.session) (a_message.Reply c.number v answer)) (posts_of trace)
+    → (op : Op) (key : List ℕ) → call_of script c ≡ Some op → key_of op ≡ Some key → is_doubt answer ≡ false
+    → (u : Update) → IsIn u (line_of key trace) → u.version.0 ≤ v.0
+    → (g : RegionId) (s : ServerId) (t : KeyState) → has_place g u ≡ true → IsHeld script trace key g s t
+    → u.version.0 ≤ t.floor

@@ -1,0 +1,15 @@
+pub mod Members
+pub mod Positions
+pub mod Neighbours
+pub mod Next
+pub mod Follows
+pub mod Facts
+pub mod Controls
+pub mod Coordinator
+pub mod SlotPosts
+pub mod Replicas
+pub mod Servers
+pub mod Serving
+pub mod Sessions
+pub mod Runs
+pub mod Headline

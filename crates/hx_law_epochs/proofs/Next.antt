@@ -1,0 +1,173 @@
+-- The next configuration: the one before without the departed, with joiners made ready and at most one more for each region, follows on the one before.
+use Rattle.std.proofs.Common.{◌≡◌, ℕ, zero, suc, ◌⊎◌, inl, inr, Bool, true, false, not, ◌&&◌, ◌||◌, List, [], ◌∷◌, ◌++◌, Option, Some, None, refl, sym, ap, ◌∙◌, subst, cond}
+use Rattle.std.specs.List.{filter, list_any, slice_get, slice_set}
+use Rattle.std.proofs.lemmas.Bool.{and_from, cases_Bool, cases_eq, cond_both, eq-eqb, false≢true}
+use Rattle.hx_types.specs.declared.calls.Answer.{Answer}
+use Rattle.hx_types.specs.declared.calls.Op.{Op}
+use Rattle.hx_types.specs.declared.configs.Config.{Config}
+use Rattle.hx_types.specs.declared.configs.Member.{Member}
+use Rattle.hx_types.specs.declared.ids.RegionId.{RegionId}
+use Rattle.hx_types.specs.declared.ids.ServerId.{ServerId}
+use Rattle.hx_types.specs.declared.calls.Answer.TheVariants as an_answer
+use Rattle.hx_types.specs.declared.calls.Op.TheVariants.{Put, Get, Del, Cput, Search, Stop, Add}
+use Rattle.hx_types.specs.Words.{IsBefore, IsIn, same_server, server_in, when_some}
+use Rattle.hx_types.specs.Configs.{any_ready, is_lost, lists_ready, members_of}
+use Rattle.hx_model.specs.CoordinatorSteps.{CoordinatorState, Issuing, Task, adds_by, answers_with, any_joining, appended, config_without, does, does_all, issuing, judged, leaves}
+use Rattle.hx_law_lemmas.proofs.Lists.{any-in, in_right}
+use Rattle.hx_law_lemmas.proofs.Chains.{Differ}
+use Rattle.hx_law_lemmas.proofs.Cases.{server-in}
+
+-- a server that joins a region
+abbrev pub joiner : ServerId → Member
+joiner s = record { server = s; ready = false }
+
+-- what holds of the lists of a configuration: members are servers of it, each once, and who isn't ready stands last
+pub record IsOrderly (c : Config) : Type 0 where
+  pub members : (g : RegionId) (m : Member) → IsIn m (members_of c g) → IsIn m.server c.servers
+  pub differ : (g : RegionId) → Differ (members_of c g)
+  pub joins_last : (g : RegionId) (m x : Member) → IsBefore m x (members_of c g) → m.ready ≡ true
+
+-- the server may join the region: it is one of the servers and not a member, the region isn't lost, and nobody else joins it
+pub record MayJoin (c : Config) (s : ServerId) (g : RegionId) : Type 0 where
+  pub known : IsIn s c.servers
+  pub not_lost : is_lost c g ≡ false
+  pub all_ready : (m : Member) → IsIn m (members_of c g) → m.ready ≡ true
+  pub no_member : (m : Member) → IsIn m (members_of c g) → m.server ≡ s → ⊥
+
+-- in each region at most one more
+pub record Grown (c d : Config) : Type 0 where
+  pub epoch : d.epoch ≡ c.epoch
+  pub servers : d.servers ≡ c.servers
+  pub lists : (g : RegionId) → (members_of d g ≡ members_of c g) ⊎ ((s : ServerId) × (members_of d g ≡ members_of c g ++ joiner s ∷ []) × MayJoin c s g)
+
+-- a test that holds of a member holds of some
+pub any-of : {A : Type 0} (test : A → Bool) (xs : List A) (x : A) → IsIn x xs → test x ≡ true → list_any test xs ≡ true
+any-of test [] x i t = absurd i
+any-of test (y ∷ ys) x (inl e) t = here (test y) (ap test (sym e) ∙ t)
+  where
+    here : (b : Bool) → b ≡ true → (b || list_any test ys) ≡ true
+    here b e = ap (λ c. c || list_any test ys) e
+any-of test (y ∷ ys) x (inr i) t = there (test y) (any-of test ys x i t)
+  where
+    there : (b : Bool) → list_any test ys ≡ true → (b || list_any test ys) ≡ true
+    there true e = refl
+    there false e = e
+
+-- who passes the test stays
+pub filter-in : {A : Type 0} (test : A → Bool) (xs : List A) (p : A) → IsIn p xs → test p ≡ true → IsIn p (filter test xs)
+filter-in test [] p i t = absurd i
+filter-in test (x ∷ xs) p i t =
+    cond_both (test x) (x ∷ filter test xs) (filter test xs) (λ l. IsIn p l)
+    (λ u. elim i [ inl e ↦ inl e | inr j ↦ inr (filter-in test xs p j t) ])
+    (λ u. elim i [ inl e ↦ absurd (false≢true (sym u ∙ ap test (sym e) ∙ t)) | inr j ↦ filter-in test xs p j t ])
+
+-- ---- the lists with servers added
+
+-- what stands at an index of a list that has one item set
+set-here : {A : Type 0} (xs : List A) (k : ℕ) (x y : A) → slice_get xs k ≡ Some x → slice_get (slice_set xs k y) k ≡ Some y
+set-here [] k x y e = absurd (cc)
+set-here (a ∷ xs) zero x y e = refl
+set-here (a ∷ xs) (suc k) x y e = set-here xs k x y e
+
+set-other : {A : Type 0} (xs : List A) (k j : ℕ) (y : A) → (j ≡ k → ⊥) → slice_get (slice_set xs k y) j ≡ slice_get xs j
+set-other [] k j y n = refl
+set-other (a ∷ xs) zero zero y n = absurd (n refl)
+set-other (a ∷ xs) zero (suc j) y n = refl
+set-other (a ∷ xs) (suc k) zero y n = refl
+set-other (a ∷ xs) (suc k) (suc j) y n = set-other xs k j y (λ e. n (ap (λ i. suc i) e))
+
+-- the members of a region to which a server is appended, where there are some
+pub appended-here : (c : Config) (s : ServerId) (g : RegionId) → is_lost c g ≡ false → members_of (appended c s g) g ≡ members_of c g ++ joiner s ∷ []
+appended-here c s g l = by (slice_get c.regions g.0) refl l
+  where
+    by : (o : Option (List Member)) → slice_get c.regions g.0 ≡ o → not (any_ready (when_some o [] (λ (ms : List Member). ms))) ≡ false → members_of (appended c s g) g ≡ members_of c g ++ joiner s ∷ []
+    by None e f = absurd (false≢true (sym f))
+    by (Some ms) e f = ap (λ (o : Option (List Member)). when_some o [] (λ (xs : List Member). xs)) (set-here c.regions g.0 ms (members_of c g ++ joiner s ∷ []) e)
+
+-- and those of another region
+appended-other : (c : Config) (s : ServerId) (g h : RegionId) → (h.0 ≡ g.0 → ⊥) → members_of (appended c s g) h ≡ members_of c h
+appended-other c s g h n = ap (λ (o : Option (List Member)). when_some o [] (λ (xs : List Member). xs)) (set-other c.regions g.0 h.0 (members_of c g ++ joiner s ∷ []) n)
+
+-- a list to which a member that isn't ready was appended has one
+joins-there : (ms : List Member) (s : ServerId) → any_joining (ms ++ joiner s ∷ []) ≡ true
+joins-there ms s = any-of (λ (m : Member). not m.ready) (ms ++ joiner s ∷ []) (joiner s) (in_right ms (joiner s ∷ []) (joiner s) (inl refl)) refl
+
+-- where nothing speaks against it, the server may join
+pub judged-may : (c : Config) (s : ServerId) (g : RegionId) → judged c s g ≡ None → MayJoin c s g
+judged-may c s g = by (server_in s c.servers) refl (is_lost c g) refl (lists_ready c g s) refl (any_joining (members_of c g)) refl
+  where
+    by : (a : Bool) → server_in s c.servers ≡ a → (b : Bool) → is_lost c g ≡ b → (x : Bool) → lists_ready c g s ≡ x → (d : Bool) → any_joining (members_of c g) ≡ d
+        → cond (not a) (Some (an_answer.Stopped c.epoch)) (cond b (Some (an_answer.Lost c.epoch)) (cond x (Some (an_answer.Member c.epoch)) (cond d (Some (an_answer.Joining c.epoch)) None))) ≡ None → MayJoin c s g
+    by false p b q x r d t e = absurd (cc)
+    by true p true q x r d t e = absurd (cc)
+    by true p false q true r d t e = absurd (cc)
+    by true p false q false r true t e = absurd (cc)
+    by true p false q false r false t e = record {
+      known = server-in s c.servers p;
+      not_lost = q;
+      all_ready = ready;
+      no_member = λ m i z. false≢true (sym r ∙ any-of (λ (x : Member). same_server x.server s && x.ready) (members_of c g) m i (and_from (same_server m.server s) m.ready (eq-eqb m.server.0 s.0 (ap (λ (y : ServerId). y.0) z)) (ready m i)));
+    }
+      where
+        ready : (m : Member) → IsIn m (members_of c g) → m.ready ≡ true
+        ready m i = elim (cases_Bool m.ready) [
+          | inl u ↦ u
+          | inr u ↦ absurd (false≢true (sym t ∙ any-of (λ (x : Member). not x.ready) (members_of c g) m i (ap not u)))
+        ]
+
+-- one more server is appended
+pub grown-more : (c d : Config) → Grown c d → (s : ServerId) (g : RegionId) → MayJoin d s g → Grown c (appended d s g)
+grown-more c d h s g may = record {
+  epoch = h.epoch;
+  servers = h.servers;
+  lists = λ k. elim (cases_eq k.0 g.0) [
+    | inl e ↦ here k (λ j. record { 0 = e j })
+    | inr n ↦ elim (h.lists k) [
+      | inl e ↦ inl (appended-other d s g k n ∙ e)
+      | inr (x, e, m) ↦ inr (x, appended-other d s g k n ∙ e, m)
+    ]
+  ];
+}
+  where
+    before : (members_of d g ≡ members_of c g) ⊎ ((x : ServerId) × (members_of d g ≡ members_of c g ++ joiner x ∷ []) × MayJoin c x g) → members_of d g ≡ members_of c g
+    before (inl e) = e
+    before (inr (x, e, m)) = absurd (let t = any-in (λ (y : Member). not y.ready) (members_of d g) (ap any_joining e ∙ joins-there (members_of c g) x) in false≢true (sym (ap not (may.all_ready t.0 t.1)) ∙ t.2))
+
+    at : members_of d g ≡ members_of c g → (members_of (appended d s g) g ≡ members_of c g ++ joiner s ∷ []) × MayJoin c s g
+    at e = (
+      appended-here d s g may.not_lost ∙ ap (λ (l : List Member). l ++ joiner s ∷ []) e,
+      record {
+        known = subst (λ (l : List ServerId). IsIn s l) h.servers may.known;
+        not_lost = ap (λ (l : List Member). not (any_ready l)) (sym e) ∙ may.not_lost;
+        all_ready = λ m i. may.all_ready m (subst (λ (l : List Member). IsIn m l) (sym e) i);
+        no_member = λ m i. may.no_member m (subst (λ (l : List Member). IsIn m l) (sym e) i);
+      },
+    )
+
+    here : (k : RegionId) → k ≡ g → (members_of (appended d s g) k ≡ members_of c k) ⊎ ((x : ServerId) × (members_of (appended d s g) k ≡ members_of c k ++ joiner x ∷ []) × MayJoin c x k)
+    here k e = let r = at (before (h.lists g)) in subst (λ (q : RegionId). (members_of (appended d s g) q ≡ members_of c q) ⊎ ((x : ServerId) × (members_of (appended d s g) q ≡ members_of c q ++ joiner x ∷ []) × MayJoin c x q)) (sym e) (inr (s, r.0, r.1))
+
+-- what is to be done makes it grow
+grown-by : (c : Config) (i : Issuing) → Grown c i.config → (t : Task) → Grown c (does i t t.op).config
+grown-by c i h t = by t.op
+  where
+    adds : (s : ServerId) (g : RegionId) (o : Option Answer) → judged i.config s g ≡ o → Grown c (adds_by i t s g o).config
+    adds s g (Some a) e = h
+    adds s g None e = grown-more c i.config h s g (judged-may i.config s g e)
+
+    by : (op : Op) → Grown c (does i t op).config
+    by (Put key sets) = h
+    by (Get key) = h
+    by (Del key) = h
+    by (Cput key tests sets) = h
+    by (Search terms) = h
+    by (Stop s) = cond_both (server_in s i.config.servers) (leaves i t) (answers_with i t (an_answer.Issued i.config.epoch)) (λ (y : Issuing). Grown c y.config) (λ e. h) (λ e. h)
+    by (Add s g) = adds s g (judged i.config s g) refl
+
+pub grown-all : (c : Config) (i : Issuing) → Grown c i.config → (ts : List Task) → Grown c (does_all i ts).config
+grown-all c i h [] = h
+grown-all c i h (t ∷ ts) = grown-all c (does i t t.op) (grown-by c i h t) ts
+
+-- what is issued grew from what was left
+pub issuing-grown : (d : CoordinatorState) → Grown (config_without d) (issuing d).config
+issuing-grown d = grown-all (config_without d) (record { config = config_without d; answered = []; left = [] }) (record { epoch = refl; servers = refl; lists = λ g. inl refl }) d.todo

@@ -1,0 +1,430 @@
+-- Every run keeps what holds of epochs: by each entry of the coordinator, of a server and of a session.
+use Rattle.std.proofs.Common.{◌≡◌, ℕ, zero, suc, ◌+◌, ◌-◌, ◌<◌, ◌≤◌, ◌⊎◌, inl, inr, Bool, true, false, List, [], ◌∷◌, ◌++◌, map, Option, Some, None, refl, sym, ap, ◌∙◌, subst, arith, cond, eqb, ltb, leb}
+use Rattle.std.proofs.lemmas.Bool.{and_from, and_parts, cond_both, cond-false, cond-true, eq-eqb, eqb-true, le-leb, leb-true, lt-ltb, ltb-true, ne_eqb, cases_lt}
+use Rattle.hx_types.specs.declared.configs.Config.{Config}
+use Rattle.hx_types.specs.declared.configs.Member.{Member}
+use Rattle.hx_types.specs.declared.ids.Actor.{Actor}
+use Rattle.hx_types.specs.declared.ids.Epoch.{Epoch}
+use Rattle.hx_types.specs.declared.ids.ServerId.{ServerId}
+use Rattle.hx_types.specs.declared.ids.SessionId.{SessionId}
+use Rattle.hx_types.specs.declared.messages.Message.{Message}
+use Rattle.hx_types.specs.declared.messages.Post.{Post}
+use Rattle.hx_types.specs.declared.messages.PostId.{PostId}
+use Rattle.hx_types.specs.declared.spaces.Space.{Space}
+use Rattle.hx_types.specs.declared.traces.Entry.{Entry}
+use Rattle.hx_types.specs.declared.traces.Input.{Input}
+use Rattle.hx_types.specs.declared.traces.Note.{Note}
+use Rattle.hx_types.specs.declared.traces.Script.{Script}
+use Rattle.hx_types.specs.declared.messages.Message.TheVariants as a_message
+use Rattle.hx_types.specs.declared.ids.Actor.TheVariants.{Coordinator, Server, Session}
+use Rattle.hx_types.specs.declared.traces.Input.TheVariants.{Deliver}
+use Rattle.hx_types.specs.declared.traces.Note.TheVariants as a_note
+use Rattle.hx_types.specs.Words.{IsBefore, IsIn, below, first_some, post, same_server}
+use Rattle.hx_types.specs.Configs.{first_config, members_of}
+use Rattle.hx_types.specs.Spaces.{IsServerOf}
+use Rattle.hx_types.specs.Fitting.{IsScript}
+use Rattle.hx_model.specs.Causes.{config_noted, config_of}
+use Rattle.hx_model.specs.ServerSteps.{ServerState, server_step}
+use Rattle.hx_model.specs.CoordinatorSteps.{CoordinatorState, coordinator_step}
+use Rattle.hx_model.specs.SessionSteps.{SessionState, session_step}
+use Rattle.hx_model.specs.Runs.{IsRun, IsStep, Made, MayTake, coordinator_after, coordinator_of, has_halted, is_actor, made_of, server_after, server_of, session_after, session_of}
+use Rattle.hx_law_lemmas.specs.Words.{posts_of}
+use Rattle.hx_law_lemmas.proofs.Lists.{in-append, in-below, in-map, in_left, in_right}
+use Rattle.hx_law_lemmas.proofs.FirstMembers.{all-ready}
+use Rattle.hx_law_lemmas.proofs.CallEnds.{started}
+use Rattle.hx_law_lemmas.proofs.Traces.{arrived}
+use Rattle.hx_law_lemmas.proofs.Chains.{members-differ}
+use Rattle.hx_law_lemmas.proofs.SessionMessages.{session_turn}
+use Rattle.hx_law_lemmas.proofs.SessionTurns.{SaysOf}
+use Rattle.hx_posts.proofs.Configs.{first-of_space, member-server}
+use Rattle.hx_law_epochs.specs.Epochs.{FollowsOn, IsSealedOrHalted, RunsOn, WasIssued}
+use Rattle.hx_law_epochs.proofs.Controls.{Controls}
+use Rattle.hx_law_epochs.proofs.Coordinator.{coordinates}
+use Rattle.hx_law_epochs.proofs.Facts.{KeptBy, Says}
+use Rattle.hx_law_epochs.proofs.Replicas.{Shaped, start-installed, start-shaped}
+use Rattle.hx_law_epochs.proofs.Servers.{Does, Tells, server-does}
+use Rattle.hx_law_epochs.proofs.Serving.{May, leads-installed, ready-listed, serving-kept}
+use Rattle.hx_law_epochs.proofs.Sessions.{session-config, session-issues, session-says}
+
+-- a server of the script
+abbrev pub Real : Script → ServerId → Type 0
+Real script s = is_actor script (Server s) ≡ true
+
+-- the configuration is that of epoch 1 or was issued
+abbrev pub IsKnown : Script → List Entry → Config → Type 0
+IsKnown script t c = config_of script c.epoch t ≡ Some c
+
+-- the configurations that actors have and posts carry are known, and all epochs up to the newest are
+pub record Known (script : Script) (t : List Entry) : Type 0 where
+  pub newest : IsKnown script t (coordinator_of script t).config
+  pub servers : (s : ServerId) → IsKnown script t (server_of script s t).config
+  pub sessions : (u : SessionId) → IsKnown script t (session_of script u t).config
+  pub installs : (p : Post) (config : Config) → IsIn p (posts_of t) → p.message ≡ a_message.Install config → IsKnown script t config
+  pub on : RunsOn script t
+
+-- what every run keeps of epochs
+pub record EpochsRun (script : Script) (t : List Entry) : Type 0 where
+  pub epochs : KeptBy (Real script) (λ s. server_of script s t) (coordinator_of script t) (posts_of t)
+  pub shaped : (s : ServerId) → Shaped s (server_of script s t)
+  pub known : Known script t
+
+-- ---- at the start
+
+-- a number below is among those below
+below-in : (n k : ℕ) → k < n → IsIn k (below n)
+below-in zero k l = absurd (omega arith)
+below-in (suc n) k l = elim (cases_lt k n) [ inl m ↦ in_left (below n) (n ∷ []) k (below-in n k m) | inr m ↦ in_right (below n) (n ∷ []) k (inl (let e : k ≡ n = omega arith in e)) ]
+
+map-in : {A B : Type 0} (f : A → B) (xs : List A) (x : A) → IsIn x xs → IsIn (f x) (map f xs)
+map-in f [] x i = absurd i
+map-in f (y ∷ xs) x (inl e) = inl (ap f e)
+map-in f (y ∷ xs) x (inr i) = inr (map-in f xs x i)
+
+-- the servers of the first configuration are those of the space
+first-there : (space : Space) (s : ServerId) → IsServerOf space s → IsIn s (first_config space).servers
+first-there space s (a, b) =
+    let k : s.0 - 1 < space.servers = omega (arith, a, b) in
+    let e : s.0 - 1 + 1 ≡ s.0 = omega (arith, a) in
+    subst (λ (x : ServerId). IsIn x (first_config space).servers) (let q : record { 0 = s.0 - 1 + 1 } ≡ s = (λ j. record { 0 = e j }) in q)
+    (map-in (λ n. record { 0 = n + 1 }) (below space.servers) (s.0 - 1) (below-in space.servers (s.0 - 1) k))
+
+real-server : (script : Script) (s : ServerId) → Real script s → IsServerOf script.space s
+real-server script s e = let a = and_parts (ltb 0 s.0) (leb s.0 script.space.servers) e in (ltb-true 0 s.0 a.0, leb-true s.0 script.space.servers a.1)
+
+start-run : (script : Script) → IsScript script → EpochsRun script []
+start-run script valid = record {
+  epochs = record {
+    orderly = record {
+      members = λ g m i. first-there script.space m.server (member-server script.space (first_config script.space) (first-of_space script.space valid.space) g m i);
+      differ = members-differ script.space valid.space;
+      joins_last = λ g m x b. all-ready script.space g m (before-first (members_of (first_config script.space) g) m x b);
+    };
+    listed = λ s r l. first-there script.space s (real-server script s r);
+    near = λ s r l. inl refl;
+    low = λ s. omega arith;
+    departed = λ s i. absurd i;
+    waits = tt;
+    became_ready = λ j i. absurd i;
+    ready = λ g s t. start-installed script.space s g (ready-listed (first_config script.space) g s t);
+    real = λ s i. (let m = in-map (λ n. record { 0 = n + 1 }) (below script.space.servers) s i in
+        let b = in-below script.space.servers m.0 m.1 in
+        subst (λ (x : ServerId). Real script x) (sym m.2) (and_from (ltb 0 (m.0 + 1)) (leb (m.0 + 1) script.space.servers) (lt-ltb 0 (m.0 + 1) (omega arith)) (le-leb (m.0 + 1) script.space.servers (omega (arith, b)))));
+    says = λ p i. absurd i;
+  };
+  shaped = λ s. start-shaped script.space s;
+  known = record {
+    newest = refl;
+    servers = λ s. refl;
+    sessions = λ u. refl;
+    installs = λ p config i. absurd i;
+    on = record {
+      each = λ epoch a b. (first_config script.space, cond-true (eqb epoch.0 1) (Some (first_config script.space)) None (eq-eqb epoch.0 1 (omega (arith, a, b))));
+      only = λ epoch c. cond_both (eqb epoch.0 1) (Some (first_config script.space)) None (λ o. o ≡ Some c → (1 ≤ epoch.0) × (epoch.0 ≤ 1) × (c.epoch ≡ epoch))
+          (λ t e. (let q = eqb-true epoch.0 1 t in (omega (arith, q), omega (arith, q), (let z : first_config script.space ≡ c = cc in ap (λ (x : Config). x.epoch) (sym z) ∙ (λ j. record { 0 = sym q j })))))
+          (λ t e. absurd (cc));
+    };
+  };
+}
+  where
+    before-first : (ms : List Member) (m x : Member) → IsBefore m x ms → IsIn m ms
+    before-first [] m x b = absurd b
+    before-first (y ∷ ms) m x (inl (e, i)) = inl e
+    before-first (y ∷ ms) m x (inr b) = inr (before-first ms m x b)
+
+-- ---- an entry
+
+-- what the notes of an entry make of the configurations
+abbrev pub ConfigBefore : Script → List Entry → Epoch → List Note → Option Config
+ConfigBefore script older epoch notes = first_some (config_noted epoch notes) (config_of script epoch older)
+
+module _ (script : Script) (valid : IsScript script) (older : List Entry) (kept : EpochsRun script older) where
+  -- the servers before
+  abbrev N : ServerId → ServerState
+  N s = server_of script s older
+
+  -- the coordinator before
+  abbrev d : CoordinatorState
+  d = coordinator_of script older
+
+  -- a configuration is issued, or none is
+  pub record IssuesNext (c : Config) (ns : List Note) : Type 0 where
+    pub follows : FollowsOn d.config c
+    pub sealed : (s : ServerId) → IsIn s d.config.servers → IsSealedOrHalted (N s) d.config.epoch
+    pub notes : ns ≡ a_note.Issued c ∷ []
+
+  abbrev pub Notes : Config → List Note → Type 0
+  Notes c ns = ((c ≡ d.config) × ((epoch : Epoch) → config_noted epoch ns ≡ None)) ⊎ IssuesNext c ns
+
+  -- what is kept by an entry
+  pub record Keeps (a : Actor) (input : Input) (ps : List Post) (ns : List Note) : Type 0 where
+    pub epochs : KeptBy (Real script) (λ s. server_after script.space s a input (N s)) (coordinator_after a input d) (ps ++ posts_of older)
+    pub shaped : (s : ServerId) → Shaped s (server_after script.space s a input (N s))
+    pub notes : Notes (coordinator_after a input d).config ns
+    pub installs : (p : Post) (config : Config) → IsIn p ps → p.message ≡ a_message.Install config → config ≡ (coordinator_after a input d).config
+
+  -- what arrives was posted
+  arrives : (a : Actor) (id : PostId) (from : Actor) (m : Message) → MayTake older a (Deliver id from m) → IsIn (post from a m) (posts_of older)
+  arrives a id from m h = arrived id older (post from a m) h
+
+  -- and says what posts say
+  arrives-says : (a : Actor) (input : Input) → MayTake older a input → (id : PostId) (from : Actor) (m : Message) → input ≡ Deliver id from m → Says N d.config from a m
+  arrives-says a input may id from m e = kept.epochs.says (post from a m) (arrives a id from m (subst (MayTake older a) e may))
+
+  -- ---- a server
+
+  -- no Install is a server's
+  tells-installs : (s : ServerId) (st : ServerState) (to : Actor) (m : Message) → Tells s st to m → (config : Config) → m ≡ a_message.Install config → ⊥
+  tells-installs s st to m h config e = subst (Tells s st to) e h
+
+  -- the servers after an entry of one
+  server-here : (i : ServerId) (input : Input) → server_after script.space i (Server i) input (N i) ≡ (server_step script.space (N i) input).state
+  server-here i input = cond-true (same_server i i) (server_step script.space (N i) input).state (N i) (eq-eqb i.0 i.0 refl)
+
+  server-others : (i : ServerId) (input : Input) (j : ServerId) → (j ≡ i → ⊥) → server_after script.space j (Server i) input (N j) ≡ N j
+  server-others i input j n = cond-false (same_server i j) (server_step script.space (N j) input).state (N j) (ne_eqb i.0 j.0 (λ e. n (λ k. record { 0 = sym e k })))
+
+  pub server-does-well : (i : ServerId) (input : Input) → Real script i → (N i).halted ≡ false → MayTake older (Server i) input
+      → Does i (N i) (May d.config) (server_step script.space (N i) input)
+  server-does-well i input real up may =
+      server-does script.space i (N i) (kept.shaped i) (leads-installed (Real script) N d.config d.gone d.phase d.joined (posts_of older) kept.epochs i real up script.space (kept.shaped i).id)
+      (May d.config) input (λ id from config e. arrives-says (Server i) input may id from (a_message.Install config) e)
+
+  server-keeps : (i : ServerId) (input : Input) → Real script i → (N i).halted ≡ false → MayTake older (Server i) input
+      → let step = server_step script.space (N i) input in Keeps (Server i) input step.posts step.notes
+  server-keeps i input real up may =
+      let step = server_step script.space (N i) input in
+      let does = server-does-well i input real up may in
+      record {
+        epochs = serving-kept (Real script) N d.config d.gone d.phase d.joined (posts_of older) kept.epochs i real up step does
+            (λ s. server_after script.space s (Server i) input (N s)) (server-here i input) (server-others i input);
+        shaped = λ s. cond_both (same_server i s) (server_step script.space (N s) input).state (N s) (Shaped s)
+            (λ t. (let e = eqb-true i.0 s.0 t in let q : i ≡ s = (λ k. record { 0 = e k }) in subst (λ (x : ServerId). Shaped x (server_step script.space (N x) input).state) q does.shaped))
+            (λ t. kept.shaped s);
+        notes = inl (refl, does.notes);
+        installs = λ p config j e. absurd (tells-installs i step.state p.to p.message (does.posts p j).1 config e);
+      }
+
+  -- ---- the coordinator
+
+  coordinator-keeps : (input : Input) → MayTake older Coordinator input → let step = coordinator_step d input in Keeps Coordinator input step.posts step.notes
+  coordinator-keeps input may =
+      let c = coordinates (Real script) N (posts_of older) d input kept.epochs (λ id from m e. arrives-says Coordinator input may id from m e) in
+      record {
+        epochs = c.kept;
+        shaped = kept.shaped;
+        notes = elim c.next [
+          | inl (e, n) ↦ inl (e, λ epoch. ap (config_noted epoch) n)
+          | inr i ↦ inr (record { follows = i.follows; sealed = i.sealed; notes = i.notes })
+        ];
+        installs = λ p config j e. subst (Controls (coordinator_step d input).state.config) e (c.controls p j).1;
+      }
+
+  -- ---- a session
+
+  session-keeps : (u : SessionId) (input : Input) → let step = session_step script.space (session_of script u older) input in Keeps (Session u) input step.posts step.notes
+  session-keeps u input =
+      let s = session_of script u older in
+      let step = session_step script.space s input in
+      let turn = session_turn script.space input s in
+      let mid = started turn.start s in
+      record {
+        epochs = record {
+          orderly = kept.epochs.orderly;
+          listed = kept.epochs.listed;
+          near = kept.epochs.near;
+          low = kept.epochs.low;
+          departed = kept.epochs.departed;
+          waits = kept.epochs.waits;
+          became_ready = kept.epochs.became_ready;
+          ready = kept.epochs.ready;
+          real = kept.epochs.real;
+          says = λ p i. elim (in-append step.posts (posts_of older) p i) [
+            | inl j ↦ session-says N d.config mid step.state.sent step.state.under_way p.from p.to p.message (turn.turn.says p j).1
+            | inr j ↦ kept.epochs.says p j
+          ];
+        };
+        shaped = kept.shaped;
+        notes = inl (refl, session-issues script.space input s);
+        installs = λ p config j e. absurd (no_install mid step.state.sent step.state.under_way config (subst (SaysOf mid step.state.sent step.state.under_way) e (turn.turn.says p j).1));
+      }
+    where
+      no_install : (mid : SessionState) (sent way : Bool) (config : Config) → SaysOf mid sent way (a_message.Install config) → ⊥
+      no_install mid sent way config h = h
+
+  -- each entry
+  keeps : (a : Actor) (input : Input) (ps : List Post) (ns : List Note) → is_actor script a ≡ true → has_halted script older a ≡ false → MayTake older a input → made_of script older a input ≡ record { posts = ps; notes = ns } → Keeps a input ps ns
+  keeps Coordinator input ps ns real up may made = subst (λ (m : Made). Keeps Coordinator input m.posts m.notes) made (coordinator-keeps input may)
+  keeps (Server i) input ps ns real up may made = subst (λ (m : Made). Keeps (Server i) input m.posts m.notes) made (server-keeps i input real up may)
+  keeps (Session u) input ps ns real up may made = subst (λ (m : Made). Keeps (Session u) input m.posts m.notes) made (session-keeps u input)
+
+  pub keeps-entry : (x : Entry) → IsStep script older x → Keeps x.actor x.input x.outputs x.notes
+  keeps-entry x step = keeps x.actor x.input x.outputs x.notes step.actor step.running step.input step.made
+
+-- ---- the configurations that are known
+
+module _ (script : Script) (valid : IsScript script) (older : List Entry) (kept : EpochsRun script older) (x : Entry) (step : IsStep script older x) where
+  -- what the entry keeps
+  abbrev here : Keeps script valid older kept x.actor x.input x.outputs x.notes
+  here = keeps-entry script valid older kept x step
+
+  -- the coordinator's configuration before and after
+  abbrev was : Config
+  was = (coordinator_of script older).config
+
+  abbrev now : Config
+  now = (coordinator_of script (x ∷ older)).config
+
+  -- the configurations of an epoch after the entry
+  after-is : (n : Config) → Notes script valid older kept n x.notes → (epoch : Epoch)
+      → (config_of script epoch (x ∷ older) ≡ config_of script epoch older) ⊎ ((epoch.0 ≡ was.epoch.0 + 1) × (n.epoch.0 ≡ was.epoch.0 + 1) × (config_of script epoch (x ∷ older) ≡ Some n))
+  after-is n (inl (e, f)) epoch = inl (ap (λ (o : Option Config). first_some o (config_of script epoch older)) (f epoch))
+  after-is n (inr i) epoch =
+      let q = i.follows.epoch in
+      by (eqb n.epoch.0 epoch.0) refl q (ap (λ (l : List Note). first_some (config_noted epoch l) (config_of script epoch older)) i.notes)
+    where
+      by : (b : Bool) → eqb n.epoch.0 epoch.0 ≡ b → n.epoch.0 ≡ was.epoch.0 + 1 → config_of script epoch (x ∷ older) ≡ first_some (cond b (Some n) None) (config_of script epoch older)
+          → (config_of script epoch (x ∷ older) ≡ config_of script epoch older) ⊎ ((epoch.0 ≡ was.epoch.0 + 1) × (n.epoch.0 ≡ was.epoch.0 + 1) × (config_of script epoch (x ∷ older) ≡ Some n))
+      by true t q e = inr (sym (eqb-true n.epoch.0 epoch.0 t) ∙ q, q, e)
+      by false t q e = inl e
+
+  -- what was known still is
+  pub known-still : (c : Config) → IsKnown script older c → IsKnown script (x ∷ older) c
+  known-still c k = elim (after-is now here.notes c.epoch) [
+    | inl e ↦ e ∙ k
+    | inr (a, b, e) ↦ absurd (let l = (kept.known.on.only c.epoch c k).1 in omega (arith, a, l))
+  ]
+
+  -- and so is the newest
+  now-known : Notes script valid older kept now x.notes → IsKnown script (x ∷ older) now
+  now-known (inl (e, f)) = subst (IsKnown script (x ∷ older)) (sym e) (known-still was kept.known.newest)
+  now-known (inr i) = elim (after-is now (inr i) now.epoch) [
+    | inr (a, b, e) ↦ e
+    | inl e ↦ absurd (old (config_of script now.epoch older) refl e)
+  ]
+    where
+      -- the note itself shows it
+      old : (o : Option Config) → config_of script now.epoch older ≡ o → config_of script now.epoch (x ∷ older) ≡ config_of script now.epoch older → ⊥
+      old o q e =
+          let h : config_of script now.epoch (x ∷ older) ≡ Some now = ap (λ (l : List Note). first_some (config_noted now.epoch l) (config_of script now.epoch older)) i.notes
+          ∙ ap (λ (o : Option Config). first_some o (config_of script now.epoch older)) (cond-true (eqb now.epoch.0 now.epoch.0) (Some now) None (eq-eqb now.epoch.0 now.epoch.0 refl)) in
+          let k = kept.known.on.only now.epoch now (sym e ∙ h) in
+          let l = k.1 in let f = i.follows.epoch in omega (arith, l, f)
+
+  -- the numbers of the epochs
+  now-on : Notes script valid older kept now x.notes → RunsOn script (x ∷ older)
+  now-on notes = record {
+    each = λ epoch a b. elim (after-is now notes epoch) [
+      | inr (p, q, e) ↦ (now, e)
+      | inl e ↦ (let r = kept.known.on.each epoch a (low notes epoch b e) in (r.0, e ∙ r.1))
+    ];
+    only = λ epoch c k. elim (after-is now notes epoch) [
+      | inl e ↦ (let r = kept.known.on.only epoch c (sym e ∙ k) in let l = r.1 in let g = grows notes in (r.0, omega (arith, l, g), r.2))
+      | inr (p, q, e) ↦ (let z : Some now ≡ Some c = sym e ∙ k in let y : now ≡ c = cc in
+          (omega (arith, p), omega (arith, p, q), ap (λ (w : Config). w.epoch) (sym y) ∙ (let r : now.epoch.0 ≡ epoch.0 = omega (arith, p, q) in λ j. record { 0 = r j })))
+    ];
+  }
+    where
+      grows : Notes script valid older kept now x.notes → was.epoch.0 ≤ now.epoch.0
+      grows (inl (e, f)) = let q = ap (λ (c : Config). c.epoch.0) e in omega (arith, q)
+      grows (inr i) = let q = i.follows.epoch in omega (arith, q)
+
+      -- an epoch that isn't the new one is no later than before
+      low : Notes script valid older kept now x.notes → (epoch : Epoch) → epoch.0 ≤ now.epoch.0 → config_of script epoch (x ∷ older) ≡ config_of script epoch older → epoch.0 ≤ was.epoch.0
+      low (inl (e, f)) epoch l same = let q = ap (λ (c : Config). c.epoch.0) e in omega (arith, q, l)
+      low (inr i) epoch l same = elim (cases_lt epoch.0 now.epoch.0) [
+        | inl m ↦ (let q = i.follows.epoch in omega (arith, q, m))
+        | inr m ↦ (let r : epoch.0 ≡ now.epoch.0 = omega (arith, l, m) in
+            let z : now.epoch ≡ epoch = (λ j. record { 0 = sym r j }) in
+            let k = now-known (inr i) in
+            let w : config_of script epoch older ≡ Some now = sym same ∙ subst (λ (y : Epoch). config_of script y (x ∷ older) ≡ Some now) z k in
+            let o = (kept.known.on.only epoch now w).1 in o)
+      ]
+
+  -- the configurations of actors and posts
+  pub known-after : Known script (x ∷ older)
+  known-after = record {
+    newest = now-known here.notes;
+    servers = λ s. server s x.actor x.input (λ id from config e. install x.actor x.input step.input id from config e) step.actor step.running (here.shaped s);
+    sessions = λ u. session u x.actor x.input (λ id from config e. install x.actor x.input step.input id from config e);
+    installs = λ p config i e. elim (in-append x.outputs (posts_of older) p i) [
+      | inl j ↦ subst (IsKnown script (x ∷ older)) (sym (here.installs p config j e)) (now-known here.notes)
+      | inr j ↦ known-still config (kept.known.installs p config j e)
+    ];
+    on = now-on here.notes;
+  }
+    where
+      install : (a : Actor) (input : Input) → MayTake older a input → (id : PostId) (from : Actor) (config : Config) → input ≡ Deliver id from (a_message.Install config) → IsKnown script older config
+      install a input may id from config e = kept.known.installs (post from a (a_message.Install config)) config (arrives script valid older kept a id from (a_message.Install config) (subst (MayTake older a) e may)) refl
+
+      server : (s : ServerId) (a : Actor) (input : Input) → ((id : PostId) (from : Actor) (config : Config) → input ≡ Deliver id from (a_message.Install config) → IsKnown script older config)
+          → is_actor script a ≡ true → has_halted script older a ≡ false → Shaped s (server_after script.space s a input (server_of script s older)) → IsKnown script (x ∷ older) (server_after script.space s a input (server_of script s older)).config
+      server s Coordinator input f real up h = known-still _ (kept.known.servers s)
+      server s (Session u) input f real up h = known-still _ (kept.known.servers s)
+      server s (Server i) input f real up h =
+          cond_both (same_server i s) (server_step script.space (server_of script s older) input).state (server_of script s older) (λ (st : ServerState). IsKnown script (x ∷ older) st.config)
+          (λ t. (let e = eqb-true i.0 s.0 t in let q : i ≡ s = (λ k. record { 0 = e k }) in
+          by (subst (λ (y : ServerId). Does y (server_of script y older) (IsKnown script older) (server_step script.space (server_of script y older) input)) q
+          (server-does script.space i (server_of script i older) (kept.shaped i)
+          (leads-installed (Real script) (λ s. server_of script s older) (coordinator_of script older).config (coordinator_of script older).gone (coordinator_of script older).phase (coordinator_of script older).joined (posts_of older) kept.epochs i real up script.space (kept.shaped i).id)
+          (IsKnown script older) input f))))
+          (λ t. known-still _ (kept.known.servers s))
+        where
+          by : Does s (server_of script s older) (IsKnown script older) (server_step script.space (server_of script s older) input) → IsKnown script (x ∷ older) (server_step script.space (server_of script s older) input).state.config
+          by does = elim does.change [
+            | inl k ↦ subst (IsKnown script (x ∷ older)) (sym k.config) (known-still _ (kept.known.servers s))
+            | inr (config, may, k) ↦ subst (IsKnown script (x ∷ older)) (sym k.config_is) (known-still config may)
+          ]
+
+      session : (u : SessionId) (a : Actor) (input : Input) → ((id : PostId) (from : Actor) (config : Config) → input ≡ Deliver id from (a_message.Install config) → IsKnown script older config)
+          → IsKnown script (x ∷ older) (session_after script.space u a input (session_of script u older)).config
+      session u Coordinator input f = known-still _ (kept.known.sessions u)
+      session u (Server i) input f = known-still _ (kept.known.sessions u)
+      session u (Session v) input f =
+          cond_both (eqb v.0 u.0) (session_step script.space (session_of script u older) input).state (session_of script u older) (λ (s : SessionState). IsKnown script (x ∷ older) s.config)
+          (λ t. elim (session-config script.space (session_of script u older) input) [
+            | inl e ↦ subst (IsKnown script (x ∷ older)) (sym e) (known-still _ (kept.known.sessions u))
+            | inr (id, from, config, e, q, l) ↦ subst (IsKnown script (x ∷ older)) (sym q) (known-still config (f id from config e))
+          ])
+          (λ t. known-still _ (kept.known.sessions u))
+
+-- every run keeps what holds of epochs
+pub epochs-run : (script : Script) → IsScript script → (t : List Entry) → IsRun script t → EpochsRun script t
+epochs-run script valid [] run = start-run script valid
+epochs-run script valid (x ∷ older) run =
+    let kept = epochs-run script valid older run.1 in
+    let k = keeps-entry script valid older kept x run.0 in
+    record { epochs = k.epochs; shaped = k.shaped; known = known-after script valid older kept x run.0 }
+
+-- each configuration is issued as it should be
+pub issued-well : (script : Script) → IsScript script → (x : Entry) (older : List Entry) → IsRun script (x ∷ older) → (next : Config) → IsIn (a_note.Issued next) x.notes → WasIssued script older next
+issued-well script valid x older run next i =
+    let kept = epochs-run script valid older run.1 in
+    by kept (keeps-entry script valid older kept x run.0).notes
+  where
+    noted : (ns : List Note) → IsIn (a_note.Issued next) ns → config_noted next.epoch ns ≡ None → ⊥
+    noted [] i = absurd i
+    noted (n ∷ ns) (inl e) = λ q. none (sym (ap (λ (m : Note). config_noted next.epoch (m ∷ ns)) (sym e) ∙ cond-true (eqb next.epoch.0 next.epoch.0) (Some next) (config_noted next.epoch ns) (eq-eqb next.epoch.0 next.epoch.0 refl)) ∙ q)
+      where
+        none : Some next ≡ None → ⊥
+        none e = absurd (cc)
+    noted (n ∷ ns) (inr i) = λ q. noted ns i (later n q)
+      where
+        later : (n : Note) → config_noted next.epoch (n ∷ ns) ≡ None → config_noted next.epoch ns ≡ None
+        later (a_note.Began number) = λ q. q
+        later (a_note.Ended number version answer) = λ q. q
+        later (a_note.Assigned u) = λ q. q
+        later (a_note.Issued c) = cond_both (eqb c.epoch.0 next.epoch.0) (Some c) (config_noted next.epoch ns) (λ o. o ≡ None → config_noted next.epoch ns ≡ None) (λ t e. absurd (cc)) (λ t e. e)
+
+    by : (kept : EpochsRun script older) → Notes script valid older kept (coordinator_of script (x ∷ older)).config x.notes → WasIssued script older next
+    by kept (inl (e, f)) = absurd (noted x.notes i (f next.epoch))
+    by kept (inr k) =
+        let same : next ≡ (coordinator_of script (x ∷ older)).config = alone (subst (λ (l : List Note). IsIn (a_note.Issued next) l) k.notes i) in
+        record { before = (coordinator_of script older).config; newest = refl; known = kept.known.newest; follows = subst (FollowsOn (coordinator_of script older).config) (sym same) k.follows; sealed = k.sealed }
+      where
+        alone : IsIn (a_note.Issued next) (a_note.Issued (coordinator_of script (x ∷ older)).config ∷ []) → next ≡ (coordinator_of script (x ∷ older)).config
+        alone (inl e) = cc
+        alone (inr j) = absurd j
+
+-- and the epochs are numbered
+pub numbered-well : (script : Script) → IsScript script → (t : List Entry) → IsRun script t → RunsOn script t
+numbered-well script valid t run = (epochs-run script valid t run).known.on

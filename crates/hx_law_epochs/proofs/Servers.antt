@@ -1,0 +1,392 @@
+-- Each step of a server, as far as epochs go: what becomes of its configuration, its seal and its replicas, and what it posts.
+use Rattle.std.proofs.Common.{◌≡◌, ℕ, ◌<◌, ◌⊎◌, inl, inr, Bool, true, false, not, List, [], ◌∷◌, ◌++◌, map, Option, Some, None, refl, sym, ap, ◌∙◌, subst, ltb, eqb}
+use Rattle.std.specs.Prelude.{⊤}
+use Rattle.std.specs.List.{filter, flat_map}
+use Rattle.std.proofs.lemmas.Bool.{and_parts, cond_both, eqb-true, false≢true, ltb-true}
+use Rattle.hx_types.specs.declared.calls.Caller.{Caller}
+use Rattle.hx_types.specs.declared.calls.Op.{Op}
+use Rattle.hx_types.specs.declared.configs.Config.{Config}
+use Rattle.hx_types.specs.declared.ids.Actor.{Actor}
+use Rattle.hx_types.specs.declared.ids.Epoch.{Epoch}
+use Rattle.hx_types.specs.declared.ids.RegionId.{RegionId}
+use Rattle.hx_types.specs.declared.ids.ServerId.{ServerId}
+use Rattle.hx_types.specs.declared.messages.Message.{Message}
+use Rattle.hx_types.specs.declared.messages.Post.{Post}
+use Rattle.hx_types.specs.declared.messages.PostId.{PostId}
+use Rattle.hx_types.specs.declared.snapshots.Kept.{Kept}
+use Rattle.hx_types.specs.declared.spaces.Space.{Space}
+use Rattle.hx_types.specs.declared.traces.Input.{Input}
+use Rattle.hx_types.specs.declared.updates.Update.{Update}
+use Rattle.hx_types.specs.declared.values.Term.{Term}
+use Rattle.hx_types.specs.declared.messages.Message.TheVariants as a_message
+use Rattle.hx_types.specs.declared.ids.Actor.TheVariants.{Coordinator, Server, Session}
+use Rattle.hx_types.specs.declared.traces.Input.TheVariants.{Tick, Halt, Deliver}
+use Rattle.hx_types.specs.Words.{IsIn, post, same_text, when_some}
+use Rattle.hx_types.specs.Effects.{key_of}
+use Rattle.hx_types.specs.Configs.{is_lost, joiner_for, leads, lists, lists_joining, lists_ready}
+use Rattle.hx_types.specs.Subspaces.{is_key_region}
+use Rattle.hx_model.specs.Causes.{config_noted}
+use Rattle.hx_model.specs.Regions.{key_region}
+use Rattle.hx_model.specs.Slots.{KeyState, moved_all, pending_of, pending_of_all, snapshot_of, state_among}
+use Rattle.hx_model.specs.ServerSteps.{Replica, ServerState, ServerStep, SlotStep, Slots, Spot, accepting, acked, ack_step, adopted, adopted_posts, asked, at_slot, call_at, call_step, called, called_by, halting, hearing, if_installed, input_step, install_at, installed_slots, is_active, join_keys, join_slot, keys_of, message_step, move_posts, offered_all, passed_on, pending_posts, ready_post, replica_of, replica_tick, resumed_posts, saying, seal_at, server_step, snap_posts, snap_to, snapped, spot_of, state_from, state_in, tick_step, unmoved, update_step, updated, with_config, with_slots}
+use Rattle.hx_law_lemmas.proofs.Lists.{in-append, in-flat_map, in-provided}
+use Rattle.hx_law_lemmas.proofs.Replicas.{replica-found, replica-here, with_slot_at}
+use Rattle.hx_law_lemmas.proofs.ReplicaLists.{once-found}
+use Rattle.hx_law_epochs.proofs.Facts.{FromServer, Installed, SendsSnapshot}
+use Rattle.hx_law_epochs.proofs.Replicas.{Shaped, done-installed, done-shaped, hearing-is, installed-is, mid-installed, mid-shaped, replaced-installed, replaced-shaped}
+use Rattle.hx_law_epochs.proofs.SlotPosts.{OfSlot, SlotSays, SlotTells, ack-tells, call-tells, moves-of, pending-of, resumed-of, update-tells}
+
+-- the server goes on in its configuration
+pub record Stays (before after : ServerState) : Type 0 where
+  pub config : after.config ≡ before.config
+  pub sealed : before.sealed ≡ true → after.sealed ≡ true
+  pub halted : before.halted ≡ true → after.halted ≡ true
+  pub installed : (g : RegionId) → Installed before g → Installed after g
+
+-- or has adopted one of a higher epoch
+pub record Adopts (s : ServerId) (config : Config) (before after : ServerState) : Type 0 where
+  pub higher : before.config.epoch.0 < config.epoch.0
+  pub config_is : after.config ≡ config
+  pub halted : before.halted ≡ true → after.halted ≡ true
+  pub installed : (g : RegionId) → lists config g s ≡ true → Installed before g → Installed after g
+
+-- what a post of a server says of it when it is posted
+abbrev pub Tells : ServerId → ServerState → Actor → Message → Type 0
+Tells s st to (a_message.Update epoch g u) = epoch ≡ st.config.epoch
+Tells s st to (a_message.Ack epoch g key version) = epoch ≡ st.config.epoch
+Tells s st to (a_message.Reply number version answer) = ⊤
+Tells s st to (a_message.Found epoch number g rows) = epoch ≡ st.config.epoch
+Tells s st to (a_message.Sealed epoch) = (epoch ≡ st.config.epoch) × (st.sealed ≡ true)
+Tells s st to a_message.Gone = st.halted ≡ true
+Tells s st to (a_message.Ready epoch g) = (epoch ≡ st.config.epoch) × Installed st g
+Tells s st to (a_message.Snap epoch g snapshot pending) = (epoch ≡ st.config.epoch) × FromServer to (SendsSnapshot st.config st g s)
+Tells s st to (a_message.Install config) = ⊥
+Tells s st to (a_message.Seal epoch) = ⊥
+Tells s st to a_message.Die = ⊥
+Tells s st to (a_message.Outcome number answer) = ⊥
+Tells s st to (a_message.Call epoch number op) = ⊥
+Tells s st to (a_message.Ask epoch number g terms) = ⊥
+Tells s st to (a_message.StopServer number server) = ⊥
+Tells s st to (a_message.AddReplica number server g) = ⊥
+Tells s st to (a_message.Poll epoch) = ⊥
+
+-- what a slot's post says
+pub slot-tells : (s : ServerId) (st : ServerState) (c : Config) (to : Actor) (m : Message) → c ≡ st.config → SlotSays c m → Tells s st to m
+slot-tells s st c to (a_message.Update epoch g u) e h = h ∙ ap (λ (x : Config). x.epoch) e
+slot-tells s st c to (a_message.Ack epoch g key version) e h = h ∙ ap (λ (x : Config). x.epoch) e
+slot-tells s st c to (a_message.Reply number version answer) e h = tt
+slot-tells s st c to (a_message.Found epoch number g rows) e h = absurd h
+slot-tells s st c to (a_message.Sealed epoch) e h = absurd h
+slot-tells s st c to a_message.Gone e h = absurd h
+slot-tells s st c to (a_message.Install config) e h = absurd h
+slot-tells s st c to (a_message.Seal epoch) e h = absurd h
+slot-tells s st c to a_message.Die e h = absurd h
+slot-tells s st c to (a_message.Outcome number answer) e h = absurd h
+slot-tells s st c to (a_message.Call epoch number op) e h = absurd h
+slot-tells s st c to (a_message.Ask epoch number g terms) e h = absurd h
+slot-tells s st c to (a_message.StopServer number server) e h = absurd h
+slot-tells s st c to (a_message.AddReplica number server g) e h = absurd h
+slot-tells s st c to (a_message.Snap epoch g snapshot pending) e h = absurd h
+slot-tells s st c to (a_message.Ready epoch g) e h = absurd h
+slot-tells s st c to (a_message.Poll epoch) e h = absurd h
+
+-- what a step of a server does; it adopts only what it may
+pub record Does (s : ServerId) (st : ServerState) (May : Config → Type 0) (step : ServerStep) : Type 0 where
+  pub shaped : Shaped s step.state
+  pub change : Stays st step.state ⊎ ((config : Config) × May config × Adopts s config st step.state)
+  pub posts : (p : Post) → IsIn p step.posts → (p.from ≡ Server s) × Tells s step.state p.to p.message
+  pub notes : (epoch : Epoch) → config_noted epoch step.notes ≡ None
+
+module _ (space : Space) (s : ServerId) (st : ServerState) (shaped : Shaped s st) (May : Config → Type 0) where
+  -- a post of the server
+  abbrev Mine : ServerState → Post → Type 0
+  Mine after p = (p.from ≡ Server s) × Tells s after p.to p.message
+
+  -- nothing changes of it
+  stays : Stays st st
+  stays = record { config = refl; sealed = λ e. e; halted = λ e. e; installed = λ g i. i }
+
+  -- posts alone
+  says : (ps : List Post) → ((p : Post) → IsIn p ps → Mine st p) → Does s st May (saying st ps)
+  says ps f = record { shaped = shaped; change = inl stays; posts = f; notes = λ epoch. refl }
+
+  rests : Does s st May (unmoved st)
+  rests = says [] (λ p i. absurd i)
+
+  -- one post
+  one : (after : ServerState) (q : Post) → Mine after q → (p : Post) → IsIn p (q ∷ []) → Mine after p
+  one after q h p i = elim i [ inl e ↦ subst (Mine after) (sym e) h | inr j ↦ absurd j ]
+
+  -- a slot's posts are the server's
+  of-slot : (after : ServerState) (g : RegionId) → after.config ≡ st.config → (p : Post) → OfSlot (spot_of space st g) p → Mine after p
+  of-slot after g e p h = (h.0 ∙ ap Server shaped.id, slot-tells s after st.config p.to p.message (sym e) h.1)
+
+  -- a step of one slot
+  slot-does : (r : Replica) (t : KeyState) (step : SlotStep) → replica_of r.region st.replicas ≡ Some r → r.installed ≡ true → SlotTells (spot_of space st r.region) step → Does s st May (at_slot st r t step)
+  slot-does r t step found there tells = record {
+    shaped = replaced-shaped s st shaped r (with_slot_at r (moved_all step.moves t)) found (λ e. absurd (false≢true (sym e ∙ there)));
+    change = inl (record {
+      config = refl;
+      sealed = λ e. e;
+      halted = λ e. e;
+      installed = replaced-installed s st shaped r (with_slot_at r (moved_all step.moves t)) found (λ e. e);
+    });
+    posts = λ p i. of-slot (at_slot st r t step).state r.region refl p (tells.posts p i);
+    notes = tells.notes;
+  }
+
+  -- a replica that is found by another name is found by its own
+  own-name : (g : RegionId) (r : Replica) → replica_of g st.replicas ≡ Some r → replica_of r.region st.replicas ≡ Some r
+  own-name g r e = subst (λ (h : RegionId). replica_of h st.replicas ≡ Some r) (sym (replica-found g st.replicas r e).1) e
+
+  -- ---- messages to replicas
+
+  -- where a key's leader hears, it is installed
+  module _ (leads_installed : (g : RegionId) → st.sealed ≡ false → leads space st.config st.id g ≡ true → Installed st g) where
+    call-does : (epoch : Epoch) (g : RegionId) (r : Replica) → hearing st epoch g ≡ Some r → (key : List ℕ) (caller : Caller) (op : Op) → Does s st May (call_at space st r key caller op)
+    call-does epoch g r e key caller op =
+        let h = hearing-is st epoch g r e in
+        cond_both (leads space st.config st.id r.region) (at_slot st r (state_in space r key) (call_step (spot_of space st r.region) (state_in space r key) caller op)) (unmoved st) (Does s st May)
+        (
+        λ t. slot-does r (state_in space r key) (call_step (spot_of space st r.region) (state_in space r key) caller op) (own-name g r h.found)
+        (same (own-name g r h.found) (leads_installed r.region h.not_sealed t)) (call-tells (spot_of space st r.region) (state_in space r key) caller op)
+        )
+        (λ t. rests)
+      where
+        same : replica_of r.region st.replicas ≡ Some r → Installed st r.region → r.installed ≡ true
+        same f i = let p : Some i.replica ≡ Some r = sym i.found ∙ f in let q : i.replica ≡ r = cc in sym (ap (λ (z : Replica). z.installed) q) ∙ i.installed
+
+    called-does : (from : Actor) (epoch : Epoch) (number : ℕ) (op : Op) → Does s st May (called_by space st from epoch number op)
+    called-does Coordinator epoch number op = rests
+    called-does (Server other) epoch number op = rests
+    called-does (Session u) epoch number op = on (key_of op)
+      where
+        hears : (key : List ℕ) (o : Option Replica) → hearing st epoch (key_region space key) ≡ o → Does s st May (when_some o (unmoved st) (λ (r : Replica). call_at space st r key (record { session = u; number = number }) op))
+        hears key None e = rests
+        hears key (Some r) e = call-does epoch (key_region space key) r e key (record { session = u; number = number }) op
+
+        on : (o : Option (List ℕ)) → Does s st May (called space st epoch (record { session = u; number = number }) op o)
+        on None = rests
+        on (Some key) = hears key (hearing st epoch (key_region space key)) refl
+
+  -- Update
+  updated-does : (epoch : Epoch) (g : RegionId) (u : Update) → Does s st May (updated space st u (if_installed (hearing st epoch g)))
+  updated-does epoch g u = by (if_installed (hearing st epoch g)) refl
+    where
+      by : (o : Option Replica) → if_installed (hearing st epoch g) ≡ o → Does s st May (updated space st u o)
+      by None e = rests
+      by (Some r) e =
+          let i = installed-is (hearing st epoch g) r e in
+          slot-does r (state_in space r u.key) (update_step (spot_of space st r.region) (state_in space r u.key) u) (own-name g r (hearing-is st epoch g r i.0).found) i.1
+          (update-tells (spot_of space st r.region) (state_in space r u.key) u)
+
+  -- Ack
+  acked-does : (epoch : Epoch) (g : RegionId) (key : List ℕ) (v : ℕ) → Does s st May (acked space st key v (if_installed (hearing st epoch g)))
+  acked-does epoch g key v = by (if_installed (hearing st epoch g)) refl
+    where
+      by : (o : Option Replica) → if_installed (hearing st epoch g) ≡ o → Does s st May (acked space st key v o)
+      by None e = rests
+      by (Some r) e =
+          let i = installed-is (hearing st epoch g) r e in
+          slot-does r (state_in space r key) (ack_step (spot_of space st r.region) (state_in space r key) v) (own-name g r (hearing-is st epoch g r i.0).found) i.1
+          (ack-tells (spot_of space st r.region) (state_in space r key) v)
+
+  -- Ask
+  asked-does : (from : Actor) (epoch : Epoch) (number : ℕ) (g : RegionId) (terms : List Term) → Does s st May (asked st from epoch number terms (if_installed (hearing st epoch g)))
+  asked-does from epoch number g terms = by (if_installed (hearing st epoch g)) refl
+    where
+      by : (o : Option Replica) → if_installed (hearing st epoch g) ≡ o → Does s st May (asked st from epoch number terms o)
+      by None e = rests
+      by (Some r) e =
+          let h = hearing-is st epoch g r (installed-is (hearing st epoch g) r e).0 in
+          says _ (λ p i. one st _ (ap Server shaped.id, (let q = h.own in λ j. record { 0 = q j })) p (in-provided (lists_ready st.config r.region st.id) _ p i).1)
+
+  -- a post that says that a joiner is ready
+  ready-mine : (after : ServerState) (g : RegionId) → after.config ≡ st.config → Installed after g → (p : Post) → IsIn p (ready_post st g) → Mine after p
+  ready-mine after g e h p i =
+      one after (post (Server st.id) Coordinator (a_message.Ready st.config.epoch g)) (ap Server shaped.id, (ap (λ (c : Config). c.epoch) (sym e), h)) p
+      (in-provided (lists_joining st.config g st.id) (post (Server st.id) Coordinator (a_message.Ready st.config.epoch g) ∷ []) p i).1
+
+  -- slots that take the pending updates post as slots do
+  join-posts : (spot : Spot) (us : List Update) (keys : List (List ℕ)) (slots : Slots) → ((p : Post) → IsIn p slots.posts → OfSlot spot p) → (p : Post) → IsIn p (join_keys spot us slots keys).posts → OfSlot spot p
+  join-posts spot us [] slots f = f
+  join-posts spot us (key ∷ keys) slots f =
+      let mine : List Update = filter (λ (u : Update). same_text u.key key) us in
+      let state : KeyState = state_among (is_key_region spot.space spot.region) key slots.states in
+      join-posts spot us keys (join_slot spot mine slots state)
+      (λ p i. elim (in-append slots.posts (flat_map (move_posts spot) (accepting spot state (offered_all spot.region state mine))) p i) [ inl j ↦ f p j | inr j ↦ moves-of spot (accepting spot state (offered_all spot.region state mine)) p j ])
+
+  -- Snap
+  snapped-does : (epoch : Epoch) (g : RegionId) (snapshot : List Kept) (pending : List Update) → Does s st May (snapped space st snapshot pending (hearing st epoch g))
+  snapped-does epoch g snapshot pending = by (hearing st epoch g) refl
+    where
+      by : (o : Option Replica) → hearing st epoch g ≡ o → Does s st May (snapped space st snapshot pending o)
+      by None e = rests
+      by (Some r) e =
+          let found = own-name g r (hearing-is st epoch g r e).found in
+          let slots = installed_slots (spot_of space st r.region) snapshot pending in
+          cond_both r.installed (saying st (ready_post st r.region)) (with_slots st r slots) (Does s st May)
+          (λ t. says (ready_post st r.region) (ready-mine st r.region refl (record { replica = r; found = found; installed = t })))
+          (λ t. installs r found slots
+          (join-posts (spot_of space st r.region) pending (keys_of pending) (record { states = map (state_from (is_key_region space r.region)) snapshot; posts = [] }) (λ p i. absurd i)))
+        where
+          installs : (r : Replica) → replica_of r.region st.replicas ≡ Some r → (slots : Slots) → ((p : Post) → IsIn p slots.posts → OfSlot (spot_of space st r.region) p) → Does s st May (with_slots st r slots)
+          installs r found slots f = record {
+            shaped = replaced-shaped s st shaped r x found (λ e. absurd (false≢true (sym e)));
+            change = inl (record { config = refl; sealed = λ e. e; halted = λ e. e; installed = replaced-installed s st shaped r x found (λ e. refl) });
+            posts = λ p i. elim (in-append slots.posts (ready_post st r.region) p i) [
+              | inl j ↦ of-slot (with_slots st r slots).state r.region refl p (f p j)
+              | inr j ↦ ready-mine (with_slots st r slots).state r.region refl (record { replica = x; found = replica-here r.region x st.replicas r refl found; installed = refl }) p j
+            ];
+            notes = λ epoch. refl;
+          }
+            where
+              x : Replica
+              x = record { region = r.region; installed = true; states = slots.states }
+
+  -- ---- seals and halts
+
+  sealed-does : (epoch : Epoch) → Does s st May (seal_at st epoch)
+  sealed-does epoch =
+      cond_both (eqb epoch.0 st.config.epoch.0) (record { state = record st { sealed = true }; posts = post (Server st.id) Coordinator (a_message.Sealed epoch) ∷ []; notes = [] }) (unmoved st) (Does s st May)
+      (
+      λ t. record {
+        shaped = record { id = shaped.id; there = shaped.there; only = shaped.only; once = shaped.once; empty = shaped.empty };
+        change = inl (record { config = refl; sealed = λ e. refl; halted = λ e. e; installed = λ g i. record { replica = i.replica; found = i.found; installed = i.installed } });
+        posts = one (record st { sealed = true }) _ (ap Server shaped.id, ((let q = eqb-true epoch.0 st.config.epoch.0 t in λ j. record { 0 = q j }), refl));
+        notes = λ epoch. refl;
+      }
+      )
+      (λ t. rests)
+
+  halts : Does s st May (halting st)
+  halts = record {
+    shaped = record { id = shaped.id; there = shaped.there; only = shaped.only; once = shaped.once; empty = shaped.empty };
+    change = inl (record { config = refl; sealed = λ e. e; halted = λ e. refl; installed = λ g i. record { replica = i.replica; found = i.found; installed = i.installed } });
+    posts = one (record st { halted = true }) _ (ap Server shaped.id, refl);
+    notes = λ epoch. refl;
+  }
+
+  -- ---- what is sent again, or anew
+
+  -- a replica of the server is active where it is installed and its region isn't lost
+  active-is : (r : Replica) → is_active st.config r ≡ true → (r.installed ≡ true) × (is_lost st.config r.region ≡ false)
+  active-is r t = let a = and_parts r.installed (not (is_lost st.config r.region)) t in (a.0, flip (is_lost st.config r.region) a.1)
+    where
+      flip : (b : Bool) → not b ≡ true → b ≡ false
+      flip true e = absurd (false≢true e)
+      flip false e = refl
+
+  -- a snapshot to a joiner
+  snap-mine : (after : ServerState) (r : Replica) → after.config ≡ st.config → Installed after r.region → is_lost st.config r.region ≡ false → (p : Post) → IsIn p (snap_posts st r) → Mine after p
+  snap-mine after r e h l p = by (joiner_for st.config r.region st.id) refl
+    where
+      by : (o : Option ServerId) → joiner_for st.config r.region st.id ≡ o → IsIn p (snap_to st r o) → Mine after p
+      by None q i = absurd i
+      by (Some j) q i = one after (post (Server st.id) (Server j) (a_message.Snap st.config.epoch r.region (snapshot_of r.region r.states) (pending_of_all r.states))) (
+        ap Server shaped.id,
+        (
+          ap (λ (c : Config). c.epoch) (sym e),
+          record {
+            config = refl;
+            sender = subst (λ (c : Config). joiner_for c r.region s ≡ Some j) (sym e) (subst (λ (x : ServerId). joiner_for st.config r.region x ≡ Some j) shaped.id q);
+            not_lost = subst (λ (c : Config). is_lost c r.region ≡ false) (sym e) l;
+            installed = h;
+          },
+        ),
+      ) p i
+
+  -- what a replica of a list of the server's is found as
+  listed-found : (r : Replica) → IsIn r st.replicas → replica_of r.region st.replicas ≡ Some r
+  listed-found r i = once-found st.replicas shaped.once r i
+
+  -- what a replica sends again
+  replica-mine : (r : Replica) → IsIn r st.replicas → (p : Post) → IsIn p (replica_tick space st r) → Mine st p
+  replica-mine r i p j =
+      let a = in-provided (is_active st.config r) (snap_posts st r ++ pending_posts (spot_of space st r.region) r.states ++ ready_post st r.region) p j in
+      let b = active-is r a.0 in
+      let h : Installed st r.region = record { replica = r; found = listed-found r i; installed = b.0 } in
+      elim (in-append (snap_posts st r ++ pending_posts (spot_of space st r.region) r.states) (ready_post st r.region) p a.1) [
+        | inl k ↦ elim (in-append (snap_posts st r) (pending_posts (spot_of space st r.region) r.states) p k) [
+          | inl m ↦ snap-mine st r refl h b.1 p m
+          | inr m ↦ (let c = in-flat_map (λ (state : KeyState). flat_map (passed_on (spot_of space st r.region)) (pending_of state)) r.states p m in
+              of-slot st r.region refl p (pending-of (spot_of space st r.region) (pending_of c.0) p c.2))
+        ]
+        | inr k ↦ ready-mine st r.region refl h p k
+      ]
+
+  -- Tick
+  ticks : Does s st May (tick_step space st)
+  ticks =
+      cond_both st.sealed (post (Server st.id) Coordinator (a_message.Sealed st.config.epoch) ∷ []) (flat_map (replica_tick space st) st.replicas) (λ (ps : List Post). Does s st May (saying st ps))
+      (λ t. says _ (one st _ (ap Server shaped.id, (refl, t))))
+      (λ t. says _ (λ p i. (let r = in-flat_map (replica_tick space st) st.replicas p i in replica-mine r.0 r.1 p r.2)))
+
+  -- what a replica posts when a configuration is adopted, with the server that it has become
+  adopted-mine : (after : ServerState) → after.config ≡ st.config → ((g : RegionId) → Installed st g → Installed after g) → (r : Replica) → IsIn r st.replicas → (p : Post) → IsIn p (adopted_posts space st r) → Mine after p
+  adopted-mine after e up r i p j =
+      let a = in-provided (is_active st.config r) (snap_posts st r ++ flat_map (resumed_posts (spot_of space st r.region)) r.states ++ ready_post st r.region) p j in
+      let b = active-is r a.0 in
+      let h : Installed after r.region = up r.region (record { replica = r; found = listed-found r i; installed = b.0 }) in
+      elim (in-append (snap_posts st r ++ flat_map (resumed_posts (spot_of space st r.region)) r.states) (ready_post st r.region) p a.1) [
+        | inl k ↦ elim (in-append (snap_posts st r) (flat_map (resumed_posts (spot_of space st r.region)) r.states) p k) [
+          | inl m ↦ snap-mine after r e h b.1 p m
+          | inr m ↦ (let c = in-flat_map (resumed_posts (spot_of space st r.region)) r.states p m in of-slot after r.region e p (resumed-of (spot_of space st r.region) c.0 p c.2))
+        ]
+        | inr k ↦ ready-mine after r.region e h p k
+      ]
+
+-- Install
+installs-does : (space : Space) (s : ServerId) (st : ServerState) → Shaped s st → (May : Config → Type 0) (config : Config) → May config → Does s st May (install_at space st config)
+installs-does space s st shaped May config may =
+    cond_both (ltb st.config.epoch.0 config.epoch.0) (adopted space (with_config st config)) (unmoved st) (Does s st May)
+    (
+    λ t. record {
+      shaped = done-shaped space s st shaped config;
+      change = inr (
+        config,
+        may,
+        record {
+          higher = ltb-true st.config.epoch.0 config.epoch.0 t;
+          config_is = refl;
+          halted = λ e. e;
+          installed = λ g l i. done-installed space s st shaped config g (mid-installed space s st shaped config g l i);
+        },
+      );
+      posts = λ p i. (let r = in-flat_map (adopted_posts space (with_config st config)) (with_config st config).replicas p i in
+          adopted-mine space s (with_config st config) (mid-shaped space s st shaped config) May (adopted space (with_config st config)).state refl (done-installed space s st shaped config) r.0 r.1 p r.2);
+      notes = λ epoch. refl;
+    }
+    )
+    (λ t. rests space s st shaped May)
+
+-- each message to a server
+message-does : (space : Space) (s : ServerId) (st : ServerState) → Shaped s st → ((g : RegionId) → st.sealed ≡ false → leads space st.config st.id g ≡ true → Installed st g)
+    → (May : Config → Type 0) (from : Actor) (m : Message) → ((config : Config) → m ≡ a_message.Install config → May config) → Does s st May (message_step space st from m)
+message-does space s st shaped l May from (a_message.Call epoch number op) f = called-does space s st shaped May l from epoch number op
+message-does space s st shaped l May from (a_message.Reply number version answer) f = rests space s st shaped May
+message-does space s st shaped l May from (a_message.Update epoch g u) f = updated-does space s st shaped May epoch g u
+message-does space s st shaped l May from (a_message.Ack epoch g key version) f = acked-does space s st shaped May epoch g key version.0
+message-does space s st shaped l May from (a_message.Ask epoch number g terms) f = asked-does space s st shaped May from epoch number g terms
+message-does space s st shaped l May from (a_message.Found epoch number g rows) f = rests space s st shaped May
+message-does space s st shaped l May from (a_message.Seal epoch) f = sealed-does space s st shaped May epoch
+message-does space s st shaped l May from (a_message.Sealed epoch) f = rests space s st shaped May
+message-does space s st shaped l May from (a_message.Install config) f = installs-does space s st shaped May config (f config refl)
+message-does space s st shaped l May from a_message.Die f = halts space s st shaped May
+message-does space s st shaped l May from a_message.Gone f = rests space s st shaped May
+message-does space s st shaped l May from (a_message.StopServer number server) f = rests space s st shaped May
+message-does space s st shaped l May from (a_message.AddReplica number server g) f = rests space s st shaped May
+message-does space s st shaped l May from (a_message.Outcome number answer) f = rests space s st shaped May
+message-does space s st shaped l May from (a_message.Snap epoch g snapshot pending) f = snapped-does space s st shaped May epoch g snapshot pending
+message-does space s st shaped l May from (a_message.Ready epoch g) f = rests space s st shaped May
+message-does space s st shaped l May from (a_message.Poll epoch) f = rests space s st shaped May
+
+-- each step of a server
+pub server-does : (space : Space) (s : ServerId) (st : ServerState) → Shaped s st → ((g : RegionId) → st.sealed ≡ false → leads space st.config st.id g ≡ true → Installed st g)
+    → (May : Config → Type 0) (input : Input) → ((id : PostId) (from : Actor) (config : Config) → input ≡ Deliver id from (a_message.Install config) → May config) → Does s st May (server_step space st input)
+server-does space s st shaped l May input f = cond_both st.halted (unmoved st) (input_step space st input) (Does s st May) (λ t. rests space s st shaped May) (λ t. by input f)
+  where
+    by : (input : Input) → ((id : PostId) (from : Actor) (config : Config) → input ≡ Deliver id from (a_message.Install config) → May config) → Does s st May (input_step space st input)
+    by Tick f = ticks space s st shaped May
+    by Halt f = halts space s st shaped May
+    by (Deliver id from m) f = message-does space s st shaped l May from m (λ config e. f id from config (ap (Deliver id from) e))

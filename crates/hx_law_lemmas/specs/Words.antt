@@ -1,0 +1,35 @@
+-- Words that proofs share: all posts of a trace, a server's slot of a key, lines after notes, what a slot counts for in an epoch.
+use Rattle.std.specs.Prelude.{ℕ, true, false, List, [], ◌∷◌, ◌++◌, cond, eqb}
+use Rattle.hx_types.specs.declared.configs.Config.{Config}
+use Rattle.hx_types.specs.declared.messages.Post.{Post}
+use Rattle.hx_types.specs.declared.ids.RegionId.{RegionId}
+use Rattle.hx_types.specs.declared.ids.ServerId.{ServerId}
+use Rattle.hx_types.specs.declared.spaces.Space.{Space}
+use Rattle.hx_types.specs.declared.updates.Update.{Update}
+use Rattle.hx_types.specs.Words.{when_some}
+use Rattle.hx_model.specs.Slots.{Forget, KeyState, moved, new_state}
+use Rattle.hx_model.specs.ServerSteps.{Replica, ServerState, replica_of, state_in}
+use Rattle.hx_types.specs.declared.traces.Note.{Note}
+use Rattle.hx_model.specs.Histories.{line_notes}
+use Rattle.hx_types.specs.declared.traces.Entry.{Entry}
+
+-- what a slot is worth in an epoch
+abbrev pub view : Config → ServerState → KeyState → KeyState
+view c p t = cond (eqb p.config.epoch.0 c.epoch.0) t (moved Forget t)
+
+-- a server that hasn't halted and isn't sealed
+abbrev pub standing : Config → ServerId → List Replica → ServerState
+standing c i rs = record { id = i; config = c; sealed = false; halted = false; replicas = rs }
+
+-- the lines after notes
+abbrev pub noted : (List ℕ → List Update) → List Note → List ℕ → List Update
+noted L notes key = line_notes key (L key) notes
+
+-- a server's slot of a key in a region
+abbrev pub slot_in : Space → RegionId → List ℕ → ServerState → KeyState
+slot_in space g key s = when_some (replica_of g s.replicas) (new_state true key) (λ (r : Replica). state_in space r key)
+
+-- all posts of a trace
+abbrev pub posts_of : List Entry → List Post
+posts_of [] = []
+posts_of (x ∷ older) = x.outputs ++ posts_of older

@@ -1,0 +1,85 @@
+//! Numbers in decimal, and lists of them.
+
+ghost use Rattle.std.specs.Prelude.{◌≡◌, ◌++◌, ℕ, map, OnOk};
+ghost use Rattle.std.specs.Fmt.{decimal, signed_decimal};
+ghost use Rattle.std.specs.List.{flat_map};
+ghost use Rattle.hx_print.specs.Printing.{next_number_text, numbers_text};
+
+use crate::texts::put_bytes;
+use hx_types::{Memory, RegionId, ServerId};
+use itoa::Buffer;
+
+/// Appends a number in decimal. Its digits are made on the stack.
+pub fn put_number(out: &mut Vec<u8>, number: u64) -> Result<(), Memory>
+    ensures { OnOk result (out.new.items ≡ out.old.items ++ decimal number) }
+{
+    put_bytes(out, Buffer::new().format(number).as_bytes())
+}
+
+/// Appends a number in decimal, with `-` before it if it is negative.
+pub fn put_signed(out: &mut Vec<u8>, number: i64) -> Result<(), Memory>
+    ensures { OnOk result (out.new.items ≡ out.old.items ++ signed_decimal number) }
+{
+    put_bytes(out, Buffer::new().format(number).as_bytes())
+}
+
+/// What is printed as a number, as a server or a region.
+pub trait Numbered {
+    /// The number that is printed.
+    ghost number: { Self → ℕ };
+
+    /// The number that is printed.
+    fn number(&self) -> u64
+        ensures { result ≡ number self.now };
+}
+
+impl Numbered for u64 {
+    ghost number = { λ n. n };
+
+    fn number(&self) -> u64 {
+        *self
+    }
+}
+
+impl Numbered for ServerId {
+    ghost number = { λ s. s.0 };
+
+    fn number(&self) -> u64 {
+        u64::from(self.0)
+    }
+}
+
+impl Numbered for RegionId {
+    ghost number = { λ g. g.0 };
+
+    fn number(&self) -> u64 {
+        u64::from(self.0)
+    }
+}
+
+#[tactic(auto, unfolding(crate::specs::Printing::next_number_text))]
+fn put_next_numbers<T: Numbered>(out: &mut Vec<u8>, items: &[T]) -> Result<(), Memory>
+    ensures { OnOk result
+        (out.new.items ≡ out.old.items ++ flat_map next_number_text (map T.number items.now)) }
+{
+    for item in items {
+        put_bytes(out, b",")?;
+        put_number(out, item.number())?;
+    }
+    Ok(())
+}
+
+/// Appends the numbers of a list with commas between them, or `-` where there is none.
+#[tactic(auto, unfolding(crate::specs::Printing::numbers_text))]
+pub fn put_numbers<T: Numbered>(out: &mut Vec<u8>, items: &[T]) -> Result<(), Memory>
+    ensures { OnOk result
+        (out.new.items ≡ out.old.items ++ numbers_text (map T.number items.now)) }
+{
+    match items.split_first() {
+        None => put_bytes(out, b"-"),
+        Some((first, rest)) => {
+            put_number(out, first.number())?;
+            put_next_numbers(out, rest)
+        }
+    }
+}

@@ -1,9 +1,0 @@
-use Rattle.std.proofs.Common.{◌≡◌, take}
-use Rattle.std.specs.Borrow.{Bor}
-use Rattle.std.specs.List.{flat_map}
-use Rattle.hx_slot.specs.States.{SlotState}
-use Rattle.hx_store.specs.Reading.{matches_of}
-use Rattle.hx_store.proofs.searching.matching.Given as goal
-
-abbrev pub invariant-loop-slot : goal.invariant-loop-slot
-invariant-loop-slot l = l.rows ≡ flat_map (λ (b : Bor SlotState). matches_of l.terms b.now) (take l.slot-index l.slots)
