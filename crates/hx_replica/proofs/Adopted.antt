@@ -18,11 +18,8 @@ use Rattle.hx_types.specs.Subspaces.{is_key_region}
 use Rattle.hx_types.specs.Words.{provided, when_some}
 use Rattle.hx_model.specs.ServerSteps.{Replica as ReplicaState, ServerState, Spot as ModelSpot, adopted_posts, is_active, listed_regions, ready_post, replica_of, replica_or_new, resumed, resumed_posts, snap_to}
 use Rattle.hx_model.specs.Slots.{KeyState, with_state}
-use Rattle.hx_slot.specs.States.{SlotState}
-use Rattle.hx_store.specs.Stores.{KeysAscend, lent_states}
+use Rattle.hx_folds.specs.Folding.{KeysAscend}
 use Rattle.hx_store.proofs.Moves.{moved_all_parts}
-use Rattle.hx_store.proofs.Putting.{put_next}
-use Rattle.hx_store.proofs.Reading.{take_next}
 use Rattle.hx_replica.specs.declared.replicas.Replica.{Replica}
 use Rattle.hx_replica.specs.Adopting.{AreAdopted, IsAdopted, kept_posts, lean_adopted, lean_replica}
 use Rattle.hx_replica.specs.Replicas.{AreReplicas, IsReplicaIn, view_of, views_of}
@@ -30,6 +27,7 @@ use Rattle.hx_replica.specs.Ticking.{kept_here, standing}
 use Rattle.hx_replica.proofs.Changing.{below_views, replica_at, view_at}
 use Rattle.hx_replica.proofs.Hearing.{found_region}
 use Rattle.hx_replica.proofs.Planning.{found_nowhere, found_there}
+use Rattle.hx_replica.proofs.Walking.{put_next}
 use Rattle.hx_replica.proofs.Starting.{numbers_ascend, passing, passing_more, with_more, without_more}
 
 pub adopted_key : (spot : ModelSpot) (active : Bool) (s : KeyState) → (lean_adopted spot active s).base.key ≡ s.base.key
@@ -41,28 +39,18 @@ adopted_marks spot true s = (moved_all_parts (resumed spot s) s).1
 adopted_marks spot false s = refl
 
 -- a slot more of a new store
-pub adopted_next : (spot : ModelSpot) (active : Bool) (bs : List (Bor SlotState)) (i : ℕ) (b : Bor SlotState) (old new : List KeyState) (s : KeyState) → KeysAscend (lent_states bs) → i < length bs → b ≡ get_or bs i b
-    → s ≡ lean_adopted spot active b.now.state → old ≡ map (lean_adopted spot active) (lent_states (take i bs)) → new ≡ with_state s old → new ≡ map (lean_adopted spot active) (lent_states (take (i + 1) bs))
-adopted_next spot active bs i b old new s a l at is e n =
-    n ∙ ap (λ (x : KeyState). with_state x old) is ∙ ap (with_state (lean_adopted spot active b.now.state)) e
-    ∙ put_next (lean_adopted spot active) (adopted_key spot active) bs i b a l at
+pub adopted_next : (spot : ModelSpot) (active : Bool) (states : List KeyState) (i : ℕ) (t : KeyState) (old new : List KeyState) (s : KeyState) → KeysAscend states → slice_get states i ≡ Some t
+    → s ≡ lean_adopted spot active t → old ≡ map (lean_adopted spot active) (take i states) → new ≡ with_state s old → new ≡ map (lean_adopted spot active) (take (i + 1) states)
+adopted_next spot active states i t old new s a at is e n =
+    n ∙ ap (λ (x : KeyState). with_state x old) is ∙ ap (with_state (lean_adopted spot active t)) e
+    ∙ put_next (lean_adopted spot active) (adopted_key spot active) states i t a at
 
 -- what is posted of all slots
-pub provided_all : (active : Bool) (f : KeyState → List Post) (bs : List (Bor SlotState)) → flat_map (λ (b : Bor SlotState). provided active (f b.now.state)) bs ≡ provided active (flat_map f (lent_states bs))
+pub provided_all : (active : Bool) (f : KeyState → List Post) (states : List KeyState) → flat_map (λ (s : KeyState). provided active (f s)) states ≡ provided active (flat_map f states)
 provided_all true f [] = refl
-provided_all true f (b ∷ bs) = ap (λ (ps : List Post). f b.now.state ++ ps) (provided_all true f bs)
+provided_all true f (s ∷ rest) = ap (λ (ps : List Post). f s ++ ps) (provided_all true f rest)
 provided_all false f [] = refl
-provided_all false f (b ∷ bs) = provided_all false f bs
-
-take_one : {A : Type 0} (xs : List A) (i : ℕ) (x : A) → i < length xs → x ≡ get_or xs i x → take (i + 1) xs ≡ take i xs ++ x ∷ []
-take_one xs i x l e = take_next xs i x (slice_get-get_or xs i x l ∙ ap (λ y. Some y) (sym e))
-
--- what is posted of one slot more
-pub flat_next : (f : Bor SlotState → List Post) (bs : List (Bor SlotState)) (i : ℕ) (b : Bor SlotState) (old new posts : List Post) → i < length bs → b ≡ get_or bs i b → old ≡ posts ++ flat_map f (take i bs) → new ≡ old ++ f b
-    → new ≡ posts ++ flat_map f (take (i + 1) bs)
-flat_next f bs i b old new posts l e o n =
-    n ∙ ap (λ (ps : List Post). ps ++ f b) o ∙ append_assoc posts (flat_map f (take i bs)) (f b)
-    ∙ ap (λ (ps : List Post). posts ++ ps) (ap (λ (ps : List Post). flat_map f (take i bs) ++ ps) (sym (append-nil (f b))) ∙ sym (flat_map-append f (take i bs) (b ∷ [])) ∙ ap (flat_map f) (sym (take_one bs i b l e)))
+provided_all false f (s ∷ rest) = provided_all false f rest
 
 -- a snapshot is of the region and the slots alone
 snap_kept : (s : ServerState) (r : ReplicaState) (o : Option ServerId) → snap_to s (kept_here r.region r.states) o ≡ snap_to s r o

@@ -1,8 +1,9 @@
 -- What contracts see of a server in which one replica's store was put in place of another.
-use Rattle.std.proofs.Common.{◌≡◌, ℕ, ◌<◌, ◌≤◌, List, [], length, get_or, set, Option, None, Some, Result, Ok, Err, ap, sym, ◌∙◌, subst, OnOk, arith}
-use Rattle.std.specs.Prelude.{Bool, IfNone, IfSome, IsSomeAnd}
+use Rattle.std.proofs.Common.{◌≡◌, ℕ, Bool, true, false, cond, ◌||◌, ◌∷◌, ◌<◌, ◌≤◌, List, [], length, get_or, set, Option, None, Some, Result, Ok, Err, IfOk, refl, ap, sym, ◌∙◌, subst, arith}
+use Rattle.std.specs.Prelude.{IfNone, IfSome, IsSomeAnd, is_some}
 use Rattle.std.specs.List.{AllByRecursion, slice_get}
 use Rattle.std.specs.Option.{option_map}
+use Rattle.std.proofs.lemmas.Bool.{false≢true}
 use Rattle.std.proofs.lemmas.List.{get_or-map, length-map}
 use Rattle.std.proofs.lemmas.Option.{same_Some, slice_get-get_or, slice_get_within}
 use Rattle.hx_types.specs.declared.messages.Message.{Message}
@@ -11,9 +12,10 @@ use Rattle.hx_types.specs.declared.ids.RegionId.{RegionId}
 use Rattle.hx_types.specs.declared.spaces.Space.{Space}
 use Rattle.hx_types.specs.declared.traces.Input.{Input}
 use Rattle.hx_types.specs.Subspaces.{is_key_region}
-use Rattle.hx_model.specs.ServerSteps.{Replica as ReplicaState, ServerState, replica_of, server_step, state_in}
+use Rattle.hx_types.specs.Words.{same_text, when_some}
+use Rattle.hx_model.specs.ServerSteps.{Replica as ReplicaState, ServerState, replica_of, server_step, spot_of, state_in, with_slot}
 use Rattle.hx_model.specs.Slots.{KeyState, new_state, state_among}
-use Rattle.hx_store.specs.Stores.{HasRoom, Room, StoreState, after_step, room_in, state_at}
+use Rattle.hx_store.specs.Stores.{IsPlace, Room, has_slot, StoreState, after_step, key_at, spare_at, state_at}
 use Rattle.hx_folds.specs.Folding.{folded_server}
 use Rattle.hx_replica.specs.declared.made.SlotChange.{SlotChange}
 use Rattle.hx_replica.specs.declared.made.SlotMade.{SlotMade}
@@ -22,12 +24,12 @@ use Rattle.hx_replica.specs.declared.plans.Change.TheVariants as a_change
 use Rattle.hx_replica.specs.declared.replicas.Replica.{Replica}
 use Rattle.hx_replica.specs.declared.servers.Server.TheInside.{Inside}
 use Rattle.hx_replica.specs.Inside.{IsServer, value_of}
-use Rattle.hx_replica.specs.Made.{IsMade, IsSlotInput, key_in, stepped, slot_step_of}
-use Rattle.hx_replica.specs.Plans.{CanStep, IsChange, IsChangeOn}
+use Rattle.hx_replica.specs.Made.{ChangeFits, HasRoomFor, IsMade, IsSlotInput, key_in, stepped, slot_step_of}
+use Rattle.hx_replica.specs.Plans.{CanStep, HasRoomAt, IsChange, IsChangeOn, IsMadeAt}
 use Rattle.hx_replica.specs.Replicas.{IsReplicaIn, rooms_of, view_of, views_of}
 use Rattle.hx_replica.specs.Servers.{ServerValue}
 use Rattle.hx_replica.proofs.Asking.{AreMarked}
-use Rattle.hx_replica.proofs.Changing.{below_views, changed_views, put, put_there, replica_at, state_is, view_at}
+use Rattle.hx_replica.proofs.Changing.{below_views, changed_views, put, put_there, replica_at, view_at}
 use Rattle.hx_replica.proofs.Hearing.{found_region}
 use Rattle.hx_replica.proofs.Planning.{found_there}
 
@@ -50,62 +52,122 @@ within i v place seen l =
 abbrev pub with_views : Inside → List ReplicaState → ServerState
 with_views i views = record { id = i.id; config = i.config; sealed = i.sealed; halted = i.halted; replicas = views }
 
-pub on_ok : {T E P : Type 0} (r : Result T E) → P → OnOk r P
-on_ok (Ok x) p = p
-on_ok (Err e) p = tt
+pub at_some : {A : Type 0} (P : A → Type 0) (o : Option A) (x : A) → o ≡ Some x → P x → IsSomeAnd o P
+at_some P o x e p = subst (λ (z : Option _). IsSomeAnd z P) (sym e) p
 
--- a slot that was asked, in a store with the same slots
-pub asked : (i : Inside) (v : ServerValue) (place : ℕ) (key : List ℕ) (from : Actor) (m : Message) (y : Replica) (store : StoreState) → value_of i ≡ v → CanStep v.space v.state place key from m
-    → place < length i.replicas.items → y ≡ get_or i.replicas.items place y → state_at store key ≡ state_in i.space (view_of y) key → IsSlotInput i.space y.region (state_at store key) from m
-asked i v place key from m y store seen can l is same =
-    let at : slice_get v.state.replicas place ≡ Some (view_of y) =
-    ap (λ (x : ServerValue). slice_get x.state.replicas place) (sym seen)
-    ∙ slice_get-get_or (views_of i.replicas.items) place (view_of y) (let n = length-map i.replicas.items view_of in omega (arith, n))
-    ∙ ap (λ (z : ReplicaState). Some z) (get_or-map view_of i.replicas.items place y (view_of y) l ∙ ap view_of (sym is)) in
+-- the place of a key in a store, with room there
+pub record IsRoomFor (s : StoreState) (key : List ℕ) (n place : ℕ) : Type 0 where
+  pub is : IsPlace s place key
+  pub enough : n ≤ spare_at s place
+
+pub room_for : (s : StoreState) (key : List ℕ) (n place : ℕ) → IsPlace s place key → n ≤ spare_at s place → HasRoomFor key n place s.rooms
+room_for s key n place is enough =
+    let none : Room = record { key = []; spare = 0 } in
+    let r : Room = get_or s.rooms place none in
+    let e : slice_get s.rooms place ≡ Some r = slice_get-get_or s.rooms place none is.within in
+    at_some (λ (x : Room). (x.key ≡ key) × (n ≤ x.spare)) (slice_get s.rooms place) r e
+    (sym (ap (λ (o : Option Room). when_some o [] (λ (x : Room). x.key)) e) ∙ is.key_is, subst (λ (o : Option Room). n ≤ when_some o 0 (λ (x : Room). x.spare)) e enough)
+
+pub is_room_for : (s : StoreState) (key : List ℕ) (n place : ℕ) → HasRoomFor key n place s.rooms → IsRoomFor s key n place
+is_room_for s key n place h = by (slice_get s.rooms place) refl h
+  where
+    by : (o : Option Room) → slice_get s.rooms place ≡ o → IsSomeAnd o (λ (x : Room). (x.key ≡ key) × (n ≤ x.spare)) → IsRoomFor s key n place
+    by None e k = absurd k
+    by (Some r) e k = record {
+      is = record { within = slice_get_within s.rooms place r e; key_is = ap (λ (o : Option Room). when_some o [] (λ (x : Room). x.key)) e ∙ k.0 };
+      enough = subst (λ (o : Option Room). n ≤ when_some o 0 (λ (x : Room). x.spare)) (sym e) k.1;
+    }
+
+pub ok_both : {T E : Type 0} (r : Result T E) (P Q R : T → Type 0) → ((x : T) → P x → Q x → R x) → IfOk r P → IfOk r Q → IfOk r R
+ok_both (Ok x) P Q R f p q = f x p q
+ok_both (Err e) P Q R f p q = tt
+
+-- the replica at a number, as contracts see it
+view_there : (i : Inside) (v : ServerValue) (number : ℕ) (y : Replica) → value_of i ≡ v → number < length i.replicas.items → y ≡ get_or i.replicas.items number y → slice_get v.state.replicas number ≡ Some (view_of y)
+view_there i v number y seen l is =
+    ap (λ (x : ServerValue). slice_get x.state.replicas number) (sym seen)
+    ∙ slice_get-get_or (views_of i.replicas.items) number (view_of y) (let n = length-map i.replicas.items view_of in omega (arith, n))
+    ∙ ap (λ (z : ReplicaState). Some z) (get_or-map view_of i.replicas.items number y (view_of y) l ∙ ap view_of (sym is))
+
+-- a slot of it that was asked
+pub asked : (i : Inside) (v : ServerValue) (number : ℕ) (key : List ℕ) (from : Actor) (m : Message) (y : Replica) (state : KeyState) → value_of i ≡ v → CanStep v.space v.state number key from m
+    → number < length i.replicas.items → y ≡ get_or i.replicas.items number y → state ≡ state_in i.space (view_of y) key → IsSlotInput i.space y.region state from m
+asked i v number key from m y state seen can l is same =
     subst (λ (s : KeyState). IsSlotInput i.space y.region s from m) (sym same)
-    (subst (λ (x : Space). IsSlotInput x y.region (state_in x (view_of y) key) from m) (ap (λ (x : ServerValue). x.space) (sym seen)) (can.asked (view_of y) at))
+    (subst (λ (x : Space). IsSlotInput x y.region (state_in x (view_of y) key) from m) (ap (λ (x : ServerValue). x.space) (sym seen)) (can.asked (view_of y) (view_there i v number y seen l is)))
 
-module _ (i : Inside) (place : ℕ) (key : List ℕ) (y : Replica) (store : StoreState) (is : IsServer i) (l : place < length i.replicas.items) (at : y ≡ get_or i.replicas.items place y) where
-  abbrev rs : List Replica
-  rs = i.replicas.items
+-- the slot of the key at a place
+pub slot_state : (i : Inside) (y : Replica) (key : List ℕ) (place : ℕ) (state : KeyState) → IsReplicaIn i.space y → key_at y.store place ≡ key → state ≡ state_at y.store (key_at y.store place) → state ≡ state_in i.space (view_of y) key
+slot_state i y key place state holds k e = e ∙ ap (state_at y.store) k ∙ ap (λ (b : Bool). state_among b key y.store.states) holds.marks
 
-  abbrev stored : Replica
-  stored = put i.space rs place y store is.replicas_are l at
+-- its room
+pub placed_at : (i : Inside) (v : ServerValue) (number : ℕ) (key : List ℕ) (n place : ℕ) (y : Replica) → value_of i ≡ v → number < length i.replicas.items → y ≡ get_or i.replicas.items number y → HasRoomAt number key n v place
+    → IsRoomFor y.store key n place
+placed_at i v number key n place y seen l is room =
+    let f : Replica → List Room = λ r. r.store.rooms in
+    let at : slice_get v.rooms number ≡ Some y.store.rooms =
+    ap (λ (x : ServerValue). slice_get x.rooms number) (sym seen)
+    ∙ slice_get-get_or (rooms_of i.replicas.items) number y.store.rooms (let m = length-map i.replicas.items f in omega (arith, m))
+    ∙ ap (λ (z : List Room). Some z) (get_or-map f i.replicas.items number y y.store.rooms l ∙ ap f (sym is)) in
+    is_room_for y.store key n place (subst (λ (o : Option (List Room)). IsSomeAnd o (HasRoomFor key n place)) at room)
 
-  -- what its slot made
-  pub made_at : (from : Actor) (m : Message) (made : SlotMade) → store.marks ≡ y.store.marks → key ≡ key_in m
-      → IsMade y.region (state_at store key) (key_in m) (slot_step_of (record { space = i.space; config = i.config; server = i.id; region = y.region }) (state_at store key) from m) made
-      → (r : ReplicaState) → slice_get (views_of (set rs place stored)) place ≡ Some r
-      → IsMade r.region (state_in i.space r (key_in m)) (key_in m) (slot_step_of (record { space = i.space; config = i.config; server = i.id; region = r.region }) (state_in i.space r (key_in m)) from m) made
-  made_at from m made marks k h r e =
-      let same : view_of stored ≡ r = same_Some (view_of stored) r (sym (put_there i.space rs place y store is.replicas_are l at view_of) ∙ e) in
-      let state : state_at store key ≡ state_in i.space (view_of stored) (key_in m) = state_is i.space rs place y store is.replicas_are l at key marks ∙ ap (state_in i.space (view_of stored)) k in
-      let So : ReplicaState → KeyState → Type 0 = λ z s. IsMade z.region s (key_in m) (slot_step_of (record { space = i.space; config = i.config; server = i.id; region = z.region }) s from m) made in
-      subst (λ (z : ReplicaState). So z (state_in i.space z (key_in m))) same (subst (So (view_of stored)) state h)
+-- what its slot made
+pub made_at : (i : Inside) (v : ServerValue) (number : ℕ) (key : List ℕ) (from : Actor) (m : Message) (y : Replica) (state : KeyState) (made : SlotMade) → value_of i ≡ v → number < length i.replicas.items → y ≡ get_or i.replicas.items number y
+    → state ≡ state_in i.space (view_of y) key → key ≡ key_in m
+    → IsMade y.region state (key_in m) (slot_step_of (record { space = i.space; config = i.config; server = i.id; region = y.region }) state from m) made
+    → IsMadeAt v number from m made
+made_at i v number key from m y state made seen l at is k h r e =
+    let So : ServerValue → ReplicaState → KeyState → Type 0 = λ x z s. IsMade z.region s (key_in m) (slot_step_of (spot_of x.space x.state z.region) s from m) made in
+    let same : view_of y ≡ r = same_Some (view_of y) r (sym (view_there i v number y seen l at) ∙ e) in
+    subst (λ (x : ServerValue). So x r (state_in x.space r (key_in m))) seen
+    (subst (λ (z : ReplicaState). So (value_of i) z (state_in i.space z (key_in m))) same
+    (subst (So (value_of i) (view_of y)) (is ∙ ap (state_in i.space (view_of y)) k) h))
 
-  -- its room
-  pub room_at : (n : ℕ) → HasRoom key n store → IsSomeAnd (slice_get (rooms_of (set rs place stored)) place) (λ (rooms : List Room). IsSomeAnd (room_in key rooms) (λ spare. n ≤ spare))
-  room_at n room =
-      subst (λ (o : Option (List Room)). IsSomeAnd o (λ (rooms : List Room). IsSomeAnd (room_in key rooms) (λ spare. n ≤ spare)))
-      (sym (put_there i.space rs place y store is.replicas_are l at (λ (r : Replica). r.store.rooms))) room
+-- room that was made
+pub room_there : (i : Inside) (number : ℕ) (key : List ℕ) (n place : ℕ) (y : Replica) (store : StoreState) (is : IsServer i) (l : number < length i.replicas.items) (at : y ≡ get_or i.replicas.items number y) → IsPlace store place key → n ≤ spare_at store place
+    → IsSomeAnd (slice_get (rooms_of (set i.replicas.items number (put i.space i.replicas.items number y store is.replicas_are l at))) number) (HasRoomFor key n place)
+room_there i number key n place y store is l at here enough =
+    at_some (HasRoomFor key n place) _ store.rooms (put_there i.space i.replicas.items number y store is.replicas_are l at (λ (r : Replica). r.store.rooms)) (room_for store key n place here enough)
 
 -- the change of a plan that changes a slot
-pub planned : (v : ServerValue) (input : Input) (change : Change) (place : ℕ) (key : List ℕ) (slot : SlotChange) → change ≡ a_change.Slot place key slot → IsChange v input change → IsChangeOn v input place key slot
-planned v input change place key slot e h = subst (IsChange v input) e h
+pub planned : (v : ServerValue) (input : Input) (change : Change) (number place : ℕ) (slot : SlotChange) → change ≡ a_change.Slot number place slot → IsChange v input change → IsChangeOn v input number place slot
+planned v input change number place slot e h = subst (IsChange v input) e h
 
 -- the state after it
-pub changed_state : (i : Inside) (v : ServerValue) (input : Input) (place : ℕ) (key : List ℕ) (slot : SlotChange) (y : Replica) (store : StoreState) → value_of i ≡ v → (is : IsServer i) → IsChangeOn v input place key slot
-    → (l : place < length i.replicas.items) (at : y ≡ get_or i.replicas.items place y)
-    → store.states ≡ after_step y.store key (stepped slot)
-    → with_views i (views_of (set i.replicas.items place (put i.space i.replicas.items place y store is.replicas_are l at))) ≡ folded_server (server_step v.space v.state input).state
-changed_state i v input place key slot y store seen is h l at states =
-    let on : IsChangeOn (value_of i) input place key slot = subst (λ (x : ServerValue). IsChangeOn x input place key slot) (sym seen) h in
-    ap (with_views i) (changed_views i.space i.replicas.items place y store is.replicas_are l at key slot on.replica on.found states)
-    ∙ sym on.state ∙ ap (λ (x : ServerValue). folded_server (server_step x.space x.state input).state) seen
+pub changed_state : (i : Inside) (v : ServerValue) (input : Input) (number place : ℕ) (slot : SlotChange) (y : Replica) (store : StoreState) → value_of i ≡ v → (is : IsServer i) → (h : IsChangeOn v input number place slot)
+    → (l : number < length i.replicas.items) (at : y ≡ get_or i.replicas.items number y)
+    → store.states ≡ after_step y.store h.key (stepped slot)
+    → with_views i (views_of (set i.replicas.items number (put i.space i.replicas.items number y store is.replicas_are l at))) ≡ folded_server (server_step v.space v.state input).state
+changed_state i v input number place slot y store seen is h l at states =
+    ap (with_views i) (changed_views i.space i.replicas.items number y store is.replicas_are l at h.key slot h.replica (ap (λ (x : ServerValue). slice_get x.state.replicas number) seen ∙ h.found) states)
+    ∙ ap (λ (x : ServerValue). with_slot x.state h.replica (stepped slot h.replica.region (state_in x.space h.replica h.key))) seen
+    ∙ sym h.state
 
--- the place is one of a replica
-pub change_within : (i : Inside) (v : ServerValue) (input : Input) (place : ℕ) (key : List ℕ) (slot : SlotChange) → value_of i ≡ v → IsChangeOn v input place key slot → place < length i.replicas.items
-change_within i v input place key slot seen h = within i v place seen (slice_get_within v.state.replicas place h.replica h.found)
+-- the number is that of a replica
+pub change_within : (i : Inside) (v : ServerValue) (input : Input) (number place : ℕ) (slot : SlotChange) → value_of i ≡ v → IsChangeOn v input number place slot → number < length i.replicas.items
+change_within i v input number place slot seen h = within i v number seen (slice_get_within v.state.replicas number h.replica h.found)
+
+-- its store has room for the change, and the slot can make it
+pub record CanChange (y : Replica) (key : List ℕ) (place : ℕ) (slot : SlotChange) : Type 0 where
+  pub key_is : key_at y.store place ≡ key
+  pub room : HasRoomFor (key_at y.store place) 1 place y.store.rooms
+  pub fits : ChangeFits y.store.region (state_at y.store (key_at y.store place)) (key_at y.store place) slot
+
+pub can_change : (i : Inside) (v : ServerValue) (input : Input) (number place : ℕ) (slot : SlotChange) (y : Replica) → value_of i ≡ v → (is : IsServer i) → (h : IsChangeOn v input number place slot) → y ≡ get_or i.replicas.items number y → CanChange y h.key place slot
+can_change i v input number place slot y seen is h at =
+    let l = change_within i v input number place slot seen h in
+    let room = placed_at i v number h.key 1 place y seen l at h.room in
+    let holds : IsReplicaIn i.space y = subst (IsReplicaIn i.space) (sym at) (replica_at i.space i.replicas.items number y is.replicas_are.each l) in
+    let same : view_of y ≡ h.replica = same_Some (view_of y) h.replica (sym (view_there i v number y seen l at) ∙ h.found) in
+    let Fits : ServerValue → ReplicaState → Type 0 = λ x z. ChangeFits z.region (state_in x.space z h.key) h.key slot in
+    let fits : Fits (value_of i) (view_of y) = subst (λ (z : ReplicaState). Fits (value_of i) z) (sym same) (subst (λ (x : ServerValue). Fits x h.replica) (sym seen) h.fits) in
+    record {
+      key_is = room.is.key_is;
+      room = subst (λ (k : List ℕ). HasRoomFor k 1 place y.store.rooms) (sym room.is.key_is) (room_for y.store h.key 1 place room.is room.enough);
+      fits = subst (λ (k : List ℕ). ChangeFits y.store.region (state_at y.store k) k slot) (sym room.is.key_is)
+          (subst (λ (b : Bool). ChangeFits y.store.region (state_among b h.key y.store.states) h.key slot) (sym holds.marks)
+          (subst (λ (g : RegionId). ChangeFits g (state_in i.space (view_of y) h.key) h.key slot) (sym holds.region) fits));
+    }
 
 -- the replica that was found of a region, and its store
 pub record IsHere (i : Inside) (v : ServerValue) (g : RegionId) (y : Replica) : Type 0 where
@@ -132,12 +194,18 @@ is_here i v g place y seen is at found =
       empty = λ key. ap (λ (b : Bool). new_state b key) (marks ∙ ap (is_key_region v.space) region);
     }
 
-pub at_some : {A : Type 0} (P : A → Type 0) (o : Option A) (x : A) → o ≡ Some x → P x → IsSomeAnd o P
-at_some P o x e p = subst (λ (z : Option _). IsSomeAnd z P) (sym e) p
+pub if_none_then : {A Q : Type 0} (o : Option A) (b : Bool) → is_some o ≡ b → (b ≡ false → Q) → IfNone o Q
+if_none_then None b e f = f (sym e)
+if_none_then (Some x) b e f = tt
 
-pub if_none_then : {A P Q : Type 0} (o : Option A) → (P → Q) → IfNone o P → IfNone o Q
-if_none_then None f p = f p
-if_none_then (Some x) f p = tt
+-- a key of which there is no slot has an empty one
+pub no_slot : (marks : Bool) (key : List ℕ) (states : List KeyState) → has_slot key states ≡ false → state_among marks key states ≡ new_state marks key
+no_slot marks key [] e = refl
+no_slot marks key (s ∷ rest) e = by (same_text s.base.key key) (no_slot marks key rest) e
+  where
+    by : (t : Bool) → (has_slot key rest ≡ false → state_among marks key rest ≡ new_state marks key) → (t || has_slot key rest) ≡ false → cond t s (state_among marks key rest) ≡ new_state marks key
+    by true more e = absurd (false≢true (sym e))
+    by false more e = more e
 
 pub if_there : {A : Type 0} (P : A → Type 0) (o : Option A) (x : A) → o ≡ Some x → P x → IfSome o P
 if_there P o x e p = subst (λ (z : Option _). IfSome z P) (sym e) p

@@ -1,5 +1,6 @@
 pub mod Placed
 pub mod Turns
+pub mod Walking
 pub mod Offers
 pub mod Granted
 pub mod Acked

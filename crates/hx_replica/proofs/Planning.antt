@@ -27,7 +27,7 @@ use Rattle.hx_replica.specs.declared.plans.Plan.{Plan}
 use Rattle.hx_replica.specs.declared.plans.Change.TheVariants as a_change
 use Rattle.hx_replica.specs.Hearing.{IsOfOneSlot, heard}
 use Rattle.hx_replica.specs.Made.{IsMade, key_in, moves_by, slot_step_of, stepped}
-use Rattle.hx_replica.specs.Plans.{HasRoomAt, IsMadeAt, IsPlanOn}
+use Rattle.hx_replica.specs.Plans.{CanStep, HasRoomAt, IsMadeAt, IsPlanOn}
 use Rattle.hx_replica.specs.Servers.{CanTake, ServerValue}
 use Rattle.hx_replica.proofs.Hearing.{message_heard, message_unheard}
 
@@ -52,8 +52,8 @@ running_step v id from m can = cond-false v.state.halted (unmoved v.state) _ can
 abbrev pub unmoved_plan : ServerId → Input → Plan
 unmoved_plan server input = record { entry = record { actor = Server server; input = input; outputs = []; notes = [] }; change = a_change.Nothing }
 
-abbrev pub moved_plan : ServerId → Input → ℕ → List ℕ → SlotMade → Plan
-moved_plan server input place key made = record { entry = record { actor = Server server; input = input; outputs = made.posts; notes = made.notes }; change = a_change.Slot place key made.change }
+abbrev pub moved_plan : ServerId → Input → ℕ → ℕ → SlotMade → Plan
+moved_plan server input number place made = record { entry = record { actor = Server server; input = input; outputs = made.posts; notes = made.notes }; change = a_change.Slot number place made.change }
 
 abbrev entry_by : ServerValue → Input → ServerStep → Entry
 entry_by v input step = entry_of (Server v.state.id) input (record { posts = step.posts; notes = step.notes })
@@ -71,27 +71,28 @@ unmoved_planned v id from m plan can one none e =
     let step : server_step v.space v.state (Deliver id from m) ≡ unmoved v.state = running_step v id from m can ∙ message_unheard v.space v.state from m one none in
     subst (IsPlanOn v) (sym e) (record { entry = ap (entry_by v (Deliver id from m)) (sym step); change = ap (λ (s : ServerStep). folded_server s.state) step ∙ can.bare })
 
--- the replica at the place hears it, and its slot makes this
-moved_planned : (v : ServerValue) (id : PostId) (from : Actor) (m : Message) (place : ℕ) (key : List ℕ) (made : SlotMade) (plan : Plan) → CanTake v.space v.state (Deliver id from m)
-    → IsFound v.state.replicas place (heard v.space v.state m) → IsMadeAt v place from m made → HasRoomAt place key 1 v → key ≡ key_in m
-    → plan ≡ moved_plan v.state.id (Deliver id from m) place key made → IsPlanOn v plan
-moved_planned v id from m place key made plan can at is room k e =
+-- the replica with this number hears it, and its slot makes this
+moved_planned : (v : ServerValue) (id : PostId) (from : Actor) (m : Message) (number place : ℕ) (key : List ℕ) (made : SlotMade) (plan : Plan) → CanTake v.space v.state (Deliver id from m)
+    → IsFound v.state.replicas number (heard v.space v.state m) → IsMadeAt v number from m made → HasRoomAt number key 1 v place → key ≡ key_in m
+    → plan ≡ moved_plan v.state.id (Deliver id from m) number place made → IsPlanOn v plan
+moved_planned v id from m number place key made plan can at is room k e =
     let r : Replica = at.replica in
     let s : KeyState = state_in v.space r (key_in m) in
     let slot = slot_step_of (spot_of v.space v.state r.region) s from m in
     let so : IsMade r.region s (key_in m) slot made = is r at.at_place in
     let step : server_step v.space v.state (Deliver id from m) ≡ at_slot v.state r s slot = running_step v id from m can ∙ message_heard v.space v.state from (Server v.state.id) m r can.input_to.1.sound.between at.is in
-    subst (IsPlanOn v) (sym (e ∙ ap (λ (x : List ℕ). moved_plan v.state.id (Deliver id from m) place x made) k))
+    subst (IsPlanOn v) (sym e)
     (record {
       entry = ap (λ (posts : List Post). record { actor = Server v.state.id; input = Deliver id from m; outputs = posts; notes = made.notes }) so.posts
           ∙ ap (λ (notes : List Note). record { actor = Server v.state.id; input = Deliver id from m; outputs = slot.posts; notes = notes }) so.notes
           ∙ ap (entry_by v (Deliver id from m)) (sym step);
       change = record {
+        key = key_in m;
         replica = r;
         found = at.at_place;
-        room = subst (λ (x : List ℕ). HasRoomAt place x 1 v) k room;
+        room = subst (λ (x : List ℕ). HasRoomAt number x 1 v place) k room;
         fits = so.fits;
-        state = ap (λ (t : ServerStep). folded_server t.state) step ∙ ap (λ (moves : List Move). folded_server (with_slot v.state r (moved_all moves s))) (sym so.moves) ∙ (let here = found-lean v.state place r can.bare at.at_place in with-slot-lean v.state r (moved_all (moves_by r.region s made.change) s) (stepped made.change r.region s) can.bare here (stepped_lean made.change r.region s (state-lean v.space r (key_in m) here)));
+        state = ap (λ (t : ServerStep). folded_server t.state) step ∙ ap (λ (moves : List Move). folded_server (with_slot v.state r (moved_all moves s))) (sym so.moves) ∙ (let here = found-lean v.state number r can.bare at.at_place in with-slot-lean v.state r (moved_all (moves_by r.region s made.change) s) (stepped made.change r.region s) can.bare here (stepped_lean made.change r.region s (state-lean v.space r (key_in m) here)));
       };
     })
 
@@ -114,9 +115,14 @@ module _ (old new : ServerValue) (server : ServerId) (input : Input) (id : PostI
       unmoved_planned new id from m plan still one (sym heard_still ∙ found_nowhere (heard old.space old.state m) none)
       (e ∙ ap (unmoved_plan server) is ∙ ap (λ (s : ServerId). unmoved_plan s (Deliver id from m)) me_still)
 
-  pub move_prepared : (place : ℕ) (key : List ℕ) (made : SlotMade) (plan : Plan) → Some (slice_get old.state.replicas place) ≡ option_map (λ (r : Replica). Some r) (heard old.space old.state m) → key ≡ key_in m
-      → IsMadeAt new place from m made → HasRoomAt place key 1 new → plan ≡ moved_plan server input place key made → IsPlanOn new plan
-  move_prepared place key made plan at k so room e =
-      moved_planned new id from m place key made plan still
-      (found_there new.state.replicas place (heard new.space new.state m) (ap (λ (x : ServerState). Some (slice_get x.replicas place)) state ∙ at ∙ ap (option_map (λ (r : Replica). Some r)) heard_still)) so room k
-      (e ∙ ap (λ (i : Input). moved_plan server i place key made) is ∙ ap (λ (s : ServerId). moved_plan s (Deliver id from m) place key made) me_still)
+  pub move_prepared : (number place : ℕ) (key : List ℕ) (made : SlotMade) (plan : Plan) → Some (slice_get old.state.replicas number) ≡ option_map (λ (r : Replica). Some r) (heard old.space old.state m) → key ≡ key_in m
+      → IsMadeAt new number from m made → HasRoomAt number key 1 new place → plan ≡ moved_plan server input number place made → IsPlanOn new plan
+  move_prepared number place key made plan at k so room e =
+      moved_planned new id from m number place key made plan still
+      (found_there new.state.replicas number (heard new.space new.state m) (ap (λ (x : ServerState). Some (slice_get x.replicas number)) state ∙ at ∙ ap (option_map (λ (r : Replica). Some r)) heard_still)) so room k
+      (e ∙ ap (λ (i : Input). moved_plan server i number place made) is ∙ ap (λ (s : ServerId). moved_plan s (Deliver id from m) number place made) me_still)
+
+  -- what can be asked before can be asked now
+  pub can_step_still : (number : ℕ) (key : List ℕ) → CanStep old.space old.state number key from m → CanStep new.space new.state number key from m
+  can_step_still number key h =
+      subst (λ (x : ServerState). CanStep new.space x number key from m) (sym state) (subst (λ (x : Space). CanStep x old.state number key from m) (sym space) h)

@@ -1,4 +1,4 @@
--- What a tick posts: of lent updates and slots what is posted of the updates and states.
+-- What a tick posts: of lent updates what is posted of the updates.
 use Rattle.std.proofs.Common.{◌≡◌, false, List, [], ◌∷◌, ◌++◌, Option, None, Some, refl, ap, sym, ◌∙◌}
 use Rattle.std.specs.Borrow.{Bor}
 use Rattle.std.specs.List.{flat_map}
@@ -12,7 +12,6 @@ use Rattle.hx_types.specs.Words.{provided}
 use Rattle.hx_model.specs.ServerSteps.{Replica as ReplicaState, ServerState, is_active, pending_posts, ready_post, replica_tick, snap_to, spot_of, tick_step}
 use Rattle.hx_model.specs.Slots.{KeyState}
 use Rattle.hx_slot.specs.States.{SlotState}
-use Rattle.hx_store.specs.Stores.{lent_states}
 use Rattle.hx_replica.specs.declared.replicas.Replica.{Replica}
 use Rattle.hx_replica.specs.Made.{seen}
 use Rattle.hx_replica.specs.Replicas.{view_of, views_of}
@@ -21,10 +20,6 @@ use Rattle.hx_replica.specs.Ticking.{standing}
 pub of_updates : (f : Update → List Post) (bs : List (Bor Update)) → flat_map (λ (b : Bor Update). f b.now) bs ≡ flat_map f (seen bs)
 of_updates f [] = refl
 of_updates f (b ∷ rest) = ap (λ (l : List Post). f b.now ++ l) (of_updates f rest)
-
-pub of_slots : (f : KeyState → List Post) (bs : List (Bor SlotState)) → flat_map (λ (b : Bor SlotState). f b.now.state) bs ≡ flat_map f (lent_states bs)
-of_slots f [] = refl
-of_slots f (b ∷ rest) = ap (λ (l : List Post). f b.now.state ++ l) (of_slots f rest)
 
 pub snap_same : (s : ServerState) (r : ReplicaState) (o : Option ServerId) → snap_to (standing s.config s.id) r o ≡ snap_to s r o
 snap_same s r None = refl

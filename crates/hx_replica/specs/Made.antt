@@ -1,5 +1,5 @@
 -- What a step makes of one slot: its posts and notes, and the change by which the slot makes the step's moves.
-use Rattle.std.specs.Prelude.{◌≡◌, ℕ, ◌<◌, ◌≤◌, ◌==◌, ◌||◌, Bool, true, ⊤, ◌^◌, IsSome, List, [], ◌∷◌, length, take}
+use Rattle.std.specs.Prelude.{◌≡◌, ℕ, ◌<◌, ◌≤◌, ◌==◌, ◌||◌, Bool, true, ⊤, ◌^◌, IsSome, IsSomeAnd, List, [], ◌∷◌, length, slice_get, take}
 use Rattle.std.specs.Borrow.{Bor}
 use Rattle.std.specs.List.{All, flat_map, list_any, prefix_len}
 use Rattle.hx_types.specs.declared.messages.Message.{Message}
@@ -20,7 +20,7 @@ use Rattle.hx_model.specs.ServerSteps.{SlotStep, Spot as ModelSpot, accepting, a
 use Rattle.hx_model.specs.Neighbours.{is_end}
 use Rattle.hx_model.specs.Slots.{KeyState, Move, acknowledged, moved_all, offered, taken, top_of}
 use Rattle.hx_slot.specs.States.{IsPlacedIn}
-use Rattle.hx_store.specs.Stores.{ArePending, CanBeOffered, accepted, accepted_at, acknowledged_at, acknowledging}
+use Rattle.hx_store.specs.Stores.{ArePending, CanBeOffered, Room, accepted, accepted_at, acknowledged_at, acknowledging}
 use Rattle.hx_replica.specs.declared.made.SlotChange.{SlotChange}
 use Rattle.hx_replica.specs.declared.made.SlotChange.TheVariants.{Open, Accept, Acknowledge}
 use Rattle.hx_replica.specs.declared.made.SlotMade.{SlotMade}
@@ -54,6 +54,10 @@ abbrev pub stepped : SlotChange → RegionId → KeyState → KeyState
 stepped Open g s = s
 stepped (Accept u place ends) g s = accepted_at u ends.items g s
 stepped (Acknowledge v) g s = acknowledged_at v.0 g s
+
+-- the place in a store is the key's, with room for n more updates at its slot
+abbrev pub HasRoomFor : List ℕ → ℕ → ℕ → List Room → Type 0
+HasRoomFor key n place rooms = IsSomeAnd (slice_get rooms place) (λ (r : Room). (r.key ≡ key) × (n ≤ r.spare))
 
 -- the slot of the key can make the change
 abbrev pub ChangeFits : RegionId → KeyState → List ℕ → SlotChange → Type 0

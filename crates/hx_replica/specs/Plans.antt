@@ -9,20 +9,20 @@ use Rattle.hx_types.specs.declared.traces.Input.{Input}
 use Rattle.hx_types.specs.declared.traces.Input.TheVariants.{Deliver}
 use Rattle.hx_model.specs.ServerSteps.{Replica as ReplicaState, ServerState, server_step, spot_of, state_in, with_slot}
 use Rattle.hx_folds.specs.Folding.{folded_server}
-use Rattle.hx_store.specs.Stores.{Room, room_in}
+use Rattle.hx_store.specs.Stores.{Room}
 use Rattle.hx_replica.specs.declared.made.SlotChange.{SlotChange}
 use Rattle.hx_replica.specs.declared.made.SlotMade.{SlotMade}
 use Rattle.hx_replica.specs.declared.plans.Change.{Change}
 use Rattle.hx_replica.specs.declared.plans.Change.TheVariants.{Nothing, Seal, Halt, Adopt, Slot}
 use Rattle.hx_replica.specs.declared.plans.Plan.{Plan}
-use Rattle.hx_replica.specs.Made.{ChangeFits, IsMade, IsSlotInput, key_in, slot_step_of, stepped}
+use Rattle.hx_replica.specs.Made.{ChangeFits, HasRoomFor, IsMade, IsSlotInput, key_in, slot_step_of, stepped}
 use Rattle.hx_replica.specs.declared.replicas.Replica.{Replica}
 use Rattle.hx_replica.specs.Replicas.{AreReplicas, views_of}
 use Rattle.hx_replica.specs.Servers.{ServerValue, server_entry}
 
--- the replica at the place has room for n more updates of the key
-abbrev pub HasRoomAt : ℕ → List ℕ → ℕ → ServerValue → Type 0
-HasRoomAt place key n s = IsSomeAnd (slice_get s.rooms place) (λ (rooms : List Room). IsSomeAnd (room_in key rooms) (λ spare. n ≤ spare))
+-- the replica with a number among the server's has at a place room for n more updates of the key
+abbrev pub HasRoomAt : ℕ → List ℕ → ℕ → ServerValue → ℕ → Type 0
+HasRoomAt number key n s place = IsSomeAnd (slice_get s.rooms number) (HasRoomFor key n place)
 
 -- the input brings the message
 pub record IsDelivery (input : Input) (from : Actor) (m : Message) : Type 0 where
@@ -41,11 +41,12 @@ IsMadeAt s place from m made =
     (r : ReplicaState) → slice_get s.state.replicas place ≡ Some r
     → IsMade r.region (state_in s.space r (key_in m)) (key_in m) (slot_step_of (spot_of s.space s.state r.region) (state_in s.space r (key_in m)) from m) made
 
--- the slot of the key at the replica of the place can make the change, and that is the server's step without its past
-pub record IsChangeOn (s : ServerValue) (input : Input) (place : ℕ) (key : List ℕ) (change : SlotChange) : Type 0 where
+-- the slot at the place of the replica with this number can make the change, and that is the server's step without its past
+pub record IsChangeOn (s : ServerValue) (input : Input) (number place : ℕ) (change : SlotChange) : Type 0 where
+  pub key : List ℕ
   pub replica : ReplicaState
-  pub found : slice_get s.state.replicas place ≡ Some replica
-  pub room : HasRoomAt place key 1 s
+  pub found : slice_get s.state.replicas number ≡ Some replica
+  pub room : HasRoomAt number key 1 s place
   pub fits : ChangeFits replica.region (state_in s.space replica key) key change
   pub state : folded_server (server_step s.space s.state input).state ≡ with_slot s.state replica (stepped change replica.region (state_in s.space replica key))
 
@@ -59,7 +60,7 @@ IsChange s input Nothing = folded_server (server_step s.space s.state input).sta
 IsChange s input Seal = folded_server (server_step s.space s.state input).state ≡ record s.state { sealed = true }
 IsChange s input Halt = folded_server (server_step s.space s.state input).state ≡ record s.state { halted = true }
 IsChange s input (Adopt config replicas) = IsAdoptionOn s input config replicas.items
-IsChange s input (Slot place key change) = IsChangeOn s input place key change
+IsChange s input (Slot number place change) = IsChangeOn s input number place change
 
 -- the plan is that of the server's step, and there is room for its change
 pub record IsPlanOn (s : ServerValue) (plan : Plan) : Type 0 where

@@ -10,7 +10,7 @@ ghost use Rattle.hx_replica.specs.Made.{IsAccepted, IsComing, IsHere, IsNew, end
 use crate::settling::{line_of, tell_settled};
 use crate::spots::{Spot, pass_on, place_at};
 use hx_slot::Slot;
-use hx_types::{Memory, Posts, Update, Version};
+use hx_types::{Memory, Posts, Shared, Update, Version};
 use std::alloc::Global;
 
 /// What is posted where a slot accepts an update, and the versions whose chain ends here.
@@ -26,7 +26,7 @@ pub fn accepted(
     alloc: Global,
     spot: &Spot,
     slot: &Slot,
-    update: &Update,
+    update: &Shared<Update>,
 ) -> Result<Acceptance, Memory>
     requires coming { IsComing spot.now.region slot.now.state update.now }
     requires region { slot.now.region ≡ spot.now.region }
@@ -53,8 +53,8 @@ fn taken_by<'a>(
     alloc: Global,
     spot: &Spot,
     slot: &'a Slot,
-    update: &'a Update,
-) -> Result<Vec<&'a Update>, Memory>
+    update: &'a Shared<Update>,
+) -> Result<Vec<&'a Shared<Update>>, Memory>
     requires coming { IsComing spot.now.region slot.now.state update.now }
     requires region { slot.now.region ≡ spot.now.region }
     ensures taken { IfOk result (λ us. seen us.items ≡ taken (offered spot.now.region slot.now.state update.now)) }
@@ -82,8 +82,8 @@ fn is_in_turn(spot: &Spot, slot: &Slot, update: &Update) -> bool
 fn taken_from<'a>(
     alloc: Global,
     slot: &'a Slot,
-    update: &'a Update,
-) -> Result<Vec<&'a Update>, Memory>
+    update: &'a Shared<Update>,
+) -> Result<Vec<&'a Shared<Update>>, Memory>
     requires { IsComing slot.now.region slot.now.state update.now }
     ensures taken { IfOk result (λ us. seen us.items ≡ update.now ∷ taken (turns slot.now.region (length slot.now.state.early) update.now.version.0 slot.now.state.early)) }
     ensures new { IfOk result (λ us. All (IsNew slot.now.region slot.now.state.floor) us.items) }
@@ -92,7 +92,7 @@ fn taken_from<'a>(
     taken.push(update)?;
     let mut top = update.version;
     for _turn in 0..slot.early_count() {
-        match slot.turn(top) {
+        match slot.next_early(top) {
             Some(next) => {
                 taken.push(next)?;
                 top = next.version;
@@ -107,7 +107,7 @@ fn taken_from<'a>(
 pub fn pass_on_all(
     alloc: Global,
     spot: &Spot,
-    updates: &[&Update],
+    updates: &[&Shared<Update>],
     posts: &mut Posts,
     ends: &mut Vec<Version>,
 ) -> Result<(), Memory>

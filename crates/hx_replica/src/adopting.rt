@@ -1,17 +1,14 @@
 ghost use Rattle.std.specs.Prelude.{◌≡◌, ◌++◌, [], false, true, IfOk, OnOk, length, map};
-ghost use Rattle.std.specs.Borrow.{Bor};
-ghost use Rattle.std.specs.List.{All, flat_map};
+ghost use Rattle.std.specs.List.{flat_map};
 ghost use Rattle.hx_types.specs.Subspaces.{is_key_region, region_count};
 ghost use Rattle.hx_types.specs.Words.{provided};
 ghost use Rattle.hx_model.specs.ServerSteps.{is_active, listed_regions, replica_or_new, resumed_posts};
-ghost use Rattle.hx_slot.specs.States.{SlotState};
-ghost use Rattle.hx_store.specs.Stores.{KeysAscend, lent_states};
+ghost use Rattle.hx_model.specs.Slots.{KeyState};
 ghost use Rattle.hx_replica.specs.Adopting.{AreAdopted, IsAdopted, kept_posts, lean_adopted};
 ghost use Rattle.hx_replica.specs.Made.{spot_seen};
 ghost use Rattle.hx_replica.specs.Replicas.{AreReplicas, IsReplicaIn, view_of, views_of};
 ghost use Rattle.hx_replica.specs.Ticking.{standing};
 
-use crate::members::lists;
 use crate::replicas::{Replica, place_of};
 use crate::resuming::resumed;
 use crate::spots::Spot;
@@ -41,7 +38,7 @@ pub fn adopt_all(
     let mut next = Vec::new(alloc);
     for number in 0..map.regions() {
         let region = RegionId(number);
-        if lists(config, region, server) {
+        if config.lists(region, server) {
             let spot = Spot {
                 space,
                 map,
@@ -166,32 +163,35 @@ fn adopt_store(
 {
     let marks = spot.region.0 < spot.space.key_parts;
     let mut next = Store::new(alloc, spot.region, marks);
-    let slots = store.slots(alloc)?;
-    adopt_slots(alloc, spot, slots.as_slice(), active, &mut next, posts)?;
+    adopt_slots(alloc, spot, store, active, &mut next, posts)?;
     Ok(next)
 }
 
 fn adopt_slots(
     alloc: Global,
     spot: &Spot,
-    slots: &[&Slot],
+    store: &Store,
     active: bool,
     next: &mut Store,
     posts: &mut Posts,
 ) -> Result<(), Memory>
-    requires regions { All (λ (b : Bor SlotState). b.now.region ≡ spot.now.region) slots.now }
-    requires kinds { All (λ (b : Bor SlotState). b.now.state.marks ≡ next.old.marks) slots.now }
-    requires ascend { KeysAscend (lent_states slots.now) }
+    requires store { store.now.region ≡ spot.now.region }
+    requires kinds { store.now.marks ≡ next.old.marks }
     requires region { next.old.region ≡ spot.now.region }
     requires empty { next.old.states ≡ [] }
     ensures region { next.new.region ≡ next.old.region }
     ensures marks { next.new.marks ≡ next.old.marks }
-    ensures states { OnOk result (next.new.states ≡ map (lean_adopted (spot_seen spot.now) active) (lent_states slots.now)) }
-    ensures posts { OnOk result (posts.new ≡ posts.old ++ flat_map (λ (b : Bor SlotState). provided active (resumed_posts (spot_seen spot.now) b.now.state)) slots.now) }
+    ensures states { OnOk result (next.new.states ≡ map (lean_adopted (spot_seen spot.now) active) store.now.states) }
+    ensures posts { OnOk result (posts.new ≡ posts.old ++ flat_map (λ (s : KeyState). provided active (resumed_posts (spot_seen spot.now) s)) store.now.states) }
 {
-    for slot in slots {
-        let adopted = adopt_slot(alloc, spot, slot, active, posts)?;
-        next.put(alloc, adopted)?;
+    for i in 0..store.len() {
+        match store.nth(i) {
+            Some(slot) => {
+                let adopted = adopt_slot(alloc, spot, slot, active, posts)?;
+                next.put(alloc, adopted)?;
+            }
+            None => unreachable!(),
+        }
     }
     Ok(())
 }

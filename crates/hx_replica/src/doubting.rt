@@ -10,7 +10,7 @@ use crate::settling::pending_line;
 use crate::spots::{Spot, doubt};
 use hx_leader::stuck;
 use hx_slot::Slot;
-use hx_types::{Memory, Posts, RegionId, Update, Version};
+use hx_types::{Memory, Posts, RegionId, Shared, Update, Version};
 use std::alloc::Global;
 
 /// Where the server leads the region and a lost region stands in the way of a pending update, the
@@ -44,7 +44,7 @@ fn doubt_from(
 
 fn doubt_all(
     spot: &Spot,
-    updates: &[&Update],
+    updates: &[&Shared<Update>],
     first: Version,
     region: RegionId,
     posts: &mut Posts,

@@ -1,7 +1,7 @@
 ghost use Rattle.std.specs.Prelude.{◌≡◌, [], ◌∷◌, IfOk};
 ghost use Rattle.hx_replica.specs.declared.made.SlotChange.TheVariants.{Open};
 
-use hx_types::{Memory, Notes, Post, Posts, Update, Version};
+use hx_types::{Memory, Notes, Post, Posts, Shared, Update, Version};
 use std::alloc::Global;
 
 /// How a slot makes its part of a step.
@@ -11,7 +11,7 @@ pub enum SlotChange {
     Open,
     /// It is offered an update; then these versions, whose chain ends here, are acknowledged.
     Accept {
-        update: Update,
+        update: Shared<Update>,
         place: u32,
         ends: Vec<Version>,
     },

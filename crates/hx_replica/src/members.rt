@@ -1,60 +1,40 @@
-ghost use Rattle.std.specs.Prelude.{◌≡◌, drop};
-ghost use Rattle.hx_types.specs.Configs.{joiner_after, joiner_for, lists, lists_joining, lists_ready};
+ghost use Rattle.std.specs.Prelude.{◌≡◌, ◌&&◌, None, if◌then◌else◌};
+ghost use Rattle.std.specs.Option.{option_map};
+ghost use Rattle.hx_types.specs.Configs.{joiner_for, joiner_in};
+ghost use Rattle.hx_types.specs.Words.{first_of_list, same_server};
 ghost use Rattle.hx_types.specs.declared.configs.Member.{Member as Listed};
 
-use hx_types::{Config, Member, RegionId, ServerId};
+use hx_types::{Config, Member, RegionId, ServerId, any_ready};
 
-/// Whether a configuration has a server among the members of a region.
-pub fn lists(config: &Config, region: RegionId, server: ServerId) -> bool
-    ensures { result ≡ lists config.now region server }
-{
-    config
-        .members(region)
-        .iter()
-        .any(|member| member.server.0 == server.0)
-}
-
-/// Whether a server is a ready member of a region.
-pub fn lists_ready(config: &Config, region: RegionId, server: ServerId) -> bool
-    ensures { result ≡ lists_ready config.now region server }
-{
-    config
-        .members(region)
-        .iter()
-        .any(|member| member.server.0 == server.0 && member.ready)
-}
-
-/// Whether a server is a member of a region that isn't ready yet.
-pub fn lists_joining(config: &Config, region: RegionId, server: ServerId) -> bool
-    ensures { result ≡ lists_joining config.now region server }
-{
-    config
-        .members(region)
-        .iter()
-        .any(|member| member.server.0 == server.0 && !member.ready)
-}
-
-/// The joiner to which a server sends its replica of a region: the member that isn't ready and
-/// follows the server, where the server is the last ready one. That the last ready replica sends
-/// is this project's choice.
+/// The joiner to which a server sends its replica of a region: the member that follows the server,
+/// where the server is the last ready one. That the last ready replica sends is this project's
+/// choice.
 pub fn joiner_for(config: &Config, region: RegionId, server: ServerId) -> Option<ServerId>
     ensures { result ≡ joiner_for config.now region server }
 {
-    match config.members(region).split_first() {
-        Some((first, rest)) => joiner_after(server, *first, rest),
-        None => None,
-    }
+    joiner_in(server, config.members(region))
 }
 
-fn joiner_after(server: ServerId, first: Member, rest: &[Member]) -> Option<ServerId>
-    ensures { result ≡ joiner_after server first rest.now }
+fn joiner_in(server: ServerId, members: &[Member]) -> Option<ServerId>
+    ensures { result ≡ joiner_in server members.now }
 {
-    let mut before = first;
-    for member in rest {
-        if before.server.0 == server.0 && before.ready && !member.ready {
-            return Some(member.server);
+    let mut rest = members;
+    'members: while let Some((member, after)) = rest.split_first() {
+        if !any_ready(after) {
+            return follower(server, *member, after);
         }
-        before = *member;
+        rest = after;
     }
     None
+}
+
+/// The first of the members after this one, where this one is the server and ready.
+fn follower(server: ServerId, member: Member, after: &[Member]) -> Option<ServerId>
+    ensures { result ≡ (if same_server member.server server && member.ready then option_map (λ (x : Listed). x.server) (first_of_list after.now) else None) }
+{
+    if member.server.0 == server.0 && member.ready {
+        Some(after.first()?.server)
+    } else {
+        None
+    }
 }

@@ -6,7 +6,7 @@ ghost use Rattle.hx_replica.specs.declared.plans.Change.TheVariants as a_change;
 use crate::made::{SlotChange, SlotMade};
 use crate::replicas::Replica;
 use hx_types::{
-    Actor, Config, Entry, Exact, Input, Memory, Message, Notes, Post, Posts, ServerId, Text,
+    Actor, Config, Entry, Exact, Input, Memory, Message, Notes, Post, Posts, ServerId, Shared,
 };
 use std::alloc::Global;
 
@@ -20,13 +20,13 @@ pub enum Change {
     Halt,
     /// The server adopts a configuration: it isn't sealed any more, and has these replicas.
     Adopt {
-        config: Config,
+        config: Shared<Config>,
         replicas: Vec<Replica>,
     },
-    /// The slot of a key, at the replica with this place among the server's, makes its part.
+    /// The slot at a place of the replica with this number among the server's makes its part.
     Slot {
         replica: usize,
-        key: Text,
+        place: usize,
         change: SlotChange,
     },
 }
@@ -92,12 +92,11 @@ pub fn moved(
     server: ServerId,
     input: &Input,
     replica: usize,
-    key: &Text,
+    place: usize,
     made: SlotMade,
 ) -> Result<Plan, Memory>
-    ensures { IfOk result (λ plan. plan ≡ record { entry = record { actor = an_actor.Server server; input = input.now; outputs = made.posts; notes = made.notes }; change = a_change.Slot replica key.now made.change }) }
+    ensures { IfOk result (λ plan. plan ≡ record { entry = record { actor = an_actor.Server server; input = input.now; outputs = made.posts; notes = made.notes }; change = a_change.Slot replica place made.change }) }
 {
-    let key = key.copy(alloc)?;
     let entry = Entry {
         actor: Actor::Server(server),
         input: input.copy(alloc)?,
@@ -108,7 +107,7 @@ pub fn moved(
         entry,
         change: Change::Slot {
             replica,
-            key,
+            place,
             change: made.change,
         },
     })

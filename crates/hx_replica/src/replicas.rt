@@ -2,14 +2,13 @@ ghost use Rattle.std.specs.Prelude.{◌≡◌, ◌<◌, ◌≤◌, IfOk, OnOk, S
 ghost use Rattle.std.specs.Option.{option_map};
 ghost use Rattle.hx_types.specs.Subspaces.{region_count};
 ghost use Rattle.hx_model.specs.ServerSteps.{listed_regions, replica_of};
-ghost use Rattle.hx_store.specs.Stores.{HasRoom, after_step, state_at};
-ghost use Rattle.hx_replica.specs.Made.{ChangeFits, stepped};
+ghost use Rattle.hx_store.specs.Stores.{after_step, key_at, state_at};
+ghost use Rattle.hx_replica.specs.Made.{ChangeFits, HasRoomFor, stepped};
 ghost use Rattle.hx_replica.specs.Replicas.{AscendByRegion, first_replica, views_of};
 
 use crate::made::SlotChange;
-use crate::members::lists;
 use hx_store::Store;
-use hx_types::{Config, Memory, RegionId, ServerId, Space, Text};
+use hx_types::{Config, Memory, RegionId, ServerId, Space};
 use std::alloc::Global;
 
 /// A server's part of a region: whether it has all that was there before it joined, and its slots.
@@ -34,7 +33,7 @@ pub fn first_replicas(
     let mut replicas = Vec::new(alloc);
     for number in 0..regions {
         let region = RegionId(number);
-        if lists(config, region, server) {
+        if config.lists(region, server) {
             let store = Store::new(alloc, region, number < space.key_parts);
             replicas.push(Replica {
                 region,
@@ -57,21 +56,21 @@ pub fn place_of(replicas: &[Replica], region: RegionId) -> Option<usize>
     }
 }
 
-/// The slot of a key makes its part of a step. It takes no memory.
-pub fn change_slot(store: &mut Store, key: Text, change: SlotChange)
-    requires room { HasRoom key 1 store.old }
-    requires fits { ChangeFits store.old.region (state_at store.old key) key change }
+/// The slot at a place makes its part of a step. It takes no memory.
+pub fn change_slot(store: &mut Store, place: usize, change: SlotChange)
+    requires room { HasRoomFor (key_at store.old place) 1 place store.old.rooms }
+    requires fits { ChangeFits store.old.region (state_at store.old (key_at store.old place)) (key_at store.old place) change }
     ensures region { store.new.region ≡ store.old.region }
     ensures marks { store.new.marks ≡ store.old.marks }
-    ensures states { store.new.states ≡ after_step store.old key (stepped change) }
+    ensures states { store.new.states ≡ after_step store.old (key_at store.old place) (stepped change) }
 {
     match change {
-        SlotChange::Open => store.open(&key),
+        SlotChange::Open => store.open(place),
         SlotChange::Accept {
             update,
-            place,
+            place: number,
             ends,
-        } => store.accept(update, place, ends.as_slice()),
-        SlotChange::Acknowledge { version } => store.acknowledge(&key, version),
+        } => store.accept(place, update, number, ends.as_slice()),
+        SlotChange::Acknowledge { version } => store.acknowledge(place, version),
     }
 }

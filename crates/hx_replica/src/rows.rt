@@ -12,13 +12,12 @@ ghost use Rattle.hx_replica.specs.Made.{IsComing, IsLeading, IsMade, IsSlotInput
 
 use crate::accepting::accepted;
 use crate::made::{SlotChange, SlotMade, saying, staying};
-use crate::settling::{is_pending, line_of, tell_settled};
-use crate::spots::{Spot, acknowledge_back, doubt, place_at, reply};
+use crate::spots::{Spot, acknowledge_back, doubt, place_at, reply, tell};
 use hx_leader::{decide, stuck};
 use hx_slot::Slot;
 use hx_types::{
     Actor, Answer, Caller, Decision, Exact, Memory, Message, Note, Notes, Op, Posts, SessionId,
-    Update, Version,
+    Shared, Update, Version,
 };
 use std::alloc::Global;
 
@@ -39,10 +38,10 @@ pub fn step_slot(
     match message {
         Message::Call { number, op, .. } => {
             let caller = caller_of(from, *number);
-            Ok(call(alloc, spot, slot, caller, op)?)
+            call(alloc, spot, slot, caller, op)
         }
-        Message::Update { update, .. } => Ok(take(alloc, spot, slot, update)?),
-        Message::Ack { version, .. } => Ok(settle(alloc, spot, slot, *version)?),
+        Message::Update { update, .. } => take(alloc, spot, slot, update),
+        Message::Ack { version, .. } => settle(alloc, spot, slot, *version),
         _ => unreachable!(),
     }
 }
@@ -80,9 +79,9 @@ fn call(
     ensures { IfOk result (λ made. IsMade spot.now.region slot.now.state slot.now.state.base.key (call_step (spot_seen spot.now) slot.now.state caller op.now) made) }
 {
     if op.is_write() {
-        Ok(write(alloc, spot, slot, caller, op)?)
+        write(alloc, spot, slot, caller, op)
     } else {
-        Ok(read(alloc, spot, slot, caller)?)
+        read(alloc, spot, slot, caller)
     }
 }
 
@@ -95,7 +94,7 @@ fn read(alloc: Global, spot: &Spot, slot: &Slot, caller: Caller) -> Result<SlotM
         Some((_, object)) => Answer::Found(object.copy(alloc)?),
         None => Answer::NotFound,
     };
-    Ok(saying(alloc, reply(spot, caller, slot.floor(), answer))?)
+    saying(alloc, reply(spot, caller, slot.floor(), answer))
 }
 
 /// A write, by what the leader decides on it.
@@ -116,12 +115,10 @@ fn write(
     prove!(top.0 < u64::MAX);
     match decide(alloc, spot.space, spot.map, spot.config, slot, caller, op)? {
         Decision::Old => Ok(staying(alloc, Posts::new(alloc))),
-        Decision::Again(version, answer) => {
-            Ok(saying(alloc, reply(spot, caller, version, answer))?)
-        }
-        Decision::Wait(version) => Ok(wait(alloc, spot, slot, caller, version)?),
-        Decision::Stuck(region) => { Ok(saying(alloc, doubt(spot, caller, Version(0), region))?) }
-        Decision::Assign(update) => Ok(assign(alloc, spot, slot, update)?),
+        Decision::Again(version, answer) => { saying(alloc, reply(spot, caller, version, answer)) }
+        Decision::Wait(version) => wait(alloc, spot, slot, caller, version),
+        Decision::Stuck(region) => { saying(alloc, doubt(spot, caller, Version(0), region)) }
+        Decision::Assign(update) => assign(alloc, spot, slot, update),
     }
 }
 
@@ -139,14 +136,19 @@ fn wait(
 {
     match stuck(spot.config, slot) {
         Some((first, region)) if first.0 <= version.0 => {
-            Ok(saying(alloc, doubt(spot, caller, version, region))?)
+            saying(alloc, doubt(spot, caller, version, region))
         }
         _ => Ok(staying(alloc, Posts::new(alloc))),
     }
 }
 
 /// The update that a write is given is noted, and accepted as the next one.
-fn assign(alloc: Global, spot: &Spot, slot: &Slot, update: Update) -> Result<SlotMade, Memory>
+fn assign(
+    alloc: Global,
+    spot: &Spot,
+    slot: &Slot,
+    update: Shared<Update>,
+) -> Result<SlotMade, Memory>
     requires coming { IsComing spot.now.region slot.now.state update }
     requires region { slot.now.region ≡ spot.now.region }
     ensures { IfOk result (λ made. IsMade spot.now.region slot.now.state update.key (decided (spot_seen spot.now) slot.now.state update.caller (a_decision.Assign update)) made) }
@@ -165,7 +167,12 @@ fn assign(alloc: Global, spot: &Spot, slot: &Slot, update: Update) -> Result<Slo
 }
 
 /// An update is known, accepted or early.
-fn take(alloc: Global, spot: &Spot, slot: &Slot, update: &Update) -> Result<SlotMade, Memory>
+fn take(
+    alloc: Global,
+    spot: &Spot,
+    slot: &Slot,
+    update: &Shared<Update>,
+) -> Result<SlotMade, Memory>
     requires placed { IsPlacedIn spot.now.region update.now }
     requires few { length update.now.places ≤ 17 }
     requires after { All (λ (p : Place). p.after.0 < update.now.version.0) update.now.places }
@@ -175,7 +182,7 @@ fn take(alloc: Global, spot: &Spot, slot: &Slot, update: &Update) -> Result<Slot
     if update.version.0 <= slot.top().0 {
         return Ok(staying(alloc, known(alloc, spot, slot, update)?));
     }
-    Ok(accept(alloc, spot, slot, update.copy(alloc)?)?)
+    accept(alloc, spot, slot, update.copy(alloc)?)
 }
 
 /// A known update is acknowledged again where it is committed.
@@ -192,7 +199,12 @@ fn known(alloc: Global, spot: &Spot, slot: &Slot, update: &Update) -> Result<Pos
 }
 
 /// An update above the top is offered to the slot.
-fn accept(alloc: Global, spot: &Spot, slot: &Slot, update: Update) -> Result<SlotMade, Memory>
+fn accept(
+    alloc: Global,
+    spot: &Spot,
+    slot: &Slot,
+    update: Shared<Update>,
+) -> Result<SlotMade, Memory>
     requires coming { IsComing spot.now.region slot.now.state update }
     requires region { slot.now.region ≡ spot.now.region }
     ensures { IfOk result (λ made. IsMade spot.now.region slot.now.state update.key (by_moves (spot_seen spot.now) (accepting (spot_seen spot.now) slot.now.state (offered spot.now.region slot.now.state update))) made) }
@@ -222,14 +234,17 @@ fn settle(alloc: Global, spot: &Spot, slot: &Slot, version: Version) -> Result<S
     })
 }
 
+/// The posts of the updates that an acknowledgement commits.
 fn settled(alloc: Global, spot: &Spot, slot: &Slot, version: Version) -> Result<Posts, Memory>
     requires { slot.now.region ≡ spot.now.region }
     ensures { IfOk result (λ posts. posts ≡ (ack_step (spot_seen spot.now) slot.now.state version.0).posts) }
 {
     let mut posts = Posts::new(alloc);
-    let line = line_of(alloc, slot, &[])?;
-    if is_pending(line.as_slice(), version) {
-        tell_settled(alloc, spot, slot, line.as_slice(), &[version], &mut posts)?;
+    for i in 0..slot.would_commit(version) {
+        match slot.pending(i) {
+            Some(update) => tell(alloc, spot, update, &mut posts)?,
+            None => unreachable!(),
+        }
     }
     Ok(posts)
 }

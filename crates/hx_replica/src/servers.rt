@@ -1,4 +1,4 @@
-ghost use Rattle.std.specs.Prelude.{◌≡◌, ◌<◌, ◌≤◌, IfOk, IfNone, IfSome, IsSomeAnd, OnOk, Some, None, slice_get};
+ghost use Rattle.std.specs.Prelude.{◌≡◌, ◌<◌, ◌≤◌, IfOk, IfNone, IfSome, IsSomeAnd, Some, None, length, slice_get};
 ghost use Rattle.std.specs.Option.{option_map};
 ghost use Rattle.hx_types.specs.Effects.{key_of};
 ghost use Rattle.hx_types.specs.Spaces.{IsConfigOf, IsServerOf, IsSpace};
@@ -8,14 +8,12 @@ ghost use Rattle.hx_folds.specs.Folding.{folded_server};
 ghost use Rattle.hx_model.specs.ServerSteps.{Replica as ReplicaState, asked, halting, hearing, if_installed, install_at, replica_of, seal_at, server_at_start, server_step, state_in, tick_step};
 ghost use Rattle.hx_model.specs.Slots.{new_state};
 ghost use Rattle.hx_replica.specs.Hearing.{IsOfOneSlot, heard, leading};
-ghost use Rattle.hx_store.specs.Stores.{HasRoom, state_at};
-ghost use Rattle.hx_replica.specs.Made.{IsMade, IsSlotInput, key_in, slot_step_of, spot_seen};
+ghost use Rattle.hx_replica.specs.Made.{key_in};
 ghost use Rattle.hx_replica.specs.Plans.{CanStep, HasRoomAt, IsDelivery, IsMadeAt, IsPlanOn};
 ghost use Rattle.hx_replica.specs.Servers.{CanTake, server_entry};
 
 use crate::adopting::adopt_all;
 use crate::made::SlotMade;
-use crate::members::lists_ready;
 use crate::plans::{Change, Plan, moved, said, to_coordinator, unmoved};
 use crate::replicas::{Replica, change_slot, first_replicas, place_of};
 use crate::rows::step_slot;
@@ -23,10 +21,9 @@ use crate::spots::Spot;
 use crate::ticking::tick_all;
 use hx_region::RegionMap;
 use hx_slot::Slot;
-use hx_store::Store;
 use hx_types::{
     Actor, Config, Entry, Epoch, Exact, Input, Memory, Message, Op, Post, Posts, RegionId,
-    ServerId, Space, Terms, Text, first_config,
+    ServerId, Shared, Space, Terms, Text, first_config,
 };
 use std::alloc::Global;
 use std::marker::Model;
@@ -39,7 +36,7 @@ pub struct Server {
     id: ServerId,
     space: Space,
     map: RegionMap,
-    config: Config,
+    config: Shared<Config>,
     sealed: bool,
     halted: bool,
     replicas: Vec<Replica>,
@@ -74,7 +71,7 @@ impl Server {
         ensures state { IfOk result (λ server. server.state ≡ server_at_start space.now id) }
     {
         let map = RegionMap::new(alloc, space)?;
-        let config = first_config(alloc, space)?;
+        let config = Shared::new(alloc, first_config(alloc, space)?)?;
         let replicas = first_replicas(alloc, space, &config, map.regions(), id)?;
         let space = space.copy(alloc)?;
         Ok(Server {
@@ -123,11 +120,11 @@ impl Server {
             }
             Change::Slot {
                 replica,
-                key,
+                place,
                 change,
             } => {
                 let replica = &mut self.replicas[replica];
-                change_slot(&mut replica.store, key, change);
+                change_slot(&mut replica.store, place, change);
             }
         }
         entry
@@ -208,7 +205,7 @@ impl Server {
 
     /// The server adopts a configuration of a higher epoch than its own. An older one, or the same,
     /// is nothing to it.
-    fn install(&self, alloc: Global, input: &Input, config: &Config) -> Result<Plan, Memory>
+    fn install(&self, alloc: Global, input: &Input, config: &Shared<Config>) -> Result<Plan, Memory>
         requires step { server_step self.now.space self.now.state input.now ≡ install_at self.now.space self.now.state config.now }
         requires config { IsConfigOf self.now.space config.now }
         requires bare { folded_server self.now.state ≡ self.now.state }
@@ -286,7 +283,7 @@ impl Server {
         let Some(place) = self.installed_at(epoch, region) else {
             return Ok(posts);
         };
-        if lists_ready(&self.config, region, self.id) {
+        if self.config.lists_ready(region, self.id) {
             let rows = self.replicas[place].store.find(alloc, terms)?;
             posts.push(Post {
                 from: Actor::Server(self.id),
@@ -321,8 +318,9 @@ impl Server {
         let id = self.id;
         match self.heard(message) {
             Some(heard) => {
-                let made = self.step(alloc, &heard, from, message)?;
-                moved(alloc, id, input, heard.replica, heard.key, made)
+                let place = self.reserve(alloc, &heard)?;
+                let made = self.step(alloc, &heard, place, from, message)?;
+                moved(alloc, id, input, heard.replica, place, made)
             }
             None => unmoved(alloc, id, input),
         }
@@ -396,22 +394,32 @@ impl Server {
         place_of(self.replicas.as_slice(), region)
     }
 
-    /// What a message makes of the slot to which it goes, and room there for an update more.
-    fn step(
-        &mut self,
-        alloc: Global,
-        heard: &Heard,
-        from: Actor,
-        message: &Message,
-    ) -> Result<SlotMade, Memory>
-        requires { CanStep self.old.space self.old.state heard.now.replica heard.now.key.now from message.now }
-        ensures made { IfOk result (IsMadeAt self.new heard.now.replica from message.now) }
-        ensures room { OnOk result (HasRoomAt heard.now.replica heard.now.key.now 1 self.new) }
+    /// Makes room for an update more at the slot to which a message goes, and gives the place of its
+    /// key in the replica's store.
+    fn reserve(&mut self, alloc: Global, heard: &Heard) -> Result<usize, Memory>
+        requires { heard.now.replica < length self.old.state.replicas }
+        ensures room { IfOk result (HasRoomAt heard.now.replica heard.now.key.now 1 self.new) }
         ensures space { self.new.space ≡ self.old.space }
         ensures state { self.new.state ≡ self.old.state }
     {
         let replica = &mut self.replicas[heard.replica];
-        replica.store.reserve(alloc, heard.key, 1)?;
+        replica.store.reserve(alloc, heard.key, 1)
+    }
+
+    /// What a message makes of the slot to which it goes.
+    fn step(
+        &self,
+        alloc: Global,
+        heard: &Heard,
+        place: usize,
+        from: Actor,
+        message: &Message,
+    ) -> Result<SlotMade, Memory>
+        requires can { CanStep self.now.space self.now.state heard.now.replica heard.now.key.now from message.now }
+        requires room { HasRoomAt heard.now.replica heard.now.key.now 1 self.now place }
+        ensures { IfOk result (IsMadeAt self.now heard.now.replica from message.now) }
+    {
+        let replica = &self.replicas[heard.replica];
         let spot = Spot {
             space: &self.space,
             map: &self.map,
@@ -419,28 +427,6 @@ impl Server {
             server: self.id,
             region: replica.region,
         };
-        step_store(alloc, &spot, &replica.store, heard.key, from, message)
-    }
-}
-
-/// What a message makes of the slot of a key in a store with room for it.
-fn step_store(
-    alloc: Global,
-    spot: &Spot,
-    store: &Store,
-    key: &Text,
-    from: Actor,
-    message: &Message,
-) -> Result<SlotMade, Memory>
-    requires map { spot.now.map.now ≡ spot.now.space.now }
-    requires space { IsSpace spot.now.space.now }
-    requires region { store.now.region ≡ spot.now.region }
-    requires room { HasRoom key.now 0 store.now }
-    requires input { IsSlotInput spot.now.space.now spot.now.region (state_at store.now key.now) from message.now }
-    ensures { IfOk result (λ made. IsMade spot.now.region (state_at store.now key.now) (key_in message.now) (slot_step_of (spot_seen spot.now) (state_at store.now key.now) from message.now) made) }
-{
-    match store.slot(key) {
-        Some(slot) => step_slot(alloc, spot, slot, from, message),
-        None => unreachable!(),
+        step_slot(alloc, &spot, replica.store.slot_at(place), from, message)
     }
 }

@@ -8,7 +8,7 @@ ghost use Rattle.hx_replica.specs.Made.{IsHere, seen, settled_among, settles, sp
 
 use crate::spots::{Spot, tell};
 use hx_slot::Slot;
-use hx_types::{Memory, Posts, Update, Version};
+use hx_types::{Memory, Posts, Shared, Update, Version};
 use std::alloc::Global;
 
 fn is_among(versions: &[Version], version: Version) -> bool
@@ -24,15 +24,8 @@ fn is_settled(slot: &Slot, ends: &[Version], version: Version) -> bool
     is_among(ends, version) || slot.is_acknowledged(version)
 }
 
-/// Whether an update of the line has the version.
-pub fn is_pending(line: &[&Update], version: Version) -> bool
-    ensures { result ≡ list_any (λ (b : Bor Updated). b.now.version.0 == version.0) line.now }
-{
-    line.iter().any(|update| update.version.0 == version.0)
-}
-
 /// How many updates at the front of a line are acknowledged.
-fn settled_count(slot: &Slot, line: &[&Update], ends: &[Version]) -> usize
+fn settled_count(slot: &Slot, line: &[&Shared<Update>], ends: &[Version]) -> usize
     ensures { result ≡ prefix_len (λ (b : Bor Updated). settles slot.now.state.acked ends.now b.now.version) line.now }
 {
     line.iter()
@@ -46,7 +39,7 @@ pub fn tell_settled(
     alloc: Global,
     spot: &Spot,
     slot: &Slot,
-    line: &[&Update],
+    line: &[&Shared<Update>],
     ends: &[Version],
     posts: &mut Posts,
 ) -> Result<(), Memory>
@@ -60,7 +53,7 @@ pub fn tell_settled(
 fn tell_all(
     alloc: Global,
     spot: &Spot,
-    updates: &[&Update],
+    updates: &[&Shared<Update>],
     posts: &mut Posts,
 ) -> Result<(), Memory>
     requires { All (IsHere spot.now.region) updates.now }
@@ -76,8 +69,8 @@ fn tell_all(
 pub fn line_of<'a>(
     alloc: Global,
     slot: &'a Slot,
-    taken: &[&'a Update],
-) -> Result<Vec<&'a Update>, Memory>
+    taken: &[&'a Shared<Update>],
+) -> Result<Vec<&'a Shared<Update>>, Memory>
     requires { All (IsHere slot.now.region) taken.now }
     ensures line { IfOk result (λ line. seen line.items ≡ pending_of slot.now.state ++ seen taken.now) }
     ensures here { IfOk result (λ line. All (IsHere slot.now.region) line.items) }
@@ -90,7 +83,7 @@ pub fn line_of<'a>(
 }
 
 /// The pending updates of a slot, the lowest version first.
-pub fn pending_line<'a>(alloc: Global, slot: &'a Slot) -> Result<Vec<&'a Update>, Memory>
+pub fn pending_line<'a>(alloc: Global, slot: &'a Slot) -> Result<Vec<&'a Shared<Update>>, Memory>
     ensures line { IfOk result (λ line. seen line.items ≡ pending_of slot.now.state) }
     ensures here { IfOk result (λ line. All (IsHere slot.now.region) line.items) }
 {

@@ -10,7 +10,7 @@ use hx_chain::{next, place_number, prev};
 use hx_region::RegionMap;
 use hx_types::{
     Actor, Answer, Caller, Config, Exact, Hop, Memory, Message, Post, Posts, RegionId, ServerId,
-    Space, Update, Version,
+    Shared, Space, Update, Version,
 };
 use std::alloc::Global;
 
@@ -70,7 +70,7 @@ fn region_at(update: &Update, place: u32) -> RegionId
 pub fn pass_on(
     alloc: Global,
     spot: &Spot,
-    update: &Update,
+    update: &Shared<Update>,
     posts: &mut Posts,
     ends: &mut Vec<Version>,
 ) -> Result<(), Memory>
@@ -95,7 +95,7 @@ pub fn pass_on(
 fn update_post(
     alloc: Global,
     spot: &Spot,
-    update: &Update,
+    update: &Shared<Update>,
     server: ServerId,
     place: u32,
 ) -> Result<Post, Memory>

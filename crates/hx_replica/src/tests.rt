@@ -6,7 +6,7 @@ ghost use Rattle.hx_model.specs.ServerSteps.{server_at_start};
 use super::*;
 use hx_types::{
     Actor, Assigns, Attributes, Config, Epoch, Input, Member, Members, Memory, Message, Op, PostId,
-    RegionId, RegionLists, ServerId, ServerList, SessionId, Space, Subspaces, Terms, Text,
+    RegionId, RegionLists, ServerId, ServerList, SessionId, Shared, Space, Subspaces, Terms, Text,
 };
 use std::alloc::Global;
 use std::test::Fail;
@@ -38,7 +38,7 @@ fn put(alloc: Global, epoch: u64) -> Result<Input, Memory>
         message: Message::Call {
             epoch: Epoch(epoch),
             number: 1,
-            op,
+            op: Shared::new(alloc, op)?,
         },
     })
 }
@@ -166,7 +166,9 @@ fn a_newer_configuration_is_adopted(rt: HostRuntime) -> Result<(), Fail> {
     let alloc = rt.alloc();
     let server = started(alloc)?;
     let config = second_config(alloc)?;
-    let install = from_coordinator(Message::Install { config });
+    let install = from_coordinator(Message::Install {
+        config: Shared::new(alloc, config)?,
+    });
     assert_eq!(rt; made_of(alloc, server, &install)?, (0, 0, false));
     Ok(())
 }

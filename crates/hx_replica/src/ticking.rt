@@ -1,24 +1,22 @@
 ghost use Rattle.std.specs.Prelude.{◌≡◌, ◌++◌, ◌∷◌, [], IfOk, OnOk, Some};
-ghost use Rattle.std.specs.Borrow.{Bor};
 ghost use Rattle.std.specs.List.{All, flat_map};
 ghost use Rattle.hx_types.specs.Spaces.{IsSpace};
 ghost use Rattle.hx_model.specs.ServerSteps.{passed_on, pending_posts, ready_post, replica_tick, snap_posts, snap_to};
 ghost use Rattle.hx_model.specs.Slots.{pending_of};
-ghost use Rattle.hx_slot.specs.States.{SlotState};
 ghost use Rattle.hx_replica.specs.Made.{spot_seen};
 ghost use Rattle.hx_replica.specs.Replicas.{view_of};
 ghost use Rattle.hx_replica.specs.Ticking.{kept_here, standing};
 ghost use Rattle.hx_replica.specs.declared.replicas.Replica.{Replica as Held};
 
 use crate::accepting::pass_on_all;
-use crate::members::{joiner_for, lists_joining};
+use crate::members::joiner_for;
 use crate::replicas::Replica;
 use crate::settling::pending_line;
 use crate::spots::Spot;
 use hx_region::RegionMap;
 use hx_slot::Slot;
 use hx_store::Store;
-use hx_types::{Actor, Config, Memory, Message, Post, Posts, ServerId, Space};
+use hx_types::{Actor, Config, Memory, Message, Post, Posts, ServerId, Shared, Space};
 use std::alloc::Global;
 
 /// What every replica sends again on a tick.
@@ -88,8 +86,8 @@ fn snap_post(alloc: Global, spot: &Spot, store: &Store, joiner: ServerId) -> Res
         message: Message::Snap {
             epoch: spot.config.epoch,
             region: spot.region,
-            snapshot: store.snapshot(alloc)?,
-            pending: store.pending(alloc)?,
+            snapshot: Shared::new(alloc, store.snapshot(alloc)?)?,
+            pending: Shared::new(alloc, store.pending(alloc)?)?,
         },
     })
 }
@@ -100,16 +98,11 @@ fn send_pending(alloc: Global, spot: &Spot, store: &Store, posts: &mut Posts) ->
     requires { store.now.region ≡ spot.now.region }
     ensures { OnOk result (posts.new ≡ posts.old ++ pending_posts (spot_seen spot.now) store.now.states) }
 {
-    let slots = store.slots(alloc)?;
-    send_slots(alloc, spot, slots.as_slice(), posts)
-}
-
-fn send_slots(alloc: Global, spot: &Spot, slots: &[&Slot], posts: &mut Posts) -> Result<(), Memory>
-    requires { All (λ (b : Bor SlotState). b.now.region ≡ spot.now.region) slots.now }
-    ensures { OnOk result (posts.new ≡ posts.old ++ flat_map (λ (b : Bor SlotState). flat_map (passed_on (spot_seen spot.now)) (pending_of b.now.state)) slots.now) }
-{
-    for slot in slots {
-        send_slot(alloc, spot, slot, posts)?;
+    for i in 0..store.len() {
+        match store.nth(i) {
+            Some(slot) => send_slot(alloc, spot, slot, posts)?,
+            None => unreachable!(),
+        }
     }
     Ok(())
 }
@@ -128,7 +121,7 @@ fn send_slot(alloc: Global, spot: &Spot, slot: &Slot, posts: &mut Posts) -> Resu
 pub fn tell_ready(spot: &Spot, posts: &mut Posts) -> Result<(), Memory>
     ensures { OnOk result (posts.new ≡ posts.old ++ ready_post (standing spot.now.config.now spot.now.server) spot.now.region) }
 {
-    if lists_joining(spot.config, spot.region, spot.server) {
+    if spot.config.lists_joining(spot.region, spot.server) {
         posts.push(Post {
             from: Actor::Server(spot.server),
             to: Actor::Coordinator,

@@ -1,29 +1,27 @@
-use Rattle.std.proofs.Common.{◌≡◌, ◌++◌, [], ◌∷◌, List, ap, sym, ◌∙◌}
-use Rattle.std.specs.Borrow.{Bor}
+use Rattle.std.proofs.Common.{◌≡◌, ◌++◌, ℕ, [], List, take, ap, sym, ◌∙◌, arith}
 use Rattle.std.specs.List.{flat_map}
-use Rattle.std.proofs.lemmas.List.{append-nil}
 use Rattle.hx_types.specs.declared.messages.Post.{Post}
 use Rattle.hx_types.specs.declared.updates.Update.{Update}
-use Rattle.hx_model.specs.Slots.{pending_of}
-use Rattle.hx_replica.specs.Made.{seen, settled_among, spot_seen, told_of}
-use Rattle.hx_replica.proofs.Acked.{ack_posts, no_ack_posts, pending_seen}
+use Rattle.hx_model.specs.Slots.{ack_answer, pending_of}
+use Rattle.hx_slot.specs.States.{committed_count}
+use Rattle.hx_replica.specs.Made.{spot_seen, told_of}
+use Rattle.hx_replica.proofs.Acked.{ack_told, ack_within}
+use Rattle.hx_replica.proofs.Walking.{flat_more, none_within}
 use Rattle.hx_replica.proofs.rows.settled.Goals as goal
-use Rattle.hx_replica.proofs.rows.settled.Goals.{then-is_pending+in_ok-tell_settled, else-is_pending}
+
+pub loop-i-preserved : goal.loop-i-preserved
+loop-i-preserved c =
+    flat_more (told_of (spot_seen c.args.spot.now)) (pending_of c.args.slot.now.state) c.loop-i.i c.in-Some.update.now c.loop-i.posts c.tell.new.posts [] (sym c.in-Some.ensures.pending) c.loop-i.invariant
+    (c.in_ok-tell-in-Some.ensures ∙ ap (λ (u : Update). c.loop-i.posts ++ told_of (spot_seen c.args.spot.now) u) c.deref.ensures)
+
+pub unreachable-requires : goal.unreachable-requires
+unreachable-requires c =
+    let l = ack_within c.args.slot.now.state c.args.version.0 in
+    none_within (pending_of c.args.slot.now.state) c.loop-i.i c.in-None.ensures.pending (omega (arith, c.loop-i-test.true, c.would_commit-i-end.ensures, l))
 
 pub returns : goal.returns
 returns c =
     let spot = spot_seen c.args.spot.now in
-    let s = c.args.slot.now.state in
-    let lined : seen c.as_slice.result.now ≡ pending_of s = ap seen c.as_slice.ensures.value ∙ c.in_ok-line.ensures.line ∙ append-nil (pending_of s) in
-    let told = pending_seen c.args.version s c.as_slice.result.now lined in
-    elim c.if-is_pending.branch [
-      | then-is_pending+in_ok-tell_settled w ↦
-          w.posts-is
-          ∙ ack_posts spot s c.args.version c.as_slice.result.now w.tell_settled.new.posts lined (sym told ∙ sym c.is_pending.ensures ∙ w.if-is_pending.true)
-          (
-          w.in_ok-tell_settled.ensures
-          ∙ ap (λ (ps : List Post). ps ++ flat_map (λ (b : Bor Update). told_of spot b.now) (settled_among s.acked (c.args.version ∷ []) w.as_slice-then-is_pending.result.now)) c.new-posts.ensures
-          ∙ ap (λ (line : List (Bor Update)). flat_map (λ (b : Bor Update). told_of spot b.now) (settled_among s.acked (c.args.version ∷ []) line)) (w.as_slice-then-is_pending.ensures.value ∙ sym c.as_slice.ensures.value)
-          )
-      | else-is_pending w ↦ w.posts-is ∙ no_ack_posts spot s c.args.version _ (sym told ∙ sym c.is_pending.ensures ∙ w.if-is_pending.false) c.new-posts.ensures
-    ]
+    let us = pending_of c.args.slot.now.state in
+    let all : c.loop-i.i ≡ committed_count (ack_answer c.args.slot.now.state c.args.version.0) = omega (arith, c.would_commit-i-end.ensures, c.loop-i-test.false, c.loop-i.auto.i-end) in
+    c.loop-i.invariant ∙ ap (λ n. flat_map (told_of spot) (take n us)) all ∙ ack_told spot c.args.slot.now.state c.args.version.0

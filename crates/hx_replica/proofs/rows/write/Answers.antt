@@ -1,4 +1,5 @@
 use Rattle.std.proofs.Common.{◌≡◌, ◌≤◌, List, sym, ◌∙◌, subst, ℕ}
+use Rattle.std.proofs.lemmas.Result.{IfOk-weaker}
 use Rattle.hx_types.specs.declared.outcomes.Decision.{Decision}
 use Rattle.hx_types.specs.declared.outcomes.Decision.TheVariants as a_decision
 use Rattle.hx_model.specs.Leading.{decide}
@@ -15,12 +16,14 @@ assign-requires-clause-coming c =
     (at_region c.args.spot.now.space.now c.args.spot.now.config.now c.args.slot.now.region c.args.spot.now.region c.args.slot.now.state c.args.caller c.args.op.now c.in-Assign.update c.requires.region (sym c.in_ok-decide.ensures ∙ c.in-Assign.is))
     ).coming
 
-pub returns-in_ok-assign-in-Assign : goal.returns-in_ok-assign-in-Assign
-returns-in_ok-assign-in-Assign c =
+pub returns-in-Assign : goal.returns-in-Assign
+returns-in-Assign c =
     let spot = spot_seen c.args.spot.now in
     let decision : decide c.args.spot.now.space.now c.args.spot.now.config.now c.args.spot.now.region c.args.slot.now.state c.args.caller c.args.op.now ≡ a_decision.Assign c.in-Assign.update =
     at_region c.args.spot.now.space.now c.args.spot.now.config.now c.args.slot.now.region c.args.spot.now.region c.args.slot.now.state c.args.caller c.args.op.now c.in-Assign.update c.requires.region (sym c.in_ok-decide.ensures ∙ c.in-Assign.is) in
     let granted = assigned_is c.args.spot.now.space.now c.requires.space c.args.spot.now.config.now c.args.spot.now.region c.args.slot.now.state c.args.caller c.args.op.now c.requires.leading.region
     (up_to c.args.slot.now.state c.top-top.result.0 c.top-top.ensures.top c.top-top.ensures.touches) (subst (λ (n : ℕ). c.args.slot.now.state.floor ≤ n) c.top-top.ensures.top c.top-top.ensures.above) c.in-Assign.update decision in
-    subst (λ (d : Decision). IsMade c.args.spot.now.region c.args.slot.now.state c.args.slot.now.state.base.key (decided spot c.args.slot.now.state c.args.caller d) c.in_ok-assign-in-Assign.field-0) (sym decision)
-    (subst (λ (key : List ℕ). IsMade c.args.spot.now.region c.args.slot.now.state key (decided spot c.args.slot.now.state c.args.caller (a_decision.Assign c.in-Assign.update)) c.in_ok-assign-in-Assign.field-0) granted.key c.in_ok-assign-in-Assign.ensures)
+    IfOk-weaker c.assign.result _ _
+    (λ made h. subst (λ (d : Decision). IsMade c.args.spot.now.region c.args.slot.now.state c.args.slot.now.state.base.key (decided spot c.args.slot.now.state c.args.caller d) made) (sym decision)
+    (subst (λ (key : List ℕ). IsMade c.args.spot.now.region c.args.slot.now.state key (decided spot c.args.slot.now.state c.args.caller (a_decision.Assign c.in-Assign.update)) made) granted.key h))
+    c.assign.ensures

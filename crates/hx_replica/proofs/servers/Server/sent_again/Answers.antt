@@ -1,6 +1,7 @@
 use Rattle.std.proofs.Common.{◌≡◌, List, ap, refl, subst, ◌∙◌}
 use Rattle.std.specs.List.{flat_map}
 use Rattle.std.proofs.lemmas.Result.{IfOk-weaker}
+use Rattle.hx_types.specs.declared.configs.Config.{Config}
 use Rattle.hx_model.specs.ServerSteps.{replica_tick, tick_step}
 use Rattle.hx_replica.specs.declared.replicas.Replica.{Replica}
 use Rattle.hx_replica.specs.Inside.{value_of}
@@ -17,7 +18,8 @@ returns c =
     (
     λ posts e. subst (λ (v : ServerValue). posts ≡ (tick_step v.space v.state).posts) c.self.view_is
     (
-    e ∙ ap (λ (rs : List Replica). flat_map (λ (r : Replica). replica_tick i.space (standing i.config i.id) (view_of r)) rs) c.as_slice.ensures.value
+    e ∙ ap (λ (k : Config). flat_map (λ (r : Replica). replica_tick i.space (standing k i.id) (view_of r)) c.as_slice.result.now) c.deref-2.ensures
+    ∙ ap (λ (rs : List Replica). flat_map (λ (r : Replica). replica_tick i.space (standing i.config i.id) (view_of r)) rs) c.as_slice.ensures.value
     ∙ unsealed i.space (value_of i).state i.replicas.items c.if-self.false refl
     )
     )

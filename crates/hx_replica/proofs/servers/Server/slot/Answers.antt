@@ -1,13 +1,13 @@
 use Rattle.std.proofs.Common.{sym, ◌∙◌}
 use Rattle.std.proofs.lemmas.Option.{IfSome_then}
 use Rattle.hx_model.specs.ServerSteps.{replica_of}
-use Rattle.hx_replica.proofs.Inside.{at_some, if_none_then, if_there, is_here}
+use Rattle.hx_replica.proofs.Inside.{at_some, if_none_then, if_there, is_here, no_slot}
 use Rattle.hx_replica.proofs.servers.Server.slot.Goals as goal
 
 pub returns-clause-state : goal.returns-clause-state
 returns-clause-state c =
     let here = is_here c.self.inside c.args.self.now c.args.region c.in_ok-replica.replica c.index.result.now c.self.view_is c.self.invariant c.index.ensures (rw c.as_slice.ensures.value at c.in_ok-replica.ensures) in
-    IfSome_then c.slot.result c.slot.ensures.some (λ slot e. at_some _ (replica_of c.args.region c.args.self.now.state.replicas) _ here.found (e ∙ here.state c.args.key.now))
+    IfSome_then c.slot.result c.slot.ensures.state (λ slot e. at_some _ (replica_of c.args.region c.args.self.now.state.replicas) _ here.found (e ∙ here.state c.args.key.now))
 
 pub returns-clause-region : goal.returns-clause-region
 returns-clause-region c =
@@ -17,6 +17,5 @@ returns-clause-region c =
 pub returns-clause-none : goal.returns-clause-none
 returns-clause-none c =
     let here = is_here c.self.inside c.args.self.now c.args.region c.in_ok-replica.replica c.index.result.now c.self.view_is c.self.invariant c.index.ensures (rw c.as_slice.ensures.value at c.in_ok-replica.ensures) in
-    if_none_then c.slot.result
-    (λ e. if_there _ (replica_of c.args.region c.args.self.now.state.replicas) _ here.found (sym (here.state c.args.key.now) ∙ e ∙ here.empty c.args.key.now))
-    c.slot.ensures.none
+    if_none_then c.slot.result _ c.slot.ensures.found
+    (λ e. if_there _ (replica_of c.args.region c.args.self.now.state.replicas) _ here.found (sym (here.state c.args.key.now) ∙ no_slot c.index.result.now.store.marks c.args.key.now c.index.result.now.store.states e ∙ here.empty c.args.key.now))

@@ -1,45 +1,51 @@
-use Rattle.std.proofs.Common.{ap, ◌∙◌}
+use Rattle.std.proofs.Common.{subst, sym, ◌∙◌}
 use Rattle.std.proofs.lemmas.Result.{IfOk-weaker}
-use Rattle.hx_replica.specs.Servers.{ServerValue}
-use Rattle.hx_replica.proofs.Changing.{reserved, reserved_views, state_same}
-use Rattle.hx_replica.proofs.Inside.{asked, made_at, on_ok, room_at, with_views, within}
+use Rattle.hx_types.specs.declared.configs.Config.{Config}
+use Rattle.hx_replica.specs.Made.{IsMade, key_in, slot_step_of}
+use Rattle.hx_replica.specs.Replicas.{IsReplicaIn}
+use Rattle.hx_replica.proofs.Changing.{replica_at}
+use Rattle.hx_replica.proofs.Inside.{asked, made_at, placed_at, slot_state, within}
 use Rattle.hx_replica.proofs.servers.Server.step.Goals as goal
 
-pub invariant_of-self : goal.invariant_of-self
-invariant_of-self c = record {
-  valid = c.self.invariant.valid;
-  map_is = c.self.invariant.map_is;
-  replicas_are = reserved c.self.inside.space c.self.inside.replicas.items c.args.heard.now.replica c.index_mut-replica.result.now c.reserve.new.self c.self.invariant.replicas_are (within c.self.inside c.args.self.now c.args.heard.now.replica c.self.view_is c.requires.within) c.index_mut-replica.ensures.value c.reserve.ensures.region c.reserve.ensures.marks c.reserve.ensures.states;
-}
+pub slot_at-requires : goal.slot_at-requires
+slot_at-requires c =
+    let i = c.self.inside in
+    let n = c.args.heard.now.replica in
+    let l = within i c.args.self.now n c.self.view_is c.requires.can.within in
+    (placed_at i c.args.self.now n c.args.heard.now.key.now 1 c.args.place c.index-replica.result.now c.self.view_is l c.index-replica.ensures c.requires.room).is.within
 
-pub returns-in_err-reserve-clause-state : goal.returns-in_err-reserve-clause-state
-returns-in_err-reserve-clause-state c =
-    ap (with_views c.self.inside) (reserved_views c.self.inside.space c.self.inside.replicas.items c.args.heard.now.replica c.index_mut-replica.result.now c.reserve.new.self c.self.invariant.replicas_are (within c.self.inside c.args.self.now c.args.heard.now.replica c.self.view_is c.requires.within) c.index_mut-replica.ensures.value c.reserve.ensures.states)
-    ∙ ap (λ (v : ServerValue). v.state) c.self.view_is
+pub step_slot-requires-clause-input : goal.step_slot-requires-clause-input
+step_slot-requires-clause-input c =
+    let i = c.self.inside in
+    let n = c.args.heard.now.replica in
+    let key = c.args.heard.now.key.now in
+    let y = c.index-replica.result.now in
+    let l = within i c.args.self.now n c.self.view_is c.requires.can.within in
+    let room = placed_at i c.args.self.now n key 1 c.args.place y c.self.view_is l c.index-replica.ensures c.requires.room in
+    let holds : IsReplicaIn i.space y = subst (IsReplicaIn i.space) (sym c.index-replica.ensures) (replica_at i.space i.replicas.items n y c.self.invariant.replicas_are.each l) in
+    asked i c.args.self.now n key c.args.from c.args.message.now y c.slot_at.result.now.state c.self.view_is c.requires.can l c.index-replica.ensures
+    (slot_state i y key c.args.place c.slot_at.result.now.state holds room.is.key_is c.slot_at.ensures.state)
 
-pub step_store-requires-clause-input : goal.step_store-requires-clause-input
-step_store-requires-clause-input c =
-    asked c.self.inside c.args.self.now c.args.heard.now.replica c.args.heard.now.key.now c.args.from c.args.message.now c.index_mut-replica.result.now c.reserve.new.self c.self.view_is c.requires
-    (within c.self.inside c.args.self.now c.args.heard.now.replica c.self.view_is c.requires.within) c.index_mut-replica.ensures.value
-    (state_same c.self.inside.space c.self.inside.replicas.items c.args.heard.now.replica c.index_mut-replica.result.now c.reserve.new.self c.self.invariant.replicas_are (within c.self.inside c.args.self.now c.args.heard.now.replica c.self.view_is c.requires.within) c.index_mut-replica.ensures.value c.args.heard.now.key.now c.reserve.ensures.marks c.reserve.ensures.states)
+pub step_slot-requires-clause-region : goal.step_slot-requires-clause-region
+step_slot-requires-clause-region c =
+    let i = c.self.inside in
+    let n = c.args.heard.now.replica in
+    let y = c.index-replica.result.now in
+    let l = within i c.args.self.now n c.self.view_is c.requires.can.within in
+    let holds : IsReplicaIn i.space y = subst (IsReplicaIn i.space) (sym c.index-replica.ensures) (replica_at i.space i.replicas.items n y c.self.invariant.replicas_are.each l) in
+    c.slot_at.ensures.region ∙ holds.region
 
-pub invariant_of-self-2 : goal.invariant_of-self-2
-invariant_of-self-2 c = record {
-  valid = c.self.invariant.valid;
-  map_is = c.self.invariant.map_is;
-  replicas_are = reserved c.self.inside.space c.self.inside.replicas.items c.args.heard.now.replica c.index_mut-replica.result.now c.reserve.new.self c.self.invariant.replicas_are (within c.self.inside c.args.self.now c.args.heard.now.replica c.self.view_is c.requires.within) c.index_mut-replica.ensures.value c.reserve.ensures.region c.reserve.ensures.marks c.reserve.ensures.states;
-}
-
-pub returns-clause-made : goal.returns-clause-made
-returns-clause-made c =
-    IfOk-weaker c.step_store.result _ _
-    (λ made h. made_at c.self.inside c.args.heard.now.replica c.args.heard.now.key.now c.index_mut-replica.result.now c.reserve.new.self c.self.invariant (within c.self.inside c.args.self.now c.args.heard.now.replica c.self.view_is c.requires.within) c.index_mut-replica.ensures.value c.args.from c.args.message.now made c.reserve.ensures.marks c.requires.key_is h)
-    c.step_store.ensures
-
-pub returns-clause-room : goal.returns-clause-room
-returns-clause-room c = on_ok c.step_store.result (room_at c.self.inside c.args.heard.now.replica c.args.heard.now.key.now c.index_mut-replica.result.now c.reserve.new.self c.self.invariant (within c.self.inside c.args.self.now c.args.heard.now.replica c.self.view_is c.requires.within) c.index_mut-replica.ensures.value 1 c.in_ok-reserve.ensures.room)
-
-pub returns-clause-state : goal.returns-clause-state
-returns-clause-state c =
-    ap (with_views c.self.inside) (reserved_views c.self.inside.space c.self.inside.replicas.items c.args.heard.now.replica c.index_mut-replica.result.now c.reserve.new.self c.self.invariant.replicas_are (within c.self.inside c.args.self.now c.args.heard.now.replica c.self.view_is c.requires.within) c.index_mut-replica.ensures.value c.reserve.ensures.states)
-    ∙ ap (λ (v : ServerValue). v.state) c.self.view_is
+pub returns : goal.returns
+returns c =
+    let i = c.self.inside in
+    let n = c.args.heard.now.replica in
+    let key = c.args.heard.now.key.now in
+    let y = c.index-replica.result.now in
+    let l = within i c.args.self.now n c.self.view_is c.requires.can.within in
+    let room = placed_at i c.args.self.now n key 1 c.args.place y c.self.view_is l c.index-replica.ensures c.requires.room in
+    let holds : IsReplicaIn i.space y = subst (IsReplicaIn i.space) (sym c.index-replica.ensures) (replica_at i.space i.replicas.items n y c.self.invariant.replicas_are.each l) in
+    IfOk-weaker c.step_slot.result _ _
+    (λ made h. made_at i c.args.self.now n key c.args.from c.args.message.now y c.slot_at.result.now.state made c.self.view_is l c.index-replica.ensures
+    (slot_state i y key c.args.place c.slot_at.result.now.state holds room.is.key_is c.slot_at.ensures.state) c.requires.can.key_is
+    (subst (λ (config : Config). IsMade y.region c.slot_at.result.now.state (key_in c.args.message.now) (slot_step_of (record { space = i.space; config = config; server = i.id; region = y.region }) c.slot_at.result.now.state c.args.from c.args.message.now) made) c.deref.ensures h))
+    c.step_slot.ensures

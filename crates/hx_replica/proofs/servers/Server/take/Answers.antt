@@ -3,22 +3,29 @@ use Rattle.std.proofs.lemmas.Result.{IfOk-weaker}
 use Rattle.hx_replica.specs.Servers.{ServerValue}
 use Rattle.hx_replica.proofs.Asking.{can_step}
 use Rattle.hx_replica.proofs.Inside.{marked_inside}
-use Rattle.hx_replica.proofs.Planning.{move_prepared, nothing_prepared}
+use Rattle.hx_replica.proofs.Planning.{can_step_still, move_prepared, nothing_prepared}
 use Rattle.hx_replica.proofs.servers.Server.take.Goals as goal
 
-pub step-requires : goal.step-requires
-step-requires c =
-    can_step c.args.self.now c.args.input.now c.requires.delivery.id c.args.from c.args.message.now c.in-Some.heard.replica c.in-Some.heard.key.now
-    (marked_inside c.self.inside c.args.self.now c.self.view_is c.self.invariant) c.requires.can c.requires.delivery.is c.in-Some.ensures.replica c.in-Some.ensures.key
+pub reserve-requires : goal.reserve-requires
+reserve-requires c =
+    (can_step c.args.self.now c.args.input.now c.requires.delivery.id c.args.from c.args.message.now c.in-Some.heard.replica c.in-Some.heard.key.now
+    (marked_inside c.self.inside c.args.self.now c.self.view_is c.self.invariant) c.requires.can c.requires.delivery.is c.in-Some.ensures.replica c.in-Some.ensures.key).within
+
+pub step-requires-clause-can : goal.step-requires-clause-can
+step-requires-clause-can c =
+    can_step_still c.args.self.now c.reserve.new.self c.self.inside.id c.args.input.now c.requires.delivery.id c.args.from c.args.message.now c.requires.can c.requires.delivery.is
+    (ap (λ (v : ServerValue). v.state.id) c.self.view_is) c.reserve.ensures.space c.reserve.ensures.state c.in-Some.heard.replica c.in-Some.heard.key.now
+    (can_step c.args.self.now c.args.input.now c.requires.delivery.id c.args.from c.args.message.now c.in-Some.heard.replica c.in-Some.heard.key.now
+    (marked_inside c.self.inside c.args.self.now c.self.view_is c.self.invariant) c.requires.can c.requires.delivery.is c.in-Some.ensures.replica c.in-Some.ensures.key)
 
 pub returns-in_ok-made-in-Some-clause-plan : goal.returns-in_ok-made-in-Some-clause-plan
 returns-in_ok-made-in-Some-clause-plan c =
     IfOk-weaker c.moved.result _ _
     (
-    λ plan e. move_prepared c.args.self.now c.step.new.self c.self.inside.id c.args.input.now c.requires.delivery.id c.args.from c.args.message.now c.requires.can c.requires.delivery.is
-    (ap (λ (v : ServerValue). v.state.id) c.self.view_is) c.step.ensures.space c.step.ensures.state
-    c.in-Some.heard.replica c.in-Some.heard.key.now c.in_ok-made-in-Some.made plan c.in-Some.ensures.replica c.in-Some.ensures.key
-    c.in_ok-made-in-Some.ensures.made c.in_ok-made-in-Some.ensures.room e
+    λ plan e. move_prepared c.args.self.now c.reserve.new.self c.self.inside.id c.args.input.now c.requires.delivery.id c.args.from c.args.message.now c.requires.can c.requires.delivery.is
+    (ap (λ (v : ServerValue). v.state.id) c.self.view_is) c.reserve.ensures.space c.reserve.ensures.state
+    c.in-Some.heard.replica c.in_ok-place-in-Some.place c.in-Some.heard.key.now c.in_ok-made-in-Some.made plan c.in-Some.ensures.replica c.in-Some.ensures.key
+    c.in_ok-made-in-Some.ensures c.in_ok-place-in-Some.ensures.room e
     )
     c.moved.ensures
 

@@ -1,0 +1,23 @@
+use Rattle.std.proofs.Common.{ap, ◌∙◌}
+use Rattle.hx_replica.specs.Servers.{ServerValue}
+use Rattle.hx_replica.proofs.Changing.{reserved, reserved_views}
+use Rattle.hx_replica.proofs.Inside.{ok_both, room_there, with_views, within}
+use Rattle.hx_replica.proofs.servers.Server.reserve.Goals as goal
+
+pub invariant_of-self : goal.invariant_of-self
+invariant_of-self c = record {
+  valid = c.self.invariant.valid;
+  map_is = c.self.invariant.map_is;
+  replicas_are = reserved c.self.inside.space c.self.inside.replicas.items c.args.heard.now.replica c.index_mut-replica.result.now c.reserve.new.self c.self.invariant.replicas_are (within c.self.inside c.args.self.now c.args.heard.now.replica c.self.view_is c.requires) c.index_mut-replica.ensures.value c.reserve.ensures.region c.reserve.ensures.marks c.reserve.ensures.states;
+}
+
+pub returns-clause-room : goal.returns-clause-room
+returns-clause-room c =
+    ok_both c.reserve.result _ _ _
+    (λ place is enough. room_there c.self.inside c.args.heard.now.replica c.args.heard.now.key.now 1 place c.index_mut-replica.result.now c.reserve.new.self c.self.invariant (within c.self.inside c.args.self.now c.args.heard.now.replica c.self.view_is c.requires) c.index_mut-replica.ensures.value is enough)
+    c.reserve.ensures.place c.reserve.ensures.room
+
+pub returns-clause-state : goal.returns-clause-state
+returns-clause-state c =
+    ap (with_views c.self.inside) (reserved_views c.self.inside.space c.self.inside.replicas.items c.args.heard.now.replica c.index_mut-replica.result.now c.reserve.new.self c.self.invariant.replicas_are (within c.self.inside c.args.self.now c.args.heard.now.replica c.self.view_is c.requires) c.index_mut-replica.ensures.value c.reserve.ensures.states)
+    ∙ ap (λ (v : ServerValue). v.state) c.self.view_is
