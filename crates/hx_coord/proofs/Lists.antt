@@ -1,5 +1,5 @@
 -- Lists that grow by one item.
-use Rattle.std.proofs.Common.{◌≡◌, ℕ, suc, zero, ◌+◌, ◌<◌, ◌≤◌, nat_lt, ◌==◌, Bool, true, false, ◌||◌, List, [], ◌∷◌, ◌++◌, length, take, get_or, insert, None, Some, refl, ap, sym, ◌∙◌, add-one, arith}
+use Rattle.std.proofs.Common.{◌≡◌, ℕ, suc, zero, ◌+◌, ◌<◌, ◌≤◌, nat_lt, ◌==◌, Bool, true, false, ◌||◌, List, [], ◌∷◌, ◌++◌, length, take, get_or, insert, None, refl, ap, sym, ◌∙◌, add-one, arith}
 use Rattle.std.specs.List.{list_any, slice_get}
 use Rattle.std.specs.Prelude.{slice_set, IsSomeAnd}
 use Rattle.std.proofs.lemmas.Bool.{cond-true, cond-false}
@@ -7,7 +7,7 @@ use Rattle.hx_types.specs.declared.configs.Member.{Member}
 use Rattle.hx_types.specs.declared.ids.ServerId.{ServerId}
 use Rattle.hx_types.specs.declared.ids.SessionId.{SessionId}
 use Rattle.hx_types.specs.Words.{same_session}
-use Rattle.hx_model.specs.CoordinatorSteps.{Answered, Issuing, Joined, Newest, Task, does, does_all, lists_without, newest_answered, newest_of, with_newest, with_server}
+use Rattle.hx_model.specs.CoordinatorSteps.{Answered, Issuing, Joined, Newest, Task, does, does_all, lists_without, newest_answered, newest_of, with_answer, with_newest, with_server}
 use Rattle.hx_coord.specs.Leaving.{is_above, members_without}
 use Rattle.hx_coord.specs.Numbers.{IsPlaceOf, is_of_session}
 
@@ -18,9 +18,9 @@ does_next i (x ∷ rest) t = does_next (does i x x.op) rest t
 
 -- one more answer is kept last
 pub answered_next : (answered : List Answered) (a : Answered) (newest : List Newest)
-    → newest_answered (answered ++ a ∷ []) newest ≡ with_newest (record { session = a.caller.session; number = a.caller.number; answer = Some a.answer }) (newest_answered answered newest)
+    → newest_answered (answered ++ a ∷ []) newest ≡ with_answer a (newest_answered answered newest)
 answered_next [] a newest = refl
-answered_next (x ∷ rest) a newest = answered_next rest a (with_newest (record { session = x.caller.session; number = x.caller.number; answer = Some x.answer }) newest)
+answered_next (x ∷ rest) a newest = answered_next rest a (with_answer x newest)
 
 taken_next : {A : Type 0} (xs : List A) (i : ℕ) (x : A) → i < length xs → x ≡ get_or xs i x → take (suc i) xs ≡ take i xs ++ x ∷ []
 taken_next [] i x within is = absurd (omega (arith, within))
@@ -32,7 +32,7 @@ does_more i todo k t within is =
     ap (λ n. does_all i (take n todo)) (add-one k) ∙ ap (does_all i) (taken_next todo k t within is) ∙ does_next i (take k todo) t
 
 pub answered_more : (answered : List Answered) (k : ℕ) (a : Answered) (newest : List Newest) → k < length answered → a ≡ get_or answered k a
-    → newest_answered (take (k + 1) answered) newest ≡ with_newest (record { session = a.caller.session; number = a.caller.number; answer = Some a.answer }) (newest_answered (take k answered) newest)
+    → newest_answered (take (k + 1) answered) newest ≡ with_answer a (newest_answered (take k answered) newest)
 answered_more answered k a newest within is =
     ap (λ n. newest_answered (take n answered) newest) (add-one k)
     ∙ ap (λ (some : List Answered). newest_answered some newest) (taken_next answered k a within is)

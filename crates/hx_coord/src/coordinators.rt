@@ -9,7 +9,7 @@ use crate::hearing::hear;
 use crate::made::Made;
 use crate::plans::{Plan, put_config};
 use crate::turns::tick;
-use hx_types::{Actor, Config, Entry, Exact, Input, Memory, Space, first_config};
+use hx_types::{Actor, Config, Entry, Exact, Input, Memory, Shared, Space, first_config};
 use std::alloc::Global;
 use std::marker::Model;
 
@@ -17,7 +17,7 @@ use std::marker::Model;
 /// Contracts see it as its state in the definitions.
 #[derive(Drop)]
 pub struct Coordinator {
-    config: Config,
+    config: Shared<Config>,
     agenda: Agenda,
 }
 
@@ -38,7 +38,7 @@ impl Coordinator {
         requires { IsSpace space.now }
         ensures { IfOk result (λ coordinator. coordinator ≡ coordinator_at_start space.now sessions) }
     {
-        let config = first_config(alloc, space)?;
+        let config = Shared::new(alloc, first_config(alloc, space)?)?;
         Ok(Coordinator {
             config,
             agenda: Agenda::new(alloc, sessions),

@@ -14,14 +14,14 @@ use crate::servers::{is_in, with_server};
 use crate::tasks::Joined;
 use hx_types::{
     Actor, Caller, Config, Epoch, Exact, Memory, Message, Post, Posts, RegionId, ServerId,
-    SessionId,
+    SessionId, Shared,
 };
 use std::alloc::Global;
 
 /// What a message makes.
 pub fn hear(
     alloc: Global,
-    config: &Config,
+    config: &Shared<Config>,
     agenda: Agenda,
     from: Actor,
     message: &Message,
@@ -39,7 +39,7 @@ pub fn hear(
 /// What a message of the coordinator itself makes: it can only ask for the configuration.
 fn hear_itself(
     alloc: Global,
-    config: &Config,
+    config: &Shared<Config>,
     agenda: Agenda,
     message: &Message,
 ) -> Result<Made, Memory>
@@ -54,7 +54,7 @@ fn hear_itself(
 /// What a message of a server makes.
 fn hear_server(
     alloc: Global,
-    config: &Config,
+    config: &Shared<Config>,
     agenda: Agenda,
     server: ServerId,
     message: &Message,
@@ -74,7 +74,7 @@ fn hear_server(
 /// What a message of a session makes.
 fn hear_session(
     alloc: Global,
-    config: &Config,
+    config: &Shared<Config>,
     agenda: Agenda,
     session: SessionId,
     message: &Message,
@@ -108,7 +108,12 @@ fn hear_session(
 
 /// A server has halted.
 #[tactic(auto, using(crate::proofs::Heard::gone_now, crate::proofs::Heard::gone_before, crate::proofs::Heard::gone_elsewhere))]
-fn gone(alloc: Global, config: &Config, agenda: Agenda, server: ServerId) -> Result<Made, Memory>
+fn gone(
+    alloc: Global,
+    config: &Shared<Config>,
+    agenda: Agenda,
+    server: ServerId,
+) -> Result<Made, Memory>
     requires { config.now.epoch.0 ≤ 2 ^ 62 }
     ensures { IfOk result (IsMade config.now (gone_step (standing config.now agenda) (Server server))) }
 {
@@ -121,7 +126,12 @@ fn gone(alloc: Global, config: &Config, agenda: Agenda, server: ServerId) -> Res
 
 /// A server of the configuration is gone: the epoch is sealed, without waiting for that server.
 #[tactic(auto, using(crate::proofs::Heard::go_steady, crate::proofs::Heard::go_sealing))]
-fn go(alloc: Global, config: &Config, agenda: Agenda, server: ServerId) -> Result<Made, Memory>
+fn go(
+    alloc: Global,
+    config: &Shared<Config>,
+    agenda: Agenda,
+    server: ServerId,
+) -> Result<Made, Memory>
     requires { config.now.epoch.0 ≤ 2 ^ 62 }
     ensures { IfOk result (IsMade config.now (goes (standing config.now agenda) server (phase_seen agenda.phase))) }
 {
@@ -138,7 +148,7 @@ fn go(alloc: Global, config: &Config, agenda: Agenda, server: ServerId) -> Resul
 #[tactic(auto, using(crate::proofs::Heard::sealed_own, crate::proofs::Heard::sealed_older, crate::proofs::Heard::sealed_newer, crate::proofs::Heard::sealed_elsewhere))]
 fn sealed(
     alloc: Global,
-    config: &Config,
+    config: &Shared<Config>,
     agenda: Agenda,
     epoch: Epoch,
     server: ServerId,
@@ -160,7 +170,7 @@ fn sealed(
 #[tactic(auto, using(crate::proofs::Heard::ready_elsewhen, crate::proofs::Heard::ready_steady, crate::proofs::Heard::ready_sealing))]
 fn ready(
     alloc: Global,
-    config: &Config,
+    config: &Shared<Config>,
     agenda: Agenda,
     epoch: Epoch,
     region: RegionId,
@@ -182,7 +192,7 @@ fn ready(
 #[tactic(auto, using(crate::proofs::Heard::join_lost, crate::proofs::Heard::join_unlisted, crate::proofs::Heard::join_now))]
 fn join(
     alloc: Global,
-    config: &Config,
+    config: &Shared<Config>,
     agenda: Agenda,
     region: RegionId,
     server: ServerId,
@@ -202,7 +212,7 @@ fn join(
 #[tactic(auto, using(crate::proofs::Heard::poll_older, crate::proofs::Heard::poll_newer))]
 fn poll(
     alloc: Global,
-    config: &Config,
+    config: &Shared<Config>,
     agenda: Agenda,
     epoch: Epoch,
     from: Actor,
@@ -217,7 +227,12 @@ fn poll(
 }
 
 /// An actor hears the configuration.
-fn install(alloc: Global, config: &Config, agenda: Agenda, to: Actor) -> Result<Made, Memory>
+fn install(
+    alloc: Global,
+    config: &Shared<Config>,
+    agenda: Agenda,
+    to: Actor,
+) -> Result<Made, Memory>
     ensures { IfOk result (λ made. made ≡ told agenda (post Coordinator to (a_message.Install config.now) ∷ [])) }
 {
     let mut posts = Posts::new(alloc);

@@ -1,7 +1,7 @@
 ghost use Rattle.std.specs.Prelude.{◌≡◌, ◌≤◌, ◌^◌, ◌∷◌, [], IfOk, OnOk};
 ghost use Rattle.hx_types.specs.declared.calls.Op.TheVariants.{Add, Stop};
 ghost use Rattle.hx_types.specs.declared.traces.Note.TheVariants as a_note;
-ghost use Rattle.hx_model.specs.CoordinatorSteps.{does, does_all, issue, issuing, leaves, newest_answered};
+ghost use Rattle.hx_model.specs.CoordinatorSteps.{does, does_all, issue, issuing, leaves, newest_answered, with_answer};
 ghost use Rattle.hx_coord.specs.Changes.{IsMade, agenda_after, issued_as, standing};
 ghost use Rattle.hx_coord.specs.Tasks.{answers_as};
 
@@ -9,13 +9,13 @@ use crate::agendas::{Agenda, Phase};
 use crate::configs::next_config;
 use crate::judging::{append, judge};
 use crate::made::Made;
-use crate::numbers::put_newest;
+use crate::numbers::{is_newest_call, put_newest};
 use crate::posting::{installs, tell_outcomes};
 use crate::servers::is_in;
 use crate::tasks::{JoinedList, Newest, NewestList, Task, Tasks};
 use hx_types::{
     Answer, Caller, Config, Exact, Memory, Note, Notes, Op, RegionId, Sequence, ServerId,
-    ServerList,
+    ServerList, Shared,
 };
 use std::alloc::Global;
 use std::marker::Model;
@@ -163,6 +163,7 @@ fn issued(alloc: Global, agenda: Agenda, issuing: Issuing) -> Result<Made, Memor
         answered,
         left,
     } = issuing;
+    let config = Shared::new(alloc, config)?;
     let mut posts = installs(alloc, &config, agenda.sessions)?;
     tell_outcomes(alloc, &mut posts, answered.as_slice())?;
     let notes = note_issued(alloc, &config)?;
@@ -175,7 +176,7 @@ fn issued(alloc: Global, agenda: Agenda, issuing: Issuing) -> Result<Made, Memor
     })
 }
 
-fn note_issued(alloc: Global, config: &Config) -> Result<Notes, Memory>
+fn note_issued(alloc: Global, config: &Shared<Config>) -> Result<Notes, Memory>
     ensures { IfOk result (λ notes. notes ≡ a_note.Issued config.now ∷ []) }
 {
     let mut notes = Notes::new(alloc);
@@ -209,12 +210,23 @@ fn answer_all(alloc: Global, newest: &mut NewestList, answered: &[Answered]) -> 
     ensures { OnOk result (newest.new ≡ newest_answered answered.now newest.old) }
 {
     for each in answered {
-        let answer = each.answer.copy(alloc)?;
+        keep_answer(alloc, newest, each)?;
+    }
+    Ok(())
+}
+
+/// The answer of a call is kept where the call is its session's newest, so that a call that comes
+/// again is answered again.
+fn keep_answer(alloc: Global, newest: &mut NewestList, answered: &Answered) -> Result<(), Memory>
+    ensures { OnOk result (newest.new ≡ with_answer answered.now newest.old) }
+{
+    if is_newest_call(newest, answered.caller) {
+        let answer = answered.answer.copy(alloc)?;
         put_newest(
             newest,
             Newest {
-                session: each.caller.session,
-                number: each.caller.number,
+                session: answered.caller.session,
+                number: answered.caller.number,
                 answer: Some(answer),
             },
         )?;

@@ -4,7 +4,7 @@ ghost use Rattle.hx_coord.specs.Changes.{numbered, told};
 
 use crate::agendas::{Agenda, number};
 use crate::posting::tell_outcome;
-use hx_types::{Answer, Caller, Config, Memory, Notes, Posts};
+use hx_types::{Answer, Caller, Config, Memory, Notes, Posts, Shared};
 use std::alloc::Global;
 
 /// What a step posts, notes and changes. There is a configuration where one is issued.
@@ -12,7 +12,7 @@ use std::alloc::Global;
 pub struct Made {
     pub posts: Posts,
     pub notes: Notes,
-    pub config: Option<Config>,
+    pub config: Option<Shared<Config>>,
     pub agenda: Agenda,
 }
 

@@ -1,11 +1,11 @@
 ghost use Rattle.std.specs.Prelude.{◌≡◌, false, IfNone, IfSome, OnOk};
 ghost use Rattle.std.specs.List.{list_any};
 ghost use Rattle.std.specs.Option.{option_copied};
-ghost use Rattle.hx_model.specs.CoordinatorSteps.{newest_of, with_newest};
+ghost use Rattle.hx_model.specs.CoordinatorSteps.{is_newest_call, newest_of, with_newest};
 ghost use Rattle.hx_coord.specs.Numbers.{IsPlaceOf, is_of_session};
 
 use crate::tasks::{Newest, NewestList};
-use hx_types::{Memory, SessionId};
+use hx_types::{Caller, Memory, SessionId};
 
 /// The newest number of a session, if it has called.
 #[tactic(auto, using(crate::proofs::Lists::newest_at, crate::proofs::Lists::newest_nowhere))]
@@ -15,6 +15,16 @@ pub fn newest_of(newest: &NewestList, session: SessionId) -> Option<&Newest>
     match place_of(newest.as_slice(), session) {
         Some(place) => newest.get(place),
         None => None,
+    }
+}
+
+/// Whether a call is the newest of its session.
+pub fn is_newest_call(newest: &NewestList, caller: Caller) -> bool
+    ensures { result ≡ is_newest_call caller newest.now }
+{
+    match newest_of(newest, caller.session) {
+        Some(known) => known.number == caller.number,
+        None => false,
     }
 }
 

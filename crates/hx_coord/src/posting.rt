@@ -6,6 +6,7 @@ ghost use Rattle.hx_coord.specs.Tasks.{outcomes};
 use crate::issuing::Answered;
 use hx_types::{
     Actor, Answer, Caller, Config, Epoch, Exact, Memory, Message, Post, Posts, ServerId, SessionId,
+    Shared,
 };
 use std::alloc::Global;
 
@@ -51,7 +52,7 @@ pub fn seals(alloc: Global, epoch: Epoch, servers: &[ServerId]) -> Result<Posts,
 }
 
 /// Each server of a configuration hears it, and then each session.
-pub fn installs(alloc: Global, config: &Config, sessions: u32) -> Result<Posts, Memory>
+pub fn installs(alloc: Global, config: &Shared<Config>, sessions: u32) -> Result<Posts, Memory>
     ensures { IfOk result (λ posts. posts ≡ map (to_server (a_message.Install config.now)) config.now.servers ++ session_posts sessions (a_message.Install config.now)) }
 {
     let mut posts = Posts::new(alloc);
@@ -67,7 +68,7 @@ pub fn installs(alloc: Global, config: &Config, sessions: u32) -> Result<Posts, 
 fn install_sessions(
     alloc: Global,
     posts: &mut Posts,
-    config: &Config,
+    config: &Shared<Config>,
     sessions: u32,
 ) -> Result<(), Memory>
     ensures { OnOk result (posts.new ≡ posts.old ++ session_posts sessions (a_message.Install config.now)) }

@@ -4,7 +4,7 @@ ghost use Rattle.hx_session.specs.Changes.{adopting_as, begun_as, ended_as, kept
 use crate::parts::{Part, Parts, PartsChange, afresh};
 use hx_types::{
     Actor, Answer, Config, Entry, Epoch, Exact, Memory, Message, Note, Notes, Post, Posts,
-    SessionId, Version,
+    SessionId, Shared, Version,
 };
 use std::alloc::Global;
 
@@ -21,7 +21,7 @@ pub struct Progress {
 #[derive(Drop)]
 pub struct Change {
     /// The configuration that is adopted, if one is.
-    pub config: Option<Config>,
+    pub config: Option<Shared<Config>>,
     /// How far the session is then.
     pub progress: Progress,
     pub parts: PartsChange,
@@ -136,7 +136,7 @@ pub fn polled(id: SessionId, epoch: Epoch, made: Made) -> Result<Made, Memory>
 }
 
 /// A configuration takes the place of another, where there is one. It takes no memory.
-pub fn adopt(config: &mut Config, adopted: Option<Config>)
+pub fn adopt(config: &mut Shared<Config>, adopted: Option<Shared<Config>>)
     ensures { config.new ≡ unwrap_or adopted config.old }
 {
     if let Some(adopted) = adopted {
@@ -160,7 +160,7 @@ pub fn kept(alloc: Global, progress: Progress, place: usize, part: Part) -> Made
 }
 
 /// A configuration is adopted, too.
-pub fn adopting(alloc: Global, config: &Config, made: Made) -> Result<Made, Memory>
+pub fn adopting(alloc: Global, config: &Shared<Config>, made: Made) -> Result<Made, Memory>
     ensures { IfOk result (λ after. after ≡ adopting_as config.now made) }
 {
     let config = config.copy(alloc)?;

@@ -11,7 +11,7 @@ use hx_plan::plan;
 use hx_region::RegionMap;
 use hx_types::{
     Actor, Answer, Config, Exact, Memory, Message, Notes, Op, Planned, Post, Posts, RegionId,
-    RegionList, SessionId, Space, Terms, Version,
+    RegionList, SessionId, Shared, Space, Terms, Version,
 };
 use std::alloc::Global;
 
@@ -110,7 +110,7 @@ fn call_to(alloc: Global, sender: &Sender, op: &Op, region: RegionId) -> Result<
             message: Message::Call {
                 epoch: sender.config.epoch,
                 number: sender.progress.begun,
-                op: op.copy(alloc)?,
+                op: Shared::new(alloc, op.copy(alloc)?)?,
             },
         })?;
     }

@@ -19,7 +19,7 @@ use crate::sending::{Sender, send};
 use hx_region::RegionMap;
 use hx_types::{
     Actor, Answer, Calls, Config, Entry, Epoch, Exact, Input, Memory, Message, Op, RegionId, Rows,
-    SessionId, Space, Version, first_config,
+    SessionId, Shared, Space, Version, first_config,
 };
 use std::alloc::Global;
 use std::marker::Model;
@@ -33,7 +33,7 @@ pub struct Session {
     space: Space,
     map: RegionMap,
     calls: Calls,
-    config: Config,
+    config: Shared<Config>,
     progress: Progress,
     parts: Parts,
 }
@@ -65,7 +65,7 @@ impl Session {
         ensures state { IfOk result (λ session. session.state ≡ session_at_start space.now id calls) }
     {
         let map = RegionMap::new(alloc, space)?;
-        let config = first_config(alloc, space)?;
+        let config = Shared::new(alloc, first_config(alloc, space)?)?;
         let space = space.copy(alloc)?;
         Ok(Session {
             id,
@@ -272,7 +272,7 @@ impl Session {
     }
 
     /// A configuration of a higher epoch is adopted, and a call on a key or a search sent anew.
-    fn install(&self, alloc: Global, config: &Config) -> Result<Made, Memory>
+    fn install(&self, alloc: Global, config: &Shared<Config>) -> Result<Made, Memory>
         ensures { IfOk result (IsMade self.now.state (session_install self.now.space self.now.state config.now)) }
     {
         if config.epoch.0 <= self.config.epoch.0 {

@@ -9,29 +9,31 @@ use Rattle.hx_types.specs.declared.traces.Entry.{Entry}
 use Rattle.hx_types.specs.declared.traces.Input.{Input}
 use Rattle.hx_types.specs.declared.traces.Script.{Script}
 use Rattle.hx_types.specs.declared.ids.Actor.TheVariants.{Coordinator, Server, Session}
-use Rattle.hx_types.specs.Posts.{IsSessionOf}
 use Rattle.hx_types.specs.Words.{same_actor, same_server, same_session}
-use Rattle.hx_model.specs.CoordinatorSteps.{CoordinatorStep}
-use Rattle.hx_model.specs.Runs.{MayTake, entry_of, is_actor, made_of, makes_enough, server_of, session_of}
-use Rattle.hx_model.specs.Schedule.{Next, entries_of, entry_by, undelivered}
+use Rattle.hx_model.specs.CoordinatorSteps.{CoordinatorState, coordinator_step}
+use Rattle.hx_model.specs.Runs.{MayTake, entry_of, has_halted, is_actor, made_of, makes_enough, server_of, session_of}
+use Rattle.hx_model.specs.Schedule.{Next, entries_of, entry_by}
 use Rattle.hx_model.specs.ServerSteps.{ServerStep, server_step}
 use Rattle.hx_model.specs.SessionSteps.{session_step}
-use Rattle.hx_steady.specs.Calm.{is_halt}
 use Rattle.hx_model.proofs.Replays.{entry_by_step}
 use Rattle.hx_replica.specs.Servers.{server_entry}
 use Rattle.hx_session.specs.Sessions.{session_entry}
+use Rattle.hx_coord.specs.Coordinators.{coordinator_entry}
 use Rattle.hx_folds.specs.Folding.{InputFits, IsServerOf as AreInOrder, folded_server}
 use Rattle.hx_folds.proofs.Servers.{server-folds}
 use Rattle.hx_folds.proofs.Staying.{server-stays}
-use Rattle.hx_world.specs.declared.hosts.Host.{Host}
-use Rattle.hx_world.specs.declared.seats.Seat.{Seat}
-use Rattle.hx_world.specs.Hosts as host
-use Rattle.hx_world.specs.Seats as seat
-use Rattle.hx_world.specs.Invariant.{IsCalm, IsHost, IsSeat, IsWorldOf, server_at, session_at}
-use Rattle.hx_world.specs.Turns.{resting_entry}
+use Rattle.hx_world.specs.declared.servers.CountedServer.{CountedServer}
+use Rattle.hx_world.specs.declared.sessions.CountedSession.{CountedSession}
+use Rattle.hx_world.specs.Servers as counted_server
+use Rattle.hx_world.specs.Sessions as counted_session
+use Rattle.hx_world.specs.Invariant.{IsFewRun, IsQueue, IsServerAt, IsSessionAt, IsWorldOf, server_at, session_at}
 use Rattle.hx_world.specs.Worlds.{HasFewEntries}
+use Rattle.hx_world.specs.Coordinators as counted_coordinator
+use Rattle.hx_world.specs.declared.coordinators.CountedCoordinator.{CountedCoordinator}
+use Rattle.hx_world.specs.Filing.{names_after}
+use Rattle.hx_world.proofs.Queueing.{queue_after}
 use Rattle.hx_world.proofs.Seating.{at_set}
-use Rattle.hx_world.proofs.Taking.{fits_here, rests, running_here, server_id, session_id}
+use Rattle.hx_world.proofs.Taking.{fits_here, server_id, session_id}
 
 abbrev pub given : Actor → Input → Next
 given a input = record { actor = a; input = input }
@@ -39,8 +41,8 @@ given a input = record { actor = a; input = input }
 -- the actor is given an input that it may take, and may make the entry
 pub record IsGiven (script : Script) (t : List Entry) (a : Actor) (input : Input) : Type 0 where
   pub actor : is_actor script a ≡ true
+  pub running : has_halted script t a ≡ false
   pub may : MayTake t a input
-  pub still : is_halt input ≡ false
   pub enough : makes_enough input (made_of script t a input) ≡ true
   pub fresh : entries_of a t < 1048576
 
@@ -62,14 +64,18 @@ few_after t x few fresh a =
     (λ e. few a)
 
 -- the trace after the entry
-pub calm_after : (script : Script) (t : List Entry) (a : Actor) (input : Input) → IsCalm script t → IsGiven script t a input → IsCalm script (entry_by script t (given a input) ∷ t)
-calm_after script t a input w g = record {
-  runnable = w.runnable;
+pub past_after : (script : Script) (t : List Entry) (a : Actor) (input : Input) → IsFewRun script t → IsGiven script t a input → IsFewRun script (entry_by script t (given a input) ∷ t)
+past_after script t a input w g = record {
+  valid = w.valid;
   sound = w.sound;
-  run = (entry_by_step script t (given a input) g.actor (running_here script t w a) g.may g.enough, w.run);
-  still = (g.still, w.still);
+  run = (entry_by_step script t (given a input) g.actor g.running g.may g.enough, w.run);
   few = few_after t (entry_by script t (given a input)) w.few g.fresh;
 }
+
+-- the queue after it
+queue_given : (script : Script) (t : List Entry) (a : Actor) (input : Input) (waiting names : List PostId) → IsGiven script t a input → IsQueue script t waiting
+    → names ≡ names_after (length t) (entry_by script t (given a input)) waiting → IsQueue script (entry_by script t (given a input) ∷ t) names
+queue_given script t a input waiting names g q e = queue_after script t (entry_by script t (given a input)) g.running waiting names q e
 
 other_server : (s : ServerId) (place : ℕ) → (place + 1 ≡ s.0 → ⊥) → same_server s (server_at place) ≡ false
 other_server s place differ = ne_eqb s.0 (place + 1) (λ e. differ (sym e))
@@ -78,9 +84,9 @@ other_session : (u : SessionId) (place : ℕ) → (place + 1 ≡ u.0 → ⊥) �
 other_session u place differ = ne_eqb u.0 (place + 1) (λ e. differ (sym e))
 
 -- a server of another place keeps its state
-host_stays : (script : Script) (t : List Entry) (s : ServerId) (input : Input) (place : ℕ) (h : Host) → (place + 1 ≡ s.0 → ⊥)
-    → IsHost script t place h → IsHost script (entry_by script t (given (Server s) input) ∷ t) place h
-host_stays script t s input place h differ at =
+server_unmoved : (script : Script) (t : List Entry) (s : ServerId) (input : Input) (place : ℕ) (h : CountedServer) → (place + 1 ≡ s.0 → ⊥)
+    → IsServerAt script t place h → IsServerAt script (entry_by script t (given (Server s) input) ∷ t) place h
+server_unmoved script t s input place h differ at =
     let other = other_server s place differ in
     record {
       space = at.space;
@@ -90,9 +96,9 @@ host_stays script t s input place h differ at =
     }
 
 -- and the one that took the input has the next
-host_takes : (script : Script) (t : List Entry) (place : ℕ) (input : Input) (old new : Host) → IsHost script t place old → host.HasTaken old new input → InputFits input
-    → IsHost script (entry_by script t (given (Server (server_at place)) input) ∷ t) place new
-host_takes script t place input old new at takes fits =
+server_takes : (script : Script) (t : List Entry) (place : ℕ) (input : Input) (old new : CountedServer) → IsServerAt script t place old → counted_server.HasTaken old new input → InputFits input
+    → IsServerAt script (entry_by script t (given (Server (server_at place)) input) ∷ t) place new
+server_takes script t place input old new at takes fits =
     let self : same_server (server_at place) (server_at place) ≡ true = eq-eqb (place + 1) (place + 1) refl in
     record {
       space = takes.space ∙ at.space;
@@ -108,9 +114,9 @@ host_takes script t place input old new at takes fits =
     }
 
 -- a session of another place keeps its state
-seat_stays : (script : Script) (t : List Entry) (u : SessionId) (input : Input) (place : ℕ) (s : Seat) → (place + 1 ≡ u.0 → ⊥)
-    → IsSeat script t place s → IsSeat script (entry_by script t (given (Session u) input) ∷ t) place s
-seat_stays script t u input place s differ at =
+session_unmoved : (script : Script) (t : List Entry) (u : SessionId) (input : Input) (place : ℕ) (s : CountedSession) → (place + 1 ≡ u.0 → ⊥)
+    → IsSessionAt script t place s → IsSessionAt script (entry_by script t (given (Session u) input) ∷ t) place s
+session_unmoved script t u input place s differ at =
     let other = other_session u place differ in
     record {
       space = at.space;
@@ -119,9 +125,9 @@ seat_stays script t u input place s differ at =
     }
 
 -- and the one that took the input has the next
-seat_takes : (script : Script) (t : List Entry) (place : ℕ) (input : Input) (old new : Seat) → IsSeat script t place old → seat.HasTaken old new input
-    → IsSeat script (entry_by script t (given (Session (session_at place)) input) ∷ t) place new
-seat_takes script t place input old new at takes =
+session_takes : (script : Script) (t : List Entry) (place : ℕ) (input : Input) (old new : CountedSession) → IsSessionAt script t place old → counted_session.HasTaken old new input
+    → IsSessionAt script (entry_by script t (given (Session (session_at place)) input) ∷ t) place new
+session_takes script t place input old new at takes =
     let self : same_session (session_at place) (session_at place) ≡ true = eq-eqb (place + 1) (place + 1) refl in
     record {
       space = takes.space ∙ at.space;
@@ -134,80 +140,82 @@ seat_takes script t place input old new at takes =
           ∙ sym (cond-true (same_session (session_at place) (session_at place)) (entries_of (Session (session_at place)) t + 1) (entries_of (Session (session_at place)) t) self);
     }
 
-module _ (script : Script) (t : List Entry) (hosts : List Host) (seats : List Seat) (coordinated : ℕ) (waiting : List PostId) (w : IsWorldOf script t hosts seats coordinated waiting) where
+module _ (script : Script) (t : List Entry) (servers : List CountedServer) (sessions : List CountedSession) (coordinator : CountedCoordinator) (waiting : List PostId) (w : IsWorldOf script t servers sessions coordinator waiting) where
   -- after an entry of a server
-  pub served_world : (place : ℕ) (input : Input) (old new : Host) (hosts_after : List Host) (names : List PostId)
-      → IsGiven script t (Server (server_at place)) input → IsHost script t place old → host.HasTaken old new input → hosts_after ≡ set hosts place new
-      → names ≡ undelivered (entry_by script t (given (Server (server_at place)) input) ∷ t)
-      → IsWorldOf script (entry_by script t (given (Server (server_at place)) input) ∷ t) hosts_after seats coordinated names
-  served_world place input old new hosts_after names g at takes hosts_are names_are =
+  pub served_world : (place : ℕ) (input : Input) (old new : CountedServer) (servers_after : List CountedServer) (names : List PostId)
+      → IsGiven script t (Server (server_at place)) input → IsServerAt script t place old → counted_server.HasTaken old new input → servers_after ≡ set servers place new
+      → names ≡ names_after (length t) (entry_by script t (given (Server (server_at place)) input)) waiting
+      → IsWorldOf script (entry_by script t (given (Server (server_at place)) input) ∷ t) servers_after sessions coordinator names
+  served_world place input old new servers_after names g at takes servers_are names_are =
       let x = entry_by script t (given (Server (server_at place)) input) in
       record {
-        calm = calm_after script t (Server (server_at place)) input w.calm g;
-        hosts_are =
-            at_set script.space.servers (IsHost script t) (IsHost script (x ∷ t)) hosts hosts_after place new w.hosts_are hosts_are
-            (host_takes script t place input old new at takes (fits_here script t w.calm (server_at place) input g.may))
-            (λ j h differ k. host_stays script t (server_at place) input j h (λ e. differ (omega (arith, e))) k);
-        seats_are = record {
-          count = w.seats_are.count;
-          each = λ j s e. (let k = w.seats_are.each j s e in record { space = k.space; state = k.state; entries = k.entries });
+        past = past_after script t (Server (server_at place)) input w.past g;
+        servers_are =
+            at_set script.space.servers (IsServerAt script t) (IsServerAt script (x ∷ t)) servers servers_after place new w.servers_are servers_are
+            (server_takes script t place input old new at takes (fits_here script t w.past (server_at place) input g.may))
+            (λ j h differ k. server_unmoved script t (server_at place) input j h (λ e. differ (omega (arith, e))) k);
+        sessions_are = record {
+          count = w.sessions_are.count;
+          each = λ j s e. (let k = w.sessions_are.each j s e in record { space = k.space; state = k.state; entries = k.entries });
         };
-        coordinated_is = w.coordinated_is;
-        waiting_is = names_are;
+        coordinator_is = record { state = w.coordinator_is.state; entries = w.coordinator_is.entries };
+        queue = queue_given script t (Server (server_at place)) input waiting names g w.queue names_are;
       }
 
   -- after an entry of a session
-  pub attended_world : (place : ℕ) (input : Input) (old new : Seat) (seats_after : List Seat) (names : List PostId)
-      → IsGiven script t (Session (session_at place)) input → IsSeat script t place old → seat.HasTaken old new input → seats_after ≡ set seats place new
-      → names ≡ undelivered (entry_by script t (given (Session (session_at place)) input) ∷ t)
-      → IsWorldOf script (entry_by script t (given (Session (session_at place)) input) ∷ t) hosts seats_after coordinated names
-  attended_world place input old new seats_after names g at takes seats_are names_are =
+  pub attended_world : (place : ℕ) (input : Input) (old new : CountedSession) (sessions_after : List CountedSession) (names : List PostId)
+      → IsGiven script t (Session (session_at place)) input → IsSessionAt script t place old → counted_session.HasTaken old new input → sessions_after ≡ set sessions place new
+      → names ≡ names_after (length t) (entry_by script t (given (Session (session_at place)) input)) waiting
+      → IsWorldOf script (entry_by script t (given (Session (session_at place)) input) ∷ t) servers sessions_after coordinator names
+  attended_world place input old new sessions_after names g at takes sessions_are names_are =
       let x = entry_by script t (given (Session (session_at place)) input) in
       record {
-        calm = calm_after script t (Session (session_at place)) input w.calm g;
-        hosts_are = record {
-          count = w.hosts_are.count;
-          each = λ j h e. (let k = w.hosts_are.each j h e in record { space = k.space; state = k.state; in_order = k.in_order; entries = k.entries });
+        past = past_after script t (Session (session_at place)) input w.past g;
+        servers_are = record {
+          count = w.servers_are.count;
+          each = λ j h e. (let k = w.servers_are.each j h e in record { space = k.space; state = k.state; in_order = k.in_order; entries = k.entries });
         };
-        seats_are =
-            at_set (length script.sessions) (IsSeat script t) (IsSeat script (x ∷ t)) seats seats_after place new w.seats_are seats_are
-            (seat_takes script t place input old new at takes)
-            (λ j s differ k. seat_stays script t (session_at place) input j s (λ e. differ (omega (arith, e))) k);
-        coordinated_is = w.coordinated_is;
-        waiting_is = names_are;
+        sessions_are =
+            at_set (length script.sessions) (IsSessionAt script t) (IsSessionAt script (x ∷ t)) sessions sessions_after place new w.sessions_are sessions_are
+            (session_takes script t place input old new at takes)
+            (λ j s differ k. session_unmoved script t (session_at place) input j s (λ e. differ (omega (arith, e))) k);
+        coordinator_is = record { state = w.coordinator_is.state; entries = w.coordinator_is.entries };
+        queue = queue_given script t (Session (session_at place)) input waiting names g w.queue names_are;
       }
 
   -- after an entry of the coordinator
-  pub coordinated_world : (input : Input) (names : List PostId) (after : ℕ) → IsGiven script t Coordinator input → after ≡ coordinated + 1
-      → names ≡ undelivered (entry_by script t (given Coordinator input) ∷ t)
-      → IsWorldOf script (entry_by script t (given Coordinator input) ∷ t) hosts seats after names
-  coordinated_world input names after g more names_are = record {
-    calm = calm_after script t Coordinator input w.calm g;
-    hosts_are = record {
-      count = w.hosts_are.count;
-      each = λ j h e. (let k = w.hosts_are.each j h e in record { space = k.space; state = k.state; in_order = k.in_order; entries = k.entries });
+  pub coordinated_world : (input : Input) (names : List PostId) (after : CountedCoordinator) → IsGiven script t Coordinator input → counted_coordinator.HasTaken coordinator after input
+      → names ≡ names_after (length t) (entry_by script t (given Coordinator input)) waiting
+      → IsWorldOf script (entry_by script t (given Coordinator input) ∷ t) servers sessions after names
+  coordinated_world input names after g takes names_are = record {
+    past = past_after script t Coordinator input w.past g;
+    servers_are = record {
+      count = w.servers_are.count;
+      each = λ j h e. (let k = w.servers_are.each j h e in record { space = k.space; state = k.state; in_order = k.in_order; entries = k.entries });
     };
-    seats_are = record {
-      count = w.seats_are.count;
-      each = λ j s e. (let k = w.seats_are.each j s e in record { space = k.space; state = k.state; entries = k.entries });
+    sessions_are = record {
+      count = w.sessions_are.count;
+      each = λ j s e. (let k = w.sessions_are.each j s e in record { space = k.space; state = k.state; entries = k.entries });
     };
-    coordinated_is = more ∙ ap (λ n. n + 1) w.coordinated_is;
-    waiting_is = names_are;
+    coordinator_is = record {
+      state = takes.state ∙ ap (λ (c : CoordinatorState). (coordinator_step c input).state) w.coordinator_is.state;
+      entries = takes.entries ∙ ap (λ n. n + 1) w.coordinator_is.entries;
+    };
+    queue = queue_given script t Coordinator input waiting names g w.queue names_are;
   }
 
   -- what each makes is the entry of its actor
-  pub served_entry : (place : ℕ) (h : Host) (input : Input) → IsHost script t place h → MayTake t (Server (server_at place)) input → server_entry h.server.space h.server.state input ≡ entry_by script t (given (Server (server_at place)) input)
+  pub served_entry : (place : ℕ) (h : CountedServer) (input : Input) → IsServerAt script t place h → MayTake t (Server (server_at place)) input → server_entry h.server.space h.server.state input ≡ entry_by script t (given (Server (server_at place)) input)
   served_entry place h input at may =
       (λ i. server_entry (at.space i) (at.state i) input)
-      ∙ ap (λ (x : ServerStep). entry_of (Server (server_of script (server_at place) t).id) input (record { posts = x.posts; notes = x.notes })) (server-folds script.space (server_of script (server_at place) t) at.in_order input (fits_here script t w.calm (server_at place) input may))
-      ∙ ap (λ (x : ServerId). entry_of (Server x) input (made_of script t (Server (server_at place)) input)) (server_id script t w.calm (server_at place))
+      ∙ ap (λ (x : ServerStep). entry_of (Server (server_of script (server_at place) t).id) input (record { posts = x.posts; notes = x.notes })) (server-folds script.space (server_of script (server_at place) t) at.in_order input (fits_here script t w.past (server_at place) input may))
+      ∙ ap (λ (x : ServerId). entry_of (Server x) input (made_of script t (Server (server_at place)) input)) (server_id script t w.past (server_at place))
 
-  pub attended_entry : (place : ℕ) (s : Seat) (input : Input) → IsSessionOf (length script.sessions) (session_at place) → IsSeat script t place s
+  pub attended_entry : (place : ℕ) (s : CountedSession) (input : Input) → IsSessionAt script t place s
       → session_entry s.session.space s.session.state input ≡ entry_by script t (given (Session (session_at place)) input)
-  attended_entry place s input exists at =
+  attended_entry place s input at =
       (λ i. session_entry (at.space i) (at.state i) input)
-      ∙ ap (λ (x : SessionId). entry_of (Session x) input (made_of script t (Session (session_at place)) input)) (session_id script t w.calm (session_at place) exists)
+      ∙ ap (λ (x : SessionId). entry_of (Session x) input (made_of script t (Session (session_at place)) input)) (session_id script t w.past (session_at place))
 
-  pub coordinated_entry : (input : Input) → MayTake t Coordinator input → resting_entry input ≡ entry_by script t (given Coordinator input)
-  coordinated_entry input may =
-      ap (λ (c : CoordinatorStep). entry_of Coordinator input (record { posts = c.posts; notes = c.notes })) (sym (rests script t w.calm input may))
+  pub coordinated_entry : (input : Input) → coordinator_entry coordinator.coordinator input ≡ entry_by script t (given Coordinator input)
+  coordinated_entry input = ap (λ (c : CoordinatorState). coordinator_entry c input) w.coordinator_is.state

@@ -8,17 +8,16 @@ use Rattle.hx_types.specs.declared.traces.Script.{Script}
 use Rattle.hx_types.specs.Fitting.{IsScript, calls_of, numbered}
 use Rattle.hx_types.specs.Spaces.{Fits}
 use Rattle.hx_types.specs.Words.{IsIn, when_some}
-use Rattle.hx_steady.specs.Calm.{IsFixed}
-use Rattle.hx_sound.specs.Sound.{PostsAreSound, ServersRun, VersionsAreSmall}
+use Rattle.hx_posts.specs.Posts.{EpochsStaySmall, PostsStaySound, VersionsStaySmall}
 use Rattle.hx_law_lemmas.proofs.Lists.{all-in, in-slice_get}
 use Rattle.hx_folds.proofs.Runs.{lean-of, server-of}
 use Rattle.hx_world.specs.declared.actors.Actors.{Actors}
 use Rattle.hx_world.specs.declared.logs.Log.{Log}
-use Rattle.hx_world.specs.Invariant.{IsHost, IsSeat, IsWorld, IsWorldOf, server_at, session_at}
-use Rattle.hx_world.specs.Runnable.{IsRunnable}
-use Rattle.hx_world.specs.Starting.{HaveStarted, IsNewHost, IsNewSeat}
-use Rattle.hx_world.specs.declared.seats.Seat.{Seat}
+use Rattle.hx_world.specs.Invariant.{IsServerAt, IsSessionAt, IsWorldOf, IsWorldOn, server_at, session_at}
+use Rattle.hx_world.specs.Starting.{HaveStarted, IsNewServer, IsNewSession}
+use Rattle.hx_world.specs.declared.sessions.CountedSession.{CountedSession}
 use Rattle.hx_model.specs.SessionSteps.{session_at_start}
+use Rattle.hx_world.proofs.Queueing.{no_queue}
 use Rattle.hx_world.proofs.Seating.{at_each, item_read}
 
 -- the calls of a place are those of its session
@@ -41,9 +40,9 @@ calls_few script valid place calls e =
     let part = part_of_sum (λ (cs : List Op). length cs) script.sessions calls (in-slice_get script.sessions place calls e) in omega (arith, part, valid.few_calls)
 
 -- the next session has started
-pub seat_starts : (script : Script) (all : List (List Op)) (place : ℕ) (calls own : List Op) (s : Seat) → all ≡ script.sessions → place < length all → calls ≡ get_or all place calls → own ≡ calls
-    → s.session.space ≡ script.space → s.session.state ≡ session_at_start script.space (session_at place) own → s.entries ≡ 0 → IsNewSeat script place s
-seat_starts script all place calls own s same within read copied space state entries =
+pub session_starts : (script : Script) (all : List (List Op)) (place : ℕ) (calls own : List Op) (s : CountedSession) → all ≡ script.sessions → place < length all → calls ≡ get_or all place calls → own ≡ calls
+    → s.session.space ≡ script.space → s.session.state ≡ session_at_start script.space (session_at place) own → s.entries ≡ 0 → IsNewSession script place s
+session_starts script all place calls own s same within read copied space state entries =
     let here : slice_get script.sessions place ≡ Some calls = subst (λ (l : List (List Op)). slice_get l place ≡ Some calls) same (item_read all place calls within read) in
     record {
       space_is = space;
@@ -52,30 +51,27 @@ seat_starts script all place calls own s same within read copied space state ent
     }
 
 -- where the actors have started
-pub world_starts : (script copy : Script) (actors : Actors) (log : Log) → IsRunnable script
-    → ((x : Script) → IsScript x → IsFixed x → PostsAreSound x) → ((x : Script) → IsScript x → IsFixed x → VersionsAreSmall x) → ((x : Script) → IsScript x → IsFixed x → ServersRun x)
-    → HaveStarted script actors → copy ≡ script → log.trace ≡ [] → log.waiting.items ≡ []
-    → IsWorld copy actors log
-world_starts script copy actors log runnable posts versions running started same no_entry no_post =
-    let fixed = runnable.fixed in
-    let valid = runnable.valid in
-    let at : IsWorldOf script [] actors.hosts.items actors.seats.items actors.coordinator.entries [] =
+pub world_starts : (script : Script) (actors : Actors) (log : Log) → IsScript script
+    → ((x : Script) → IsScript x → PostsStaySound x) → ((x : Script) → IsScript x → VersionsStaySmall x) → ((x : Script) → IsScript x → EpochsStaySmall x)
+    → HaveStarted script actors → log.trace ≡ [] → log.waiting.items ≡ []
+    → IsWorldOn script actors log
+world_starts script actors log valid posts versions epochs started no_entry no_post =
+    let at : IsWorldOf script [] actors.servers.items actors.sessions.items actors.coordinator [] =
     record {
-      calm =
+      past =
           record {
-            runnable = runnable;
-            sound = record { posts = posts script valid fixed; versions = versions script valid fixed; running = running script valid fixed };
+            valid = valid;
+            sound = record { posts = posts script valid; versions = versions script valid; epochs = epochs script valid };
             run = tt;
-            still = tt;
             few = λ a. omega arith;
           };
-      hosts_are =
-          at_each script.space.servers (IsNewHost script.space) (IsHost script []) actors.hosts.items started.hosts
+      servers_are =
+          at_each script.space.servers (IsNewServer script.space) (IsServerAt script []) actors.servers.items started.servers
           (λ place h within new. record { space = new.space_is; state = new.state ∙ lean-of script (server_at place) [] tt; in_order = server-of script (server_at place) [] tt; entries = new.entries });
-      seats_are =
-          at_each (length script.sessions) (IsNewSeat script) (IsSeat script []) actors.seats.items started.seats
+      sessions_are =
+          at_each (length script.sessions) (IsNewSession script) (IsSessionAt script []) actors.sessions.items started.sessions
           (λ place s within new. record { space = new.space_is; state = new.state; entries = new.entries });
-      coordinated_is = started.coordinator;
-      waiting_is = refl;
+      coordinator_is = record { state = started.coordinator.state; entries = started.coordinator.entries };
+      queue = no_queue script;
     } in
-    subst (λ (x : Script). IsWorld x actors log) (sym same) (rw (no_entry, no_post) at)
+    rw (no_entry, no_post) at

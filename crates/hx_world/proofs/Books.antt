@@ -1,4 +1,4 @@
--- The scripts of the tests are runnable.
+-- The scripts of the tests are valid.
 use Rattle.std.proofs.Common.{◌≡◌, ℕ, zero, suc, ◌<◌, ◌≤◌, true, false, List, [], ◌∷◌, map, pos, Some, refl, sym, ap, ◌∙◌, arith, rules, length}
 use Rattle.std.specs.Prelude.{◌≢◌, slice_get}
 use Rattle.std.specs.List.{All}
@@ -10,13 +10,9 @@ use Rattle.hx_types.specs.declared.spaces.Space.{Space}
 use Rattle.hx_types.specs.declared.traces.Script.{Script}
 use Rattle.hx_types.specs.declared.values.Term.TheVariants as a_term
 use Rattle.hx_types.specs.declared.values.Value.TheVariants as a_value
-use Rattle.hx_types.specs.Fitting.{calls_of, numbered}
+use Rattle.hx_types.specs.Fitting.{IsScript}
 use Rattle.hx_types.specs.Spaces.{ArePart, AssignFits, Fits, IsKind, IsName, IsSpace, IsSubspaceOf, TermFits, is_word}
-use Rattle.hx_types.specs.Words.{when_some}
-use Rattle.hx_steady.specs.Calm.{IsFixed, reconfigures}
-use Rattle.hx_law_lemmas.proofs.Lists.{all-in, in-slice_get, when_some_both}
 use Rattle.hx_world.specs.Examples.{axis_of, books, genre_is, one, one_call, script_in, search_calls, three_calls, year_is}
-use Rattle.hx_world.specs.Runnable.{IsRunnable}
 
 abbrev head_of : List ℕ → ℕ
 head_of [] = 0
@@ -85,40 +81,15 @@ one_is_space =
       tolerate = (omega arith, omega arith);
     }
 
-abbrev IsFixedCall : Op → Type 0
-IsFixedCall op = reconfigures op ≡ false
-
-abbrev AreFixed : List Op → Type 0
-AreFixed calls = All IsFixedCall calls
-
-calls_listed : (sessions : List (List Op)) → All AreFixed sessions → (n : ℕ) → AreFixed (when_some (numbered sessions n) [] (λ (calls : List Op). calls))
-calls_listed sessions all zero = All-nil IsFixedCall
-calls_listed sessions all (suc n) =
-    when_some_both (slice_get sessions n) [] (λ (calls : List Op). calls) AreFixed
-    (λ e. All-nil IsFixedCall)
-    (λ (calls : List Op) e. all-in AreFixed sessions calls all (in-slice_get sessions n calls e))
-
-call_fixed : (calls : List Op) → AreFixed calls → (n : ℕ) (op : Op) → numbered calls n ≡ Some op → reconfigures op ≡ false
-call_fixed calls all zero op e = cc
-call_fixed calls all (suc n) op e = all-in IsFixedCall calls op all (in-slice_get calls n op e)
-
-fixed_of : (script : Script) → All AreFixed script.sessions → IsFixed script
-fixed_of script all c op e = call_fixed (calls_of script c.session) (calls_listed script.sessions all c.session.0) c.number op e
-
 -- a session of calls that fit
-runs : (space : Space) (calls : List Op) → IsSpace space → length calls ≤ 16384 → All (Fits space) calls → AreFixed calls → IsRunnable (script_in space calls)
-runs space calls valid few fit fixed =
-    record {
-      valid =
-          record {
-            space = valid;
-            sessions = omega arith;
-            calls = All-from_recursion (λ (own : List Op). All (Fits space) own) (calls ∷ []) (fit, tt);
-            few_calls = omega (arith, few);
-            few_steps = omega arith;
-          };
-      fixed = fixed_of (script_in space calls) (All-from_recursion AreFixed (calls ∷ []) (fixed, tt));
-    }
+valid : (space : Space) (calls : List Op) → IsSpace space → length calls ≤ 16384 → All (Fits space) calls → IsScript (script_in space calls)
+valid space calls is few fit = record {
+  space = is;
+  sessions = omega arith;
+  calls = All-from_recursion (λ (own : List Op). All (Fits space) own) (calls ∷ []) (fit, tt);
+  few_calls = omega (arith, few);
+  few_steps = omega arith;
+}
 
 three_fit : All (Fits books) three_calls
 three_fit =
@@ -139,20 +110,20 @@ three_fit =
       ),
     )
 
-pub three_run : (script : Script) → script ≡ script_in books three_calls → IsRunnable script
-three_run script e = rw e (runs books three_calls books_are_space (omega arith) three_fit (All-from_recursion IsFixedCall three_calls (refl, (refl, (refl, tt)))))
+pub three_valid : (script : Script) → script ≡ script_in books three_calls → IsScript script
+three_valid script e = rw e (valid books three_calls books_are_space (omega arith) three_fit)
 
 one_fit : (space : Space) → All (Fits space) one_call
 one_fit space = All-from_recursion (Fits space) one_call ((omega arith, record { each = All-nil (AssignFits space); once = tt }), tt)
 
-pub one_runs : (space : Space) → IsSpace space → IsRunnable (script_in space one_call)
-one_runs space valid = runs space one_call valid (omega arith) (one_fit space) (All-from_recursion IsFixedCall one_call (refl, tt))
+pub one_valid : (space : Space) → IsSpace space → IsScript (script_in space one_call)
+one_valid space is = valid space one_call is (omega arith) (one_fit space)
 
-pub book_runs : (script : Script) → script ≡ script_in books one_call → IsRunnable script
-book_runs script e = rw e (one_runs books books_are_space)
+pub book_valid : (script : Script) → script ≡ script_in books one_call → IsScript script
+book_valid script e = rw e (one_valid books books_are_space)
 
-pub small_runs : (script : Script) → script ≡ script_in one one_call → IsRunnable script
-small_runs script e = rw e (one_runs one one_is_space)
+pub small_valid : (script : Script) → script ≡ script_in one one_call → IsScript script
+small_valid script e = rw e (one_valid one one_is_space)
 
 search_fits : All (Fits books) search_calls
 search_fits =
@@ -167,5 +138,5 @@ search_fits =
       ),
     )
 
-pub search_runs : (script : Script) → script ≡ script_in books search_calls → IsRunnable script
-search_runs script e = rw e (runs books search_calls books_are_space (omega arith) search_fits (All-from_recursion IsFixedCall search_calls (refl, (refl, tt))))
+pub search_valid : (script : Script) → script ≡ script_in books search_calls → IsScript script
+search_valid script e = rw e (valid books search_calls books_are_space (omega arith) search_fits)

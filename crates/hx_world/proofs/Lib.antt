@@ -2,8 +2,7 @@ pub mod Numbering
 pub mod Seating
 pub mod Naming
 pub mod Removing
-pub mod Owning
-pub mod Keyed
+pub mod Queueing
 pub mod Tallies
 pub mod Taking
 pub mod Advancing

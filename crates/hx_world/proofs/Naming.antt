@@ -43,20 +43,20 @@ named_still id t x p e =
     ∙ e
 
 -- the posts of the newest entry are named
-named_new : (t : List Entry) (x : Entry) (i : ℕ) (p : Post) → slice_get x.outputs i ≡ Some p → post_named (record { entry = length t + 1; place = i }) (x ∷ t) ≡ Some p
+pub named_new : (t : List Entry) (x : Entry) (i : ℕ) (p : Post) → slice_get x.outputs i ≡ Some p → post_named (record { entry = length t + 1; place = i }) (x ∷ t) ≡ Some p
 named_new t x i p e =
     ap (λ (o : Option Entry). when_some o None (λ (y : Entry). slice_get y.outputs i))
     (cond-true (eqb (length t + 1) (length t + 1)) (Some x) (entry_at (length t + 1) t) (eq-eqb (length t + 1) (length t + 1) refl))
     ∙ e
 
 -- a name of an entry's posts
-record IsNameIn (entry place : ℕ) (posts : List Post) (id : PostId) : Type 0 where
-  sent : Post
-  entry_is : id.entry ≡ entry
-  after : place ≤ id.place
-  is : slice_get posts (id.place - place) ≡ Some sent
+pub record IsNameIn (entry place : ℕ) (posts : List Post) (id : PostId) : Type 0 where
+  pub sent : Post
+  pub entry_is : id.entry ≡ entry
+  pub after : place ≤ id.place
+  pub is : slice_get posts (id.place - place) ≡ Some sent
 
-name_in : (entry place : ℕ) (posts : List Post) (id : PostId) → IsIn id (names_from entry place posts) → IsNameIn entry place posts id
+pub name_in : (entry place : ℕ) (posts : List Post) (id : PostId) → IsIn id (names_from entry place posts) → IsNameIn entry place posts id
 name_in entry place [] id i = absurd i
 name_in entry place (p ∷ rest) id (inl e) =
     let entry_is : id.entry ≡ entry = ap (λ (x : PostId). x.entry) e in
@@ -69,8 +69,16 @@ name_in entry place (p ∷ rest) id (inr i) =
     let further : id.place - place ≡ suc (id.place - (place + 1)) = omega (arith, before) in
     record { sent = r.sent; entry_is = r.entry_is; after = omega (arith, before); is = rw further r.is }
 
+-- the name of a post of the newest entry
+pub new_named : (t : List Entry) (x : Entry) (id : PostId) → IsIn id (names_from (length t + 1) 0 x.outputs) → (p : Post) × (post_named id (x ∷ t) ≡ Some p)
+new_named t x id j =
+    let r = name_in (length t + 1) 0 x.outputs id j in
+    let e = r.entry_is in
+    let place : id.place - 0 ≡ id.place = omega arith in
+    (r.sent, subst (λ n. post_named (record { entry = n; place = id.place }) (x ∷ t) ≡ Some r.sent) (sym e) (named_new t x id.place r.sent (rw place at r.is)))
+
 -- what still waits waited before
-still_named : (input : Input) (names : List PostId) (id : PostId) → IsIn id (without_delivered input names) → IsIn id names
+pub still_named : (input : Input) (names : List PostId) (id : PostId) → IsIn id (without_delivered input names) → IsIn id names
 still_named Tick names id j = j
 still_named Halt names id j = j
 still_named (Deliver d from message) names id j = (in-filter (λ (y : PostId). not (same_name y d)) names id j).0
@@ -81,10 +89,7 @@ waiting_named [] id i = absurd i
 waiting_named (x ∷ older) id i =
     elim (in-append (without_delivered x.input (undelivered older)) (names_from (length older + 1) 0 x.outputs) id i) [
       | inl j ↦ (let r = waiting_named older id (still_named x.input (undelivered older) id j) in (r.0, named_still id older x r.0 r.1))
-      | inr j ↦ (let r = name_in (length older + 1) 0 x.outputs id j in
-          let e = r.entry_is in
-          let place : id.place - 0 ≡ id.place = omega arith in
-          (r.sent, subst (λ n. post_named (record { entry = n; place = id.place }) (x ∷ older) ≡ Some r.sent) (sym e) (named_new older x id.place r.sent (rw place at r.is))))
+      | inr j ↦ new_named older x id j
     ]
 
 -- one name is lower than another
@@ -115,7 +120,7 @@ before_all a b c h k =
       ]
     ]
 
-names-ascend : (entry place : ℕ) (posts : List Post) → AreAscending (names_from entry place posts)
+pub names-ascend : (entry place : ℕ) (posts : List Post) → AreAscending (names_from entry place posts)
 names-ascend entry place [] = tt
 names-ascend entry place (p ∷ rest) = (
   λ y i. (let n = name_in entry (place + 1) rest y i in let after = n.after in before_place (record { entry = entry; place = place }) y (sym n.entry_is) (omega (arith, after))),
@@ -129,27 +134,14 @@ filter-ascends test (x ∷ rest) h =
     (λ e. ((λ y i. h.0 y (in-filter test rest y i).0), filter-ascends test rest h.1))
     (λ e. filter-ascends test rest h.1)
 
-append-ascends : (xs ys : List PostId) → AreAscending xs → AreAscending ys → ((x y : PostId) → IsIn x xs → IsIn y ys → is_before x y ≡ true) → AreAscending (xs ++ ys)
+pub append-ascends : (xs ys : List PostId) → AreAscending xs → AreAscending ys → ((x y : PostId) → IsIn x xs → IsIn y ys → is_before x y ≡ true) → AreAscending (xs ++ ys)
 append-ascends [] ys h k f = k
 append-ascends (x ∷ xs) ys h k f = (
   λ y i. elim (in-append xs ys y i) [ inl j ↦ h.0 y j | inr j ↦ f x y (inl refl) j ],
   append-ascends xs ys h.1 k (λ z y i j. f z y (inr i) j),
 )
 
-delivery-ascends : (input : Input) (names : List PostId) → AreAscending names → AreAscending (without_delivered input names)
+pub delivery-ascends : (input : Input) (names : List PostId) → AreAscending names → AreAscending (without_delivered input names)
 delivery-ascends Tick names h = h
 delivery-ascends Halt names h = h
 delivery-ascends (Deliver d from message) names h = filter-ascends (λ (y : PostId). not (same_name y d)) names h
-
--- the names of the posts that wait ascend
-pub waiting_ascends : (t : List Entry) → AreAscending (undelivered t)
-waiting_ascends [] = tt
-waiting_ascends (x ∷ older) =
-    append-ascends (without_delivered x.input (undelivered older)) (names_from (length older + 1) 0 x.outputs)
-    (delivery-ascends x.input (undelivered older) (waiting_ascends older)) (names-ascend (length older + 1) 0 x.outputs)
-    (
-    λ a b i j. let named = waiting_named older a (still_named x.input (undelivered older) a i) in
-    let within = named_within a older named.0 named.1 in
-    let new = (name_in (length older + 1) 0 x.outputs b j).entry_is in
-    before_entry a b (omega (arith, within, new))
-    )

@@ -1,5 +1,5 @@
 -- A name is taken out of ascending names where halving finds it.
-use Rattle.std.proofs.Common.{◌≡◌, ℕ, zero, suc, ◌<◌, ◌≤◌, inl, inr, true, false, not, List, [], ◌∷◌, length, remove, Option, None, Some, IsSome, OnSome, refl, sym, ap, ◌∙◌, subst, arith, get_or}
+use Rattle.std.proofs.Common.{◌≡◌, ℕ, zero, suc, ◌<◌, ◌≤◌, inl, inr, true, false, not, List, [], ◌∷◌, length, drop, remove, Option, None, Some, IsSome, OnSome, refl, sym, ap, ◌∙◌, subst, arith, get_or}
 use Rattle.std.specs.Prelude.{slice_get}
 use Rattle.std.specs.List.Sorted.{IsPartitionedBy}
 use Rattle.std.proofs.lemmas.Bool.{cond-true, cond-false, cases_Bool, eqb-true, eq-eqb, ne_eqb, and_parts, and_left, and_right, false≢true}
@@ -74,6 +74,11 @@ pub stands_there : (names : List PostId) (id : PostId) (i : ℕ) → when_some (
 stands_there [] id i e = absurd (false≢true e)
 stands_there (x ∷ rest) id zero e = ap Some (name_is x id e)
 stands_there (x ∷ rest) id (suc i) e = stands_there rest id i e
+
+-- the first name is taken out where it is the one that is looked for
+pub removed_first : (names rest : List PostId) (id : PostId) → AreAscending names → when_some (slice_get names 0) false (λ (x : PostId). same_name x id) ≡ true → rest ≡ drop 1 names → rest ≡ names_but id names
+removed_first [] rest id h e is = absurd (false≢true e)
+removed_first (x ∷ names) rest id h e is = is ∙ removed (x ∷ names) id 0 h (stands_there (x ∷ names) id 0 e)
 
 abbrev LowerBefore : PostId → List PostId → ℕ → Type 0
 LowerBefore id names i = (k : ℕ) (d : PostId) → 0 ≤ k → k < i → is_before (get_or names k d) id ≡ true

@@ -1,6 +1,6 @@
 -- Which step the schedule takes next.
 use Rattle.std.proofs.Common.{◌≡◌, ℕ, zero, suc, ◌+◌, ◌<◌, inl, inr, Bool, true, false, not, ◌&&◌, List, [], ◌∷◌, ◌++◌, length, Option, Some, None, refl, sym, ap, ◌∙◌, subst, arith, cond, ltb, leb, add-one}
-use Rattle.std.specs.Prelude.{⊤, slice_get, is_some, IsSomeAnd, MatchOption}
+use Rattle.std.specs.Prelude.{⊤, reverse, slice_get, is_some, IsSomeAnd, MatchOption}
 use Rattle.std.specs.Option.{option_map}
 use Rattle.std.proofs.lemmas.Bool.{cond-true, cond-false, cases_eq, and_from, and_parts, and_right, le-leb, lt-ltb, ltb-true, not-true}
 use Rattle.hx_types.specs.declared.calls.Op.{Op}
@@ -16,22 +16,18 @@ use Rattle.hx_types.specs.declared.ids.Actor.TheVariants.{Session}
 use Rattle.hx_types.specs.declared.traces.Input.TheVariants.{Tick}
 use Rattle.hx_types.specs.Fitting.{numbered}
 use Rattle.hx_types.specs.Words.{below, first_some, when_some}
-use Rattle.hx_model.specs.Runs.{has_halted, is_empty, makes_enough, session_of}
+use Rattle.hx_model.specs.Runs.{is_empty, makes_enough, session_of}
 use Rattle.hx_model.specs.Schedule as model
 use Rattle.hx_model.specs.Schedule.{Next, StepFault, delivery_of, entry_by, fault_of, first_delivery, idle_among, is_idle, is_worn, next_entry, next_input, step_input, undelivered, with_entry, worn_fault}
 use Rattle.hx_model.specs.SessionSteps.{SessionState, SessionStep, begin, session_step, session_tick, staying}
-use Rattle.hx_law_lemmas.proofs.Lists.{in-slice_get}
 use Rattle.hx_world.specs.declared.ends.StepError.{StepError}
 use Rattle.hx_world.specs.declared.ends.StepError.TheVariants as an_error
-use Rattle.hx_world.specs.declared.hosts.Host.{Host}
-use Rattle.hx_world.specs.declared.seats.Seat.{Seat}
-use Rattle.hx_world.specs.Idle.{IsFirstIdle, IsNextStep, IsNoneIdle, is_idle_at}
-use Rattle.hx_world.specs.Invariant.{IsWorldOf, session_at}
+use Rattle.hx_world.specs.declared.sessions.CountedSession.{CountedSession}
+use Rattle.hx_world.specs.Idle.{IsFirstIdle, IsNextStep, IsNoneIdle, IsPostedFirst, is_idle_at}
+use Rattle.hx_world.specs.Invariant.{AreAt, IsSessionAt, session_at}
 use Rattle.hx_world.specs.Worlds.{Advances, IsWornOut, Refuses, Steps}
-use Rattle.hx_world.proofs.Naming.{waiting_named}
 use Rattle.hx_world.proofs.Seating.{item_at}
 use Rattle.hx_world.proofs.Stepping.{delivery_fault, not_idle, tick_fault}
-use Rattle.hx_world.proofs.Taking.{running_here}
 
 -- the turn of the session of a place
 abbrev tick_of : ℕ → Next
@@ -89,67 +85,56 @@ idle_makes space s e =
     ap (λ (x : SessionStep). not (is_empty x.posts && is_empty x.notes)) ticks
     ∙ ap not (and_right (is_empty (begin space s op.0).posts) false refl)
 
-first_of : (names : List PostId) (id : PostId) → slice_get names 0 ≡ Some id → (rest : List PostId) × (names ≡ id ∷ rest)
-first_of [] id e = cc
-first_of (x ∷ rest) id e = (rest, (let same : x ≡ id = cc in ap (λ (y : PostId). y ∷ rest) same))
+-- the first post that waits is delivered next
+pub delivery_next : (script : Script) (t : List Entry) (id : PostId) → IsPostedFirst script t id → IsNextStep script t (a_step.Deliver id)
+delivery_next script t id first = record {
+  next = delivery_of id first.sent;
+  is_next = ap (λ (o : Option Next). first_some o (idle_among script t (below (length script.sessions)))) first.first;
+  input = ap (λ (o : Option Post). option_map (delivery_of id) o) first.named;
+  taken = tt;
+  fault = delivery_fault script t id first.sent first.named first.running;
+}
 
-nothing_first : (names : List PostId) → slice_get names 0 ≡ None → names ≡ []
-nothing_first [] e = refl
-nothing_first (x ∷ rest) e = cc
-
-module _ (script : Script) (t : List Entry) (hosts : List Host) (seats : List Seat) (coordinated : ℕ) (waiting : List PostId) (w : IsWorldOf script t hosts seats coordinated waiting) where
-  -- the first post that waits is delivered next
-  pub delivery_next : (id : PostId) → slice_get waiting 0 ≡ Some id → IsNextStep script t (a_step.Deliver id)
-  delivery_next id first =
-      let waits : slice_get (undelivered t) 0 ≡ Some id = ap (λ (l : List PostId). slice_get l 0) (sym w.waiting_is) ∙ first in
-      let named = waiting_named t id (in-slice_get (undelivered t) 0 id waits) in
-      let p = named.0 in
-      let names = first_of (undelivered t) id waits in
-      let next = delivery_of id p in
-      let delivery : first_delivery script t (undelivered t) ≡ Some next =
-      ap (λ (l : List PostId). first_delivery script t l) names.1
-      ∙ ap (λ (o : Option Post). when_some o (first_delivery script t names.0) (λ (x : Post). cond (has_halted script t x.to) (first_delivery script t names.0) (Some (delivery_of id x)))) named.1
-      ∙ cond-false (has_halted script t p.to) (first_delivery script t names.0) (Some next) (running_here script t w.calm p.to) in
-      record {
-        next = next;
-        is_next = ap (λ (o : Option Next). first_some o (idle_among script t (below (length script.sessions)))) delivery;
-        input = ap (λ (o : Option Post). option_map (delivery_of id) o) named.1;
-        taken = tt;
-        fault = delivery_fault script t w.calm id p named.1;
-      }
-
+module _ (script : Script) (t : List Entry) (sessions : List CountedSession) (are : AreAt (length script.sessions) (IsSessionAt script t) sessions) (none : first_delivery script t (undelivered t) ≡ None) where
   -- whether the session of a place is idle
-  idle_is : (place : ℕ) → place < length seats → is_idle (session_of script (session_at place) t) ≡ is_idle_at seats place
+  idle_is : (place : ℕ) → place < length sessions → is_idle (session_of script (session_at place) t) ≡ is_idle_at sessions place
   idle_is place within =
-      let here = item_at seats place within in
-      let at = w.seats_are.each place here.0 here.1 in
-      ap is_idle (sym at.state) ∙ sym (ap (λ (o : Option Seat). when_some o false (λ (s : Seat). is_idle s.session.state)) here.1)
+      let here = item_at sessions place within in
+      let at = are.each place here.0 here.1 in
+      ap is_idle (sym at.state) ∙ sym (ap (λ (o : Option CountedSession). when_some o false (λ (s : CountedSession). is_idle s.session.state)) here.1)
 
-  idles_next : slice_get waiting 0 ≡ None → next_input script t ≡ idle_among script t (below (length seats))
-  idles_next none =
-      ap (λ (names : List PostId). first_some (first_delivery script t names) (idle_among script t (below (length script.sessions)))) (sym w.waiting_is ∙ nothing_first waiting none)
-      ∙ ap (λ n. idle_among script t (below n)) (sym w.seats_are.count)
+  idles_next : next_input script t ≡ idle_among script t (below (length sessions))
+  idles_next =
+      ap (λ (o : Option Next). first_some o (idle_among script t (below (length script.sessions)))) none
+      ∙ ap (λ n. idle_among script t (below n)) (sym are.count)
 
   -- else the lowest idle session begins its next call
-  pub tick_next : slice_get waiting 0 ≡ None → (place : ℕ) → IsFirstIdle seats place → IsNextStep script t (a_step.Tick (Session (session_at place)))
-  tick_next none place first =
+  pub tick_next : (place : ℕ) → IsFirstIdle sessions place → IsNextStep script t (a_step.Tick (Session (session_at place)))
+  tick_next place first =
       let within = first.within in
-      let count = w.seats_are.count in
+      let count = are.count in
       let is_idle_here : is_idle (session_of script (session_at place) t) ≡ true = idle_is place first.within ∙ first.idle in
       let enough = idle_makes script.space (session_of script (session_at place) t) is_idle_here in
       record {
         next = tick_of place;
-        is_next = idles_next none ∙ first_below script t (length seats) place first.within is_idle_here (λ j l. idle_is j (omega (arith, l, within)) ∙ first.lowest j l);
+        is_next = idles_next ∙ first_below script t (length sessions) place first.within is_idle_here (λ j l. idle_is j (omega (arith, l, within)) ∙ first.lowest j l);
         input = refl;
         taken = and_from (ltb 0 (place + 1)) (leb (place + 1) (length script.sessions)) (lt-ltb 0 (place + 1) (omega arith)) (le-leb (place + 1) (length script.sessions) (omega (arith, within, count)));
         fault =
-            tick_fault script t w.calm (Session (session_at place))
-            ∙ ap (λ (o : Option StepFault). first_some o (worn_fault t (Session (session_at place)))) (not_idle script t w.calm (Session (session_at place)) enough);
+            tick_fault script t (Session (session_at place)) refl
+            ∙ ap (λ (o : Option StepFault). first_some o (worn_fault t (Session (session_at place)))) (not_idle script t (Session (session_at place)) enough);
       }
 
   -- else there is no next step
-  pub none_next : slice_get waiting 0 ≡ None → IsNoneIdle seats → next_input script t ≡ None
-  none_next none idle = idles_next none ∙ none_below script t (length seats) (λ j l. idle_is j l ∙ idle j l)
+  pub none_next : IsNoneIdle sessions → next_input script t ≡ None
+  none_next idle = idles_next ∙ none_below script t (length sessions) (λ j l. idle_is j l ∙ idle j l)
+
+-- the sessions are the same once the queue was looked at
+pub sessions_still : (script after : Script) (trace later : List Entry) (sessions : List CountedSession) → after ≡ script → later ≡ trace
+    → AreAt (length after.sessions) (IsSessionAt after (reverse later)) sessions → AreAt (length script.sessions) (IsSessionAt script (reverse trace)) sessions
+sessions_still script after trace later sessions same earlier are =
+    subst (λ (l : List Entry). AreAt (length script.sessions) (IsSessionAt script (reverse l)) sessions) earlier
+    (subst (λ (x : Script). AreAt (length x.sessions) (IsSessionAt x (reverse later)) sessions) same are)
 
 -- the next step was made
 pub advanced : (script : Script) (old new : List Entry) (step : Step) → IsNextStep script old step → Steps script old new step → Advances script old new true

@@ -20,17 +20,13 @@ use Rattle.hx_types.specs.declared.traces.Input.TheVariants.{Tick, Halt, Deliver
 use Rattle.hx_types.specs.Posts.{ActorExists, Bounds, IsSessionOf, IsSoundMessage, IsSoundPost, IsSoundUpdate, has_place_in}
 use Rattle.hx_types.specs.Spaces.{IsServerOf}
 use Rattle.hx_types.specs.Words.{IsIn, post}
-use Rattle.hx_model.specs.CoordinatorSteps.{CoordinatorState, coordinator_at_start, coordinator_step, resting}
 use Rattle.hx_model.specs.Runs.{MayTake, coordinator_of, has_halted, is_actor, post_named, server_of, session_of}
 use Rattle.hx_model.specs.ServerSteps.{Replica, ServerState}
 use Rattle.hx_model.specs.SessionSteps.{SessionState}
-use Rattle.hx_steady.specs.Calm.{is_halt}
 use Rattle.hx_replica.specs.Servers as server
 use Rattle.hx_session.specs.Sessions as session
-use Rattle.hx_steady.proofs.Entries.{served_lemma, still-run}
-use Rattle.hx_steady.proofs.Kept.{Still, delivered-sent, lines, named-in}
-use Rattle.hx_steady.proofs.Posts.{Sent}
-use Rattle.hx_steady.proofs.Sessions.{coordinator-rests}
+use Rattle.hx_coord.specs.Coordinators as coordinator
+use Rattle.hx_posts.proofs.Runs.{KeptSound, kept-run}
 use Rattle.hx_types.specs.declared.spaces.Space.{Space}
 use Rattle.hx_types.specs.Subspaces.{is_key_region}
 use Rattle.hx_model.specs.Slots.{top_of}
@@ -38,31 +34,9 @@ use Rattle.hx_folds.specs.Folding.{InputFits, IsAfter, IsReplicaOf, IsServerOf a
 use Rattle.hx_folds.proofs.Folds.{top-folded}
 use Rattle.hx_folds.proofs.Servers.{folded-server-twice}
 use Rattle.hx_law_lemmas.proofs.Lists.{in-map}
-use Rattle.hx_world.specs.Invariant.{IsCalm}
-use Rattle.hx_world.proofs.Keyed.{IsOnKey, keyed_run}
+use Rattle.hx_world.specs.Invariant.{IsFewRun}
 use Rattle.hx_world.proofs.Naming.{named_within}
-use Rattle.hx_world.proofs.Owning.{own_run}
 use Rattle.hx_world.proofs.Tallies.{few_in_all}
-
--- what is sent in one configuration brings no replica to another
-handled : (L : List ℕ → List Update) (m : Message) → Sent L m → IsOnKey m → server.IsHandled m
-handled L (a_message.Call epoch number op) h k = k
-handled L (a_message.Reply number version answer) h k = tt
-handled L (a_message.Update epoch g u) h k = tt
-handled L (a_message.Ack epoch g key version) h k = tt
-handled L (a_message.Ask epoch number g terms) h k = tt
-handled L (a_message.Found epoch number g rows) h k = tt
-handled L (a_message.Seal epoch) h k = tt
-handled L (a_message.Sealed epoch) h k = tt
-handled L (a_message.Install config) h k = absurd h
-handled L a_message.Die h k = tt
-handled L a_message.Gone h k = tt
-handled L (a_message.StopServer number s) h k = tt
-handled L (a_message.AddReplica number s g) h k = tt
-handled L (a_message.Outcome number answer) h k = tt
-handled L (a_message.Snap epoch g snapshot pending) h k = absurd h
-handled L (a_message.Ready epoch g) h k = tt
-handled L (a_message.Poll epoch) h k = tt
 
 -- a sound message's updates come after lower versions
 sound_fits : (b : Bounds) (m : Message) → IsSoundMessage b m → MessageFits m
@@ -98,22 +72,9 @@ small_folded space s order small r i k j =
     let slot = all_in (IsSlotIn (is_key_region space from.0.region) from.0.region) from.0.states state.0 (all_in (IsReplicaOf space) s.replicas from.0 order from.1) state.1 in
     subst (λ n. n ≤ 4611686018427387904) (sym (ap top_of state.2 ∙ top-folded from.0.region state.0 slot.slot.floor)) (small from.0 from.1 state.0 state.1)
 
-module _ (script : Script) (t : List Entry) (w : IsCalm script t) where
-  -- what every run in one configuration keeps
-  pub still_here : Still script t
-  still_here = still-run script w.runnable.valid w.runnable.fixed t w.run w.still
-
-  -- no actor has halted
-  pub running_here : (a : Actor) → has_halted script t a ≡ false
-  running_here Coordinator = refl
-  running_here (Server s) = w.sound.running t w.run w.still s
-  running_here (Session u) = refl
-
+module _ (script : Script) (t : List Entry) (w : IsFewRun script t) where
   pub sound_here : (id : PostId) (p : Post) → post_named id t ≡ Some p → IsSoundPost script.space (length script.sessions) id.entry p
-  sound_here id p named = w.sound.posts t w.run w.still id p named
-
-  keyed_here : (id : PostId) (p : Post) → post_named id t ≡ Some p → IsOnKey p.message
-  keyed_here id p named = keyed_run script (served_lemma script w.runnable.valid w.runnable.fixed) t w.run w.still p (named-in id t p named)
+  sound_here id p named = w.sound.posts t w.run id p named
 
   -- who gets a post is one of the script's actors
   pub actor_here : (id : PostId) (p : Post) → post_named id t ≡ Some p → is_actor script p.to ≡ true
@@ -131,37 +92,39 @@ module _ (script : Script) (t : List Entry) (w : IsCalm script t) where
   session_exists u h = let p = and_parts (ltb 0 u.0) (leb u.0 (length script.sessions)) h in (ltb-true 0 u.0 p.0, leb-true u.0 (length script.sessions) p.1)
 
   -- servers and sessions have their numbers
-  pub server_id : (s : ServerId) → (server_of script s t).id ≡ s
-  server_id s = ap (λ (x : ServerState). x.id) (still_here.servers s).state
+  kept_here : KeptSound script (length t) t
+  kept_here = kept-run script w.valid t w.run
 
-  pub session_id : (u : SessionId) → IsSessionOf (length script.sessions) u → (session_of script u t).id ≡ u
-  session_id u exists = (own_run script w.runnable u exists t w.run w.still).id
+  pub server_id : (s : ServerId) → (server_of script s t).id ≡ s
+  server_id s = (kept_here.servers s).id
+
+  pub session_id : (u : SessionId) → (session_of script u t).id ≡ u
+  session_id u = (kept_here.own u).id
 
   few_named : (id : PostId) (p : Post) → post_named id t ≡ Some p → id.entry < 4611686018427387904
   few_named id p named =
       let within = named_within id t p named in
-      let few = few_in_all script t w.runnable w.run w.few in
+      let few = few_in_all script t w.valid w.run w.few in
       omega (arith, within, few)
 
   small_here : (s : ServerId) → server.HasSmallVersions (server_of script s t)
   small_here s r i k j =
-      let top = w.sound.versions t w.run w.still s r i k j in
-      let few = few_in_all script t w.runnable w.run w.few in
+      let top = w.sound.versions t w.run s r i k j in
+      let few = few_in_all script t w.valid w.run w.few in
       omega (arith, top, few)
 
-  input_to_server : (s : ServerId) (input : Input) → MayTake t (Server s) input → is_halt input ≡ false → server.IsInputTo script.space s input
-  input_to_server s Tick may calm = tt
-  input_to_server s Halt may calm = absurd (false≢true (sym calm))
-  input_to_server s (Deliver id from m) may calm = (
-    handled (lines t) m (delivered-sent script t still_here (Server s) (Deliver id from m) may id from m refl) (keyed_here id (post from (Server s) m) may),
-    record { sessions = length script.sessions; entry = id.entry; few = few_named id (post from (Server s) m) may; sound = sound_here id (post from (Server s) m) may },
-  )
+  input_to_server : (s : ServerId) (input : Input) → MayTake t (Server s) input → server.IsInputTo script.space s input
+  input_to_server s Tick may = tt
+  input_to_server s Halt may = tt
+  input_to_server s (Deliver id from m) may =
+      record { sessions = length script.sessions; entry = id.entry; few = few_named id (post from (Server s) m) may; sound = sound_here id (post from (Server s) m) may }
 
-  -- a server can take what it is given
-  pub serves : (s : ServerId) (input : Input) → AreInOrder script.space (server_of script s t) → MayTake t (Server s) input → is_halt input ≡ false → server.CanTake script.space (folded_server (server_of script s t)) input
-  serves s input order may calm = record {
-    running = running_here (Server s);
-    input_to = subst (λ (x : ServerId). server.IsInputTo script.space x input) (sym (server_id s)) (input_to_server s input may calm);
+  -- a server that hasn't halted can take what it is given
+  pub serves : (s : ServerId) (input : Input) → AreInOrder script.space (server_of script s t) → has_halted script t (Server s) ≡ false → MayTake t (Server s) input
+      → server.CanTake script.space (folded_server (server_of script s t)) input
+  serves s input order running may = record {
+    running = running;
+    input_to = subst (λ (x : ServerId). server.IsInputTo script.space x input) (sym (server_id s)) (input_to_server s input may);
     small = small_folded script.space (server_of script s t) order (small_here s);
     bare = folded-server-twice (server_of script s t);
   }
@@ -172,19 +135,22 @@ module _ (script : Script) (t : List Entry) (w : IsCalm script t) where
   fits_here s Halt may = tt
   fits_here s (Deliver id from m) may = sound_fits _ m (sound_here id (post from (Server s) m) may).message
 
-  input_to_session : (st : SessionState) (u : SessionId) → st.id ≡ u → (input : Input) → MayTake t (Session u) input → is_halt input ≡ false → session.CanTake script.space st input
-  input_to_session st u same Tick may calm = tt
-  input_to_session st u same Halt may calm = absurd (false≢true (sym calm))
-  input_to_session st u same (Deliver id from m) may calm =
+  input_to_session : (st : SessionState) (u : SessionId) → st.id ≡ u → (input : Input) → MayTake t (Session u) input → session.CanTake script.space st input
+  input_to_session st u same Tick may = tt
+  input_to_session st u same Halt may = may
+  input_to_session st u same (Deliver id from m) may =
       subst (λ (x : SessionId). session.IsSoundDelivery script.space x from m) (sym same)
       (record { sessions = length script.sessions; entry = id.entry; few = few_named id (post from (Session u) m) may; sound = sound_here id (post from (Session u) m) may })
 
   -- a session can take what it is given
-  pub attends : (u : SessionId) → IsSessionOf (length script.sessions) u → (input : Input) → MayTake t (Session u) input → is_halt input ≡ false → session.CanTake script.space (session_of script u t) input
-  attends u exists input may calm = input_to_session (session_of script u t) u (session_id u exists) input may calm
+  pub attends : (u : SessionId) (input : Input) → MayTake t (Session u) input → session.CanTake script.space (session_of script u t) input
+  attends u input may = input_to_session (session_of script u t) u (session_id u) input may
 
-  -- the coordinator makes nothing of what it is given
-  pub rests : (input : Input) → MayTake t Coordinator input → coordinator_step (coordinator_of script t) input ≡ resting (coordinator_at_start script.space (length script.sessions))
-  rests input may =
-      ap (λ (c : CoordinatorState). coordinator_step c input) still_here.coordinator
-      ∙ coordinator-rests script.space (length script.sessions) (lines t) input (λ id from m e. delivered-sent script t still_here Coordinator input may id from m e)
+  -- and so can the coordinator
+  pub coordinates : (input : Input) → MayTake t Coordinator input → coordinator.CanTake (coordinator_of script t) input
+  coordinates Tick may = tt
+  coordinates Halt may = may
+  coordinates (Deliver id from m) may =
+      let epoch = (w.sound.epochs t w.run).2.1 in
+      let few = few_in_all script t w.valid w.run w.few in
+      omega (arith, epoch, few)

@@ -7,11 +7,11 @@ use Rattle.hx_types.specs.declared.ids.Actor.{Actor}
 use Rattle.hx_types.specs.declared.traces.Entry.{Entry}
 use Rattle.hx_types.specs.declared.traces.Script.{Script}
 use Rattle.hx_types.specs.declared.ids.Actor.TheVariants.{Coordinator, Server, Session}
+use Rattle.hx_types.specs.Fitting.{IsScript}
 use Rattle.hx_types.specs.Words.{same_actor}
 use Rattle.hx_model.specs.Runs.{IsRun, is_actor}
 use Rattle.hx_model.specs.Schedule.{entries_of}
 use Rattle.hx_world.specs.Invariant.{server_at, session_at}
-use Rattle.hx_world.specs.Runnable.{IsRunnable}
 use Rattle.hx_world.specs.Worlds.{HasFewEntries, most_entries}
 
 sum_to : ℕ → (ℕ → ℕ) → ℕ
@@ -89,16 +89,16 @@ tally_all script (x ∷ older) run =
     omega (arith, r, more)
 
 -- no world makes more entries
-pub few_in_all : (script : Script) (t : List Entry) → IsRunnable script → IsRun script t → HasFewEntries t → length t ≤ most_entries
+pub few_in_all : (script : Script) (t : List Entry) → IsScript script → IsRun script t → HasFewEntries t → length t ≤ most_entries
 unfolding tally
-few_in_all script t runnable run few =
+few_in_all script t valid run few =
     let all = tally_all script t run in
     let coordinator = few Coordinator in
     let servers = sum_most script.space.servers 1048576 (λ i. entries_of (Server (server_at i)) t) (λ i. few (Server (server_at i))) in
     let sessions = sum_most (length script.sessions) 1048576 (λ i. entries_of (Session (session_at i)) t) (λ i. few (Session (session_at i))) in
-    omega (arith, all, coordinator, servers, sessions, runnable.valid.sessions, runnable.valid.space.servers.1)
+    omega (arith, all, coordinator, servers, sessions, valid.sessions, valid.space.servers.1)
 
 -- the same of a trace that stands oldest first
-pub few_entries : (script : Script) (trace : List Entry) → IsRunnable script → IsRun script (reverse trace) → HasFewEntries (reverse trace) → length trace ≤ most_entries
-few_entries script trace runnable run few =
-    let all = few_in_all script (reverse trace) runnable run few in omega (arith, all, length-reverse trace)
+pub few_entries : (script : Script) (trace : List Entry) → IsScript script → IsRun script (reverse trace) → HasFewEntries (reverse trace) → length trace ≤ most_entries
+few_entries script trace valid run few =
+    let all = few_in_all script (reverse trace) valid run few in omega (arith, all, length-reverse trace)

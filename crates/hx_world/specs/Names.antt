@@ -1,8 +1,12 @@
--- The names of posts in ascending order.
-use Rattle.std.specs.Prelude.{◌≡◌, Bool, true, not, ◌&&◌, ◌||◌, List, [], ◌∷◌, nat_lt, ◌==◌, ⊤}
+-- The names of posts in ascending order, and whose receivers haven't halted.
+use Rattle.std.specs.Prelude.{◌≡◌, Bool, true, false, not, ◌&&◌, ◌||◌, List, [], ◌∷◌, nat_lt, ◌==◌, ⊤}
 use Rattle.std.specs.List.{filter}
+use Rattle.hx_types.specs.declared.messages.Post.{Post}
 use Rattle.hx_types.specs.declared.messages.PostId.{PostId}
-use Rattle.hx_types.specs.Words.{IsIn}
+use Rattle.hx_types.specs.declared.traces.Entry.{Entry}
+use Rattle.hx_types.specs.declared.traces.Script.{Script}
+use Rattle.hx_types.specs.Words.{IsIn, when_some}
+use Rattle.hx_model.specs.Runs.{has_halted, post_named}
 use Rattle.hx_model.specs.Schedule.{same_name}
 
 -- a name is lower: of an earlier entry, or at an earlier place of the same
@@ -17,3 +21,7 @@ AreAscending (x ∷ rest) = ((y : PostId) → IsIn y rest → is_before x y ≡ 
 -- the names but this one
 abbrev pub names_but : PostId → List PostId → List PostId
 names_but id names = filter (λ (x : PostId). not (same_name x id)) names
+
+-- the post of the name was sent to an actor that hasn't halted
+abbrev pub can_receive : Script → List Entry → PostId → Bool
+can_receive script trace id = when_some (post_named id trace) false (λ (p : Post). not (has_halted script trace p.to))

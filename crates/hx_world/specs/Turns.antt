@@ -1,18 +1,13 @@
 -- One entry of one actor: when it may be made, and what it leaves.
-use Rattle.std.specs.Prelude.{◌≡◌, ℕ, ◌<◌, ◌≤◌, true, false, List, [], ◌∷◌, Bool, ⊤}
+use Rattle.std.specs.Prelude.{◌≡◌, ℕ, ◌<◌, ◌≤◌, true, false, List, ◌∷◌, Bool, ⊤}
 use Rattle.hx_types.specs.declared.ids.Actor.{Actor}
 use Rattle.hx_types.specs.declared.traces.Entry.{Entry}
 use Rattle.hx_types.specs.declared.traces.Input.{Input}
 use Rattle.hx_types.specs.declared.traces.Script.{Script}
-use Rattle.hx_types.specs.declared.ids.Actor.TheVariants.{Coordinator}
-use Rattle.hx_model.specs.Runs.{made_of, makes_enough}
+use Rattle.hx_model.specs.Runs.{has_halted, made_of, makes_enough}
 use Rattle.hx_model.specs.Schedule.{entry_by, is_worn}
 use Rattle.hx_world.specs.declared.ends.StepError.{StepError}
 use Rattle.hx_world.specs.declared.ends.StepError.TheVariants.{Memory, Unsent, Halted, NotServer, Idle, Worn}
-
--- the entry of a coordinator that makes nothing
-abbrev pub resting_entry : Input → Entry
-resting_entry input = record { actor = Coordinator; input = input; outputs = []; notes = [] }
 
 -- the entry is no tick that makes nothing
 abbrev pub is_enough : Entry → Bool
@@ -40,12 +35,19 @@ IsBarred e entries (Worn a) = IsTooMany e entries a
 
 -- the actor took the input
 pub record HasTurn (script : Script) (old new : List Entry) (a : Actor) (input : Input) : Type 0 where
+  pub running : has_halted script old a ≡ false
   pub enough : makes_enough input (made_of script old a input) ≡ true
   pub fresh : is_worn a old ≡ false
   pub trace : new ≡ entry_by script old (record { actor = a; input = input }) ∷ old
 
+-- the actor would make nothing
+pub record IsIdleActor (script : Script) (t : List Entry) (a : Actor) (input : Input) : Type 0 where
+  pub running : has_halted script t a ≡ false
+  pub nothing : makes_enough input (made_of script t a input) ≡ false
+
 -- the actor has made all the entries that it may make
 pub record IsSpentActor (script : Script) (t : List Entry) (a : Actor) (input : Input) (b : Actor) : Type 0 where
+  pub running : has_halted script t a ≡ false
   pub enough : makes_enough input (made_of script t a input) ≡ true
   pub worn : is_worn a t ≡ true
   pub actor : b ≡ a
@@ -54,7 +56,7 @@ pub record IsSpentActor (script : Script) (t : List Entry) (a : Actor) (input : 
 abbrev pub HasNoTurn : Script → List Entry → Actor → Input → StepError → Type 0
 HasNoTurn script t a input Memory = ⊤
 HasNoTurn script t a input Unsent = ⊥
-HasNoTurn script t a input Halted = ⊥
+HasNoTurn script t a input Halted = has_halted script t a ≡ true
 HasNoTurn script t a input NotServer = ⊥
-HasNoTurn script t a input Idle = makes_enough input (made_of script t a input) ≡ false
+HasNoTurn script t a input Idle = IsIdleActor script t a input
 HasNoTurn script t a input (Worn b) = IsSpentActor script t a input b

@@ -68,11 +68,11 @@ pub record DrainFails (script : Script) (n : ℕ) (old new : List Entry) (e : Dr
 abbrev pub IsPartOf : Script → ℕ → List Entry → List Entry → Type 0
 IsPartOf script n old new = (k : ℕ) × (k ≤ n) × (new ≡ scheduled script old k)
 
--- what a world can be asked for: a delivery, or a tick of one of the script's actors
+-- what a world can be asked for: a delivery, or a tick or a halt of one of the script's actors
 abbrev pub IsStepOf : Script → Step → Type 0
 IsStepOf script (a_step.Deliver id) = ⊤
 IsStepOf script (a_step.Tick a) = is_actor script a ≡ true
-IsStepOf script (a_step.Halt a) = ⊥
+IsStepOf script (a_step.Halt a) = is_actor script a ≡ true
 
 -- what a step leaves
 pub record Steps (script : Script) (old new : List Entry) (step : Step) : Type 0 where

@@ -1,113 +1,124 @@
 ghost use Rattle.std.specs.Prelude.{◌≡◌, true, false, OnOk, OnErr, IfErr, reverse};
 ghost use Rattle.hx_types.specs.declared.ids.Actor.TheVariants as an_actor;
-ghost use Rattle.hx_model.specs.Runs.{MayTake, is_actor};
-ghost use Rattle.hx_steady.specs.Calm.{is_halt};
+ghost use Rattle.hx_model.specs.Runs.{MayTake, has_halted, is_actor};
 ghost use Rattle.hx_world.specs.Invariant.{IsWorld};
 ghost use Rattle.hx_world.specs.Turns.{HasNoTurn, HasTurn};
 
-use crate::coordinator::{Coordinator, coordinate};
+use crate::clusters::Cluster;
+use crate::coordinators::{CountedCoordinator, coordinator_takes};
 use crate::ends::StepError;
-use crate::hosts::{Host, serve};
-use crate::logs::Log;
-use crate::seats::{Seat, attend};
-use hx_types::{Actor, Input, Script, ServerId, SessionId};
+use crate::servers::{CountedServer, server_takes};
+use crate::sessions::{CountedSession, session_takes};
+use hx_types::{Actor, Input, ServerId, SessionId};
 use std::alloc::Global;
 
 /// All actors; of the servers and of the sessions those of number 1 first.
 #[derive(Drop)]
 pub struct Actors {
-    pub coordinator: Coordinator,
-    pub hosts: Vec<Host>,
-    pub seats: Vec<Seat>,
+    pub coordinator: CountedCoordinator,
+    pub servers: Vec<CountedServer>,
+    pub sessions: Vec<CountedSession>,
 }
 
-/// Gives an input to an actor, if the entry that it makes of it may be made.
-pub fn give(
+/// Whether an actor has halted. Only servers do.
+pub fn has_halted(cluster: &Cluster, actor: Actor) -> bool
+    requires world { IsWorld cluster.now }
+    requires actor { is_actor cluster.now.script.now actor ≡ true }
+    ensures { result ≡ has_halted cluster.now.script.now (reverse cluster.now.log.trace) actor }
+{
+    match actor {
+        Actor::Server(server) => {
+            let counted = &cluster.actors.servers[server.0 as usize - 1];
+            counted.server.halted()
+        }
+        _ => false,
+    }
+}
+
+/// An actor takes an input, if it hasn't halted and the entry that it makes of it may be made.
+pub fn actor_takes(
     alloc: Global,
-    script: &Script,
-    actors: &mut Actors,
-    log: &mut Log,
+    cluster: &mut Cluster,
     actor: Actor,
     input: &Input,
 ) -> Result<(), StepError>
-    requires world { IsWorld script.now actors.old log.old }
-    requires actor { is_actor script.now actor ≡ true }
-    requires may { MayTake (reverse log.old.trace) actor input.now }
-    requires still { is_halt input.now ≡ false }
-    ensures world { IsWorld script.now actors.new log.new }
-    ensures ok { OnOk result (HasTurn script.now (reverse log.old.trace) (reverse log.new.trace) actor input.now) }
-    ensures err { IfErr result (HasNoTurn script.now (reverse log.old.trace) actor input.now) }
-    ensures same { OnErr result (log.new.trace ≡ log.old.trace) }
+    requires world { IsWorld cluster.old }
+    requires actor { is_actor cluster.old.script.now actor ≡ true }
+    requires may { MayTake (reverse cluster.old.log.trace) actor input.now }
+    ensures world { IsWorld cluster.new }
+    ensures script { cluster.new.script.now ≡ cluster.old.script.now }
+    ensures ok { OnOk result (HasTurn cluster.old.script.now (reverse cluster.old.log.trace) (reverse cluster.new.log.trace) actor input.now) }
+    ensures err { IfErr result (HasNoTurn cluster.old.script.now (reverse cluster.old.log.trace) actor input.now) }
+    ensures same { OnErr result (cluster.new.log.trace ≡ cluster.old.log.trace) }
 {
+    if has_halted(cluster, actor) {
+        return Err(StepError::Halted);
+    }
     match actor {
-        Actor::Coordinator => to_coordinator(alloc, script, actors, log, input),
-        Actor::Server(server) => to_server(alloc, script, actors, log, server, input),
-        Actor::Session(session) => to_session(alloc, script, actors, log, session, input),
+        Actor::Coordinator => to_coordinator(alloc, cluster, input),
+        Actor::Server(server) => to_server(alloc, cluster, server, input),
+        Actor::Session(session) => to_session(alloc, cluster, session, input),
     }
 }
 
 /// Gives an input to the coordinator.
-fn to_coordinator(
-    alloc: Global,
-    script: &Script,
-    actors: &mut Actors,
-    log: &mut Log,
-    input: &Input,
-) -> Result<(), StepError>
-    requires world { IsWorld script.now actors.old log.old }
-    requires may { MayTake (reverse log.old.trace) an_actor.Coordinator input.now }
-    requires still { is_halt input.now ≡ false }
-    ensures world { IsWorld script.now actors.new log.new }
-    ensures ok { OnOk result (HasTurn script.now (reverse log.old.trace) (reverse log.new.trace) an_actor.Coordinator input.now) }
-    ensures err { IfErr result (HasNoTurn script.now (reverse log.old.trace) an_actor.Coordinator input.now) }
-    ensures same { OnErr result (log.new.trace ≡ log.old.trace) }
+fn to_coordinator(alloc: Global, cluster: &mut Cluster, input: &Input) -> Result<(), StepError>
+    requires world { IsWorld cluster.old }
+    requires may { MayTake (reverse cluster.old.log.trace) an_actor.Coordinator input.now }
+    ensures world { IsWorld cluster.new }
+    ensures script { cluster.new.script.now ≡ cluster.old.script.now }
+    ensures ok { OnOk result (HasTurn cluster.old.script.now (reverse cluster.old.log.trace) (reverse cluster.new.log.trace) an_actor.Coordinator input.now) }
+    ensures err { IfErr result (HasNoTurn cluster.old.script.now (reverse cluster.old.log.trace) an_actor.Coordinator input.now) }
+    ensures same { OnErr result (cluster.new.log.trace ≡ cluster.old.log.trace) }
 {
-    coordinate(alloc, &mut actors.coordinator, log, input)?;
+    coordinator_takes(
+        alloc,
+        &mut cluster.actors.coordinator,
+        &mut cluster.log,
+        input,
+    )?;
     Ok(())
 }
 
-/// Gives an input to a server.
+/// Gives an input to a server that hasn't halted.
 fn to_server(
     alloc: Global,
-    script: &Script,
-    actors: &mut Actors,
-    log: &mut Log,
+    cluster: &mut Cluster,
     server: ServerId,
     input: &Input,
 ) -> Result<(), StepError>
-    requires world { IsWorld script.now actors.old log.old }
-    requires actor { is_actor script.now (an_actor.Server server) ≡ true }
-    requires may { MayTake (reverse log.old.trace) (an_actor.Server server) input.now }
-    requires still { is_halt input.now ≡ false }
-    ensures world { IsWorld script.now actors.new log.new }
-    ensures ok { OnOk result (HasTurn script.now (reverse log.old.trace) (reverse log.new.trace) (an_actor.Server server) input.now) }
-    ensures err { IfErr result (HasNoTurn script.now (reverse log.old.trace) (an_actor.Server server) input.now) }
-    ensures same { OnErr result (log.new.trace ≡ log.old.trace) }
+    requires world { IsWorld cluster.old }
+    requires actor { is_actor cluster.old.script.now (an_actor.Server server) ≡ true }
+    requires running { has_halted cluster.old.script.now (reverse cluster.old.log.trace) (an_actor.Server server) ≡ false }
+    requires may { MayTake (reverse cluster.old.log.trace) (an_actor.Server server) input.now }
+    ensures world { IsWorld cluster.new }
+    ensures script { cluster.new.script.now ≡ cluster.old.script.now }
+    ensures ok { OnOk result (HasTurn cluster.old.script.now (reverse cluster.old.log.trace) (reverse cluster.new.log.trace) (an_actor.Server server) input.now) }
+    ensures err { IfErr result (HasNoTurn cluster.old.script.now (reverse cluster.old.log.trace) (an_actor.Server server) input.now) }
+    ensures same { OnErr result (cluster.new.log.trace ≡ cluster.old.log.trace) }
 {
-    let host = &mut actors.hosts[server.0 as usize - 1];
-    serve(alloc, host, log, input)?;
+    let counted = &mut cluster.actors.servers[server.0 as usize - 1];
+    server_takes(alloc, counted, &mut cluster.log, input)?;
     Ok(())
 }
 
 /// Gives an input to a session.
 fn to_session(
     alloc: Global,
-    script: &Script,
-    actors: &mut Actors,
-    log: &mut Log,
+    cluster: &mut Cluster,
     session: SessionId,
     input: &Input,
 ) -> Result<(), StepError>
-    requires world { IsWorld script.now actors.old log.old }
-    requires actor { is_actor script.now (an_actor.Session session) ≡ true }
-    requires may { MayTake (reverse log.old.trace) (an_actor.Session session) input.now }
-    requires still { is_halt input.now ≡ false }
-    ensures world { IsWorld script.now actors.new log.new }
-    ensures ok { OnOk result (HasTurn script.now (reverse log.old.trace) (reverse log.new.trace) (an_actor.Session session) input.now) }
-    ensures err { IfErr result (HasNoTurn script.now (reverse log.old.trace) (an_actor.Session session) input.now) }
-    ensures same { OnErr result (log.new.trace ≡ log.old.trace) }
+    requires world { IsWorld cluster.old }
+    requires actor { is_actor cluster.old.script.now (an_actor.Session session) ≡ true }
+    requires may { MayTake (reverse cluster.old.log.trace) (an_actor.Session session) input.now }
+    ensures world { IsWorld cluster.new }
+    ensures script { cluster.new.script.now ≡ cluster.old.script.now }
+    ensures ok { OnOk result (HasTurn cluster.old.script.now (reverse cluster.old.log.trace) (reverse cluster.new.log.trace) (an_actor.Session session) input.now) }
+    ensures err { IfErr result (HasNoTurn cluster.old.script.now (reverse cluster.old.log.trace) (an_actor.Session session) input.now) }
+    ensures same { OnErr result (cluster.new.log.trace ≡ cluster.old.log.trace) }
 {
-    let seat = &mut actors.seats[session.0 as usize - 1];
-    attend(alloc, seat, log, input)?;
+    let counted = &mut cluster.actors.sessions[session.0 as usize - 1];
+    session_takes(alloc, counted, &mut cluster.log, input)?;
     Ok(())
 }

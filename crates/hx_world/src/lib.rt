@@ -3,12 +3,13 @@
 #![tactic(auto)]
 
 mod actors;
-mod coordinator;
+mod clusters;
+mod coordinators;
 mod ends;
-mod hosts;
 mod logs;
 mod schedule;
-mod seats;
+mod servers;
+mod sessions;
 mod starting;
 mod steps;
 mod turns;

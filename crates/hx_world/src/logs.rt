@@ -13,7 +13,8 @@ use std::alloc::Global;
 use std::collections::VecDeque;
 use std::mem;
 
-/// The entries so far, and the names of the posts that wait, of which the first is delivered next.
+/// The entries so far, and in ascending order the names of the posts that were never delivered;
+/// names of posts to halted servers may be left out.
 #[derive(Drop)]
 pub struct Log {
     pub trace: Trace,
@@ -29,13 +30,6 @@ pub fn empty(alloc: Global) -> Log
         trace: Trace::new(alloc),
         waiting: VecDeque::new(alloc),
     }
-}
-
-/// The name of the post that is delivered next: the lowest one that wasn't delivered.
-pub fn first_waiting(log: &Log) -> Option<PostId>
-    ensures { result ≡ slice_get log.now.waiting.items 0 }
-{
-    log.waiting.front().copied()
 }
 
 /// The entry of a number, from 1.
@@ -68,7 +62,7 @@ fn posts_of(entry: &Entry) -> Result<u32, Memory>
 }
 
 /// Takes all memory for an entry. Where it is there, the entries are handed out and the log is
-/// without them until [`file`] hands them back.
+/// without them until [`close`] hands them back.
 pub fn open(alloc: Global, log: &mut Log, entry: &Entry) -> Result<Vec<Entry>, Memory>
     ensures entries { IfOk result (λ entries. entries.items ≡ log.old.trace) }
     ensures room { IfOk result (λ entries. vec_len entries < vec_capacity entries) }
@@ -100,7 +94,7 @@ fn take_with_room(alloc: Global, trace: &mut Trace) -> Result<Vec<Entry>, Memory
 /// Puts an entry at the end of the entries and these into the log. A delivery takes the name of its
 /// post out, and the names of the entry's own posts wait after the others.
 #[tactic(auto, using(crate::proofs::Numbering::names_of_entry))]
-pub fn file(log: &mut Log, entries: Vec<Entry>, entry: Entry)
+pub fn close(log: &mut Log, entries: Vec<Entry>, entry: Entry)
     requires entry_room { vec_len entries < vec_capacity entries }
     requires name_room { deque_len log.old.waiting + length entry.outputs ≤ deque_capacity log.old.waiting }
     requires few_posts { length entry.outputs < 2 ^ 32 }

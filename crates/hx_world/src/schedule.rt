@@ -1,34 +1,33 @@
 ghost use Rattle.std.specs.Prelude.{◌≡◌, None, IfOk, OnErr, IfErr, MatchOption, is_some, reverse};
-ghost use Rattle.hx_model.specs.Schedule.{next_entry, next_input};
-ghost use Rattle.hx_world.specs.Idle.{IsFirstIdle, IsNextStep, IsNoneIdle};
+ghost use Rattle.hx_model.specs.Schedule.{first_delivery, next_entry, next_input, undelivered};
+ghost use Rattle.hx_world.specs.Idle.{IsFirstIdle, IsNextStep, IsNoneIdle, IsPostedFirst};
 ghost use Rattle.hx_world.specs.Invariant.{IsWorld};
+ghost use Rattle.hx_world.specs.Names.{can_receive};
 ghost use Rattle.hx_world.specs.Worlds.{Advances, Fails};
 
-use crate::actors::Actors;
+use crate::actors::has_halted;
+use crate::clusters::Cluster;
 use crate::ends::{DrainError, StepError};
-use crate::logs::{Log, first_waiting};
-use crate::seats::Seat;
+use crate::logs::sent_post;
+use crate::sessions::CountedSession;
 use crate::steps::take_step;
-use hx_types::{Actor, Script, SessionId, Step};
+use crate::waiting::lowest;
+use hx_types::{Actor, PostId, SessionId, Step};
 use std::alloc::Global;
 
 /// Makes the next entry, if there is one.
-pub fn advance(
-    alloc: Global,
-    script: &Script,
-    actors: &mut Actors,
-    log: &mut Log,
-) -> Result<bool, DrainError>
-    requires world { IsWorld script.now actors.old log.old }
-    ensures world { IsWorld script.now actors.new log.new }
-    ensures advances { IfOk result (Advances script.now (reverse log.old.trace) (reverse log.new.trace)) }
-    ensures fails { IfErr result (Fails script.now (reverse log.old.trace)) }
-    ensures err { OnErr result (log.new.trace ≡ log.old.trace) }
+pub fn advance(alloc: Global, cluster: &mut Cluster) -> Result<bool, DrainError>
+    requires world { IsWorld cluster.old }
+    ensures world { IsWorld cluster.new }
+    ensures script { cluster.new.script.now ≡ cluster.old.script.now }
+    ensures advances { IfOk result (Advances cluster.old.script.now (reverse cluster.old.log.trace) (reverse cluster.new.log.trace)) }
+    ensures fails { IfErr result (Fails cluster.old.script.now (reverse cluster.old.log.trace)) }
+    ensures err { OnErr result (cluster.new.log.trace ≡ cluster.old.log.trace) }
 {
-    let Some(next) = next_step(script, actors, log) else {
+    let Some(next) = next_step(cluster) else {
         return Ok(false);
     };
-    match take_step(alloc, script, actors, log, &next) {
+    match take_step(alloc, cluster, &next) {
         Ok(()) => Ok(true),
         Err(StepError::Memory) => Err(DrainError::Memory),
         Err(StepError::Worn(actor)) => Err(DrainError::Worn(actor)),
@@ -37,32 +36,67 @@ pub fn advance(
 }
 
 /// Whether there is a next entry.
-pub fn has_next(script: &Script, actors: &Actors, log: &Log) -> bool
-    requires { IsWorld script.now actors.now log.now }
-    ensures { result ≡ is_some (next_entry script.now (reverse log.now.trace)) }
+pub fn has_next(cluster: &mut Cluster) -> bool
+    requires { IsWorld cluster.old }
+    ensures world { IsWorld cluster.new }
+    ensures script { cluster.new.script.now ≡ cluster.old.script.now }
+    ensures trace { cluster.new.log.trace ≡ cluster.old.log.trace }
+    ensures next { result ≡ is_some (next_entry cluster.old.script.now (reverse cluster.old.log.trace)) }
 {
-    next_step(script, actors, log).is_some()
+    next_step(cluster).is_some()
 }
 
-/// The step that the schedule takes next: the delivery of the lowest post that waits, else a tick
-/// of the lowest idle session.
-fn next_step(script: &Script, actors: &Actors, log: &Log) -> Option<Step>
-    requires { IsWorld script.now actors.now log.now }
-    ensures { MatchOption result (next_input script.now (reverse log.now.trace) ≡ None) (IsNextStep script.now (reverse log.now.trace)) }
+/// The step that the schedule takes next: the delivery of the lowest post that waits for an actor
+/// that hasn't halted, else a tick of the lowest idle session.
+fn next_step(cluster: &mut Cluster) -> Option<Step>
+    requires { IsWorld cluster.old }
+    ensures world { IsWorld cluster.new }
+    ensures script { cluster.new.script.now ≡ cluster.old.script.now }
+    ensures trace { cluster.new.log.trace ≡ cluster.old.log.trace }
+    ensures next { MatchOption result (next_input cluster.old.script.now (reverse cluster.old.log.trace) ≡ None) (IsNextStep cluster.old.script.now (reverse cluster.old.log.trace)) }
 {
-    if let Some(id) = first_waiting(log) {
+    if let Some(id) = first_waiting(cluster) {
         return Some(Step::Deliver(id));
     }
-    let place = first_idle(actors.seats.as_slice())?;
+    let place = first_idle(cluster.actors.sessions.as_slice())?;
     Some(Step::Tick(Actor::Session(SessionId(place as u32 + 1))))
 }
 
-/// The lowest session with a call left and none under way, by its place from 0.
-fn first_idle(seats: &[Seat]) -> Option<usize>
-    ensures { MatchOption result (IsNoneIdle seats.now) (IsFirstIdle seats.now) }
+/// The name of the post that is delivered next: the lowest one that was never delivered and whose
+/// receiver hasn't halted. The names before it go: who has halted takes no post any more.
+fn first_waiting(cluster: &mut Cluster) -> Option<PostId>
+    requires { IsWorld cluster.old }
+    ensures world { IsWorld cluster.new }
+    ensures script { cluster.new.script.now ≡ cluster.old.script.now }
+    ensures trace { cluster.new.log.trace ≡ cluster.old.log.trace }
+    ensures first { MatchOption result (first_delivery cluster.old.script.now (reverse cluster.old.log.trace) (undelivered (reverse cluster.old.log.trace)) ≡ None) (IsPostedFirst cluster.old.script.now (reverse cluster.old.log.trace)) }
 {
-    for (place, seat) in seats.iter().enumerate() {
-        if seat.session.idle() {
+    while let Some(id) = lowest(&cluster.log.waiting) {
+        if is_received(cluster, id) {
+            return Some(id);
+        }
+        let _ = cluster.log.waiting.pop_front();
+    }
+    None
+}
+
+/// Whether the receiver of a post takes posts.
+fn is_received(cluster: &Cluster, id: PostId) -> bool
+    requires world { IsWorld cluster.now }
+    ensures { result ≡ can_receive cluster.now.script.now (reverse cluster.now.log.trace) id }
+{
+    match sent_post(&cluster.log, id) {
+        Some(post) => !has_halted(cluster, post.to),
+        None => false,
+    }
+}
+
+/// The lowest session with a call left and none under way, by its place from 0.
+fn first_idle(sessions: &[CountedSession]) -> Option<usize>
+    ensures { MatchOption result (IsNoneIdle sessions.now) (IsFirstIdle sessions.now) }
+{
+    for (place, counted) in sessions.iter().enumerate() {
+        if counted.session.idle() {
             return Some(place);
         }
     }

@@ -2,12 +2,13 @@ ghost use Rattle.std.specs.Prelude.{◌≡◌, IfOk, length};
 ghost use Rattle.hx_types.specs.Fitting.{IsScript};
 ghost use Rattle.hx_types.specs.Spaces.{IsSpace};
 ghost use Rattle.hx_world.specs.Invariant.{AreAt};
-ghost use Rattle.hx_world.specs.Starting.{HaveStarted, IsNewHost, IsNewSeat};
+ghost use Rattle.hx_world.specs.Starting.{HaveStarted, IsNewCoordinator, IsNewServer, IsNewSession};
 
 use crate::actors::Actors;
-use crate::coordinator::Coordinator;
-use crate::hosts::Host;
-use crate::seats::Seat;
+use crate::coordinators::CountedCoordinator;
+use crate::servers::CountedServer;
+use crate::sessions::CountedSession;
+use hx_coord::Coordinator;
 use hx_replica::Server;
 use hx_session::Session;
 use hx_types::{Exact, Memory, Script, ServerId, SessionId, Space};
@@ -18,39 +19,52 @@ pub fn start_actors(alloc: Global, script: &Script) -> Result<Actors, Memory>
     requires { IsScript script.now }
     ensures { IfOk result (HaveStarted script.now) }
 {
-    let hosts = start_hosts(alloc, &script.space)?;
-    let seats = start_seats(alloc, script)?;
+    let coordinator = start_coordinator(alloc, script)?;
+    let servers = start_servers(alloc, &script.space)?;
+    let sessions = start_sessions(alloc, script)?;
     Ok(Actors {
-        coordinator: Coordinator { entries: 0 },
-        hosts,
-        seats,
+        coordinator,
+        servers,
+        sessions,
     })
 }
 
-fn start_hosts(alloc: Global, space: &Space) -> Result<Vec<Host>, Memory>
-    requires { IsSpace space.now }
-    ensures { IfOk result (λ hosts. AreAt space.now.servers (IsNewHost space.now) hosts.items) }
+fn start_coordinator(alloc: Global, script: &Script) -> Result<CountedCoordinator, Memory>
+    requires { IsScript script.now }
+    ensures { IfOk result (IsNewCoordinator script.now) }
 {
-    let mut hosts = Vec::new(alloc);
-    for place in 0..space.servers {
-        let server = Server::start(alloc, space, ServerId(place + 1))?;
-        hosts.push(Host { server, entries: 0 })?;
-    }
-    Ok(hosts)
+    let sessions = script.sessions.len() as u32;
+    let coordinator = Coordinator::start(alloc, &script.space, sessions)?;
+    Ok(CountedCoordinator {
+        coordinator,
+        entries: 0,
+    })
 }
 
-fn start_seats(alloc: Global, script: &Script) -> Result<Vec<Seat>, Memory>
-    requires { IsScript script.now }
-    ensures { IfOk result (λ seats. AreAt (length script.now.sessions) (IsNewSeat script.now) seats.items) }
+fn start_servers(alloc: Global, space: &Space) -> Result<Vec<CountedServer>, Memory>
+    requires { IsSpace space.now }
+    ensures { IfOk result (λ servers. AreAt space.now.servers (IsNewServer space.now) servers.items) }
 {
-    let mut seats = Vec::new(alloc);
+    let mut servers = Vec::new(alloc);
+    for place in 0..space.servers {
+        let server = Server::start(alloc, space, ServerId(place + 1))?;
+        servers.push(CountedServer { server, entries: 0 })?;
+    }
+    Ok(servers)
+}
+
+fn start_sessions(alloc: Global, script: &Script) -> Result<Vec<CountedSession>, Memory>
+    requires { IsScript script.now }
+    ensures { IfOk result (λ sessions. AreAt (length script.now.sessions) (IsNewSession script.now) sessions.items) }
+{
+    let mut sessions = Vec::new(alloc);
     for (place, calls) in script.sessions.as_slice().iter().enumerate() {
         let id = SessionId(place as u32 + 1);
         let session = Session::start(alloc, &script.space, id, calls.copy(alloc)?)?;
-        seats.push(Seat {
+        sessions.push(CountedSession {
             session,
             entries: 0,
         })?;
     }
-    Ok(seats)
+    Ok(sessions)
 }

@@ -5,54 +5,45 @@ ghost use Rattle.hx_model.specs.Runs.{is_actor};
 ghost use Rattle.hx_world.specs.Invariant.{IsWorld};
 ghost use Rattle.hx_world.specs.Worlds.{IsStepOf, Refuses, Steps};
 
-use crate::actors::{Actors, give};
+use crate::actors::actor_takes;
+use crate::clusters::Cluster;
 use crate::ends::StepError;
-use crate::logs::{Log, sent_post};
-use hx_types::{Actor, Exact, Input, Memory, Post, PostId, Script, Step};
+use crate::logs::sent_post;
+use hx_types::{Actor, Exact, Input, Memory, Post, PostId, Step};
 use std::alloc::Global;
 
 /// Makes the entry of a step, if it can be taken.
-pub fn take_step(
-    alloc: Global,
-    script: &Script,
-    actors: &mut Actors,
-    log: &mut Log,
-    step: &Step,
-) -> Result<(), StepError>
-    requires world { IsWorld script.now actors.old log.old }
-    requires actor { IsStepOf script.now step.now }
-    ensures world { IsWorld script.now actors.new log.new }
-    ensures ok { OnOk result (Steps script.now (reverse log.old.trace) (reverse log.new.trace) step.now) }
-    ensures refused { IfErr result (Refuses script.now (reverse log.old.trace) step.now) }
-    ensures err { OnErr result (log.new.trace ≡ log.old.trace) }
+pub fn take_step(alloc: Global, cluster: &mut Cluster, step: &Step) -> Result<(), StepError>
+    requires world { IsWorld cluster.old }
+    requires actor { IsStepOf cluster.old.script.now step.now }
+    ensures world { IsWorld cluster.new }
+    ensures script { cluster.new.script.now ≡ cluster.old.script.now }
+    ensures ok { OnOk result (Steps cluster.old.script.now (reverse cluster.old.log.trace) (reverse cluster.new.log.trace) step.now) }
+    ensures refused { IfErr result (Refuses cluster.old.script.now (reverse cluster.old.log.trace) step.now) }
+    ensures err { OnErr result (cluster.new.log.trace ≡ cluster.old.log.trace) }
 {
     match *step {
-        Step::Deliver(id) => deliver(alloc, script, actors, log, id),
-        Step::Tick(actor) => tick(alloc, script, actors, log, actor),
-        Step::Halt(_) => unreachable!(),
+        Step::Deliver(id) => deliver(alloc, cluster, id),
+        Step::Tick(actor) => tick(alloc, cluster, actor),
+        Step::Halt(actor) => halt(alloc, cluster, actor),
     }
 }
 
 /// Delivers the post of a name to its receiver, whether or not it was delivered before.
-fn deliver(
-    alloc: Global,
-    script: &Script,
-    actors: &mut Actors,
-    log: &mut Log,
-    id: PostId,
-) -> Result<(), StepError>
-    requires world { IsWorld script.now actors.old log.old }
-    ensures world { IsWorld script.now actors.new log.new }
-    ensures ok { OnOk result (Steps script.now (reverse log.old.trace) (reverse log.new.trace) (a_step.Deliver id)) }
-    ensures refused { IfErr result (Refuses script.now (reverse log.old.trace) (a_step.Deliver id)) }
-    ensures err { OnErr result (log.new.trace ≡ log.old.trace) }
+fn deliver(alloc: Global, cluster: &mut Cluster, id: PostId) -> Result<(), StepError>
+    requires world { IsWorld cluster.old }
+    ensures world { IsWorld cluster.new }
+    ensures script { cluster.new.script.now ≡ cluster.old.script.now }
+    ensures ok { OnOk result (Steps cluster.old.script.now (reverse cluster.old.log.trace) (reverse cluster.new.log.trace) (a_step.Deliver id)) }
+    ensures refused { IfErr result (Refuses cluster.old.script.now (reverse cluster.old.log.trace) (a_step.Deliver id)) }
+    ensures err { OnErr result (cluster.new.log.trace ≡ cluster.old.log.trace) }
 {
-    let Some(post) = sent_post(log, id) else {
+    let Some(post) = sent_post(&cluster.log, id) else {
         return Err(StepError::Unsent);
     };
     let to = post.to;
     let input = delivery(alloc, id, post)?;
-    give(alloc, script, actors, log, to, &input)?;
+    actor_takes(alloc, cluster, to, &input)?;
     Ok(())
 }
 
@@ -68,20 +59,34 @@ fn delivery(alloc: Global, id: PostId, post: &Post) -> Result<Input, Memory>
 }
 
 /// An actor has its own turn.
-fn tick(
-    alloc: Global,
-    script: &Script,
-    actors: &mut Actors,
-    log: &mut Log,
-    actor: Actor,
-) -> Result<(), StepError>
-    requires world { IsWorld script.now actors.old log.old }
-    requires actor { is_actor script.now actor ≡ true }
-    ensures world { IsWorld script.now actors.new log.new }
-    ensures ok { OnOk result (Steps script.now (reverse log.old.trace) (reverse log.new.trace) (a_step.Tick actor)) }
-    ensures refused { IfErr result (Refuses script.now (reverse log.old.trace) (a_step.Tick actor)) }
-    ensures err { OnErr result (log.new.trace ≡ log.old.trace) }
+fn tick(alloc: Global, cluster: &mut Cluster, actor: Actor) -> Result<(), StepError>
+    requires world { IsWorld cluster.old }
+    requires actor { is_actor cluster.old.script.now actor ≡ true }
+    ensures world { IsWorld cluster.new }
+    ensures script { cluster.new.script.now ≡ cluster.old.script.now }
+    ensures ok { OnOk result (Steps cluster.old.script.now (reverse cluster.old.log.trace) (reverse cluster.new.log.trace) (a_step.Tick actor)) }
+    ensures refused { IfErr result (Refuses cluster.old.script.now (reverse cluster.old.log.trace) (a_step.Tick actor)) }
+    ensures err { OnErr result (cluster.new.log.trace ≡ cluster.old.log.trace) }
 {
-    give(alloc, script, actors, log, actor, &Input::Tick)?;
+    actor_takes(alloc, cluster, actor, &Input::Tick)?;
     Ok(())
+}
+
+/// A server halts.
+fn halt(alloc: Global, cluster: &mut Cluster, actor: Actor) -> Result<(), StepError>
+    requires world { IsWorld cluster.old }
+    requires actor { is_actor cluster.old.script.now actor ≡ true }
+    ensures world { IsWorld cluster.new }
+    ensures script { cluster.new.script.now ≡ cluster.old.script.now }
+    ensures ok { OnOk result (Steps cluster.old.script.now (reverse cluster.old.log.trace) (reverse cluster.new.log.trace) (a_step.Halt actor)) }
+    ensures refused { IfErr result (Refuses cluster.old.script.now (reverse cluster.old.log.trace) (a_step.Halt actor)) }
+    ensures err { OnErr result (cluster.new.log.trace ≡ cluster.old.log.trace) }
+{
+    match actor {
+        Actor::Server(_) => {
+            actor_takes(alloc, cluster, actor, &Input::Halt)?;
+            Ok(())
+        }
+        _ => Err(StepError::NotServer),
+    }
 }

@@ -1,14 +1,14 @@
 ghost use Rattle.std.specs.Prelude.{◌≡◌, [], ◌∷◌, IfOk, length};
+ghost use Rattle.hx_types.specs.Fitting.{IsScript};
 ghost use Rattle.hx_world.specs.Examples.{axis_of, books, genre_is, one, one_call, put_a, script_in, search_b, three_calls, year_is};
-ghost use Rattle.hx_world.specs.Runnable.{IsRunnable};
 
 use super::*;
 use hx_history::history;
 use hx_legal::legal;
 use hx_types::{
     Actor, Answer, Assign, Assigns, Attribute, Attributes, Axes, Axis, Calls, Entry, Kind, Memory,
-    Note, Object, Op, Place, PostId, Row, Script, SessionId, Sessions, Space, Step, Steps,
-    Subspaces, Term, Terms, Text, Trace, Update, Value,
+    Note, Object, Op, Place, PostId, Row, Script, ServerId, SessionId, Sessions, Space, Step,
+    Steps, Subspaces, Term, Terms, Text, Trace, Update, Value,
 };
 use std::alloc::Global;
 use std::test::Fail;
@@ -118,17 +118,19 @@ fn script(alloc: Global, calls: Calls) -> Result<Script, Memory>
     })
 }
 
-#[tactic(auto, using(crate::proofs::Books::three_run))]
+#[tactic(auto, using(crate::proofs::Books::three_valid))]
 fn three_calls_script(alloc: Global) -> Result<Script, Memory>
-    ensures { IfOk result (λ script. IsRunnable script) }
+    ensures { IfOk result (λ script. IsScript script) }
 {
     let calls = three_calls(alloc)?;
     Ok(script(alloc, calls)?)
 }
 
-#[tactic(auto, using(crate::proofs::Books::book_runs))]
+#[tactic(auto, using(crate::proofs::Books::book_valid))]
 fn one_call_script(alloc: Global) -> Result<Script, Memory>
-    ensures { IfOk result (λ script. IsRunnable script) }
+    ensures valid { IfOk result (λ script. IsScript script) }
+    ensures sessions { IfOk result (λ script. length script.sessions ≡ 1) }
+    ensures servers { IfOk result (λ script. script.space.servers ≡ 4) }
 {
     let calls = one_call(alloc)?;
     Ok(script(alloc, calls)?)
@@ -145,9 +147,9 @@ fn search(alloc: Global) -> Result<Op, Memory>
     Ok(Op::Search { terms })
 }
 
-#[tactic(auto, using(crate::proofs::Books::search_runs))]
+#[tactic(auto, using(crate::proofs::Books::search_valid))]
 fn search_script(alloc: Global) -> Result<Script, Memory>
-    ensures { IfOk result (λ script. IsRunnable script) }
+    ensures { IfOk result (λ script. IsScript script) }
 {
     let mut sets = Assigns::new(alloc);
     sets.push(genre(alloc, "b")?)?;
@@ -176,9 +178,9 @@ fn small_space(alloc: Global) -> Result<Space, Memory>
     })
 }
 
-#[tactic(auto, using(crate::proofs::Books::small_runs))]
+#[tactic(auto, using(crate::proofs::Books::small_valid))]
 fn small_script(alloc: Global) -> Result<Script, Memory>
-    ensures runs { IfOk result (λ script. IsRunnable script) }
+    ensures runs { IfOk result (λ script. IsScript script) }
     ensures sessions { IfOk result (λ script. length script.sessions ≡ 1) }
 {
     let mut sessions = Sessions::new(alloc);
@@ -192,7 +194,7 @@ fn small_script(alloc: Global) -> Result<Script, Memory>
 
 /// The trace after a drain of so many entries and then one to the end, each of which ended so.
 fn drained(alloc: Global, script: &Script, first: u64) -> Result<Trace, Fail>
-    requires { IsRunnable script.now }
+    requires { IsScript script.now }
 {
     let mut world = World::start(alloc, script)?;
     match world.drain(alloc, first) {
@@ -358,7 +360,7 @@ fn takes(alloc: Global, world: &mut World, entry: u64) -> bool
 /// The trace after session 1 has begun its call and the post of the call was delivered twice, and
 /// then a drain to the end.
 fn delivered_twice(alloc: Global, script: &Script) -> Result<Trace, Fail>
-    requires runs { IsRunnable script.now }
+    requires runs { IsScript script.now }
     requires sessions { length script.now.sessions ≡ 1 }
 {
     let mut world = World::start(alloc, script)?;
@@ -396,5 +398,60 @@ fn steps_that_cannot_be_taken_are_refused(rt: HostRuntime) -> Result<(), Fail> {
     let tick = Step::Tick(Actor::Coordinator);
     assert!(rt; matches!(world.step(alloc, &tick), Err(StepError::Idle)));
     assert!(rt; world.trace().is_empty());
+    Ok(())
+}
+
+/// A world in which session 1 has begun its call and then server 1, which leads the call's key, has
+/// halted.
+fn halted_leader(alloc: Global, script: &Script) -> Result<World<'_>, Fail>
+    requires valid { IsScript script.now }
+    requires sessions { length script.now.sessions ≡ 1 }
+    requires servers { script.now.space.servers ≡ 4 }
+    ensures { IfOk result (λ world. world.script ≡ script.now) }
+{
+    let mut world = World::start(alloc, script)?;
+    let begin = Step::Tick(Actor::Session(SessionId(1)));
+    let halt = Step::Halt(Actor::Server(ServerId(1)));
+    if world.step(alloc, &begin).is_err() || world.step(alloc, &halt).is_err() {
+        return Err(Fail::from("a step"));
+    }
+    Ok(world)
+}
+
+#[test]
+fn a_halted_server_takes_no_step(rt: HostRuntime) -> Result<(), Fail> {
+    let alloc = rt.alloc();
+    let script = one_call_script(alloc)?;
+    let mut world = halted_leader(alloc, &script)?;
+    let call = Step::Deliver(PostId { entry: 1, place: 0 });
+    assert!(rt; matches!(world.step(alloc, &call), Err(StepError::Halted)));
+    let halt = Step::Halt(Actor::Server(ServerId(1)));
+    assert!(rt; matches!(world.step(alloc, &halt), Err(StepError::Halted)));
+    let session = Step::Halt(Actor::Session(SessionId(1)));
+    assert!(rt; matches!(world.step(alloc, &session), Err(StepError::NotServer)));
+    assert_eq!(rt; world.trace().len(), 2);
+    Ok(())
+}
+
+#[test]
+fn a_post_to_a_halted_server_is_not_next(rt: HostRuntime) -> Result<(), Fail> {
+    let alloc = rt.alloc();
+    let script = one_call_script(alloc)?;
+    let mut world = halted_leader(alloc, &script)?;
+    assert!(rt; matches!(world.drain(alloc, 1), Ok(Drained::Spent)));
+    let third = world.trace().get(2);
+    assert!(rt; matches!(third, Some(entry) if matches!(entry.actor, Actor::Coordinator)));
+    Ok(())
+}
+
+#[test]
+fn a_halted_leader_is_replaced(rt: HostRuntime) -> Result<(), Fail> {
+    let alloc = rt.alloc();
+    let script = one_call_script(alloc)?;
+    let mut world = halted_leader(alloc, &script)?;
+    assert!(rt; matches!(world.drain(alloc, u64::MAX), Ok(Drained::Quiet)));
+    let trace = world.into_trace();
+    let last = trace.len() - 1;
+    assert!(rt; matches!(ended(&trace, last), Some((1, 1, Answer::Done))));
     Ok(())
 }

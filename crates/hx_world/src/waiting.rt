@@ -15,6 +15,13 @@ fn is_before(name: &PostId, other: &PostId) -> bool
     name.entry < other.entry || (name.entry == other.entry && name.place < other.place)
 }
 
+/// The lowest of ascending names.
+pub fn lowest(waiting: &VecDeque<PostId>) -> Option<PostId>
+    ensures { result ≡ slice_get waiting.now.items 0 }
+{
+    waiting.front().copied()
+}
+
 /// Whether the name stands at a place.
 fn stands_at(waiting: &VecDeque<PostId>, place: usize, id: PostId) -> bool
     ensures { result ≡ when_some (slice_get waiting.now.items place) false (λ name. same_name name id) }
@@ -25,8 +32,22 @@ fn stands_at(waiting: &VecDeque<PostId>, place: usize, id: PostId) -> bool
     }
 }
 
-/// Takes a name out of ascending ones, wherever it stands, if it is there. It is found by halving.
+/// Takes a name out of ascending ones, wherever it stands, if it is there. Mostly it is the first.
 pub fn take_out(waiting: &mut VecDeque<PostId>, id: PostId)
+    requires { AreAscending waiting.old.items }
+    ensures items { waiting.new.items ≡ names_but id waiting.old.items }
+    ensures len { deque_len waiting.new ≤ deque_len waiting.old }
+    ensures capacity { deque_capacity waiting.new ≡ deque_capacity waiting.old }
+{
+    if stands_at(waiting, 0, id) {
+        let _ = waiting.pop_front();
+    } else {
+        take_by_halving(waiting, id);
+    }
+}
+
+/// Takes a name out of ascending ones, if it is there. It is found by halving.
+fn take_by_halving(waiting: &mut VecDeque<PostId>, id: PostId)
     requires { AreAscending waiting.old.items }
     ensures items { waiting.new.items ≡ names_but id waiting.old.items }
     ensures len { deque_len waiting.new ≤ deque_len waiting.old }

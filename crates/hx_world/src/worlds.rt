@@ -1,89 +1,88 @@
 ghost use Rattle.std.specs.Prelude.{◌≡◌, [], ◌≤◌, IfOk, IfErr, OnErr, OnOk, is_some, length, reverse};
 ghost use Rattle.hx_model.specs.Runs.{IsRun};
 ghost use Rattle.hx_model.specs.Schedule.{next_entry};
-ghost use Rattle.hx_steady.specs.Calm.{HasNoHalts};
-ghost use Rattle.hx_world.specs.Runnable.{IsRunnable};
+ghost use Rattle.hx_types.specs.Fitting.{IsScript};
 ghost use Rattle.hx_world.specs.Worlds.{Advances, DrainFails, Drains, Fails, HasFewEntries, IsPartOf, IsStepOf, Refuses, Steps, most_entries};
 
-use crate::actors::Actors;
+use crate::clusters::Cluster;
 use crate::ends::{DrainError, Drained, StepError};
-use crate::logs::{Log, empty};
+use crate::logs::empty;
 use crate::schedule::{advance, has_next};
 use crate::starting::start_actors;
 use crate::steps::take_step;
-use hx_types::{Exact, Memory, Script, Step, Trace};
+use hx_types::{Memory, Script, Step, Trace};
 use std::alloc::Global;
 use std::marker::Model;
 
-/// All actors of a script, and the trace of their steps so far.
+/// All actors of a script, and the trace of their steps so far. The script is borrowed.
 ///
 /// The actors are those of HyperDex and of chain replication; that they stand on one thread and
 /// take their inputs by a fixed schedule is this project's choice.
 #[derive(Drop)]
-pub struct World {
-    script: Script,
-    actors: Actors,
-    log: Log,
+pub struct World<'a> {
+    cluster: Cluster<'a>,
 }
 
-impl Model for World {
+impl<'a> Model for World<'a> {
     ghost use Rattle.hx_world.specs.Worlds.{WorldState};
     ghost use Rattle.hx_world.specs.Invariant.{IsWorld};
 
     ghost Value = { WorldState };
 
-    ghost view = { λ w. record { script = w.script; trace = w.log.trace } };
+    ghost view = { λ w. record { script = w.cluster.script.now; trace = w.cluster.log.trace } };
 
-    ghost invariant = { λ w. IsWorld w.script w.actors w.log };
+    ghost invariant = { λ w. IsWorld w.cluster };
 }
 
-impl World {
+impl<'a> World<'a> {
     /// The actors at their start, and no entry. [`Memory`] where there is no room for them.
-    pub fn start(alloc: Global, script: &Script) -> Result<World, Memory>
-        requires { IsRunnable script.now }
+    pub fn start(alloc: Global, script: &'a Script) -> Result<World<'a>, Memory>
+        requires { IsScript script.now }
         ensures { IfOk result (λ world. world ≡ record { script = script.now; trace = [] }) }
     {
-        hx_sound::posts_are_sound();
+        hx_posts::posts_of_runs_are_sound();
         let actors = start_actors(alloc, script)?;
         Ok(World {
-            script: script.copy(alloc)?,
-            actors,
-            log: empty(alloc),
+            cluster: Cluster {
+                script,
+                actors,
+                log: empty(alloc),
+            },
         })
     }
 
-    /// What was done so far: a run of the script in which nobody halts.
+    /// What was done so far: a run of the script.
     pub fn trace(&self) -> &Trace
         ensures trace { result.now ≡ self.now.trace }
-        ensures runnable { IsRunnable self.now.script }
+        ensures valid { IsScript self.now.script }
         ensures run { IsRun self.now.script (reverse self.now.trace) }
-        ensures still { HasNoHalts (reverse self.now.trace) }
         ensures few { HasFewEntries (reverse self.now.trace) }
     {
-        &self.log.trace
+        &self.cluster.log.trace
     }
 
     /// The trace by itself.
     pub fn into_trace(self) -> Trace
-        ensures trace { result ≡ self.trace }
-        ensures runnable { IsRunnable self.script }
-        ensures run { IsRun self.script (reverse result) }
-        ensures still { HasNoHalts (reverse result) }
+        ensures trace { result ≡ self.entry.trace }
+        ensures valid { IsScript self.entry.script }
+        ensures run { IsRun self.entry.script (reverse result) }
         ensures few { HasFewEntries (reverse result) }
     {
-        let log = self.log;
+        let cluster = self.cluster;
+        let log = cluster.log;
         log.trace
     }
 
-    /// Makes the one entry of a step. The step is a delivery, or a tick of one of the script's
-    /// actors; nobody halts in these worlds. A post may be delivered any number of times; a drain
-    /// delivers those that were never delivered. That steps may come before the schedule, so that a
-    /// script can reorder and repeat posts, is this project's choice.
+    /// Makes the one entry of a step: a delivery, or a tick or a halt of one of the script's actors.
+    /// A post may be delivered any number of times; a drain delivers those that were never
+    /// delivered. That steps may come before the schedule, so that a script can reorder and repeat
+    /// posts and halt servers, is this project's choice.
     ///
     /// Where the step can't be taken nothing changes, and the error is that of the first reason
-    /// that holds: [`StepError::Unsent`] for a post that wasn't sent, [`StepError::Idle`] for a tick
-    /// that would make no post and no note, [`StepError::Worn`] for an actor that has made
-    /// 1,048,576 entries. [`StepError::Memory`] may come before any of them.
+    /// that holds: [`StepError::Unsent`] for a post that wasn't sent, [`StepError::Halted`] for a
+    /// server that has halted, [`StepError::NotServer`] for a halt of another actor,
+    /// [`StepError::Idle`] for a tick that would make no post and no note, [`StepError::Worn`] for
+    /// an actor that has made 1,048,576 entries. [`StepError::Memory`] may come before any of them.
     pub fn step(&mut self, alloc: Global, step: &Step) -> Result<(), StepError>
         requires actor { IsStepOf self.old.script step.now }
         ensures script { self.new.script ≡ self.old.script }
@@ -92,11 +91,12 @@ impl World {
         ensures err { OnErr result (self.new.trace ≡ self.old.trace) }
         ensures few { HasFewEntries (reverse self.new.trace) }
     {
-        take_step(alloc, &self.script, &mut self.actors, &mut self.log, step)
+        take_step(alloc, &mut self.cluster, step)
     }
 
     /// Makes up to n entries by the schedule: always the delivery of the lowest post that wasn't
-    /// delivered, else the begin of the next call of the lowest idle session.
+    /// delivered and whose receiver hasn't halted, else the begin of the next call of the lowest
+    /// idle session.
     ///
     /// An actor makes at most 1,048,576 entries: [`DrainError::Worn`] comes exactly where the next
     /// of the n entries is one more of an actor that has made so many.
@@ -131,14 +131,15 @@ impl World {
         ensures few { HasFewEntries (reverse self.new.trace) }
         ensures most { length self.new.trace ≤ most_entries }
     {
-        advance(alloc, &self.script, &mut self.actors, &mut self.log)
+        advance(alloc, &mut self.cluster)
     }
 
-    fn has_next(&self) -> bool
-        ensures next { result ≡ is_some (next_entry self.now.script (reverse self.now.trace)) }
-        ensures few { HasFewEntries (reverse self.now.trace) }
-        ensures most { length self.now.trace ≤ most_entries }
+    fn has_next(&mut self) -> bool
+        ensures next { result ≡ is_some (next_entry self.old.script (reverse self.old.trace)) }
+        ensures state { self.new ≡ self.old }
+        ensures few { HasFewEntries (reverse self.new.trace) }
+        ensures most { length self.new.trace ≤ most_entries }
     {
-        has_next(&self.script, &self.actors, &self.log)
+        has_next(&mut self.cluster)
     }
 }

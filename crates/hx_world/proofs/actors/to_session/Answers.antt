@@ -1,52 +1,52 @@
 use Rattle.std.proofs.Common.{◌-◌, refl, rules}
 use Rattle.std.specs.Vec.{with_item}
 use Rattle.hx_world.specs.declared.actors.Actors.{Actors}
-use Rattle.hx_world.proofs.Turning.{ascending, can_attend, not_attended, attended, session_in, session_low, short, unattended}
+use Rattle.hx_world.proofs.Turning.{ascending, attended, can_attend, not_attended, session_in, session_low, short, unattended}
 use Rattle.hx_world.proofs.actors.to_session.Goals as goal
 
 pub overflow_sub-session : goal.overflow_sub-session
-overflow_sub-session c = session_low c.args.script.now c.args.actors.now c.args.log.now c.requires.world c.args.session c.requires.actor
+overflow_sub-session c = session_low c.args.cluster.now.script.now c.args.cluster.now.actors c.args.cluster.now.log c.requires.world c.args.session c.requires.actor
 
-pub index_mut-seat-requires : goal.index_mut-seat-requires
-index_mut-seat-requires c = session_in c.args.script.now c.args.actors.now c.args.log.now c.requires.world c.args.session c.requires.actor
+pub index_mut-counted-requires : goal.index_mut-counted-requires
+index_mut-counted-requires c = session_in c.args.cluster.now.script.now c.args.cluster.now.actors c.args.cluster.now.log c.requires.world c.args.session c.requires.actor
 
-pub attend-requires-clause-can : goal.attend-requires-clause-can
-attend-requires-clause-can c =
-    can_attend c.args.script.now c.args.actors.now c.args.log.now c.requires.world c.args.session c.requires.actor
-    c.index_mut-seat.result.now c.index_mut-seat.ensures.value c.args.input.now c.requires.may c.requires.still
+pub session_takes-requires-clause-can : goal.session_takes-requires-clause-can
+session_takes-requires-clause-can c =
+    can_attend c.args.cluster.now.script.now c.args.cluster.now.actors c.args.cluster.now.log c.requires.world c.args.session c.requires.actor
+    c.index_mut-counted.result.now c.index_mut-counted.ensures.value c.args.input.now c.requires.may
 
-pub attend-requires-clause-few_entries : goal.attend-requires-clause-few_entries
-attend-requires-clause-few_entries c = short c.args.script.now c.args.actors.now c.args.log.now c.requires.world
+pub session_takes-requires-clause-few_entries : goal.session_takes-requires-clause-few_entries
+session_takes-requires-clause-few_entries c = short c.args.cluster.now.script.now c.args.cluster.now.actors c.args.cluster.now.log c.requires.world
 
-pub attend-requires-clause-ascending : goal.attend-requires-clause-ascending
-attend-requires-clause-ascending c = ascending c.args.script.now c.args.actors.now c.args.log.now c.requires.world
+pub session_takes-requires-clause-ascending : goal.session_takes-requires-clause-ascending
+session_takes-requires-clause-ascending c = ascending c.args.cluster.now.script.now c.args.cluster.now.actors c.args.cluster.now.log c.requires.world
 
-pub returns-in_err-attend-clause-world : goal.returns-in_err-attend-clause-world
-returns-in_err-attend-clause-world c =
+pub returns-in_err-session_takes-clause-world : goal.returns-in_err-session_takes-clause-world
+returns-in_err-session_takes-clause-world c =
     let after : Actors =
-    record { coordinator = c.args.actors.now.coordinator; hosts = c.args.actors.now.hosts; seats = with_item c.args.actors.now.seats (c.args.session.0 - 1) c.attend.new.seat } in
-    unattended c.args.script.now c.args.actors.now c.args.log.now c.requires.world c.args.session c.requires.actor
-    c.index_mut-seat.result.now c.index_mut-seat.ensures.value c.args.input.now c.attend.new.seat after c.attend.new.log c.in_err-attend.ensures.same_seat c.in_err-attend.ensures.same_log refl refl refl
+    record { coordinator = c.args.cluster.now.actors.coordinator; servers = c.args.cluster.now.actors.servers; sessions = with_item c.args.cluster.now.actors.sessions (c.args.session.0 - 1) c.session_takes.new.counted } in
+    unattended c.args.cluster.now.script.now c.args.cluster.now.actors c.args.cluster.now.log c.requires.world c.args.session c.requires.actor
+    c.index_mut-counted.result.now c.index_mut-counted.ensures.value c.args.input.now c.session_takes.new.counted after c.session_takes.new.log c.in_err-session_takes.ensures.same c.in_err-session_takes.ensures.same_log refl refl refl
 
-pub returns-in_err-attend-clause-err : goal.returns-in_err-attend-clause-err
-returns-in_err-attend-clause-err c =
+pub returns-in_err-session_takes-clause-err : goal.returns-in_err-session_takes-clause-err
+returns-in_err-session_takes-clause-err c =
     let why =
-    not_attended c.args.script.now c.args.actors.now c.args.log.now c.requires.world c.args.session c.requires.actor
-    c.index_mut-seat.result.now c.index_mut-seat.ensures.value c.args.input.now c.in_err-attend.field-0.0 c.in_err-attend.ensures.barred in
+    not_attended c.args.cluster.now.script.now c.args.cluster.now.actors c.args.cluster.now.log c.requires.world c.args.session c.requires.actor
+    c.index_mut-counted.result.now c.index_mut-counted.ensures.value c.args.input.now c.in_err-session_takes.field-0.0 c.in_err-session_takes.ensures.barred in
     search (rules, why)
 
 pub returns-clause-world : goal.returns-clause-world
 returns-clause-world c =
     let after : Actors =
-    record { coordinator = c.args.actors.now.coordinator; hosts = c.args.actors.now.hosts; seats = with_item c.args.actors.now.seats (c.args.session.0 - 1) c.attend.new.seat } in
-    (attended c.args.script.now c.args.actors.now c.args.log.now c.requires.world c.args.session c.requires.actor
-    c.index_mut-seat.result.now c.index_mut-seat.ensures.value c.args.input.now c.attend.new.seat after c.attend.new.log c.requires.may c.requires.still
-    c.in_ok-attend.ensures.log c.in_ok-attend.ensures.seat c.in_ok-attend.ensures.admitted refl refl refl).world
+    record { coordinator = c.args.cluster.now.actors.coordinator; servers = c.args.cluster.now.actors.servers; sessions = with_item c.args.cluster.now.actors.sessions (c.args.session.0 - 1) c.session_takes.new.counted } in
+    (attended c.args.cluster.now.script.now c.args.cluster.now.actors c.args.cluster.now.log c.requires.world c.args.session c.requires.actor
+    c.index_mut-counted.result.now c.index_mut-counted.ensures.value c.args.input.now c.session_takes.new.counted after c.session_takes.new.log c.requires.may
+    c.in_ok-session_takes.ensures.log c.in_ok-session_takes.ensures.taken c.in_ok-session_takes.ensures.admitted refl refl refl).world
 
 pub returns-clause-ok : goal.returns-clause-ok
 returns-clause-ok c =
     let after : Actors =
-    record { coordinator = c.args.actors.now.coordinator; hosts = c.args.actors.now.hosts; seats = with_item c.args.actors.now.seats (c.args.session.0 - 1) c.attend.new.seat } in
-    (attended c.args.script.now c.args.actors.now c.args.log.now c.requires.world c.args.session c.requires.actor
-    c.index_mut-seat.result.now c.index_mut-seat.ensures.value c.args.input.now c.attend.new.seat after c.attend.new.log c.requires.may c.requires.still
-    c.in_ok-attend.ensures.log c.in_ok-attend.ensures.seat c.in_ok-attend.ensures.admitted refl refl refl).turn
+    record { coordinator = c.args.cluster.now.actors.coordinator; servers = c.args.cluster.now.actors.servers; sessions = with_item c.args.cluster.now.actors.sessions (c.args.session.0 - 1) c.session_takes.new.counted } in
+    (attended c.args.cluster.now.script.now c.args.cluster.now.actors c.args.cluster.now.log c.requires.world c.args.session c.requires.actor
+    c.index_mut-counted.result.now c.index_mut-counted.ensures.value c.args.input.now c.session_takes.new.counted after c.session_takes.new.log c.requires.may
+    c.in_ok-session_takes.ensures.log c.in_ok-session_takes.ensures.taken c.in_ok-session_takes.ensures.admitted refl refl refl).turn

@@ -1,23 +1,27 @@
-use Rattle.std.proofs.Common.{rules, List, sym, ◌∙◌, subst}
+use Rattle.std.proofs.Common.{rules, List, subst}
 use Rattle.std.specs.Prelude.{reverse}
-use Rattle.hx_world.specs.declared.seats.Seat.{Seat}
+use Rattle.hx_world.specs.declared.sessions.CountedSession.{CountedSession}
 use Rattle.hx_world.specs.Idle.{IsFirstIdle, IsNoneIdle}
-use Rattle.hx_world.proofs.Scheduling.{delivery_next, none_next, tick_next}
+use Rattle.hx_world.proofs.Scheduling.{delivery_next, none_next, sessions_still, tick_next}
 use Rattle.hx_world.proofs.schedule.next_step.Goals as goal
 
-pub returns-in-Some : goal.returns-in-Some
-returns-in-Some c =
-    delivery_next c.args.script.now (reverse c.args.log.now.trace) c.args.actors.now.hosts.items c.args.actors.now.seats.items c.args.actors.now.coordinator.entries c.args.log.now.waiting.items
-    c.requires c.in-Some.id (sym c.first_waiting.ensures ∙ c.in-Some.is)
+pub returns-in-Some-clause-next : goal.returns-in-Some-clause-next
+returns-in-Some-clause-next c = delivery_next c.args.cluster.now.script.now (reverse c.args.cluster.now.log.trace) c.in-Some.id c.in-Some.ensures.first
 
-pub returns-in_err-place : goal.returns-in_err-place
-returns-in_err-place c =
+pub returns-in_err-place-clause-next : goal.returns-in_err-place-clause-next
+returns-in_err-place-clause-next c =
+    let are =
+    sessions_still c.args.cluster.now.script.now c.first_waiting.new.cluster.script.now c.args.cluster.now.log.trace c.first_waiting.new.cluster.log.trace c.first_waiting.new.cluster.actors.sessions.items
+    c.first_waiting.ensures.script c.first_waiting.ensures.trace c.first_waiting.ensures.world.sessions_are in
     let none =
-    none_next c.args.script.now (reverse c.args.log.now.trace) c.args.actors.now.hosts.items c.args.actors.now.seats.items c.args.actors.now.coordinator.entries c.args.log.now.waiting.items
-    c.requires (sym c.first_waiting.ensures ∙ c.in_default.is) (subst (λ (l : List Seat). IsNoneIdle l) c.as_slice.ensures.value c.in_err-place.ensures) in
+    none_next c.args.cluster.now.script.now (reverse c.args.cluster.now.log.trace) c.first_waiting.new.cluster.actors.sessions.items are c.in_default.ensures.first
+    (subst (λ (l : List CountedSession). IsNoneIdle l) c.as_slice.ensures.value c.in_err-place.ensures) in
     search (rules, none)
 
-pub returns : goal.returns
-returns c =
-    tick_next c.args.script.now (reverse c.args.log.now.trace) c.args.actors.now.hosts.items c.args.actors.now.seats.items c.args.actors.now.coordinator.entries c.args.log.now.waiting.items
-    c.requires (sym c.first_waiting.ensures ∙ c.in_default.is) c.in_ok-place.place (subst (λ (l : List Seat). IsFirstIdle l c.in_ok-place.place) c.as_slice.ensures.value c.in_ok-place.ensures)
+pub returns-clause-next : goal.returns-clause-next
+returns-clause-next c =
+    let are =
+    sessions_still c.args.cluster.now.script.now c.first_waiting.new.cluster.script.now c.args.cluster.now.log.trace c.first_waiting.new.cluster.log.trace c.first_waiting.new.cluster.actors.sessions.items
+    c.first_waiting.ensures.script c.first_waiting.ensures.trace c.first_waiting.ensures.world.sessions_are in
+    tick_next c.args.cluster.now.script.now (reverse c.args.cluster.now.log.trace) c.first_waiting.new.cluster.actors.sessions.items are c.in_default.ensures.first c.in_ok-place.place
+    (subst (λ (l : List CountedSession). IsFirstIdle l c.in_ok-place.place) c.as_slice.ensures.value c.in_ok-place.ensures)

@@ -9,31 +9,25 @@ use Rattle.hx_world.proofs.Taking.{actor_here}
 use Rattle.hx_world.proofs.steps.deliver.Goals as goal
 
 pub returns-in_default-clause-refused : goal.returns-in_default-clause-refused
-returns-in_default-clause-refused c =
-    unsent c.args.script.now (reverse c.args.log.now.trace) c.requires.world.calm c.args.id (sym c.sent_post.ensures ∙ ap option_copied c.in_default.is)
+returns-in_default-clause-refused c = unsent c.args.cluster.now.script.now (reverse c.args.cluster.now.log.trace) c.args.id (sym c.sent_post.ensures ∙ ap option_copied c.in_default.is)
 
-pub give-requires-clause-actor : goal.give-requires-clause-actor
-give-requires-clause-actor c =
-    actor_here c.args.script.now (reverse c.args.log.now.trace) c.requires.world.calm c.args.id c.in-Some.post.now (sym c.sent_post.ensures ∙ ap option_copied c.in-Some.is)
+pub actor_takes-requires-clause-actor : goal.actor_takes-requires-clause-actor
+actor_takes-requires-clause-actor c = actor_here c.args.cluster.now.script.now (reverse c.args.cluster.now.log.trace) c.requires.world.past c.args.id c.in-Some.post.now (sym c.sent_post.ensures ∙ ap option_copied c.in-Some.is)
 
-pub give-requires-clause-may : goal.give-requires-clause-may
-give-requires-clause-may c =
-    (may_take (reverse c.args.log.now.trace) c.args.id c.in-Some.post.now c.in_ok-input.input (sym c.sent_post.ensures ∙ ap option_copied c.in-Some.is) c.in_ok-input.ensures).0
+pub actor_takes-requires-clause-may : goal.actor_takes-requires-clause-may
+actor_takes-requires-clause-may c =
+    may_take (reverse c.args.cluster.now.log.trace) c.args.id c.in-Some.post.now c.in_ok-input.input (sym c.sent_post.ensures ∙ ap option_copied c.in-Some.is) c.in_ok-input.ensures
 
-pub give-requires-clause-still : goal.give-requires-clause-still
-give-requires-clause-still c =
-    (may_take (reverse c.args.log.now.trace) c.args.id c.in-Some.post.now c.in_ok-input.input (sym c.sent_post.ensures ∙ ap option_copied c.in-Some.is) c.in_ok-input.ensures).1
-
-pub returns-in_err-give-clause-refused : goal.returns-in_err-give-clause-refused
-returns-in_err-give-clause-refused c =
-    let named : post_named c.args.id (reverse c.args.log.now.trace) ≡ Some c.in-Some.post.now = sym c.sent_post.ensures ∙ ap option_copied c.in-Some.is in
+pub returns-in_err-actor_takes-clause-refused : goal.returns-in_err-actor_takes-clause-refused
+returns-in_err-actor_takes-clause-refused c =
+    let named : post_named c.args.id (reverse c.args.cluster.now.log.trace) ≡ Some c.in-Some.post.now = sym c.sent_post.ensures ∙ ap option_copied c.in-Some.is in
     let why =
-    not_delivered c.args.script.now (reverse c.args.log.now.trace) c.requires.world.calm c.args.id c.in-Some.post.now named c.in_err-give.field-0.0
-    (subst (λ (x : Input). HasNoTurn c.args.script.now (reverse c.args.log.now.trace) c.in-Some.post.now.to x c.in_err-give.field-0.0) c.in_ok-input.ensures c.in_err-give.ensures.err) in
+    not_delivered c.args.cluster.now.script.now (reverse c.args.cluster.now.log.trace) c.args.id c.in-Some.post.now named c.in_err-actor_takes.field-0.0
+    (subst (λ (x : Input). HasNoTurn c.args.cluster.now.script.now (reverse c.args.cluster.now.log.trace) c.in-Some.post.now.to x c.in_err-actor_takes.field-0.0) c.in_ok-input.ensures c.in_err-actor_takes.ensures.err) in
     search (rules, why)
 
 pub returns-clause-ok : goal.returns-clause-ok
 returns-clause-ok c =
-    let named : post_named c.args.id (reverse c.args.log.now.trace) ≡ Some c.in-Some.post.now = sym c.sent_post.ensures ∙ ap option_copied c.in-Some.is in
-    delivered c.args.script.now (reverse c.args.log.now.trace) c.requires.world.calm (reverse c.give.new.log.trace) c.args.id c.in-Some.post.now named
-    (subst (λ (x : Input). HasTurn c.args.script.now (reverse c.args.log.now.trace) (reverse c.give.new.log.trace) c.in-Some.post.now.to x) c.in_ok-input.ensures c.in_ok-give.ensures.ok)
+    let named : post_named c.args.id (reverse c.args.cluster.now.log.trace) ≡ Some c.in-Some.post.now = sym c.sent_post.ensures ∙ ap option_copied c.in-Some.is in
+    delivered c.args.cluster.now.script.now (reverse c.args.cluster.now.log.trace) (reverse c.actor_takes.new.cluster.log.trace) c.args.id c.in-Some.post.now named
+    (subst (λ (x : Input). HasTurn c.args.cluster.now.script.now (reverse c.args.cluster.now.log.trace) (reverse c.actor_takes.new.cluster.log.trace) c.in-Some.post.now.to x) c.in_ok-input.ensures c.in_ok-actor_takes.ensures.ok)

@@ -8,7 +8,7 @@ returns c =
     begun_made c.args.self.now c.args.number c.sender-sender.result c.args.op.now c.in_ok-made.made c.in_ok-begun.field-0
     (record {
       space = c.sender-sender.ensures.space;
-      config_is = c.sender-sender.ensures.config ∙ ap (λ (v : SessionValue). v.state.config) c.self.view_is;
+      config_is = c.sender-sender.ensures.config ∙ c.deref.ensures ∙ ap (λ (v : SessionValue). v.state.config) c.self.view_is;
       id = c.sender-sender.ensures.id;
       progress_is = c.sender-sender.ensures.progress;
     })

@@ -3,5 +3,5 @@ use Rattle.hx_world.proofs.worlds.World.start.Goals as goal
 
 pub invariant_of-result : goal.invariant_of-result
 invariant_of-result c =
-    world_starts c.args.script.now c.in_ok-copy.field-0 c.in_ok-actors.actors c.empty.result c.requires c.posts_are_sound.ensures.posts c.posts_are_sound.ensures.versions c.posts_are_sound.ensures.running
-    c.in_ok-actors.ensures c.in_ok-copy.ensures c.empty.ensures.trace c.empty.ensures.waiting
+    world_starts c.args.script.now c.in_ok-actors.actors c.empty.result c.requires c.posts_of_runs_are_sound.ensures.posts c.posts_of_runs_are_sound.ensures.versions c.posts_of_runs_are_sound.ensures.epochs
+    c.in_ok-actors.ensures c.empty.ensures.trace c.empty.ensures.waiting

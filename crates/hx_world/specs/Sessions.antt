@@ -2,16 +2,16 @@
 use Rattle.std.specs.Prelude.{◌≡◌, ◌+◌}
 use Rattle.hx_types.specs.declared.traces.Input.{Input}
 use Rattle.hx_model.specs.SessionSteps.{session_step}
-use Rattle.hx_world.specs.declared.seats.Seat.{Seat}
+use Rattle.hx_world.specs.declared.sessions.CountedSession.{CountedSession}
 
 -- the session has taken the input
-pub record HasTaken (old new : Seat) (input : Input) : Type 0 where
+pub record HasTaken (old new : CountedSession) (input : Input) : Type 0 where
   pub space : new.session.space ≡ old.session.space
   pub state : new.session.state ≡ (session_step old.session.space old.session.state input).state
   pub entries : new.entries ≡ old.entries + 1
 
 -- the session is as it was
-pub record IsSameSeat (old new : Seat) : Type 0 where
+pub record IsSameSession (old new : CountedSession) : Type 0 where
   pub space : new.session.space ≡ old.session.space
   pub state : new.session.state ≡ old.session.state
   pub entries : new.entries ≡ old.entries

@@ -1,0 +1,47 @@
+ghost use Rattle.std.specs.Prelude.{◌≡◌, ◌<◌, ◌^◌, OnOk, OnErr, IfErr, length};
+ghost use Rattle.hx_coord.specs.Coordinators.{CanTake, coordinator_entry};
+ghost use Rattle.hx_world.specs.Coordinators.{HasTaken, IsSameCoordinator};
+ghost use Rattle.hx_world.specs.Filing.{Files, IsSameLog};
+ghost use Rattle.hx_world.specs.Names.{AreAscending};
+ghost use Rattle.hx_world.specs.Turns.{IsAdmitted, IsBarred};
+
+use crate::ends::StepError;
+use crate::logs::{Log, close, open};
+use crate::turns::admit;
+use hx_coord::Coordinator;
+use hx_types::Input;
+use std::alloc::Global;
+
+/// The coordinator, and how many entries it has made.
+#[derive(Drop)]
+pub struct CountedCoordinator {
+    pub coordinator: Coordinator,
+    pub entries: u32,
+}
+
+/// The coordinator takes an input, if the entry that it makes of it may be made. All memory is
+/// taken before anything changes.
+pub fn coordinator_takes(
+    alloc: Global,
+    counted: &mut CountedCoordinator,
+    log: &mut Log,
+    input: &Input,
+) -> Result<(), StepError>
+    requires can { CanTake counted.old.coordinator input.now }
+    requires few_entries { length log.old.trace < 2 ^ 32 }
+    requires ascending { AreAscending log.old.waiting.items }
+    ensures log { OnOk result (Files log.old log.new (coordinator_entry counted.old.coordinator input.now)) }
+    ensures taken { OnOk result (HasTaken counted.old counted.new input.now) }
+    ensures admitted { OnOk result (IsAdmitted (coordinator_entry counted.old.coordinator input.now) counted.old.entries) }
+    ensures barred { IfErr result (IsBarred (coordinator_entry counted.old.coordinator input.now) counted.old.entries) }
+    ensures same_log { OnErr result (IsSameLog log.old log.new) }
+    ensures same { OnErr result (IsSameCoordinator counted.old counted.new) }
+{
+    let plan = counted.coordinator.prepare(alloc, input)?;
+    admit(plan.entry(), counted.entries)?;
+    let entries = open(alloc, log, plan.entry())?;
+    let entry = counted.coordinator.apply(plan);
+    close(log, entries, entry);
+    counted.entries += 1;
+    Ok(())
+}

@@ -1,0 +1,47 @@
+ghost use Rattle.std.specs.Prelude.{◌≡◌, ◌<◌, ◌^◌, OnOk, OnErr, IfErr, length};
+ghost use Rattle.hx_session.specs.Sessions.{CanTake, session_entry};
+ghost use Rattle.hx_world.specs.Filing.{Files, IsSameLog};
+ghost use Rattle.hx_world.specs.Names.{AreAscending};
+ghost use Rattle.hx_world.specs.Sessions.{HasTaken, IsSameSession};
+ghost use Rattle.hx_world.specs.Turns.{IsAdmitted, IsBarred};
+
+use crate::ends::StepError;
+use crate::logs::{Log, close, open};
+use crate::turns::admit;
+use hx_session::Session;
+use hx_types::Input;
+use std::alloc::Global;
+
+/// A session, and how many entries it has made.
+#[derive(Drop)]
+pub struct CountedSession {
+    pub session: Session,
+    pub entries: u32,
+}
+
+/// The session takes an input, if the entry that it makes of it may be made. All memory is taken
+/// before anything changes.
+pub fn session_takes(
+    alloc: Global,
+    counted: &mut CountedSession,
+    log: &mut Log,
+    input: &Input,
+) -> Result<(), StepError>
+    requires can { CanTake counted.old.session.space counted.old.session.state input.now }
+    requires few_entries { length log.old.trace < 2 ^ 32 }
+    requires ascending { AreAscending log.old.waiting.items }
+    ensures log { OnOk result (Files log.old log.new (session_entry counted.old.session.space counted.old.session.state input.now)) }
+    ensures taken { OnOk result (HasTaken counted.old counted.new input.now) }
+    ensures admitted { OnOk result (IsAdmitted (session_entry counted.old.session.space counted.old.session.state input.now) counted.old.entries) }
+    ensures barred { IfErr result (IsBarred (session_entry counted.old.session.space counted.old.session.state input.now) counted.old.entries) }
+    ensures same_log { OnErr result (IsSameLog log.old log.new) }
+    ensures same { OnErr result (IsSameSession counted.old counted.new) }
+{
+    let plan = counted.session.prepare(alloc, input)?;
+    admit(plan.entry(), counted.entries)?;
+    let entries = open(alloc, log, plan.entry())?;
+    let entry = counted.session.apply(plan);
+    close(log, entries, entry);
+    counted.entries += 1;
+    Ok(())
+}
