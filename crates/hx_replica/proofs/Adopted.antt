@@ -1,11 +1,9 @@
 -- What a server's replicas become in a new configuration.
 use Rattle.std.proofs.Common.{◌≡◌, ℕ, ◌+◌, ◌<◌, Bool, true, false, cond, List, [], ◌∷◌, ◌++◌, map, length, take, get_or, Option, None, Some, refl, ap, sym, ◌∙◌, subst, append_assoc, append-nil}
-use Rattle.std.specs.Borrow.{Bor}
 use Rattle.std.specs.List.{AllByRecursion, flat_map, slice_get}
 use Rattle.std.specs.Option.{option_map}
 use Rattle.std.proofs.lemmas.List.{map_push}
 use Rattle.std.proofs.lemmas.Grind.{flat_map-append}
-use Rattle.std.proofs.lemmas.Option.{slice_get-get_or}
 use Rattle.hx_types.specs.declared.snapshots.Kept.{Kept}
 use Rattle.hx_types.specs.declared.configs.Config.{Config}
 use Rattle.hx_types.specs.declared.messages.Post.{Post}

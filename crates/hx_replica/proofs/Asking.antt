@@ -1,5 +1,5 @@
 -- What a server asks of a slot when it takes a message.
-use Rattle.std.proofs.Common.{◌≡◌, ℕ, suc, ◌+◌, ◌<◌, ◌≤◌, ◌^◌, Bool, true, false, not, ◌&&◌, ◌||◌, cond, List, [], ◌∷◌, length, Option, None, Some, refl, ap, sym, ◌∙◌, subst, arith, inl, inr}
+use Rattle.std.proofs.Common.{IsSome, ◌≡◌, ℕ, suc, ◌+◌, ◌<◌, ◌≤◌, ◌^◌, Bool, true, false, not, ◌&&◌, ◌||◌, cond, List, [], ◌∷◌, length, Option, None, Some, refl, ap, sym, ◌∙◌, subst, arith, inl, inr}
 use Rattle.std.specs.List.{AllByRecursion, slice_get}
 use Rattle.std.specs.Option.{option_map}
 use Rattle.std.proofs.lemmas.Bool.{and_parts, cond_both, false≢true}
@@ -30,7 +30,7 @@ use Rattle.hx_slot.specs.States.{IsPlacedIn}
 use Rattle.hx_replica.specs.Hearing.{heard, leading}
 use Rattle.hx_replica.specs.Made.{IsSessionActor, IsSlotInput, key_in}
 use Rattle.hx_replica.specs.Plans.{CanStep}
-use Rattle.hx_replica.specs.Servers.{CanTake, HasSmallVersions, IsHandled, IsSoundDelivery, ServerValue}
+use Rattle.hx_replica.specs.Servers.{CanTake, HasSmallVersions, IsSoundDelivery, ServerValue}
 use Rattle.hx_replica.proofs.Hearing.{found_region, hearing_found, installed_some, led}
 use Rattle.hx_replica.proofs.Planning.{found_there}
 
@@ -92,17 +92,22 @@ call_region space s epoch (Some key) r e =
       subst (λ (h : RegionId). replica_of h s.replicas ≡ Some r) (sym l.region) (hearing_found s epoch g r l.hears),
     )
 
+-- a call that is heard is on a key
+on_key : (space : Space) (s : ServerState) (epoch : Epoch) (o : Option (List ℕ)) (r : Replica) → when_some o None (leading space s epoch) ≡ Some r → IsSome o
+on_key space s epoch None r e = absurd cc
+on_key space s epoch (Some key) r e = refl
+
 -- a slot that hears a message can be asked
 pub slot_input : (space : Space) (s : ServerState) (from : Actor) (m : Message) (r : Replica)
-    → IsHandled m → IsSoundDelivery space s.id from m → HasSmallVersions s → heard space s m ≡ Some r
+    → IsSoundDelivery space s.id from m → HasSmallVersions s → heard space s m ≡ Some r
     → AllByRecursion (λ (t : KeyState). t.marks ≡ is_key_region space r.region) r.states
     → IsSlotInput space r.region (state_in space r (key_in m)) from m
-slot_input space s from (a_message.Call epoch number op) r h sound small e marked =
+slot_input space s from (a_message.Call epoch number op) r sound small e marked =
     let c = call_region space s epoch (key_of op) r e in
     let key : List ℕ = key_in (a_message.Call epoch number op) in
     let marks : Bool = is_key_region space r.region in (
       from_session from (Server s.id) epoch number op sound.sound.between,
-      h,
+      on_key space s epoch (key_of op) r e,
       record {
         marks = state_marks marks key r.states marked ∙ c.1;
         region = c.0 ∙ ap (key_region space) (sym (state_key marks key r.states));
@@ -110,12 +115,12 @@ slot_input space s from (a_message.Call epoch number op) r h sound small e marke
       },
       state_key marks key r.states,
     )
-slot_input space s from (a_message.Update epoch g u) r h sound small e marked =
+slot_input space s from (a_message.Update epoch g u) r sound small e marked =
     let is : r.region ≡ g = found_region g s.replicas r (hearing_found s epoch g r (installed_some (hearing s epoch g) r e)) in
     let m = sound.sound.message in
     (subst (λ (x : RegionId). IsPlacedIn x u) (sym is) (placed g u.places m.3), m.2.of_space.few, m.2.of_space.after)
-slot_input space s from (a_message.Ack epoch g key version) r h sound small e marked = state_key (is_key_region space r.region) key r.states
-slot_input space s from other r h sound small e marked = absurd cc
+slot_input space s from (a_message.Ack epoch g key version) r sound small e marked = state_key (is_key_region space r.region) key r.states
+slot_input space s from other r sound small e marked = absurd cc
 
 -- the slots of each replica keep marks at a key region
 abbrev pub AreMarked : ServerValue → Type 0
@@ -132,6 +137,6 @@ can_step v input id from m place key marked can is at k =
       asked = λ r e.
           let same : heard v.space v.state m ≡ Some r = there.is ∙ sym there.at_place ∙ e in
           subst (λ (x : List ℕ). IsSlotInput v.space r.region (state_in v.space r x) from m) (sym k)
-          (slot_input v.space v.state from m r now.input_to.0 now.input_to.1 now.small same (marked place r e));
+          (slot_input v.space v.state from m r now.input_to now.small same (marked place r e));
       within = slice_get_within v.state.replicas place there.replica there.at_place;
     }

@@ -20,7 +20,7 @@ use Rattle.hx_types.specs.Words.{IsIn}
 use Rattle.hx_model.specs.ServerSteps.{Replica, ServerState, listed_regions, server_at_start}
 use Rattle.hx_model.specs.Slots.{KeyState}
 use Rattle.hx_replica.specs.Examples.{ask_of, first, from_coordinator, put_of, second_config, small}
-use Rattle.hx_replica.specs.Servers.{CanTake, HasSmallVersions, IsHandled}
+use Rattle.hx_replica.specs.Servers.{CanTake, HasSmallVersions}
 
 letter : (b : ℕ) → is_letter b ≡ true → IsName (b ∷ [])
 letter b e = record {
@@ -60,20 +60,17 @@ small_at_start space s = λ r i t j. absurd (no_state (listed_regions (first_con
 put_fits : (epoch : ℕ) → epoch ≤ 2 → CanTake small (server_at_start small first) (put_of epoch)
 put_fits epoch l = record {
   running = refl;
-  input_to = (
-    refl,
-    record {
-      sessions = 1;
-      entry = 1;
-      few = omega arith;
-      sound = record {
-        from = (omega arith, omega arith);
-        to = (omega arith, omega arith);
-        between = refl;
-        message = (l, (omega arith, record { each = All-from_recursion (AssignFits small) [] tt; once = tt }));
-      };
-    },
-  );
+  input_to = record {
+    sessions = 1;
+    entry = 1;
+    few = omega arith;
+    sound = record {
+      from = (omega arith, omega arith);
+      to = (omega arith, omega arith);
+      between = refl;
+      message = (l, (omega arith, record { each = All-from_recursion (AssignFits small) [] tt; once = tt }));
+    };
+  };
   small = small_at_start small first;
   bare = refl;
 }
@@ -90,20 +87,17 @@ can_put space s input epoch e f g l = at_start space s input (put_of epoch) e f 
 ask_fits : CanTake small (server_at_start small first) ask_of
 ask_fits = record {
   running = refl;
-  input_to = (
-    tt,
-    record {
-      sessions = 1;
-      entry = 1;
-      few = omega arith;
-      sound = record {
-        from = (omega arith, omega arith);
-        to = (omega arith, omega arith);
-        between = refl;
-        message = (omega arith, omega arith, record { each = All-from_recursion (TermFits small) [] tt; once = tt });
-      };
-    },
-  );
+  input_to = record {
+    sessions = 1;
+    entry = 1;
+    few = omega arith;
+    sound = record {
+      from = (omega arith, omega arith);
+      to = (omega arith, omega arith);
+      between = refl;
+      message = (omega arith, omega arith, record { each = All-from_recursion (TermFits small) [] tt; once = tt });
+    };
+  };
   small = small_at_start small first;
   bare = refl;
 }
@@ -118,16 +112,16 @@ pub can_halt : (space : Space) (s : ServerState) → space ≡ small → s ≡ s
 can_halt space s e f = at_start space s Halt Halt e f refl (record { running = refl; input_to = tt; small = small_at_start small first; bare = refl })
 
 -- what the coordinator sends
-sent : (m : Message) → IsHandled m → goes_between Coordinator (Server first) m ≡ true → IsSoundMessage (record { space = small; sessions = 1; most = 2 }) m → CanTake small (server_at_start small first) (from_coordinator m)
-sent m h b message = record {
+sent : (m : Message) → goes_between Coordinator (Server first) m ≡ true → IsSoundMessage (record { space = small; sessions = 1; most = 2 }) m → CanTake small (server_at_start small first) (from_coordinator m)
+sent m b message = record {
   running = refl;
-  input_to = (h, record { sessions = 1; entry = 1; few = omega arith; sound = record { from = tt; to = (omega arith, omega arith); between = b; message = message } });
+  input_to = record { sessions = 1; entry = 1; few = omega arith; sound = record { from = tt; to = (omega arith, omega arith); between = b; message = message } };
   small = small_at_start small first;
   bare = refl;
 }
 
 pub can_seal : (space : Space) (s : ServerState) (input : Input) → space ≡ small → s ≡ server_at_start small first → input ≡ from_coordinator (a_message.Seal (record { 0 = 1 })) → CanTake space s input
-can_seal space s input e f g = at_start space s input (from_coordinator (a_message.Seal (record { 0 = 1 }))) e f g (sent (a_message.Seal (record { 0 = 1 })) tt refl (omega arith))
+can_seal space s input e f g = at_start space s input (from_coordinator (a_message.Seal (record { 0 = 1 }))) e f g (sent (a_message.Seal (record { 0 = 1 })) refl (omega arith))
 
 second_fits : IsConfigOf small second_config
 second_fits = record {
@@ -144,4 +138,4 @@ second_fits = record {
 
 pub can_install : (space : Space) (s : ServerState) (input : Input) (config : Config) → space ≡ small → s ≡ server_at_start small first → config ≡ second_config → input ≡ from_coordinator (a_message.Install config) → CanTake space s input
 can_install space s input config e f c g =
-    at_start space s input (from_coordinator (a_message.Install second_config)) e f (g ∙ ap (λ (k : Config). from_coordinator (a_message.Install k)) c) (sent (a_message.Install second_config) tt refl (omega arith, second_fits))
+    at_start space s input (from_coordinator (a_message.Install second_config)) e f (g ∙ ap (λ (k : Config). from_coordinator (a_message.Install k)) c) (sent (a_message.Install second_config) refl (omega arith, second_fits))

@@ -4,7 +4,7 @@ use Rattle.std.specs.Prelude.{IfNone, IfSome, IsSomeAnd, is_some}
 use Rattle.std.specs.List.{AllByRecursion, slice_get}
 use Rattle.std.specs.Option.{option_map}
 use Rattle.std.proofs.lemmas.Bool.{false≢true}
-use Rattle.std.proofs.lemmas.List.{get_or-map, length-map}
+use Rattle.std.proofs.lemmas.List.{get_or-map, length-map, map-set}
 use Rattle.std.proofs.lemmas.Option.{same_Some, slice_get-get_or, slice_get_within}
 use Rattle.hx_types.specs.declared.messages.Message.{Message}
 use Rattle.hx_types.specs.declared.ids.Actor.{Actor}
@@ -13,7 +13,7 @@ use Rattle.hx_types.specs.declared.spaces.Space.{Space}
 use Rattle.hx_types.specs.declared.traces.Input.{Input}
 use Rattle.hx_types.specs.Subspaces.{is_key_region}
 use Rattle.hx_types.specs.Words.{same_text, when_some}
-use Rattle.hx_model.specs.ServerSteps.{Replica as ReplicaState, ServerState, replica_of, server_step, spot_of, state_in, with_slot}
+use Rattle.hx_model.specs.ServerSteps.{Replica as ReplicaState, ServerState, replica_of, server_step, spot_of, state_in, with_replica, with_slot}
 use Rattle.hx_model.specs.Slots.{KeyState, new_state, state_among}
 use Rattle.hx_store.specs.Stores.{IsPlace, Room, has_slot, StoreState, after_step, key_at, spare_at, state_at}
 use Rattle.hx_folds.specs.Folding.{folded_server}
@@ -25,11 +25,11 @@ use Rattle.hx_replica.specs.declared.replicas.Replica.{Replica}
 use Rattle.hx_replica.specs.declared.servers.Server.TheInside.{Inside}
 use Rattle.hx_replica.specs.Inside.{IsServer, value_of}
 use Rattle.hx_replica.specs.Made.{ChangeFits, HasRoomFor, IsMade, IsSlotInput, key_in, stepped, slot_step_of}
-use Rattle.hx_replica.specs.Plans.{CanStep, HasRoomAt, IsChange, IsChangeOn, IsMadeAt}
-use Rattle.hx_replica.specs.Replicas.{IsReplicaIn, rooms_of, view_of, views_of}
+use Rattle.hx_replica.specs.Plans.{CanStep, HasRoomAt, IsChange, IsChangeOn, IsJoinOn, IsMadeAt}
+use Rattle.hx_replica.specs.Replicas.{AreReplicas, IsReplicaIn, rooms_of, view_of, views_of}
 use Rattle.hx_replica.specs.Servers.{ServerValue}
 use Rattle.hx_replica.proofs.Asking.{AreMarked}
-use Rattle.hx_replica.proofs.Changing.{below_views, changed_views, put, put_there, replica_at, view_at}
+use Rattle.hx_replica.proofs.Changing.{below_views, changed_views, put, put_there, replica_at, set_is_with, set_replicas, view_at}
 use Rattle.hx_replica.proofs.Hearing.{found_region}
 use Rattle.hx_replica.proofs.Planning.{found_there}
 
@@ -168,6 +168,28 @@ can_change i v input number place slot y seen is h at =
           (subst (λ (b : Bool). ChangeFits y.store.region (state_among b h.key y.store.states) h.key slot) (sym holds.marks)
           (subst (λ (g : RegionId). ChangeFits g (state_in i.space (view_of y) h.key) h.key slot) (sym holds.region) fits));
     }
+
+-- a replica that was installed takes the place of the one before
+pub join_of : (v : ServerValue) (input : Input) (change : Change) (number : ℕ) (replica : Replica) → change ≡ a_change.Join number replica → IsChange v input change → IsJoinOn v input number replica
+join_of v input change number replica e h = subst (IsChange v input) e h
+
+module _ (i : Inside) (v : ServerValue) (input : Input) (number : ℕ) (replica : Replica) (seen : value_of i ≡ v) (is : IsServer i) (h : IsJoinOn v input number replica) where
+  abbrev rs : List Replica
+  rs = i.replicas.items
+
+  at_number : slice_get (views_of rs) number ≡ Some h.before
+  at_number = ap (λ (x : ServerValue). slice_get x.state.replicas number) seen ∙ h.found
+
+  pub joined_replicas : AreReplicas i.space (set rs number replica)
+  joined_replicas =
+      set_replicas i.space rs number replica is.replicas_are (subst (λ (x : Space). IsReplicaIn x replica) (sym (ap (λ (x : ServerValue). x.space) seen)) h.is)
+      (h.region ∙ ap (λ (r : ReplicaState). r.region) (sym (view_at rs number replica h.before at_number)))
+
+  pub joined_server : with_views i (views_of (set rs number replica)) ≡ folded_server (server_step v.space v.state input).state
+  joined_server =
+      ap (with_views i) (map-set view_of rs number replica ∙ set_is_with rs number (view_of replica) h.before is.replicas_are.ascend at_number h.region)
+      ∙ ap (λ (x : ServerValue). record x.state { replicas = with_replica (view_of replica) x.state.replicas }) seen
+      ∙ sym h.state
 
 -- the replica that was found of a region, and its store
 pub record IsHere (i : Inside) (v : ServerValue) (g : RegionId) (y : Replica) : Type 0 where

@@ -1,6 +1,7 @@
 pub mod Placed
 pub mod Turns
 pub mod Walking
+pub mod KeyOrder
 pub mod Offers
 pub mod Granted
 pub mod Acked
@@ -17,3 +18,5 @@ pub mod Searching
 pub mod Resumed
 pub mod Adopted
 pub mod Installed
+pub mod Joined
+pub mod Snapped

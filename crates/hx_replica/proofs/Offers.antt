@@ -46,7 +46,7 @@ above_seen g floor [] h = tt
 above_seen g floor (b ∷ bs) h = ((All-head (IsNew g floor) b bs h).above, above_seen g floor bs (All-tail (IsNew g floor) b bs h))
 
 -- one more update is pending
-take_pending : (u : Update) (s : KeyState) → s.floor < u.version.0 → pending_of (moved (Take u) s) ≡ pending_of s ++ u ∷ []
+pub take_pending : (u : Update) (s : KeyState) → s.floor < u.version.0 → pending_of (moved (Take u) s) ≡ pending_of s ++ u ∷ []
 take_pending u s l = cond-false _ [] (pending_above s.floor s.accepted ++ u ∷ []) (omega_false u.version.0 s.floor l)
   where
     omega_false : (v floor : ℕ) → floor < v → nat_le v floor ≡ false

@@ -80,7 +80,7 @@ moved_planned v id from m number place key made plan can at is room k e =
     let s : KeyState = state_in v.space r (key_in m) in
     let slot = slot_step_of (spot_of v.space v.state r.region) s from m in
     let so : IsMade r.region s (key_in m) slot made = is r at.at_place in
-    let step : server_step v.space v.state (Deliver id from m) ≡ at_slot v.state r s slot = running_step v id from m can ∙ message_heard v.space v.state from (Server v.state.id) m r can.input_to.1.sound.between at.is in
+    let step : server_step v.space v.state (Deliver id from m) ≡ at_slot v.state r s slot = running_step v id from m can ∙ message_heard v.space v.state from (Server v.state.id) m r can.input_to.sound.between at.is in
     subst (IsPlanOn v) (sym e)
     (record {
       entry = ap (λ (posts : List Post). record { actor = Server v.state.id; input = Deliver id from m; outputs = posts; notes = made.notes }) so.posts

@@ -10,8 +10,6 @@ use Rattle.hx_types.specs.declared.updates.Update.{Update}
 use Rattle.hx_types.specs.Configs.{joiner_for}
 use Rattle.hx_types.specs.Words.{provided}
 use Rattle.hx_model.specs.ServerSteps.{Replica as ReplicaState, ServerState, is_active, pending_posts, ready_post, replica_tick, snap_to, spot_of, tick_step}
-use Rattle.hx_model.specs.Slots.{KeyState}
-use Rattle.hx_slot.specs.States.{SlotState}
 use Rattle.hx_replica.specs.declared.replicas.Replica.{Replica}
 use Rattle.hx_replica.specs.Made.{seen}
 use Rattle.hx_replica.specs.Replicas.{view_of, views_of}

@@ -7,3 +7,4 @@ pub mod Plans
 pub mod Examples
 pub mod Ticking
 pub mod Adopting
+pub mod Installing

@@ -1,5 +1,5 @@
 -- A step of a server that is ready to be made.
-use Rattle.std.specs.Prelude.{◌≡◌, ℕ, ◌<◌, ◌≤◌, true, false, List, IsSomeAnd, Some, length, slice_get}
+use Rattle.std.specs.Prelude.{◌≡◌, ℕ, ◌<◌, true, false, List, IsSomeAnd, Some, length, slice_get}
 use Rattle.hx_types.specs.declared.configs.Config.{Config}
 use Rattle.hx_types.specs.declared.messages.Message.{Message}
 use Rattle.hx_types.specs.declared.messages.PostId.{PostId}
@@ -7,17 +7,16 @@ use Rattle.hx_types.specs.declared.ids.Actor.{Actor}
 use Rattle.hx_types.specs.declared.spaces.Space.{Space}
 use Rattle.hx_types.specs.declared.traces.Input.{Input}
 use Rattle.hx_types.specs.declared.traces.Input.TheVariants.{Deliver}
-use Rattle.hx_model.specs.ServerSteps.{Replica as ReplicaState, ServerState, server_step, spot_of, state_in, with_slot}
+use Rattle.hx_model.specs.ServerSteps.{Replica as ReplicaState, ServerState, server_step, spot_of, state_in, with_replica, with_slot}
 use Rattle.hx_folds.specs.Folding.{folded_server}
-use Rattle.hx_store.specs.Stores.{Room}
 use Rattle.hx_replica.specs.declared.made.SlotChange.{SlotChange}
 use Rattle.hx_replica.specs.declared.made.SlotMade.{SlotMade}
 use Rattle.hx_replica.specs.declared.plans.Change.{Change}
-use Rattle.hx_replica.specs.declared.plans.Change.TheVariants.{Nothing, Seal, Halt, Adopt, Slot}
+use Rattle.hx_replica.specs.declared.plans.Change.TheVariants.{Nothing, Seal, Halt, Adopt, Join, Slot}
 use Rattle.hx_replica.specs.declared.plans.Plan.{Plan}
 use Rattle.hx_replica.specs.Made.{ChangeFits, HasRoomFor, IsMade, IsSlotInput, key_in, slot_step_of, stepped}
 use Rattle.hx_replica.specs.declared.replicas.Replica.{Replica}
-use Rattle.hx_replica.specs.Replicas.{AreReplicas, views_of}
+use Rattle.hx_replica.specs.Replicas.{AreReplicas, IsReplicaIn, view_of, views_of}
 use Rattle.hx_replica.specs.Servers.{ServerValue, server_entry}
 
 -- the replica with a number among the server's has at a place room for n more updates of the key
@@ -55,11 +54,20 @@ pub record IsAdoptionOn (s : ServerValue) (input : Input) (config : Config) (rep
   pub are : AreReplicas s.space replicas
   pub state : folded_server (server_step s.space s.state input).state ≡ record s.state { config = config; sealed = false; replicas = views_of replicas }
 
+-- the replica is one of the region of that with this number, and that is the server's step
+pub record IsJoinOn (s : ServerValue) (input : Input) (number : ℕ) (replica : Replica) : Type 0 where
+  pub before : ReplicaState
+  pub found : slice_get s.state.replicas number ≡ Some before
+  pub region : replica.region ≡ before.region
+  pub is : IsReplicaIn s.space replica
+  pub state : folded_server (server_step s.space s.state input).state ≡ record s.state { replicas = with_replica (view_of replica) s.state.replicas }
+
 abbrev pub IsChange : ServerValue → Input → Change → Type 0
 IsChange s input Nothing = folded_server (server_step s.space s.state input).state ≡ s.state
 IsChange s input Seal = folded_server (server_step s.space s.state input).state ≡ record s.state { sealed = true }
 IsChange s input Halt = folded_server (server_step s.space s.state input).state ≡ record s.state { halted = true }
 IsChange s input (Adopt config replicas) = IsAdoptionOn s input config replicas.items
+IsChange s input (Join number replica) = IsJoinOn s input number replica
 IsChange s input (Slot number place change) = IsChangeOn s input number place change
 
 -- the plan is that of the server's step, and there is room for its change

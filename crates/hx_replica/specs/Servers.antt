@@ -1,15 +1,13 @@
--- A server as contracts see it, and which inputs it can take today.
-use Rattle.std.specs.Prelude.{◌≡◌, ℕ, ◌<◌, ◌≤◌, ◌^◌, false, List, ⊤, IsSome}
+-- A server as contracts see it, and which inputs it can take.
+use Rattle.std.specs.Prelude.{◌≡◌, ℕ, ◌<◌, ◌≤◌, ◌^◌, false, List, ⊤}
 use Rattle.hx_types.specs.declared.messages.Message.{Message}
 use Rattle.hx_types.specs.declared.ids.Actor.{Actor}
 use Rattle.hx_types.specs.declared.ids.ServerId.{ServerId}
 use Rattle.hx_types.specs.declared.spaces.Space.{Space}
 use Rattle.hx_types.specs.declared.traces.Entry.{Entry}
 use Rattle.hx_types.specs.declared.traces.Input.{Input}
-use Rattle.hx_types.specs.declared.messages.Message.TheVariants as a_message
 use Rattle.hx_types.specs.declared.ids.Actor.TheVariants.{Server}
 use Rattle.hx_types.specs.declared.traces.Input.TheVariants.{Tick, Halt, Deliver}
-use Rattle.hx_types.specs.Effects.{key_of}
 use Rattle.hx_types.specs.Posts.{IsSoundPost}
 use Rattle.hx_types.specs.Words.{IsIn, post}
 use Rattle.hx_model.specs.Runs.{entry_of}
@@ -29,12 +27,6 @@ abbrev pub server_entry : Space → ServerState → Input → Entry
 server_entry space s input =
     let step = server_step space s input in entry_of (Server s.id) input (record { posts = step.posts; notes = step.notes })
 
--- the messages that a server can take today: all but snapshots and calls on no key
-abbrev pub IsHandled : Message → Type 0
-IsHandled (a_message.Call epoch number op) = IsSome (key_of op)
-IsHandled (a_message.Snap epoch g snapshot pending) = ⊥
-IsHandled other = ⊤
-
 -- the post is sound for some number of sessions, and no version in it is above 2^62
 pub record IsSoundDelivery (space : Space) (s : ServerId) (from : Actor) (m : Message) : Type 0 where
   pub sessions : ℕ
@@ -49,7 +41,7 @@ HasSmallVersions s = (r : Replica) → IsIn r s.replicas → (t : KeyState) → 
 abbrev pub IsInputTo : Space → ServerId → Input → Type 0
 IsInputTo space s Tick = ⊤
 IsInputTo space s Halt = ⊤
-IsInputTo space s (Deliver id from m) = IsHandled m × IsSoundDelivery space s from m
+IsInputTo space s (Deliver id from m) = IsSoundDelivery space s from m
 
 -- the server can take the input: its slots have no past
 pub record CanTake (space : Space) (s : ServerState) (input : Input) : Type 0 where

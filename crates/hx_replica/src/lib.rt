@@ -4,6 +4,8 @@
 mod accepting;
 mod adopting;
 mod doubting;
+mod installing;
+mod keys;
 mod made;
 mod members;
 mod plans;

@@ -23,6 +23,11 @@ pub enum Change {
         config: Shared<Config>,
         replicas: Vec<Replica>,
     },
+    /// The replica with this number among the server's becomes this one, which is installed.
+    Join {
+        number: usize,
+        replica: Replica,
+    },
     /// The slot at a place of the replica with this number among the server's makes its part.
     Slot {
         replica: usize,

@@ -31,7 +31,7 @@ pub fn resumed(alloc: Global, spot: &Spot, slot: &Slot, posts: &mut Posts) -> Re
 
 /// Passes every pending update on, and tells of those that can then be committed; gives the
 /// versions whose chain ends here.
-fn carry_on(
+pub fn carry_on(
     alloc: Global,
     spot: &Spot,
     slot: &Slot,

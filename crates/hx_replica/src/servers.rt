@@ -5,25 +5,27 @@ ghost use Rattle.hx_types.specs.Spaces.{IsConfigOf, IsServerOf, IsSpace};
 ghost use Rattle.hx_types.specs.Subspaces.{is_key_region};
 ghost use Rattle.hx_types.specs.Words.{when_some};
 ghost use Rattle.hx_folds.specs.Folding.{folded_server};
-ghost use Rattle.hx_model.specs.ServerSteps.{Replica as ReplicaState, asked, halting, hearing, if_installed, install_at, replica_of, seal_at, server_at_start, server_step, state_in, tick_step};
+ghost use Rattle.hx_model.specs.ServerSteps.{Replica as ReplicaState, asked, halting, hearing, if_installed, install_at, replica_of, seal_at, server_at_start, server_step, snapped, state_in, tick_step};
 ghost use Rattle.hx_model.specs.Slots.{new_state};
 ghost use Rattle.hx_replica.specs.Hearing.{IsOfOneSlot, heard, leading};
+ghost use Rattle.hx_replica.specs.Installing.{IsSnapshot};
 ghost use Rattle.hx_replica.specs.Made.{key_in};
 ghost use Rattle.hx_replica.specs.Plans.{CanStep, HasRoomAt, IsDelivery, IsMadeAt, IsPlanOn};
 ghost use Rattle.hx_replica.specs.Servers.{CanTake, server_entry};
 
 use crate::adopting::adopt_all;
+use crate::installing::installed;
 use crate::made::SlotMade;
 use crate::plans::{Change, Plan, moved, said, to_coordinator, unmoved};
 use crate::replicas::{Replica, change_slot, first_replicas, place_of};
 use crate::rows::step_slot;
 use crate::spots::Spot;
-use crate::ticking::tick_all;
+use crate::ticking::{tell_ready, tick_all};
 use hx_region::RegionMap;
 use hx_slot::Slot;
 use hx_types::{
     Actor, Config, Entry, Epoch, Exact, Input, Memory, Message, Op, Post, Posts, RegionId,
-    ServerId, Shared, Space, Terms, Text, first_config,
+    ServerId, Shared, Snapshot, Space, Terms, Text, Updates, first_config,
 };
 use std::alloc::Global;
 use std::marker::Model;
@@ -118,6 +120,7 @@ impl Server {
                 self.sealed = false;
                 self.replicas = replicas;
             }
+            Change::Join { number, replica } => self.replicas[number] = replica,
             Change::Slot {
                 replica,
                 place,
@@ -235,6 +238,54 @@ impl Server {
         )
     }
 
+    /// A replica that isn't installed installs a snapshot with its pending updates. The coordinator
+    /// is told that the replica has joined, now or before, where it is listed as not ready.
+    fn join(
+        &self,
+        alloc: Global,
+        input: &Input,
+        epoch: Epoch,
+        region: RegionId,
+        snapshot: &Snapshot,
+        pending: &Updates,
+    ) -> Result<Plan, Memory>
+        requires step { server_step self.now.space self.now.state input.now ≡ snapped self.now.space self.now.state snapshot.now pending.now (hearing self.now.state epoch region) }
+        requires bare { folded_server self.now.state ≡ self.now.state }
+        requires snapshot { IsSnapshot region snapshot.now pending.now }
+        ensures plan { IfOk result (IsPlanOn self.now) }
+        ensures input { IfOk result (λ plan. plan.entry.input ≡ input.now) }
+    {
+        let Some(number) = self.hearing(epoch, region) else {
+            return unmoved(alloc, self.id, input);
+        };
+        let spot = Spot {
+            space: &self.space,
+            map: &self.map,
+            config: &self.config,
+            server: self.id,
+            region,
+        };
+        let mut posts = Posts::new(alloc);
+        if self.replicas[number].installed {
+            tell_ready(&spot, &mut posts)?;
+            return said(alloc, self.id, input, posts, Change::Nothing);
+        }
+        let store = installed(alloc, &spot, snapshot, pending, &mut posts)?;
+        tell_ready(&spot, &mut posts)?;
+        let replica = Replica {
+            region,
+            installed: true,
+            store,
+        };
+        said(
+            alloc,
+            self.id,
+            input,
+            posts,
+            Change::Join { number, replica },
+        )
+    }
+
     /// The step that a message makes.
     fn deliver(
         &mut self,
@@ -263,6 +314,12 @@ impl Server {
             Message::Seal { epoch } => self.seal(alloc, input, *epoch),
             Message::Install { config } => self.install(alloc, input, config),
             Message::Die => self.halt(alloc, input),
+            Message::Snap {
+                epoch,
+                region,
+                snapshot,
+                pending,
+            } => self.join(alloc, input, *epoch, *region, snapshot, pending),
             _ => self.take(alloc, input, from, message),
         }
     }

@@ -1,9 +1,9 @@
-use Rattle.std.proofs.Common.{ap, ◌∙◌}
+use Rattle.std.proofs.Common.{ap, arith, ◌∙◌}
 use Rattle.hx_store.specs.Stores.{after_step}
 use Rattle.hx_replica.proofs.Changing.{changed}
-use Rattle.hx_replica.proofs.Inside.{can_change, change_within, changed_state, planned}
+use Rattle.hx_replica.proofs.Inside.{can_change, change_within, changed_state, join_of, joined_replicas, joined_server, planned}
 use Rattle.hx_replica.specs.Made.{stepped}
-use Rattle.hx_replica.specs.Plans.{IsChangeOn}
+use Rattle.hx_replica.specs.Plans.{IsChangeOn, IsJoinOn}
 use Rattle.hx_replica.proofs.servers.Server.apply.Goals as goal
 
 pub change_slot-requires-clause-room : goal.change_slot-requires-clause-room
@@ -39,3 +39,26 @@ returns-in-Slot-clause-state c =
     changed_state c.self.inside c.args.self.now c.args.plan.entry.input c.in-Slot.replica c.in-Slot.place c.in-Slot.change c.index_mut-replica.result.now c.change_slot.new.store c.self.view_is c.self.invariant h
     (change_within c.self.inside c.args.self.now c.args.plan.entry.input c.in-Slot.replica c.in-Slot.place c.in-Slot.change c.self.view_is h) c.index_mut-replica.ensures.value
     (c.change_slot.ensures.states ∙ ap (λ k. after_step c.index_mut-replica.result.now.store k (stepped c.in-Slot.change)) can.key_is)
+
+pub index_mut-replica-requires : goal.index_mut-replica-requires
+index_mut-replica-requires c =
+    let h : IsChangeOn c.args.self.now c.args.plan.entry.input c.in-Slot.replica c.in-Slot.place c.in-Slot.change =
+    planned c.args.self.now c.args.plan.entry.input c.args.plan.change c.in-Slot.replica c.in-Slot.place c.in-Slot.change c.in-Slot.is c.requires.change in
+    let l = change_within c.self.inside c.args.self.now c.args.plan.entry.input c.in-Slot.replica c.in-Slot.place c.in-Slot.change c.self.view_is h in
+    omega (arith, l, c.self.inside.replicas.ok)
+
+pub invariant_of-self-in-Join : goal.invariant_of-self-in-Join
+invariant_of-self-in-Join c =
+    let h : IsJoinOn c.args.self.now c.args.plan.entry.input c.in-Join.number c.in-Join.replica =
+    join_of c.args.self.now c.args.plan.entry.input c.args.plan.change c.in-Join.number c.in-Join.replica c.in-Join.is c.requires.change in
+    record {
+      valid = c.self.invariant.valid;
+      map_is = c.self.invariant.map_is;
+      replicas_are = joined_replicas c.self.inside c.args.self.now c.args.plan.entry.input c.in-Join.number c.in-Join.replica c.self.view_is c.self.invariant h;
+    }
+
+pub returns-in-Join-clause-state : goal.returns-in-Join-clause-state
+returns-in-Join-clause-state c =
+    let h : IsJoinOn c.args.self.now c.args.plan.entry.input c.in-Join.number c.in-Join.replica =
+    join_of c.args.self.now c.args.plan.entry.input c.args.plan.change c.in-Join.number c.in-Join.replica c.in-Join.is c.requires.change in
+    joined_server c.self.inside c.args.self.now c.args.plan.entry.input c.in-Join.number c.in-Join.replica c.self.view_is c.self.invariant h

@@ -1,0 +1,169 @@
+-- The plan of a server that gets a snapshot.
+use Rattle.std.proofs.Common.{◌≡◌, ℕ, ◌+◌, ◌≤◌, Bool, true, false, List, [], ◌∷◌, ◌++◌, map, get_or, Option, None, Some, ap, sym, ◌∙◌, subst}
+use Rattle.std.specs.Prelude.{IsTrue}
+use Rattle.std.specs.List.{AllByRecursion, list_all, slice_get}
+use Rattle.std.specs.Option.{option_map}
+use Rattle.std.proofs.lemmas.Bool.{and_parts, cond-true, cond-false}
+use Rattle.std.proofs.lemmas.List.Elements.{All-weaker}
+use Rattle.hx_types.specs.declared.ids.Actor.{Actor}
+use Rattle.hx_types.specs.declared.ids.Epoch.{Epoch}
+use Rattle.hx_types.specs.declared.ids.RegionId.{RegionId}
+use Rattle.hx_types.specs.declared.ids.ServerId.{ServerId}
+use Rattle.hx_types.specs.declared.messages.Message.{Message}
+use Rattle.hx_types.specs.declared.messages.Post.{Post}
+use Rattle.hx_types.specs.declared.calls.Row.{Row}
+use Rattle.hx_types.specs.declared.snapshots.Kept.{Kept}
+use Rattle.hx_types.specs.declared.snapshots.Mark.{Mark}
+use Rattle.hx_types.specs.declared.snapshots.Touch.{Touch}
+use Rattle.hx_types.specs.declared.spaces.Space.{Space}
+use Rattle.hx_types.specs.declared.traces.Input.{Input}
+use Rattle.hx_types.specs.declared.updates.Update.{Update}
+use Rattle.hx_types.specs.declared.ids.Actor.TheVariants.{Server}
+use Rattle.hx_types.specs.declared.messages.Message.TheVariants as a_message
+use Rattle.hx_types.specs.declared.traces.Input.TheVariants.{Deliver}
+use Rattle.hx_types.specs.Posts.{Bounds, IsSoundKept, IsSoundMessage, IsSoundUpdate, has_place_in, keys_ascend}
+use Rattle.hx_types.specs.Spaces.{IsAnswerOf, IsMaybeRowUpTo, IsRegionOf}
+use Rattle.hx_types.specs.Subspaces.{is_key_region}
+use Rattle.hx_types.specs.Words.{text_below}
+use Rattle.hx_model.specs.ServerSteps.{Replica as ReplicaState, ServerState, ServerStep, hearing, installed_slots, keys_of, ready_post, saying, server_step, snapped, spot_of, state_from, with_replica}
+use Rattle.hx_model.specs.Slots.{KeyState}
+use Rattle.hx_folds.specs.Folding.{KeptsAscend, folded, folded_replica, folded_server}
+use Rattle.hx_folds.proofs.Servers.{with-replica-folded}
+use Rattle.hx_slot.specs.States.{IsOrderly, IsRowUpTo}
+use Rattle.hx_store.specs.Stores.{StoreState}
+use Rattle.hx_replica.specs.declared.plans.Change.{Change}
+use Rattle.hx_replica.specs.declared.plans.Change.TheVariants as a_change
+use Rattle.hx_replica.specs.declared.plans.Plan.{Plan}
+use Rattle.hx_replica.specs.declared.replicas.Replica.{Replica}
+use Rattle.hx_replica.specs.declared.servers.Server.TheInside.{Inside}
+use Rattle.hx_replica.specs.Inside.{value_of}
+use Rattle.hx_replica.specs.Installing.{CanCome, IsSnapshot}
+use Rattle.hx_replica.specs.Plans.{IsDelivery, IsPlanOn}
+use Rattle.hx_replica.specs.Replicas.{view_of}
+use Rattle.hx_replica.specs.Servers.{CanTake, ServerValue}
+use Rattle.hx_replica.specs.Ticking.{standing}
+use Rattle.hx_replica.proofs.Asking.{placed}
+use Rattle.hx_replica.proofs.Changing.{view_at}
+use Rattle.hx_replica.proofs.Hearing.{found_region, hearing_found}
+use Rattle.hx_replica.proofs.Joined.{from_marked, joined_marked}
+use Rattle.hx_replica.proofs.Planning.{found_there}
+
+all_pass : (test : List ℕ → Bool) (ks : List Kept) → list_all test (map (λ (k : Kept). k.key) ks) ≡ true → AllByRecursion (λ (k : Kept). test k.key ≡ true) ks
+all_pass test [] e = tt
+all_pass test (k ∷ ks) e = let p = and_parts (test k.key) (list_all test (map (λ (x : Kept). x.key) ks)) e in (p.0, all_pass test ks p.1)
+
+kepts_ascend : (ks : List Kept) → keys_ascend (map (λ (k : Kept). k.key) ks) ≡ true → KeptsAscend ks
+kepts_ascend [] e = tt
+kepts_ascend (k ∷ ks) e =
+    let p = and_parts (list_all (text_below k.key) (map (λ (x : Kept). x.key) ks)) (keys_ascend (map (λ (x : Kept). x.key) ks)) e in
+    (all_pass (text_below k.key) ks p.0, kepts_ascend ks p.1)
+
+row_up_to : (space : Space) (floor : ℕ) (o : Option Row) → IsMaybeRowUpTo space floor o → IsRowUpTo floor o
+row_up_to space floor None h = tt
+row_up_to space floor (Some r) h = h.1
+
+orderly_kept : (b : Bounds) (k : Kept) → IsSoundKept b k → IsOrderly k
+orderly_kept b k h = record {
+  row = row_up_to b.space k.floor.0 k.object h.of_space.row;
+  marks = All-weaker (λ (m : Mark). (m.version.0 ≤ k.floor.0) × IsAnswerOf b.space m.answer) (λ (m : Mark). m.version.0 ≤ k.floor.0) (λ m p. p.0) k.marks h.of_space.marks;
+  touches = All-weaker (λ (t : Touch). (t.version.0 ≤ k.floor.0) × IsRegionOf b.space t.region) (λ (t : Touch). t.version.0 ≤ k.floor.0) (λ t p. p.0) k.touches h.of_space.touches;
+  sessions_ascend = h.of_space.sessions_ascend;
+  regions_ascend = h.of_space.regions_ascend;
+}
+
+sound_snapshot : (b : Bounds) (epoch : Epoch) (g : RegionId) (snapshot : List Kept) (pending : List Update) → IsSoundMessage b (a_message.Snap epoch g snapshot pending) → IsSnapshot g snapshot pending
+sound_snapshot b epoch g snapshot pending h = record {
+  ascend = kepts_ascend snapshot h.3;
+  orderly = All-weaker (IsSoundKept b) IsOrderly (orderly_kept b) snapshot h.2;
+  coming = All-weaker (λ (u : Update). IsSoundUpdate b u × IsTrue (has_place_in g u.places)) (CanCome g)
+      (λ (u : Update) (p : IsSoundUpdate b u × IsTrue (has_place_in g u.places)). record { placed = placed g u.places p.1; few = p.0.of_space.few; after = p.0.of_space.after }) pending h.4;
+}
+
+-- a snapshot that a server can take
+pub snapshot_taken : (v : ServerValue) (input : Input) (from : Actor) (m : Message) (epoch : Epoch) (g : RegionId) (snapshot : List Kept) (pending : List Update) → CanTake v.space v.state input → IsDelivery input from m → m ≡ a_message.Snap epoch g snapshot pending
+    → IsSnapshot g snapshot pending
+snapshot_taken v input from m epoch g snapshot pending can to is =
+    let now : CanTake v.space v.state (Deliver to.id from m) = subst (CanTake v.space v.state) to.is can in
+    let sound = now.input_to in
+    sound_snapshot (record { space = v.space; sessions = sound.sessions; most = sound.entry + 1 }) epoch g snapshot pending
+    (subst (IsSoundMessage (record { space = v.space; sessions = sound.sessions; most = sound.entry + 1 })) is sound.sound.message)
+
+-- the replica that hears it
+pub record IsHeardBy (v : ServerValue) (epoch : Epoch) (g : RegionId) (number : ℕ) (y : Replica) : Type 0 where
+  pub hears : hearing v.state epoch g ≡ Some (view_of y)
+  pub found : slice_get v.state.replicas number ≡ Some (view_of y)
+  pub region : y.region ≡ g
+
+pub heard_by : (i : Inside) (epoch : Epoch) (g : RegionId) (number : ℕ) (y : Replica) → y ≡ get_or i.replicas.items number y
+    → Some (slice_get (value_of i).state.replicas number) ≡ option_map (λ (r : ReplicaState). Some r) (hearing (value_of i).state epoch g) → IsHeardBy (value_of i) epoch g number y
+heard_by i epoch g number y is at =
+    let s : ServerState = (value_of i).state in
+    let there = found_there s.replicas number (hearing s epoch g) at in
+    let same : there.replica ≡ view_of y = sym (ap view_of is ∙ view_at i.replicas.items number y there.replica there.at_place) in
+    record {
+      hears = there.is ∙ ap (λ (r : ReplicaState). Some r) same;
+      found = there.at_place ∙ ap (λ (r : ReplicaState). Some r) same;
+      region = ap (λ (r : ReplicaState). r.region) (sym same) ∙ found_region g s.replicas there.replica (hearing_found s epoch g there.replica there.is);
+    }
+
+abbrev pub said_plan : ServerId → Input → List Post → Change → Plan
+said_plan server input posts change = record { entry = record { actor = Server server; input = input; outputs = posts; notes = [] }; change = change }
+
+folded_marked : (g : RegionId) (b : Bool) (states : List KeyState) → AllByRecursion (λ (t : KeyState). t.marks ≡ b) states → AllByRecursion (λ (t : KeyState). t.marks ≡ b) (map (folded g) states)
+folded_marked g b [] h = tt
+folded_marked g b (s ∷ rest) h = (h.0, folded_marked g b rest h.1)
+
+module _ (v : ServerValue) (input : Input) (epoch : Epoch) (g : RegionId) (snapshot : List Kept) (pending : List Update) (bare : folded_server v.state ≡ v.state)
+    (is : server_step v.space v.state input ≡ snapped v.space v.state snapshot pending (hearing v.state epoch g)) where
+  abbrev s : ServerState
+  s = v.state
+
+  module _ (number : ℕ) (y : Replica) (heard : IsHeardBy v epoch g number y) where
+    -- it was installed before
+    pub ready_planned : (before posts : List Post) (plan : Plan) → y.installed ≡ true → before ≡ [] → posts ≡ before ++ ready_post (standing s.config s.id) g → plan ≡ said_plan s.id input posts a_change.Nothing → IsPlanOn v plan
+    ready_planned before posts plan installed none p e =
+        let step : server_step v.space s input ≡ saying s (ready_post s g) =
+        is ∙ ap (snapped v.space s snapshot pending) heard.hears ∙ cond-true y.installed (saying s (ready_post s y.region)) _ installed ∙ ap (λ (h : RegionId). saying s (ready_post s h)) heard.region in
+        subst (IsPlanOn v) (sym e)
+        (record {
+          entry = ap (λ (ps : List Post). record { actor = Server s.id; input = input; outputs = ps; notes = [] }) (p ∙ ap (λ (l : List Post). l ++ ready_post s g) none)
+              ∙ ap (λ (t : ServerStep). record { actor = Server s.id; input = input; outputs = t.posts; notes = t.notes }) (sym step);
+          change = ap (λ (t : ServerStep). folded_server t.state) step ∙ bare;
+        })
+
+    -- it is installed now
+    pub join_planned : (store : StoreState) (before joined posts : List Post) (plan : Plan) → y.installed ≡ false → before ≡ [] → joined ≡ before ++ (installed_slots (spot_of v.space s g) snapshot pending).posts
+        → posts ≡ joined ++ ready_post (standing s.config s.id) g → store.region ≡ g → store.marks ≡ is_key_region v.space g → store.states ≡ map (folded g) (installed_slots (spot_of v.space s g) snapshot pending).states
+        → plan ≡ said_plan s.id input posts (a_change.Join number (record { region = g; installed = true; store = store })) → IsPlanOn v plan
+    join_planned store before joined posts plan out none j p region marks states e =
+        let slots = installed_slots (spot_of v.space s g) snapshot pending in
+        let new : ReplicaState = record { region = g; installed = true; states = slots.states } in
+        let at : RegionId → ServerStep = λ h. let made = installed_slots (spot_of v.space s h) snapshot pending in
+        record {
+          state = record s { replicas = with_replica (record { region = h; installed = true; states = made.states }) s.replicas };
+          posts = made.posts ++ ready_post s h;
+          notes = [];
+        } in
+        let step : server_step v.space s input ≡ at g =
+        is ∙ ap (snapped v.space s snapshot pending) heard.hears ∙ cond-false y.installed (saying s (ready_post s y.region)) _ out ∙ ap at heard.region in
+        let view : folded_replica new ≡ record { region = g; installed = true; states = store.states } = ap (λ (l : List KeyState). record { region = g; installed = true; states = l }) (sym states) in
+        subst (IsPlanOn v) (sym e)
+        (record {
+          entry = ap (λ (ps : List Post). record { actor = Server s.id; input = input; outputs = ps; notes = [] })
+              (p ∙ ap (λ (l : List Post). l ++ ready_post s g) (j ∙ ap (λ (l : List Post). l ++ slots.posts) none))
+              ∙ ap (λ (t : ServerStep). record { actor = Server s.id; input = input; outputs = t.posts; notes = t.notes }) (sym step);
+          change = record {
+            before = view_of y;
+            found = heard.found;
+            region = sym heard.region;
+            is = record {
+              region = region;
+              marks = marks;
+              marked = subst (AllByRecursion (λ (t : KeyState). t.marks ≡ is_key_region v.space g)) (sym states)
+                  (folded_marked g (is_key_region v.space g) slots.states (joined_marked (spot_of v.space s g) pending (keys_of pending) (record { states = map (state_from (is_key_region v.space g)) snapshot; posts = [] }) (from_marked (is_key_region v.space g) snapshot)));
+            };
+            state = ap (λ (t : ServerStep). folded_server t.state) step
+                ∙ ap (λ (l : List ReplicaState). record s { replicas = l })
+                (with-replica-folded new s.replicas ∙ ap (with_replica (folded_replica new)) (ap (λ (x : ServerState). x.replicas) bare) ∙ ap (λ (r : ReplicaState). with_replica r s.replicas) view);
+          };
+        })

@@ -1,0 +1,44 @@
+use Rattle.std.proofs.Common.{List, ℕ, ap, refl, sym, ◌∙◌}
+use Rattle.std.specs.Borrow.{Bor}
+use Rattle.hx_model.specs.Slots.{KeyState}
+use Rattle.hx_store.proofs.Lists.{at-map}
+use Rattle.hx_replica.specs.Installing.{joining, texts}
+use Rattle.hx_replica.specs.Made.{spot_seen}
+use Rattle.hx_replica.proofs.Changing.{marks_stay}
+use Rattle.hx_replica.proofs.Joined.{is_fresh, join_next, none_joined, slot_marks}
+use Rattle.hx_replica.proofs.Turns.{at_item}
+use Rattle.hx_replica.proofs.installing.join_all.Goals as goal
+
+pub loop-key-init : goal.loop-key-init
+loop-key-init c = record { region = refl; marks = refl; so_far = none_joined (spot_seen c.args.spot.now) c.args.pending.now c.args.store.now.states c.args.posts.now c.requires.fresh }
+
+pub joined-requires-clause-fresh : goal.joined-requires-clause-fresh
+joined-requires-clause-fresh c =
+    is_fresh (spot_seen c.args.spot.now) c.args.pending.now c.args.store.now.states (texts c.args.keys.now) c.loop-key.key-index c.key-item.result.now c.args.posts.now c.loop-key.posts c.loop-key.store.states c.loop-key.store.marks c.in_ok-slot.slot.state
+    c.requires.fresh c.requires.keys
+    (at-map (λ (b : Bor (List ℕ)). b.now) c.args.keys.now c.loop-key.key-index c.key-item.result (at_item c.args.keys.now c.loop-key.key-index c.key-item.result c.loop-key-test.true c.key-item.is))
+    c.loop-key.invariant.so_far (c.loop-key.invariant.marks ∙ c.requires.marks) c.in_ok-slot.ensures.state
+
+pub put-requires-clause-marks : goal.put-requires-clause-marks
+put-requires-clause-marks c =
+    let spot = spot_seen c.args.spot.now in
+    let kind = c.loop-key.invariant.marks ∙ c.requires.marks in
+    ap (λ (s : KeyState). s.marks) c.in_ok-next.ensures.state
+    ∙ marks_stay (joining spot c.args.pending.now c.in_ok-slot.slot.state) c.in_ok-slot.slot.state
+    ∙ slot_marks spot c.args.pending.now c.args.store.now.states (texts c.args.keys.now) c.loop-key.key-index c.key-item.result.now c.args.posts.now c.loop-key.posts c.loop-key.store.states c.loop-key.store.marks c.in_ok-slot.slot.state
+    c.requires.fresh c.requires.keys
+    (at-map (λ (b : Bor (List ℕ)). b.now) c.args.keys.now c.loop-key.key-index c.key-item.result (at_item c.args.keys.now c.loop-key.key-index c.key-item.result c.loop-key-test.true c.key-item.is))
+    c.loop-key.invariant.so_far kind c.in_ok-slot.ensures.state c.requires.kinds
+    ∙ sym kind
+
+pub loop-key-preserved : goal.loop-key-preserved
+loop-key-preserved c = record {
+  region = c.in_ok-put.ensures.region ∙ c.loop-key.invariant.region;
+  marks = c.in_ok-put.ensures.marks ∙ c.loop-key.invariant.marks;
+  so_far =
+      join_next (spot_seen c.args.spot.now) c.args.pending.now c.args.store.now.states (texts c.args.keys.now) c.loop-key.key-index c.key-item.result.now c.args.posts.now c.loop-key.posts c.loop-key.store.states c.loop-key.store.marks c.in_ok-slot.slot.state
+      c.requires.fresh c.requires.keys
+      (at-map (λ (b : Bor (List ℕ)). b.now) c.args.keys.now c.loop-key.key-index c.key-item.result (at_item c.args.keys.now c.loop-key.key-index c.key-item.result c.loop-key-test.true c.key-item.is))
+      c.loop-key.invariant.so_far (c.loop-key.invariant.marks ∙ c.requires.marks) c.in_ok-slot.ensures.state
+      c.in_ok-next.next.state c.put.new.self.states c.joined.new.posts c.in_ok-next.ensures.state c.in_ok-put.ensures.states c.in_ok-next.ensures.posts;
+}

@@ -1,0 +1,61 @@
+use Rattle.std.proofs.Common.{◌≡◌, ◌++◌, Some, ap, map, slice_get, subst, sym, ◌∙◌}
+use Rattle.std.specs.Option.{option_map}
+use Rattle.std.proofs.lemmas.Result.{IfOk-weaker}
+use Rattle.hx_types.specs.declared.configs.Config.{Config}
+use Rattle.hx_folds.specs.Folding.{folded, folded_server}
+use Rattle.hx_model.specs.ServerSteps.{Replica as ReplicaState, hearing, installed_slots, ready_post, server_step, snapped}
+use Rattle.hx_replica.specs.Inside.{value_of}
+use Rattle.hx_replica.specs.Plans.{IsPlanOn}
+use Rattle.hx_replica.specs.Servers.{ServerValue}
+use Rattle.hx_replica.specs.Ticking.{standing}
+use Rattle.hx_replica.proofs.Snapped.{IsHeardBy, heard_by, join_planned, ready_planned}
+use Rattle.hx_replica.proofs.servers.Server.join.Goals as goal
+
+pub returns-then-index-clause-plan : goal.returns-then-index-clause-plan
+returns-then-index-clause-plan c =
+    let i = c.self.inside in
+    let g = c.args.region in
+    let snapshot = c.args.snapshot.now in
+    let pending = c.args.pending.now in
+    let heard : IsHeardBy (value_of i) c.args.epoch g c.in-Some.number c.index.result.now =
+    heard_by i c.args.epoch g c.in-Some.number c.index.result.now c.index.ensures
+    (subst (λ (v : ServerValue). Some (slice_get v.state.replicas c.in-Some.number) ≡ option_map (λ (r : ReplicaState). Some r) (hearing v.state c.args.epoch g)) (sym c.self.view_is) c.in-Some.ensures) in
+    IfOk-weaker c.said.result _ _
+    (
+    λ plan e. subst (λ (v : ServerValue). IsPlanOn v plan) c.self.view_is
+    (
+    ready_planned (value_of i) c.args.input.now c.args.epoch g snapshot pending
+    (subst (λ (v : ServerValue). folded_server v.state ≡ v.state) (sym c.self.view_is) c.requires.bare)
+    (subst (λ (v : ServerValue). server_step v.space v.state c.args.input.now ≡ snapped v.space v.state snapshot pending (hearing v.state c.args.epoch g)) (sym c.self.view_is) c.requires.step)
+    c.in-Some.number c.index.result.now heard c.new-posts.result c.tell_ready.new.posts plan c.if-index.true c.new-posts.ensures
+    (c.in_ok-tell_ready.ensures ∙ ap (λ (k : Config). c.new-posts.result ++ ready_post (standing k i.id) g) c.deref.ensures)
+    e
+    )
+    )
+    c.said.ensures
+
+pub returns-clause-plan : goal.returns-clause-plan
+returns-clause-plan c =
+    let i = c.self.inside in
+    let g = c.args.region in
+    let snapshot = c.args.snapshot.now in
+    let pending = c.args.pending.now in
+    let heard : IsHeardBy (value_of i) c.args.epoch g c.in-Some.number c.index.result.now =
+    heard_by i c.args.epoch g c.in-Some.number c.index.result.now c.index.ensures
+    (subst (λ (v : ServerValue). Some (slice_get v.state.replicas c.in-Some.number) ≡ option_map (λ (r : ReplicaState). Some r) (hearing v.state c.args.epoch g)) (sym c.self.view_is) c.in-Some.ensures) in
+    IfOk-weaker c.said-2.result _ _
+    (
+    λ plan e. subst (λ (v : ServerValue). IsPlanOn v plan) c.self.view_is
+    (
+    join_planned (value_of i) c.args.input.now c.args.epoch g snapshot pending
+    (subst (λ (v : ServerValue). folded_server v.state ≡ v.state) (sym c.self.view_is) c.requires.bare)
+    (subst (λ (v : ServerValue). server_step v.space v.state c.args.input.now ≡ snapped v.space v.state snapshot pending (hearing v.state c.args.epoch g)) (sym c.self.view_is) c.requires.step)
+    c.in-Some.number c.index.result.now heard c.in_ok-store.store c.new-posts.result c.installed.new.posts c.tell_ready-2.new.posts plan c.if-index.false c.new-posts.ensures
+    (c.in_ok-store.ensures.posts ∙ ap (λ (k : Config). c.new-posts.result ++ (installed_slots (record { space = i.space; config = k; server = i.id; region = g }) snapshot pending).posts) c.deref.ensures)
+    (c.in_ok-tell_ready-2.ensures ∙ ap (λ (k : Config). c.installed.new.posts ++ ready_post (standing k i.id) g) c.deref.ensures)
+    c.in_ok-store.ensures.region c.in_ok-store.ensures.marks
+    (c.in_ok-store.ensures.states ∙ ap (λ (k : Config). map (folded g) (installed_slots (record { space = i.space; config = k; server = i.id; region = g }) snapshot pending).states) c.deref.ensures)
+    e
+    )
+    )
+    c.said-2.ensures

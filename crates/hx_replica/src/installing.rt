@@ -1,0 +1,140 @@
+ghost use Rattle.std.specs.Prelude.{◌≡◌, ◌++◌, [], IfOk, OnOk, map};
+ghost use Rattle.std.specs.List.{All, AllByRecursion, flat_map};
+ghost use Rattle.hx_types.specs.Subspaces.{is_key_region};
+ghost use Rattle.hx_folds.specs.Folding.{KeptsAscend, folded};
+ghost use Rattle.hx_model.specs.ServerSteps.{installed_slots, move_posts, offered_all};
+ghost use Rattle.hx_model.specs.Slots.{Forget, KeyState, moved, moved_all};
+ghost use Rattle.hx_slot.specs.States.{IsOrderly};
+ghost use Rattle.hx_store.specs.Stores.{state_at};
+ghost use Rattle.hx_replica.specs.Installing.{CanCome, IsFresh, TextsAscend, joined_slots, joining, of_key, own_offer, texts};
+ghost use Rattle.hx_replica.specs.Made.{spot_seen};
+
+use crate::keys::keys_of;
+use crate::resuming::carry_on;
+use crate::spots::{Spot, place_at};
+use hx_slot::Slot;
+use hx_store::{Store, settle_all};
+use hx_types::{Exact, Memory, Posts, Same, Shared, Snapshot, Text, Update, Updates};
+use std::alloc::Global;
+
+/// The store of a replica that installs a snapshot of its region: the slots of the snapshot, each
+/// of which then takes the pending updates of its key, in byte order of keys. That a joiner is sent
+/// both is this project's choice.
+pub fn installed(
+    alloc: Global,
+    spot: &Spot,
+    snapshot: &Snapshot,
+    pending: &Updates,
+    posts: &mut Posts,
+) -> Result<Store, Memory>
+    requires ascend { KeptsAscend snapshot.now }
+    requires orderly { All IsOrderly snapshot.now }
+    requires pending { All (CanCome spot.now.region) pending.now }
+    ensures region { IfOk result (λ store. store.region ≡ spot.now.region) }
+    ensures marks { IfOk result (λ store. store.marks ≡ is_key_region spot.now.space.now spot.now.region) }
+    ensures states { IfOk result (λ store. store.states ≡ map (folded spot.now.region) (installed_slots (spot_seen spot.now) snapshot.now pending.now).states) }
+    ensures posts { OnOk result (posts.new ≡ posts.old ++ (installed_slots (spot_seen spot.now) snapshot.now pending.now).posts) }
+{
+    let marks = spot.region.0 < spot.space.key_parts;
+    let mut store = Store::new(alloc, spot.region, marks);
+    store.install(alloc, snapshot)?;
+    let keys = keys_of(alloc, pending)?;
+    join_all(alloc, spot, keys.as_slice(), pending, &mut store, posts)?;
+    Ok(store)
+}
+
+/// The slots of these keys take the pending updates of their keys, one after another.
+fn join_all(
+    alloc: Global,
+    spot: &Spot,
+    keys: &[&Text],
+    pending: &Updates,
+    store: &mut Store,
+    posts: &mut Posts,
+) -> Result<(), Memory>
+    requires region { store.old.region ≡ spot.now.region }
+    requires marks { store.old.marks ≡ is_key_region spot.now.space.now spot.now.region }
+    requires fresh { AllByRecursion (IsFresh spot.now.region) store.old.states }
+    requires kinds { AllByRecursion (λ (t : KeyState). t.marks ≡ is_key_region spot.now.space.now spot.now.region) store.old.states }
+    requires keys { TextsAscend (texts keys.now) }
+    requires pending { All (CanCome spot.now.region) pending.now }
+    ensures region { store.new.region ≡ store.old.region }
+    ensures marks { store.new.marks ≡ store.old.marks }
+    ensures states { OnOk result (store.new.states ≡ map (folded spot.now.region) (joined_slots (spot_seen spot.now) pending.now store.old.states (texts keys.now)).states) }
+    ensures posts { OnOk result (posts.new ≡ posts.old ++ (joined_slots (spot_seen spot.now) pending.now store.old.states (texts keys.now)).posts) }
+{
+    for key in keys {
+        let slot = slot_of(alloc, spot, store, key)?;
+        let next = joined(alloc, spot, slot, pending, posts)?;
+        store.put(alloc, next)?;
+    }
+    Ok(())
+}
+
+/// A copy of the slot of a key, an empty one where the store has none. It has neither
+/// acknowledgements nor early updates.
+fn slot_of(alloc: Global, spot: &Spot, store: &Store, key: &Text) -> Result<Slot, Memory>
+    requires region { store.now.region ≡ spot.now.region }
+    requires marks { store.now.marks ≡ is_key_region spot.now.space.now spot.now.region }
+    ensures region { IfOk result (λ slot. slot.region ≡ spot.now.region) }
+    ensures state { IfOk result (λ slot. slot.state ≡ moved Forget (state_at store.now key.now)) }
+{
+    match store.slot(key) {
+        Some(slot) => slot.renewed(alloc),
+        None => {
+            let marks = spot.region.0 < spot.space.key_parts;
+            Ok(Slot::new(alloc, spot.region, key.copy(alloc)?, marks))
+        }
+    }
+}
+
+/// A slot takes the pending updates of its key: those that it accepts go to the next replica of
+/// their chains or end here, and what can be committed is told of.
+fn joined(
+    alloc: Global,
+    spot: &Spot,
+    slot: Slot,
+    pending: &Updates,
+    posts: &mut Posts,
+) -> Result<Slot, Memory>
+    requires region { slot.region ≡ spot.now.region }
+    requires fresh { IsFresh spot.now.region slot.state }
+    requires pending { All (CanCome spot.now.region) pending.now }
+    ensures region { IfOk result (λ next. next.region ≡ spot.now.region) }
+    ensures state { IfOk result (λ next. next.state ≡ folded spot.now.region (moved_all (joining (spot_seen spot.now) pending.now slot.state) slot.state)) }
+    ensures posts { OnOk result (posts.new ≡ posts.old ++ flat_map (move_posts (spot_seen spot.now)) (joining (spot_seen spot.now) pending.now slot.state)) }
+{
+    let mut next = slot;
+    offer_all(alloc, spot, &mut next, pending)?;
+    let ends = carry_on(alloc, spot, &next, &next, posts)?;
+    settle_all(&mut next, ends.as_slice());
+    Ok(next)
+}
+
+/// A slot is offered the updates of its key.
+fn offer_all(alloc: Global, spot: &Spot, slot: &mut Slot, updates: &Updates) -> Result<(), Memory>
+    requires region { slot.old.region ≡ spot.now.region }
+    requires updates { All (CanCome spot.now.region) updates.now }
+    ensures region { slot.new.region ≡ slot.old.region }
+    ensures state { OnOk result (slot.new.state ≡ moved_all (offered_all spot.now.region slot.old.state (of_key slot.old.state.base.key updates.now)) slot.old.state) }
+{
+    for update in updates.as_slice() {
+        offer(alloc, spot, slot, update)?;
+    }
+    Ok(())
+}
+
+/// A slot is offered an update, if it is of its key.
+fn offer(alloc: Global, spot: &Spot, slot: &mut Slot, update: &Shared<Update>) -> Result<(), Memory>
+    requires region { slot.old.region ≡ spot.now.region }
+    requires update { CanCome spot.now.region update.now }
+    ensures region { slot.new.region ≡ slot.old.region }
+    ensures state { OnOk result (slot.new.state ≡ moved_all (own_offer spot.now.region slot.old.state update.now) slot.old.state) }
+{
+    if !update.key.same(slot.key()) {
+        return Ok(());
+    }
+    slot.reserve(alloc, 1)?;
+    let _ = slot.offer(update.copy(alloc)?, place_at(spot, update));
+    Ok(())
+}
