@@ -19,3 +19,4 @@ pub mod FromChains
 pub mod Headline
 pub mod SessionEnds
 pub mod Fitting
+pub mod Staying

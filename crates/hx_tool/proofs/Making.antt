@@ -6,7 +6,6 @@ use Rattle.std.specs.declared.alloc.Global.{Global}
 use Rattle.hx_types.specs.declared.ids.Actor.{Actor}
 use Rattle.hx_types.specs.declared.traces.Entry.{Entry}
 use Rattle.hx_types.specs.declared.traces.Script.{Script}
-use Rattle.hx_tool.specs.Built.{IsBuilt}
 use Rattle.hx_script.specs.declared.errors.Reason.{Reason}
 use Rattle.hx_script.specs.declared.errors.Reason.TheVariants as a_reason
 use Rattle.hx_script.specs.Texts.{script_of}
@@ -21,10 +20,10 @@ use Rattle.hx_tool.specs.declared.words.Command.{Command}
 use Rattle.hx_tool.specs.declared.words.Command.TheVariants.{Replay, Plan}
 use Rattle.hx_tool.proofs.Stepping.{taken-not-refused, worn-not-refused}
 
-pub made_of_replay : (with_trace : Bool) (text : List ℕ) (script : Script) (made : Made) → script_of text ≡ Ok script → IsBuilt script → IsReplay with_trace script made → IsMadeOf (Replay with_trace) text made
-made_of_replay with_trace text script (Whole answered) is built replayed = record { script = script; text_is = is; taken = built; made = replayed }
-made_of_replay with_trace text script (Refused line trace) is built stopped = (tt, record { script = script; text_is = is; taken = built; stopped = stopped })
-made_of_replay with_trace text script (Worn a trace) is built worn = (tt, record { script = script; text_is = is; taken = built; worn = worn })
+pub made_of_replay : (with_trace : Bool) (text : List ℕ) (script : Script) (made : Made) → script_of text ≡ Ok script → IsReplay with_trace script made → IsMadeOf (Replay with_trace) text made
+made_of_replay with_trace text script (Whole answered) is replayed = record { script = script; text_is = is; made = replayed }
+made_of_replay with_trace text script (Refused line trace) is stopped = (tt, record { script = script; text_is = is; stopped = stopped })
+made_of_replay with_trace text script (Worn a trace) is worn = (tt, record { script = script; text_is = is; worn = worn })
 
 -- no step is refused of a script that has an answer
 answered-steppable : (command : Command) (script : Script) (trace : List Entry) (bytes : List ℕ) → IsMade command script trace bytes → IsSteppable command script
@@ -38,21 +37,21 @@ worn-steppable script trace a worn = by worn.ends
     by (inl at) = worn-not-refused script trace a at
     by (inr after) = taken-not-refused script after.taken
 
--- a command that replays takes a text of a script that is built and of which no step is refused
-worn-taken : (command : Command) (text : List ℕ) (script : Script) → Replays command → script_of text ≡ Ok script → IsBuilt script → ((line : ℕ) (t : List Entry) → IsRefusedAt script line t → ⊥) → IsTaken command text
-worn-taken (Replay with_trace) text script replays is built steppable = record { script = script; text_is = is; taken = built; steppable = steppable }
-worn-taken Plan text script replays is built steppable = absurd replays
+-- a command that replays takes a text of a script of which no step is refused
+worn-taken : (command : Command) (text : List ℕ) (script : Script) → Replays command → script_of text ≡ Ok script → ((line : ℕ) (t : List Entry) → IsRefusedAt script line t → ⊥) → IsTaken command text
+worn-taken (Replay with_trace) text script replays is steppable = record { script = script; text_is = is; steppable = steppable }
+worn-taken Plan text script replays is steppable = absurd replays
 
 -- what a command makes of a text judges its outcome
 pub made_is_judged : (command : Command) (text : List ℕ) (made : Made) → length text ≤ limit → IsMadeOf command text made → IsJudged command text (outcome_of made)
 made_is_judged command text (Whole answered) short made =
-    (short, record { script = made.script; text_is = made.text_is; taken = made.taken; steppable = answered-steppable command made.script answered.trace answered.bytes.items made.made })
+    (short, record { script = made.script; text_is = made.text_is; steppable = answered-steppable command made.script answered.trace answered.bytes.items made.made })
 made_is_judged command text (Refused line trace) short made = (
   short,
-  inr (record { replays = made.0; by_step = refl; script = made.1.script; text_is = made.1.text_is; taken = made.1.taken; trace = trace; refused = made.1.stopped.refused }),
+  inr (record { replays = made.0; by_step = refl; script = made.1.script; text_is = made.1.text_is; trace = trace; refused = made.1.stopped.refused }),
 )
 made_is_judged command text (Worn a trace) short made =
-    (short, worn-taken command text made.1.script made.0 made.1.text_is made.1.taken (worn-steppable made.1.script trace a made.1.worn))
+    (short, worn-taken command text made.1.script made.0 made.1.text_is (worn-steppable made.1.script trace a made.1.worn))
 
 -- what is told where a worn actor ended the replay
 pub told_worn :

@@ -5,21 +5,14 @@ use Rattle.hx_types.specs.declared.ids.Actor.{Actor}
 use Rattle.hx_types.specs.declared.traces.Entry.{Entry}
 use Rattle.hx_types.specs.declared.traces.Script.{Script}
 use Rattle.hx_types.specs.declared.traces.Step.{Step}
-use Rattle.hx_tool.specs.Built.{IsBuilt}
 use Rattle.hx_model.specs.Runs.{IsRun}
 use Rattle.hx_model.specs.Schedule.{next_entry, scheduled, stepped}
-use Rattle.hx_steady.specs.Calm.{HasNoHalts}
-use Rattle.hx_world.specs.Runnable.{IsRunnable}
 use Rattle.hx_world.specs.Worlds.{DrainFails, Drains, HasFewEntries, IsPartOf, IsWornOut, WorldState, most_entries}
 use Rattle.hx_world.specs.declared.ends.DrainError.TheVariants as an_error
 use Rattle.hx_world.specs.declared.ends.Drained.{Drained}
 use Rattle.hx_world.specs.declared.ends.Drained.TheVariants.{Quiet, Spent}
 use Rattle.hx_tool.specs.Causes.{IsWholeRun, IsWornAfterSteps, IsWornRun}
 use Rattle.hx_tool.specs.Steps.{AreTaken}
-use Rattle.hx_tool.proofs.Fixed.{built_is_fixed}
-
-pub runnable : (script : Script) → IsBuilt script → IsRunnable script
-runnable script built = record { valid = built.valid; fixed = built_is_fixed script built }
 
 -- the trace after all steps of the script
 abbrev pub after_steps : Script → List Entry
@@ -35,10 +28,9 @@ pub whole_run :
     → trace ≡ after.trace
     → after.script ≡ before.script
     → IsRun after.script (reverse trace)
-    → HasNoHalts (reverse trace)
     → HasFewEntries (reverse trace)
     → IsWholeRun script trace
-whole_run script before after trace n taken script_is from drains is same run still few =
+whole_run script before after trace n taken script_is from drains is same run few =
     let here : reverse trace ≡ reverse after.trace = ap (λ (t : List Entry). reverse t) is in
     let made : reverse trace ≡ scheduled script (after_steps script) n =
     here ∙ drains.trace ∙ ap (λ (s : Script). scheduled s (reverse before.trace) n) script_is ∙ ap (λ (t : List Entry). scheduled script t n) from in
@@ -46,7 +38,6 @@ whole_run script before after trace n taken script_is from drains is same run st
     subst (λ (t : List Entry). next_entry script t ≡ None) (sym here) (subst (λ (s : Script). next_entry s (reverse after.trace) ≡ None) script_is drains.ends) in
     record {
       run = subst (λ (s : Script). IsRun s (reverse trace)) (same ∙ script_is) run;
-      still = still;
       taken = taken;
       scheduled = record { entries = n; trace_is = made; quiet = quiet };
       few = few;

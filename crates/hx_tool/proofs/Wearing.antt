@@ -8,7 +8,6 @@ use Rattle.hx_types.specs.declared.traces.Entry.{Entry}
 use Rattle.hx_types.specs.declared.traces.Script.{Script}
 use Rattle.hx_types.specs.declared.traces.Step.{Step}
 use Rattle.hx_types.specs.Words.{same_actor}
-use Rattle.hx_model.specs.Built.{IsBuilt}
 use Rattle.hx_model.specs.Schedule.{StepFault, Worn as WornFault, entries_of, is_worn, next_entry, scheduled, stepped, with_entry}
 use Rattle.hx_world.specs.Worlds.{HasFewEntries, IsWornOut}
 use Rattle.std.specs.Prelude.{IfSome}
@@ -192,10 +191,6 @@ by_outcome command text before after m n (an_outcome.Refused line reason) trace 
     by (inr step) =
         let same = one_script text worn.script step.script worn.text_is step.text_is in
         worn-steppable step.script trace a (subst (λ (s : Script). IsWornRun s trace a) same worn.worn) line step.trace step.refused
-by_outcome (Replay with_trace) text before after m n an_outcome.Unbuilt trace a replays short worn still judged cause =
-    let same = one_script text worn.script judged.1.script worn.text_is judged.1.text_is in
-    absurd (judged.1.not_taken (subst IsBuilt same worn.taken))
-by_outcome Plan text before after m n an_outcome.Unbuilt trace a replays short worn still judged cause = absurd replays
 by_outcome command text before after m n an_outcome.TooLarge trace a replays short worn still judged cause = absurd (omega (arith, short, judged))
 by_outcome command text before after m n an_outcome.ReadFault trace a replays short worn still judged cause = absurd (still cause)
 by_outcome command text before after m n an_outcome.WriteFault trace a replays short worn still judged cause = absurd cause

@@ -12,7 +12,7 @@ use Rattle.hx_script.specs.declared.errors.Reason.TheVariants as a_reason
 use Rattle.hx_tool.specs.declared.outcomes.Outcome.{Outcome}
 use Rattle.hx_tool.specs.declared.outcomes.Outcome.TheVariants as an_outcome
 use Rattle.hx_tool.specs.declared.words.Command.{Command}
-use Rattle.hx_tool.specs.Causes.{IsAnswer, IsFaulty, IsJudged, IsRefused, IsStopped, IsTaken, IsUnbuilt, IsWorn, ReadsText, limit}
+use Rattle.hx_tool.specs.Causes.{IsAnswer, IsFaulty, IsJudged, IsRefused, IsStopped, IsTaken, IsWorn, ReadsText, limit}
 use Rattle.hx_tool.specs.Commands.{Replays, Says}
 
 -- a source before and after a call: the bytes that are left, where it tells them, and its count of faults
@@ -53,10 +53,6 @@ pub record Ends (words : List (String Global)) (source : Drawn) (sink : Filled) 
       × ReadsText source.before source.after text
       × (IsRefused text line reason
       ⊎ ((reason ≡ a_reason.Step) × ((command : Command) × Says words command × Replays command) × IsStopped text line trace))
-  pub unbuilt : outcome ≡ an_outcome.Unbuilt → (command : Command) × (text : List ℕ)
-      × Says words command
-      × ReadsText source.before source.after text
-      × IsUnbuilt command text
   pub too_large : outcome ≡ an_outcome.TooLarge → ConsumesExactly source.before source.after (limit + 1)
   pub worn : (a : Actor) → outcome ≡ an_outcome.Worn a → (text : List ℕ)
       × ((command : Command) × Says words command × Replays command)

@@ -10,12 +10,11 @@ use Rattle.hx_types.specs.declared.ids.Actor.{Actor}
 use Rattle.hx_types.specs.declared.traces.Entry.{Entry}
 use Rattle.hx_types.specs.declared.traces.Script.{Script}
 use Rattle.hx_types.specs.declared.traces.Step.{Step}
-use Rattle.hx_tool.specs.Built.{IsBuilt}
 use Rattle.hx_model.specs.Linear.{IsLinear}
 use Rattle.hx_model.specs.Runs.{IsRun}
+use Rattle.hx_model.specs.Causes.{HasCauses}
 use Rattle.hx_model.specs.Schedule.{IsScheduled, scheduled, stepped}
 use Rattle.hx_model.specs.Searching.{FinishedSearch, IsSearchTrue, IsSearchWhole, search_of}
-use Rattle.hx_steady.specs.Calm.{HasNoHalts}
 use Rattle.hx_script.specs.declared.errors.Reason.{Reason}
 use Rattle.hx_script.specs.declared.errors.Reason.TheVariants as a_reason
 use Rattle.hx_script.specs.declared.errors.ScriptError.{ScriptError}
@@ -52,40 +51,27 @@ pub record ReadsText (before after : Option (List ℕ)) (text : List ℕ) : Type
   pub end : IsAtEnd after
   pub small : length text ≤ limit
 
--- which scripts a command takes: `replay` those of the form that is built, `plan` each
-abbrev pub Takes : Command → Script → Type 0
-Takes (a_command.Replay with_trace) script = IsBuilt script
-Takes a_command.Plan script = ⊤
-
 -- no step of the script is refused; `plan` takes none
 abbrev pub IsSteppable : Command → Script → Type 0
 IsSteppable (a_command.Replay with_trace) script = (line : ℕ) (trace : List Entry) → ¬ IsRefusedAt script line trace
 IsSteppable a_command.Plan script = ⊤
 
--- the text is that of a script that the command takes, and no step of it is refused
+-- the text is that of a script, and no step of it is refused
 pub record IsTaken (command : Command) (text : List ℕ) : Type 0 where
   pub script : Script
   pub text_is : script_of text ≡ Ok script
-  pub taken : Takes command script
   pub steppable : IsSteppable command script
-
--- the text is that of a script that the command doesn't take yet
-pub record IsUnbuilt (command : Command) (text : List ℕ) : Type 0 where
-  pub script : Script
-  pub text_is : script_of text ≡ Ok script
-  pub not_taken : ¬ Takes command script
 
 -- the text is refused at that line, the first that is faulty, for that reason
 abbrev pub IsRefused : List ℕ → ℕ → Reason → Type 0
 IsRefused text line reason = script_of text ≡ Err (a_script_error.Refused line reason)
 
--- `replay` takes the text's script and refuses the step that stands on that line
+-- `replay` refuses the step of the text's script that stands on that line
 pub record IsRefusedByStep (command : Command) (text : List ℕ) (line : ℕ) (reason : Reason) : Type 0 where
   pub replays : Replays command
   pub by_step : reason ≡ a_reason.Step
   pub script : Script
   pub text_is : script_of text ≡ Ok script
-  pub taken : IsBuilt script
   pub trace : List Entry
   pub refused : IsRefusedAt script line trace
 
@@ -96,7 +82,6 @@ IsRefusedUnder command text line reason = IsRefused text line reason ⊎ IsRefus
 -- the run that the script's steps and then the schedule give, until there is nothing left to do
 pub record IsWholeRun (script : Script) (trace : List Entry) : Type 0 where
   pub run : IsRun script (reverse trace)
-  pub still : HasNoHalts (reverse trace)
   pub taken : AreTaken script
   pub scheduled : IsScheduled script (reverse trace)
   pub few : HasFewEntries (reverse trace)
@@ -119,7 +104,7 @@ pub record IsSearchWell (script : Script) (trace : List Entry) (s : FinishedSear
   pub true_rows : IsSearchTrue script trace s
   pub whole : (key : List ℕ) → IsSearchWhole script trace key s
 
--- the trace is the run of the script that its steps and the schedule give, each key's history is linear, each finished search is whole and true, and the report tells of it
+-- the trace is the run of the script that its steps and the schedule give, each key's history is linear, each finished search is whole and true, every answer has its cause, and the report tells of it
 pub record IsReplayed (with_trace : Bool) (script : Script) (trace : List Entry) (report : List ℕ) : Type 0 where
   pub run : IsRun script (reverse trace)
   pub taken : AreTaken script
@@ -127,6 +112,7 @@ pub record IsReplayed (with_trace : Bool) (script : Script) (trace : List Entry)
   pub few : HasFewEntries (reverse trace)
   pub linear : (key : List ℕ) → IsLinear script (reverse trace) key
   pub searches : (c : Caller) (s : FinishedSearch) → search_of script (reverse trace) c ≡ Some s → IsSearchWell script (reverse trace) s
+  pub causes : HasCauses script (reverse trace)
   pub report_is : IsReport script (reverse trace) [] report with_trace
 
 -- the plans of the script's searches, and no trace
@@ -139,18 +125,16 @@ abbrev pub IsMade : Command → Script → List Entry → List ℕ → Type 0
 IsMade (a_command.Replay with_trace) script trace bytes = IsReplayed with_trace script trace bytes
 IsMade a_command.Plan script trace bytes = IsPlanned script trace bytes
 
--- the text is that of a script that the command takes, and the trace and the bytes are what it makes of it
+-- the text is that of a script, and the trace and the bytes are what the command makes of it
 pub record IsAnswer (command : Command) (text : List ℕ) (trace : List Entry) (bytes : List ℕ) : Type 0 where
   pub script : Script
   pub text_is : script_of text ≡ Ok script
-  pub taken : Takes command script
   pub made : IsMade command script trace bytes
 
--- the text is that of a script that `replay` takes, and the trace the run of it that ends where this actor has made all its entries
+-- the text is that of a script, and the trace the run of it that ends where this actor has made all its entries
 pub record IsWorn (text : List ℕ) (trace : List Entry) (a : Actor) : Type 0 where
   pub script : Script
   pub text_is : script_of text ≡ Ok script
-  pub taken : IsBuilt script
   pub worn : IsWornRun script trace a
 
 -- a run of the script that ends where the step on that line is refused
@@ -158,11 +142,10 @@ pub record IsCutShort (script : Script) (line : ℕ) (trace : List Entry) : Type
   pub run : IsRun script (reverse trace)
   pub refused : IsRefusedAt script line trace
 
--- the text is that of a script that `replay` takes, and the trace the run of it that ends where the step on that line is refused
+-- the text is that of a script, and the trace the run of it that ends where the step on that line is refused
 pub record IsStopped (text : List ℕ) (line : ℕ) (trace : List Entry) : Type 0 where
   pub script : Script
   pub text_is : script_of text ≡ Ok script
-  pub taken : IsBuilt script
   pub stopped : IsCutShort script line trace
 
 -- what a replay makes of a script
@@ -182,7 +165,6 @@ abbrev pub IsJudged : Command → List ℕ → Outcome → Type 0
 IsJudged command text an_outcome.Fine = (length text ≤ limit) × IsTaken command text
 IsJudged command text an_outcome.Usage = ⊥
 IsJudged command text (an_outcome.Refused line reason) = (length text ≤ limit) × IsRefusedUnder command text line reason
-IsJudged command text an_outcome.Unbuilt = (length text ≤ limit) × IsUnbuilt command text
 IsJudged command text an_outcome.TooLarge = limit < length text
 IsJudged command text an_outcome.ReadFault = ⊤
 IsJudged command text an_outcome.WriteFault = (length text ≤ limit) × IsTaken command text
@@ -194,7 +176,6 @@ abbrev pub IsFaulty : Command → List ℕ → Outcome → Type 0
 IsFaulty command text an_outcome.Fine = ⊥
 IsFaulty command text an_outcome.Usage = ⊥
 IsFaulty command text (an_outcome.Refused line reason) = (length text ≤ limit) × IsRefusedUnder command text line reason
-IsFaulty command text an_outcome.Unbuilt = (length text ≤ limit) × IsUnbuilt command text
 IsFaulty command text an_outcome.TooLarge = limit < length text
 IsFaulty command text an_outcome.ReadFault = ⊥
 IsFaulty command text an_outcome.WriteFault = ⊥
@@ -206,7 +187,6 @@ abbrev pub IsTextCause : Command → List ℕ → Outcome → Type 0
 IsTextCause command text an_outcome.Fine = ⊥
 IsTextCause command text an_outcome.Usage = ⊥
 IsTextCause command text (an_outcome.Refused line reason) = IsRefused text line reason
-IsTextCause command text an_outcome.Unbuilt = IsUnbuilt command text
 IsTextCause command text an_outcome.TooLarge = ⊥
 IsTextCause command text an_outcome.ReadFault = ⊥
 IsTextCause command text an_outcome.WriteFault = ⊥
@@ -219,8 +199,6 @@ IsCause command before after faults_before faults_after an_outcome.Fine = ⊥
 IsCause command before after faults_before faults_after an_outcome.Usage = ⊥
 IsCause command before after faults_before faults_after (an_outcome.Refused line reason) =
     (text : List ℕ) × ReadsText before after text × IsRefused text line reason
-IsCause command before after faults_before faults_after an_outcome.Unbuilt =
-    (text : List ℕ) × ReadsText before after text × IsUnbuilt command text
 IsCause command before after faults_before faults_after an_outcome.TooLarge = ConsumesExactly before after (limit + 1)
 IsCause command before after faults_before faults_after an_outcome.ReadFault = Rose faults_before faults_after
 IsCause command before after faults_before faults_after an_outcome.WriteFault = ⊥

@@ -3,6 +3,5 @@ pub mod Outcomes
 pub mod Plans
 pub mod Steps
 pub mod Causes
-pub mod Built
 pub mod Calling
 pub mod Showing

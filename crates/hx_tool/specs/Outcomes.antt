@@ -6,14 +6,13 @@ use Rattle.hx_script.specs.declared.errors.Reason.TheVariants as a_reason
 use Rattle.hx_print.specs.Printing.{actor_text}
 use Rattle.hx_types.specs.declared.ids.Actor.{Actor}
 use Rattle.hx_tool.specs.declared.outcomes.Outcome.{Outcome}
-use Rattle.hx_tool.specs.declared.outcomes.Outcome.TheVariants.{Fine, Usage, Refused, Unbuilt, TooLarge, ReadFault, WriteFault, Memory, Worn}
+use Rattle.hx_tool.specs.declared.outcomes.Outcome.TheVariants.{Fine, Usage, Refused, TooLarge, ReadFault, WriteFault, Memory, Worn}
 
 -- the status with which the process ends
 abbrev pub status_of : Outcome → ℕ
 status_of Fine = 0
 status_of Usage = 2
 status_of (Refused line reason) = 3
-status_of Unbuilt = 3
 status_of TooLarge = 3
 status_of ReadFault = 4
 status_of WriteFault = 5
@@ -44,7 +43,6 @@ abbrev pub fault_line : Outcome → List ℕ
 fault_line Fine = []
 fault_line Usage = codes "usage: hx replay or run or soak or plan\n"
 fault_line (Refused line reason) = refusal_line line reason
-fault_line Unbuilt = codes "unbuilt\n"
 fault_line TooLarge = codes "too large\n"
 fault_line ReadFault = codes "read fault\n"
 fault_line WriteFault = codes "write fault\n"
@@ -56,7 +54,6 @@ abbrev pub IsSilent : Outcome → Type 0
 IsSilent Fine = ⊥
 IsSilent Usage = Unit {0}
 IsSilent (Refused line reason) = Unit {0}
-IsSilent Unbuilt = Unit {0}
 IsSilent TooLarge = Unit {0}
 IsSilent ReadFault = Unit {0}
 IsSilent WriteFault = ⊥
@@ -79,7 +76,6 @@ abbrev pub HasNoTrace : Outcome → Type 0
 HasNoTrace Fine = ⊥
 HasNoTrace Usage = Unit {0}
 HasNoTrace (Refused line reason) = IsOfText reason
-HasNoTrace Unbuilt = Unit {0}
 HasNoTrace TooLarge = Unit {0}
 HasNoTrace ReadFault = Unit {0}
 HasNoTrace WriteFault = ⊥

@@ -1,6 +1,8 @@
 -- The steps of a script, taken in order up to the first that can't be taken.
 use Rattle.std.specs.Prelude.{◌≡◌, ℕ, List, [], ◌∷◌, reverse, ⊤, Option, None, Some}
 use Rattle.std.specs.Option.{option_map}
+use Rattle.std.specs.List.{All}
+use Rattle.hx_world.specs.Worlds.{IsStepOf}
 use Rattle.hx_types.specs.declared.ids.Actor.{Actor}
 use Rattle.hx_types.specs.declared.traces.Entry.{Entry}
 use Rattle.hx_types.specs.declared.traces.Script.{Script}
@@ -26,6 +28,10 @@ stop_of script trace [] = None
 stop_of script trace (s ∷ rest) =
     when_some (fault_of script trace s.1) (stop_of script (after_step script trace s.1) rest)
     (λ (fault : StepFault). Some (record { line = s.0; fault = fault; trace = trace }))
+
+-- each step of the script is a delivery, or of one of its actors
+abbrev pub HasSteps : Script → Type 0
+HasSteps script = All (λ (s : ℕ × Step). IsStepOf script s.1) script.steps
 
 -- each step of the script can be taken
 abbrev pub AreTaken : Script → Type 0

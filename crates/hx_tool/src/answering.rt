@@ -13,8 +13,7 @@ use std::alloc::Global;
 ///
 /// # Errors
 ///
-/// `Refused` exactly where the text is no script, with its first faulty line; `Unbuilt` exactly
-/// where it is one that the command doesn't take; `Memory`.
+/// `Refused` exactly where the text is no script, with its first faulty line; `Memory`.
 #[tactic(auto, using(crate::proofs::Making::made_of_replay))]
 pub fn answer(alloc: Global, command: Command, text: &[u8]) -> Result<Made, Outcome>
     ensures answer { IfOk result (IsMadeOf command text.now) }
@@ -22,8 +21,9 @@ pub fn answer(alloc: Global, command: Command, text: &[u8]) -> Result<Made, Outc
 {
     let script = hx_script::read(alloc, text)?;
     hx_script::scripts_are_valid();
+    hx_read_back::prints_are_read_back();
     match command {
-        Command::Replay { with_trace } => replay(alloc, &script, with_trace),
+        Command::Replay { with_trace } => Ok(replay(alloc, &script, with_trace)?),
         Command::Plan => Ok(Made::Whole(plan(alloc, &script)?)),
     }
 }

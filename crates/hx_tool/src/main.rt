@@ -7,7 +7,6 @@
 #![tactic(auto)]
 
 mod answering;
-mod built;
 mod outcomes;
 mod plans;
 mod program;

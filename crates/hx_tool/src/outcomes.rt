@@ -17,8 +17,6 @@ pub enum Outcome {
     /// The text is no script: its first faulty line, from 1, and what is wrong with it. Or, for the
     /// reason `Step`: the line of the first step that a replay can't take.
     Refused { line: u64, reason: Reason },
-    /// The text is a script, but not of the form that `replay` can run today.
-    Unbuilt,
     /// The source gave more than 16,777,216 bytes.
     TooLarge,
     /// The source failed.
@@ -110,7 +108,7 @@ pub fn status(outcome: Outcome) -> u8
     match outcome {
         Outcome::Fine => 0,
         Outcome::Usage => 2,
-        Outcome::Refused { .. } | Outcome::Unbuilt | Outcome::TooLarge => 3,
+        Outcome::Refused { .. } | Outcome::TooLarge => 3,
         Outcome::ReadFault => 4,
         Outcome::WriteFault => 5,
         Outcome::Memory => 6,
@@ -138,7 +136,6 @@ fn put_fault(out: &mut Vec<u8>, outcome: Outcome) -> Result<(), Memory>
         Outcome::Fine => Ok(()),
         Outcome::Usage => put_bytes(out, b"usage: hx replay or run or soak or plan\n"),
         Outcome::Refused { line, reason } => put_refusal(out, line, reason),
-        Outcome::Unbuilt => put_bytes(out, b"unbuilt\n"),
         Outcome::TooLarge => put_bytes(out, b"too large\n"),
         Outcome::ReadFault => put_bytes(out, b"read fault\n"),
         Outcome::WriteFault => put_bytes(out, b"write fault\n"),

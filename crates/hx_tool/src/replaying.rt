@@ -1,35 +1,21 @@
-ghost use Rattle.std.specs.Prelude.{◌≡◌, ◌⊎◌, ℕ, [], IfOk, IfErr, map, reverse};
+ghost use Rattle.std.specs.Prelude.{◌≡◌, ℕ, [], IfOk, map, reverse};
 ghost use Rattle.hx_types.specs.declared.traces.Step.{Step};
 ghost use Rattle.hx_model.specs.Schedule.{stepped};
 ghost use Rattle.hx_types.specs.Fitting.{IsScript};
-ghost use Rattle.hx_tool.specs.Built.{IsBuilt};
 ghost use Rattle.hx_tool.specs.Causes.{IsReplay, IsReplayed, IsWholeRun};
-ghost use Rattle.hx_tool.specs.Steps.{AreTaken};
+ghost use Rattle.hx_tool.specs.Steps.{AreTaken, HasSteps};
 
-use crate::built::is_built;
-use crate::outcomes::{Answered, Made, Outcome};
+use crate::outcomes::{Answered, Made};
 use crate::steps::{Stopped, take_steps};
 use hx_report::report;
 use hx_types::{Memory, Script, Trace};
 use hx_world::{DrainError, Drained, World};
 use std::alloc::Global;
 
-/// Replays a script, or refuses one that isn't of the form that is built.
-pub fn replay(alloc: Global, script: &Script, with_trace: bool) -> Result<Made, Outcome>
-    requires { IsScript script.now }
-    ensures built { IfOk result (λ _. IsBuilt script.now) }
-    ensures made { IfOk result (IsReplay with_trace script.now) }
-    ensures cause { IfErr result (λ outcome. ((outcome ≡ Outcome.Unbuilt) × ¬ IsBuilt script.now) ⊎ (outcome ≡ Outcome.Memory)) }
-{
-    if !is_built(script) {
-        return Err(Outcome::Unbuilt);
-    }
-    Ok(replay_built(alloc, script, with_trace)?)
-}
-
 /// Takes the script's steps and goes on by the schedule.
-fn replay_built(alloc: Global, script: &Script, with_trace: bool) -> Result<Made, Memory>
-    requires { IsBuilt script.now }
+pub fn replay(alloc: Global, script: &Script, with_trace: bool) -> Result<Made, Memory>
+    requires script { IsScript script.now }
+    requires steps { HasSteps script.now }
     ensures { IfOk result (IsReplay with_trace script.now) }
 {
     let mut world = World::start(alloc, script)?;
@@ -49,8 +35,13 @@ fn replay_built(alloc: Global, script: &Script, with_trace: bool) -> Result<Made
 
 /// Runs a world whose script's steps were taken by the schedule, until there is nothing left to do
 /// or an actor is worn.
-fn finish(alloc: Global, script: &Script, with_trace: bool, world: World) -> Result<Made, Memory>
-    requires built { IsBuilt script.now }
+fn finish(
+    alloc: Global,
+    script: &Script,
+    with_trace: bool,
+    world: World<'_>,
+) -> Result<Made, Memory>
+    requires valid { IsScript script.now }
     requires script { world.script ≡ script.now }
     requires taken { AreTaken script.now }
     requires stepped { reverse world.trace ≡ stepped script.now [] (map (λ (s : ℕ × Step). s.1) script.now.steps) }
@@ -80,12 +71,13 @@ fn answered(
     with_trace: bool,
     trace: Trace,
 ) -> Result<Answered, Memory>
-    requires built { IsBuilt script.now }
+    requires valid { IsScript script.now }
     requires whole { IsWholeRun script.now trace }
     ensures { IfOk result (λ made. IsReplayed with_trace script.now made.trace made.bytes.items) }
 {
-    hx_linear::headline_in_one_configuration();
-    hx_searches::searches_in_one_configuration();
+    hx_law_searches::histories_are_linear();
+    hx_law_searches::searches_are_true_and_whole();
+    hx_law_causes::answers_have_causes();
     let bytes = report(alloc, script, &trace, &[], with_trace)?;
     Ok(Answered { trace, bytes })
 }

@@ -1,9 +1,8 @@
 ghost use Rattle.std.specs.Prelude.{◌≡◌, ℕ, [], map, IfErr, OnErr, OnOk, reverse};
 ghost use Rattle.hx_types.specs.declared.traces.Step.{Step};
-ghost use Rattle.hx_tool.specs.Built.{IsBuilt, IsBuiltStep};
 ghost use Rattle.hx_model.specs.Schedule.{stepped};
-ghost use Rattle.hx_tool.specs.Steps.{AreTaken, Stops, StopsAt};
-ghost use Rattle.hx_world.specs.Worlds.{Steps};
+ghost use Rattle.hx_tool.specs.Steps.{AreTaken, HasSteps, Stops, StopsAt};
+ghost use Rattle.hx_world.specs.Worlds.{IsStepOf, Steps};
 
 use hx_types::{Actor, Script, Step};
 use hx_world::{StepError, World};
@@ -22,7 +21,7 @@ pub enum Stopped {
 
 /// Takes the steps of a script in order.
 pub fn take_steps(alloc: Global, script: &Script, world: &mut World) -> Result<(), Stopped>
-    requires built { IsBuilt script.now }
+    requires steps { HasSteps script.now }
     requires script { world.old.script ≡ script.now }
     requires start { world.old.trace ≡ [] }
     ensures script { world.new.script ≡ world.old.script }
@@ -40,7 +39,7 @@ pub fn take_steps(alloc: Global, script: &Script, world: &mut World) -> Result<(
 
 /// Takes the step that stands on a line.
 fn take(alloc: Global, world: &mut World, line: u64, step: &Step) -> Result<(), Stopped>
-    requires { IsBuiltStep world.old.script step.now }
+    requires { IsStepOf world.old.script step.now }
     ensures script { world.new.script ≡ world.old.script }
     ensures takes { OnOk result (Steps world.old.script (reverse world.old.trace) (reverse world.new.trace) step.now) }
     ensures stops { IfErr result (StopsAt world.old.script (reverse world.old.trace) line step.now) }

@@ -84,6 +84,44 @@ const MORE_SEARCHES: &str =
 const MORE_PLANS: &str =
     "plan u1.2 subspace 1 regions 4\nplan u3.1 subspace 0 regions 1\nplan u3.4 subspace 2 regions 6,7\nend\n";
 
+/// Servers 3 and 4 are stopped, and with the second of them region 6 is lost, in which the put would
+/// have a place.
+const STOPS: &str = "session 1\nstop 3\nstop 4\nput \"a\" genre=\"b\" year=1999\nget \"a\"\n";
+
+const STOPS_REPORT: &str =
+    "call u1.1 begin 1 end 15 stop 3 -> issued epoch 2\ncall u1.2 begin 16 end 27 stop 4 -> issued epoch 3\ncall u1.3 begin 28 end 32 put \"a\" genre=\"b\" year=1999 -> refused region 6 epoch 3\ncall u1.4 begin 33 end 35 get \"a\" -> notfound version 1\nhistory \"a\"\nitem 1 u1.4 notfound absent\nepoch 1 servers 1,2,3,4 lost -\nepoch 2 servers 1,2,4 lost -\nepoch 3 servers 1,2 lost 2,6\n";
+
+/// The put is on its way when both replicas of region 6 halt.
+const DOUBT: &str =
+    "session 1\nput \"a\" genre=\"b\" year=1999\nsteps\ntick u1\ndeliver 1.0\nhalt s3\nhalt s4\n";
+
+const DOUBT_REPORT: &str =
+    "call u1.1 begin 1 end - put \"a\" genre=\"b\" year=1999 -> doubt region 6 epoch 2\nhistory \"a\"\nitem 1 u1.1 done present genre=\"b\" year=1999\nepoch 1 servers 1,2,3,4 lost -\nepoch 2 servers 1,2 lost 2,6\n";
+
+/// The leader gives the second put version 2 and halts before any other replica has it; the next
+/// leader gives version 2 to another put.
+const HALTED: &str =
+    "session 1\nput \"a\" genre=\"b\" year=1999\nput \"a\" genre=\"d\"\nsession 2\nput \"a\" year=2000\nsteps\ntick u1\n";
+
+const HALTED_STEPS: &str =
+    "tick u1\ndeliver 14.0\nhalt s1\ntick u2\ndeliver 16.0\ndeliver 18.0\ndeliver 18.1\ndeliver 18.2\ndeliver 19.0\ndeliver 20.0\ndeliver 21.0\ndeliver 24.0\ndeliver 24.1\ndeliver 24.2\ndeliver 24.4\ndeliver 28.0\ndeliver 15.0\n";
+
+const HALTED_REPORT: &str =
+    "call u1.1 begin 1 end 13 put \"a\" genre=\"b\" year=1999 -> done version 1\ncall u1.2 begin 14 end 50 put \"a\" genre=\"d\" -> done version 3\ncall u2.1 begin 17 end 48 put \"a\" year=2000 -> done version 2\nhistory \"a\"\nitem 1 u1.1 done present genre=\"b\" year=1999\nitem 2 u2.1 done present genre=\"b\" year=2000\nitem 3 u1.2 done present genre=\"d\" year=2000\nepoch 1 servers 1,2,3,4 lost -\nepoch 2 servers 2,3,4 lost -\n";
+
+/// Server 3 is added to region 0 twice at once, and hears its snapshot twice.
+const JOINS: &str =
+    "session 1\nput \"a\" genre=\"b\" year=1999\nadd 3 0\nsession 2\nadd 3 0\nsteps\ntick u1\n";
+
+const JOINS_STEPS: &str =
+    "tick u1\ndeliver 14.0\ndeliver 15.0\ndeliver 15.1\ndeliver 15.2\ndeliver 15.3\ndeliver 16.0\ndeliver 17.0\ndeliver 18.0\ndeliver 19.0\ndeliver 23.0\ndeliver 23.1\ntick u2\ndeliver 26.0\ndeliver 23.2\ndeliver 25.0\ndeliver 25.0\n";
+
+const JOINS_REPORT: &str =
+    "call u1.1 begin 1 end 13 put \"a\" genre=\"b\" year=1999 -> done version 1\ncall u1.2 begin 14 end 34 add 3 0 -> issued epoch 2\ncall u2.1 begin 26 end 35 add 3 0 -> joining epoch 2\nhistory \"a\"\nitem 1 u1.1 done present genre=\"b\" year=1999\nepoch 1 servers 1,2,3,4 lost -\nepoch 2 servers 1,2,3,4 lost -\nepoch 3 servers 1,2,3,4 lost -\n";
+
+const SURVIVES: &str =
+    "session 1\nput \"a\" genre=\"b\" year=1999\nsession 2\nget \"a\"\nsteps\ntick u1\n";
+
 fn words(alloc: Global, line: &str) -> Result<Vec<String>, Fail> {
     let mut words = Vec::new(alloc);
     for word in line.split_whitespace() {
@@ -186,17 +224,62 @@ fn calls_on_absent_objects_are_reported(rt: HostRuntime) -> Result<(), Fail> {
     Ok(())
 }
 
+/// Whether `replay` makes so many entries of these sessions and steps on books, and writes this
+/// after the lines of the space.
+fn reports_books(alloc: Global, lines: &str, entries: usize, wanted: &str) -> Result<bool, Fail> {
+    let text = format!(in alloc; "{BOOKS}tolerate 1\n{lines}")?;
+    let report = format!(in alloc; "{BOOKS_REPORT}{wanted}end\n")?;
+    writes(alloc, "replay", text.as_str(), entries, report.as_str())
+}
+
 #[test]
-fn larger_scripts_are_unbuilt(rt: HostRuntime) -> Result<(), Fail> {
+fn servers_are_stopped_until_a_region_is_lost(rt: HostRuntime) -> Result<(), Fail> {
+    assert!(rt; reports_books(rt.alloc(), STOPS, 35, STOPS_REPORT)?);
+    Ok(())
+}
+
+#[test]
+fn a_write_is_in_doubt_where_its_replicas_halt(rt: HostRuntime) -> Result<(), Fail> {
+    assert!(rt; reports_books(rt.alloc(), DOUBT, 22, DOUBT_REPORT)?);
+    Ok(())
+}
+
+#[test]
+fn a_halted_leader_is_followed(rt: HostRuntime) -> Result<(), Fail> {
     let alloc = rt.alloc();
-    for lines in [
-        "session 1\nget \"a\"\nstop 2\n",
-        "session 1\nsession 2\nstop 1\n",
-        "session 1\nadd 1 0\n",
-        "steps\nhalt s1\n",
-    ] {
-        let text = format!(in alloc; "{BOOKS}tolerate 1\n{lines}")?;
-        assert!(rt; refuses(alloc, "replay", text.as_bytes(), Outcome::Unbuilt)?);
+    let put = deliveries(alloc, 1, 12)?;
+    let lines = format!(in alloc; "{HALTED}{put}{HALTED_STEPS}")?;
+    assert!(rt; reports_books(alloc, lines.as_str(), 50, HALTED_REPORT)?);
+    Ok(())
+}
+
+#[test]
+fn a_replica_joins(rt: HostRuntime) -> Result<(), Fail> {
+    let alloc = rt.alloc();
+    let put = deliveries(alloc, 1, 12)?;
+    let lines = format!(in alloc; "{JOINS}{put}{JOINS_STEPS}")?;
+    assert!(rt; reports_books(alloc, lines.as_str(), 51, JOINS_REPORT)?);
+    Ok(())
+}
+
+/// Whether a put that its leader's halt meets after so many deliveries is done once all the same, and
+/// a get of another session finds it.
+fn survives(alloc: Global, delivered: u64) -> Result<bool, Fail> {
+    let before = deliveries(alloc, 1, delivered)?;
+    let text = format!(in alloc; "{BOOKS}tolerate 1\n{SURVIVES}{before}halt s1\n")?;
+    let mut sink = MemorySink::new(alloc, 4096, 64, Vec::new(alloc))?;
+    let done = run(alloc, "replay", text.as_bytes(), &mut sink)?;
+    let found = holds(
+        sink.bytes(),
+        b"-> found version 1 genre=\"b\" year=1999\nhistory \"a\"\nitem 1 u1.1 done",
+    );
+    Ok(done.outcome == Outcome::Fine && found)
+}
+
+#[test]
+fn a_put_survives_its_leader_at_every_entry(rt: HostRuntime) -> Result<(), Fail> {
+    for delivered in 0..13 {
+        assert!(rt; survives(rt.alloc(), delivered)?, "{delivered}");
     }
     Ok(())
 }
@@ -280,6 +363,8 @@ fn steps_that_can_not_be_taken_are_refused(rt: HostRuntime) -> Result<(), Fail> 
     for (lines, line, entries) in [
         ("steps\ndeliver 1.0\n", 11, 0),
         ("steps\ntick c\n", 11, 0),
+        ("steps\nhalt c\n", 11, 0),
+        ("steps\nhalt s1\nhalt s1\n", 12, 1),
         ("session 1\nget \"a\"\nsteps\ntick u1\ntick s1\n", 14, 1),
         ("session 1\nget \"a\"\nsteps\ntick u1\ndeliver 1.1\n", 14, 1),
     ] {

@@ -6,7 +6,7 @@ ghost use Rattle.hx_script.specs.declared.errors.Reason.{Reason};
 ghost use Rattle.hx_script.specs.declared.errors.Reason.TheVariants as a_reason;
 ghost use Rattle.hx_types.specs.declared.ids.Actor.{Actor};
 ghost use Rattle.hx_types.specs.declared.traces.Entry.{Entry};
-ghost use Rattle.hx_tool.specs.Causes.{IsAnswer, IsCause, IsFaulty, IsJudged, IsJudgedResult, IsMadeOf, IsRefused, IsStopped, IsTaken, IsUnbuilt, IsWorn, ReadsText, limit};
+ghost use Rattle.hx_tool.specs.Causes.{IsAnswer, IsCause, IsFaulty, IsJudged, IsJudgedResult, IsMadeOf, IsRefused, IsStopped, IsTaken, IsWorn, ReadsText, limit};
 ghost use Rattle.hx_tool.specs.Commands.{Replays, Says};
 ghost use Rattle.hx_tool.specs.Outcomes.{HasNoTrace, IsSilent, status_of};
 ghost use Rattle.hx_tool.specs.declared.outcomes.Outcome.{Outcome};
@@ -45,9 +45,10 @@ pub fn hyperstore<S: Source, K: Sink>(
 ) -> Done
     ensures status { result.status ≡ status_of result.outcome }
 
-    // With status 0 the text that the source gave is that of a script which the command takes.
-    // Under `replay` the trace is its run by its steps and the schedule, each key's history is
-    // linear, and the report was written and nothing else; under `plan` the plans of its searches.
+    // With status 0 the text that the source gave is that of a script. Under `replay` the trace is
+    // its run by its steps and the schedule, each key's history is linear, each finished search
+    // whole and true, every answer has its cause, and the report was written and nothing else;
+    // under `plan` the plans of its searches.
     ensures fine { result.outcome ≡ Outcome.Fine → (command : Command) × (text : List ℕ) × (bytes : List ℕ)
         × Says words.now command
         × ReadsText (S.left source.old) (S.left source.new) text
@@ -60,10 +61,6 @@ pub fn hyperstore<S: Source, K: Sink>(
         × ReadsText (S.left source.old) (S.left source.new) text
         × (IsRefused text line reason
         ⊎ ((reason ≡ a_reason.Step) × ((command : Command) × Says words.now command × Replays command) × IsStopped text line result.trace)) }
-    ensures unbuilt { result.outcome ≡ Outcome.Unbuilt → (command : Command) × (text : List ℕ)
-        × Says words.now command
-        × ReadsText (S.left source.old) (S.left source.new) text
-        × IsUnbuilt command text }
     ensures too_large { result.outcome ≡ Outcome.TooLarge →
         ConsumesExactly (S.left source.old) (S.left source.new) (limit + 1) }
     ensures read_fault { result.outcome ≡ Outcome.ReadFault → Rose (S.faults source.old) (S.faults source.new) }

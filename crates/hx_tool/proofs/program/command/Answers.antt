@@ -13,7 +13,6 @@ returns-in-None-clause-told g c none =
         fine = λ e. let w = ended.fine e in record { command = w.0; text = w.1; bytes = w.2; says = w.3; reads = w.4; answer = w.5; written = w.6 };
         usage = ended.usage;
         refused = ended.refused;
-        unbuilt = ended.unbuilt;
         too_large = ended.too_large;
         worn = ended.worn;
         judged = ended.judged;

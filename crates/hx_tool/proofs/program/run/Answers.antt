@@ -3,7 +3,7 @@ use Rattle.std.proofs.Common.{◌≡◌, ◌⊎◌, inl, inr, ℕ, refl, sym, �
 use Rattle.hx_script.specs.declared.errors.Reason.{Reason}
 use Rattle.hx_tool.specs.Outcomes.{status_of}
 use Rattle.hx_tool.specs.declared.outcomes.Outcome.{Outcome}
-use Rattle.hx_tool.specs.declared.outcomes.Outcome.TheVariants.{Fine, Usage, Refused, Unbuilt, TooLarge, ReadFault, WriteFault, Memory, Worn}
+use Rattle.hx_tool.specs.declared.outcomes.Outcome.TheVariants.{Fine, Usage, Refused, TooLarge, ReadFault, WriteFault, Memory, Worn}
 use Rattle.hx_tool.proofs.program.run.Goals as goal
 use Rattle.hx_tool.proofs.program.run.Goals.{in-Ok, in-Err}
 
@@ -11,7 +11,6 @@ fine_at_0 : (outcome : Outcome) → status_of outcome ≡ 0 → outcome ≡ Fine
 fine_at_0 Fine e = refl
 fine_at_0 Usage e = absurd (cc)
 fine_at_0 (Refused line reason) e = absurd (cc)
-fine_at_0 Unbuilt e = absurd (cc)
 fine_at_0 TooLarge e = absurd (cc)
 fine_at_0 ReadFault e = absurd (cc)
 fine_at_0 WriteFault e = absurd (cc)
