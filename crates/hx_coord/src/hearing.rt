@@ -7,7 +7,6 @@ ghost use Rattle.hx_coord.specs.Changes.{IsMade, phase_seen, standing, told};
 
 use crate::agendas::{Agenda, Phase};
 use crate::calls::{add_replica, stop_server};
-use crate::judging::lists_joining;
 use crate::made::{Made, rest, tell};
 use crate::sealing::{seal, wait_less};
 use crate::servers::{is_in, with_server};
@@ -200,7 +199,7 @@ fn join(
     requires { config.now.epoch.0 ≤ 2 ^ 62 }
     ensures { IfOk result (IsMade config.now (ready_now (standing config.now agenda) server region Steady)) }
 {
-    if config.is_lost(region) || !lists_joining(config, region, server) {
+    if config.is_lost(region) || !config.lists_joining(region, server) {
         return Ok(rest(alloc, agenda));
     }
     let mut agenda = agenda;

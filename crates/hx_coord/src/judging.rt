@@ -1,9 +1,8 @@
 ghost use Rattle.std.specs.Prelude.{◌≡◌, ◌++◌, ◌∷◌, [], false, slice_set, IfOk, OnOk};
-ghost use Rattle.hx_types.specs.Configs.{lists_joining, lists_ready};
-ghost use Rattle.hx_model.specs.CoordinatorSteps.{any_joining, appended, judged};
+ghost use Rattle.hx_model.specs.CoordinatorSteps.{appended, judged};
 
 use crate::servers::is_in;
-use hx_types::{Answer, Config, Exact, Member, Members, Memory, RegionId, ServerId};
+use hx_types::{Answer, Config, Exact, Member, Members, Memory, RegionId, ServerId, any_joining};
 use std::alloc::Global;
 
 /// Why a server can't be added to a region: nothing where it can.
@@ -18,40 +17,13 @@ pub fn judge(config: &Config, server: ServerId, region: RegionId) -> Option<Answ
         Some(Answer::Stopped { epoch })
     } else if config.is_lost(region) {
         Some(Answer::Lost { epoch })
-    } else if lists_ready(config, region, server) {
+    } else if config.lists_ready(region, server) {
         Some(Answer::Member { epoch })
     } else if any_joining(config.members(region)) {
         Some(Answer::Joining { epoch })
     } else {
         None
     }
-}
-
-/// Whether a server is a ready member of a region.
-fn lists_ready(config: &Config, region: RegionId, server: ServerId) -> bool
-    ensures { result ≡ lists_ready config.now region server }
-{
-    config
-        .members(region)
-        .iter()
-        .any(|member| member.server == server && member.ready)
-}
-
-/// Whether a server is a member of a region that isn't ready.
-pub fn lists_joining(config: &Config, region: RegionId, server: ServerId) -> bool
-    ensures { result ≡ lists_joining config.now region server }
-{
-    config
-        .members(region)
-        .iter()
-        .any(|member| member.server == server && !member.ready)
-}
-
-/// Whether some member isn't ready.
-fn any_joining(members: &[Member]) -> bool
-    ensures { result ≡ any_joining members.now }
-{
-    members.iter().any(|member| !member.ready)
 }
 
 /// A server joins a region, at the end of its list.
