@@ -1,4 +1,5 @@
 -- A slot that takes the pending updates of its key, and the slots of a snapshot that do so one after another.
+use Rattle.hx_model.specs.Lines.{upto}
 use Rattle.std.proofs.Common.{◌≡◌, ℕ, ◌+◌, ◌≤◌, Bool, true, false, nat_le, List, [], ◌∷◌, ◌++◌, length, map, take, Some, refl, ap, sym, ◌∙◌, subst, arith, append_assoc, append-nil, zero, suc, cond}
 use Rattle.std.specs.Prelude.{⊤}
 use Rattle.std.specs.List.{All, AllByRecursion, find, flat_map, slice_get}
@@ -15,7 +16,7 @@ use Rattle.hx_types.specs.Words.{same_text}
 use Rattle.hx_model.proofs.Laws.{base-moved_all}
 use Rattle.hx_model.proofs.States.{others_stay}
 use Rattle.hx_model.specs.ServerSteps.{Slots, Spot as ModelSpot, accepting, end_marks, join_keys, join_slot, move_posts, offered_all, passed_on, resumed, state_from}
-use Rattle.hx_model.specs.Slots.{Acknowledge, Commit, Forget, Hold, KeyState, Move, Take, follows, moved, moved_all, new_state, offered, pending_above, pending_of, settled, state_among, taken, top_above, top_of, turns, upto, with_state}
+use Rattle.hx_model.specs.Slots.{Acknowledge, Commit, Forget, Hold, KeyState, Move, Take, follows, moved, moved_all, new_state, offered, pending_above, pending_of, settled, state_among, taken, top_above, top_of, turns, with_state}
 use Rattle.hx_folds.specs.Folding.{Descends, IsLater, IsSlotOf, folded}
 use Rattle.hx_folds.proofs.Bare.{bare-folded, bare-from}
 use Rattle.hx_folds.proofs.Slots.{AllFit, all-filter, later-of, offered_all-fit, when_some_both}

@@ -451,7 +451,7 @@ fn a_halted_leader_is_replaced(rt: HostRuntime) -> Result<(), Fail> {
     let mut world = halted_leader(alloc, &script)?;
     assert!(rt; matches!(world.drain(alloc, u64::MAX), Ok(Drained::Quiet)));
     let trace = world.into_trace();
-    let last = trace.len() - 1;
+    let last = trace.len().saturating_sub(1);
     assert!(rt; matches!(ended(&trace, last), Some((1, 1, Answer::Done))));
     Ok(())
 }
