@@ -2,8 +2,6 @@
 use Rattle.std.proofs.Common.{◌≡◌, ℕ, ◌≤◌, true, ◌&&◌, List, [], ◌∷◌, map, refl, ap, sym, ◌∙◌, subst, arith, ⊎_elim}
 use Rattle.std.specs.Prelude.{◌≢◌}
 use Rattle.std.proofs.lemmas.List.Elements.{All-from_recursion}
-use Rattle.hx_types.specs.declared.configs.Config.{Config}
-use Rattle.hx_types.specs.declared.configs.Member.{Member}
 use Rattle.hx_types.specs.declared.spaces.Attribute.{Attribute}
 use Rattle.hx_types.specs.declared.ids.RegionId.{RegionId}
 use Rattle.hx_types.specs.declared.ids.ServerId.{ServerId}
@@ -15,11 +13,11 @@ use Rattle.hx_types.specs.declared.ids.Actor.TheVariants.{Coordinator, Server}
 use Rattle.hx_types.specs.declared.traces.Input.TheVariants.{Tick, Halt}
 use Rattle.hx_types.specs.Posts.{IsSoundMessage, goes_between}
 use Rattle.hx_types.specs.Configs.{first_config}
-use Rattle.hx_types.specs.Spaces.{AssignFits, TermFits, IsConfigOf, IsKind, IsListOf, IsName, IsServerOf, IsSpace, IsSubspaceOf, is_letter}
+use Rattle.hx_types.specs.Spaces.{AssignFits, TermFits, IsKind, IsName, IsServerOf, IsSpace, IsSubspaceOf, is_letter}
 use Rattle.hx_types.specs.Words.{IsIn}
 use Rattle.hx_model.specs.ServerSteps.{Replica, ServerState, listed_regions, server_at_start}
 use Rattle.hx_model.specs.Slots.{KeyState}
-use Rattle.hx_replica.specs.Examples.{ask_of, first, from_coordinator, put_of, second_config, small}
+use Rattle.hx_replica.specs.Examples.{ask_of, first, from_coordinator, put_of, small}
 use Rattle.hx_replica.specs.Servers.{CanTake, HasSmallVersions}
 
 letter : (b : ℕ) → is_letter b ≡ true → IsName (b ∷ [])
@@ -122,20 +120,3 @@ sent m b message = record {
 
 pub can_seal : (space : Space) (s : ServerState) (input : Input) → space ≡ small → s ≡ server_at_start small first → input ≡ from_coordinator (a_message.Seal (record { 0 = 1 })) → CanTake space s input
 can_seal space s input e f g = at_start space s input (from_coordinator (a_message.Seal (record { 0 = 1 }))) e f g (sent (a_message.Seal (record { 0 = 1 })) refl (omega arith))
-
-second_fits : IsConfigOf small second_config
-second_fits = record {
-  servers = All-from_recursion (IsServerOf small) (first ∷ []) ((omega arith, omega arith), tt);
-  count = refl;
-  each = All-from_recursion (IsListOf small) second_config.regions (
-    record {
-      each = All-from_recursion (λ (m : Member). IsServerOf small m.server) (record { server = first; ready = true } ∷ []) ((omega arith, omega arith), tt);
-      once = (All-from_recursion (λ (m : ℕ). m ≢ 1) [] tt, tt);
-    },
-    tt,
-  );
-}
-
-pub can_install : (space : Space) (s : ServerState) (input : Input) (config : Config) → space ≡ small → s ≡ server_at_start small first → config ≡ second_config → input ≡ from_coordinator (a_message.Install config) → CanTake space s input
-can_install space s input config e f c g =
-    at_start space s input (from_coordinator (a_message.Install second_config)) e f (g ∙ ap (λ (k : Config). from_coordinator (a_message.Install k)) c) (sent (a_message.Install second_config) refl (omega arith, second_fits))

@@ -1,6 +1,5 @@
 -- What the tests are of: a space of one region on one server, and inputs there.
-use Rattle.std.specs.Prelude.{ℕ, true, [], ◌∷◌}
-use Rattle.hx_types.specs.declared.configs.Config.{Config}
+use Rattle.std.specs.Prelude.{ℕ, [], ◌∷◌}
 use Rattle.hx_types.specs.declared.messages.Message.{Message}
 use Rattle.hx_types.specs.declared.ids.ServerId.{ServerId}
 use Rattle.hx_types.specs.declared.spaces.Space.{Space}
@@ -36,12 +35,3 @@ ask_of = Deliver (record { entry = 1; place = 0 }) (Session (record { 0 = 1 })) 
 abbrev pub put_of : ℕ → Input
 put_of epoch =
     Deliver (record { entry = 1; place = 0 }) (Session (record { 0 = 1 })) (Call (record { 0 = epoch }) 1 (Put (97 ∷ []) []))
-
--- the configuration of epoch 2, with the same member
-abbrev pub second_config : Config
-second_config =
-    record {
-      epoch = record { 0 = 2 };
-      servers = first ∷ [];
-      regions = (record { server = first; ready = true } ∷ []) ∷ [];
-    }

@@ -1,12 +1,12 @@
 ghost use Rattle.std.specs.Prelude.{◌≡◌, ◌≤◌, IfOk};
-ghost use Rattle.hx_replica.specs.Examples.{ask_of, first, from_coordinator, put_of, second_config, small};
+ghost use Rattle.hx_replica.specs.Examples.{ask_of, first, from_coordinator, put_of, small};
 ghost use Rattle.hx_replica.specs.Servers.{CanTake};
 ghost use Rattle.hx_model.specs.ServerSteps.{server_at_start};
 
 use super::*;
 use hx_types::{
-    Actor, Assigns, Attributes, Config, Epoch, Input, Member, Members, Memory, Message, Op, PostId,
-    RegionId, RegionLists, ServerId, ServerList, SessionId, Shared, Space, Subspaces, Terms, Text,
+    Actor, Assigns, Attributes, Epoch, Input, Memory, Message, Op, PostId, RegionId, ServerId,
+    SessionId, Shared, Space, Subspaces, Terms, Text,
 };
 use std::alloc::Global;
 use std::test::Fail;
@@ -77,26 +77,6 @@ fn started(alloc: Global) -> Result<Server, Memory>
     Server::start(alloc, &space, ServerId(1))
 }
 
-/// The configuration of epoch 2, with the same member.
-fn second_config(alloc: Global) -> Result<Config, Memory>
-    ensures { IfOk result (λ config. config ≡ second_config) }
-{
-    let mut members = Members::new(alloc);
-    members.push(Member {
-        server: ServerId(1),
-        ready: true,
-    })?;
-    let mut regions = RegionLists::new(alloc);
-    regions.push(members)?;
-    let mut servers = ServerList::new(alloc);
-    servers.push(ServerId(1))?;
-    Ok(Config {
-        epoch: Epoch(2),
-        servers,
-        regions,
-    })
-}
-
 /// How many posts and notes a server makes of an input, and whether it then stands still.
 fn made_of(alloc: Global, mut server: Server, input: &Input) -> Result<(usize, usize, bool), Memory>
     requires { CanTake server.space server.state input.now }
@@ -157,18 +137,5 @@ fn a_seal_is_told(rt: HostRuntime) -> Result<(), Fail> {
     let server = started(alloc)?;
     let seal = from_coordinator(Message::Seal { epoch: Epoch(1) });
     assert_eq!(rt; made_of(alloc, server, &seal)?, (1, 0, false));
-    Ok(())
-}
-
-/// Nothing is pending, and the server has joined before.
-#[test]
-fn a_newer_configuration_is_adopted(rt: HostRuntime) -> Result<(), Fail> {
-    let alloc = rt.alloc();
-    let server = started(alloc)?;
-    let config = second_config(alloc)?;
-    let install = from_coordinator(Message::Install {
-        config: Shared::new(alloc, config)?,
-    });
-    assert_eq!(rt; made_of(alloc, server, &install)?, (0, 0, false));
     Ok(())
 }
