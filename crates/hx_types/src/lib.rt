@@ -1,6 +1,6 @@
 //! Values, operations, messages and entries of the store, and the definitions that they share.
 //!
-//! Every type but [`Text`], [`Shared`], [`Sequence`] and [`SharedList`] is plain, with public fields.
+//! Every type but [`Text`], [`Places`], [`Shared`], [`Sequence`] and [`SharedList`] is plain, with public fields.
 //! What a message carries is shared, so that a copy of it is a few pointers. [`Exact`] copies a value,
 //! [`Same`] compares two; [`fits`] tells whether an operation belongs to a space, [`effect`] is what
 //! it does to an object, and [`first_config`] the configuration that every actor knows at the start.
@@ -24,6 +24,7 @@ mod limits;
 mod lists;
 mod messages;
 mod outcomes;
+mod places;
 mod shared;
 mod shared_lists;
 mod snapshots;
@@ -53,6 +54,7 @@ pub use limits::{
 pub use lists::Sequence;
 pub use messages::{Message, Post, PostId, Posts};
 pub use outcomes::{Acked, Decision, Effect, Hop, Offer, Planned};
+pub use places::Places;
 pub use shared::Shared;
 pub use shared_lists::SharedList;
 pub use snapshots::{Kept, Mark, Marks, Snapshot, Touch, Touches};
@@ -61,7 +63,7 @@ pub use starting::first_config;
 pub use texts::Text;
 pub use totals::Totals;
 pub use traces::{Entry, Input, Note, Notes, Script, Step, Steps, Trace};
-pub use updates::{Place, Places, Update, Updates};
+pub use updates::{Place, Update, Updates};
 pub use values::{Assign, Assigns, Object, Term, Terms, Value};
 
 #[cfg(test)]
