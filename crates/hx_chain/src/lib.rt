@@ -10,6 +10,3 @@ mod placing;
 
 pub use neighbours::{next, place_number, prev};
 pub use placing::places;
-
-#[cfg(test)]
-mod tests;

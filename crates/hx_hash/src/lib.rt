@@ -88,6 +88,3 @@ pub fn cell(kind: Kind, value: &Value, parts: u32) -> u32
         _ => 0,
     }
 }
-
-#[cfg(test)]
-mod tests;

@@ -15,6 +15,3 @@ mod searched;
 pub use key_histories::{Histories, KeyHistory, histories, history};
 pub use recorded::records;
 pub use searched::searches;
-
-#[cfg(test)]
-mod tests;

@@ -11,6 +11,3 @@ mod faults;
 mod writes;
 
 pub use faults::{first_fault, legal};
-
-#[cfg(test)]
-mod tests;

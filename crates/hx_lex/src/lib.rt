@@ -33,6 +33,3 @@ pub use errors::LexError;
 pub use laws::{tokens_are_spelled, word_is_utf8};
 pub use scan::tokens;
 pub use token::{Piece, Token, TokenKind, Tokens};
-
-#[cfg(test)]
-mod tests;

@@ -13,6 +13,3 @@ mod planning;
 
 pub use laws::plans_miss_nothing;
 pub use planning::plan;
-
-#[cfg(test)]
-mod tests;

@@ -17,6 +17,3 @@ pub use numbers::{Numbered, put_number, put_numbers};
 pub use scripts::{print, put_actor, put_call_name, put_caller, put_post_name};
 pub use spaces::{print_space, put_space};
 pub use texts::{print_text, put_bytes, put_named, put_text};
-
-#[cfg(test)]
-mod tests;

@@ -6,6 +6,3 @@
 mod matching;
 
 pub use matching::matches;
-
-#[cfg(test)]
-mod tests;

@@ -17,6 +17,3 @@
 mod laws;
 
 pub use laws::{prints_are_alike, prints_are_read_back};
-
-#[cfg(test)]
-mod tests;

@@ -17,6 +17,3 @@ mod rows;
 
 pub use laws::regions_are_shared_out;
 pub use map::RegionMap;
-
-#[cfg(test)]
-mod tests;

@@ -90,6 +90,3 @@ pub fn report(
     put_rest(&mut out, trace, totals, with_trace)?;
     Ok(out)
 }
-
-#[cfg(test)]
-mod tests;

@@ -58,6 +58,3 @@ mod words;
 pub use errors::{Reason, ScriptError};
 pub use laws::{scripts_are_valid, texts_are_not_refused_by_steps};
 pub use reading::read;
-
-#[cfg(test)]
-mod tests;

@@ -8,7 +8,7 @@
 //! The limits of spaces, scripts and runs are constants, which clauses cite.
 //!
 //! No contract says that there is memory, so a function that always answered [`Memory`] would be
-//! proved. The tests here and in the crates above make texts, lists, effects, configurations and
+//! proved. The tests in `hx_tests` and of the actors make texts, lists, effects, configurations and
 //! copies, and show that each can succeed.
 #![tactic(auto)]
 
@@ -65,6 +65,3 @@ pub use totals::Totals;
 pub use traces::{Entry, Input, Note, Notes, Script, Step, Steps, Trace};
 pub use updates::{Place, Update, Updates};
 pub use values::{Assign, Assigns, Object, Term, Terms, Value};
-
-#[cfg(test)]
-mod tests;

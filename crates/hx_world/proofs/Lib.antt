@@ -11,4 +11,3 @@ pub mod Stepping
 pub mod Scheduling
 pub mod Beginning
 pub mod Spending
-pub mod Books

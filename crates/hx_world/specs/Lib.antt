@@ -2,7 +2,6 @@ pub use Rattle.hx_types.specs.Effects
 pub use Rattle.hx_model.specs.Runs
 pub use Rattle.hx_model.specs.Schedule
 pub mod Coordinators
-pub mod Examples
 pub mod Filing
 pub mod Idle
 pub mod Invariant

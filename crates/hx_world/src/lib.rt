@@ -18,6 +18,3 @@ mod worlds;
 
 pub use ends::{DrainError, Drained, StepError};
 pub use worlds::World;
-
-#[cfg(test)]
-mod tests;
