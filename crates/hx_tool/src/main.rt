@@ -26,4 +26,6 @@ fn main(rt: HostRuntime) -> ExitCode {
 }
 
 #[cfg(test)]
+mod fault_tables;
+#[cfg(test)]
 mod tests;

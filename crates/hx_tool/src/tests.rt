@@ -6,10 +6,10 @@ use hx_types::{Actor, LONGEST_SCRIPT, LONGEST_TEXT, ServerId};
 use std::alloc::Global;
 use std::test::Fail;
 
-const FIRST: &str =
+pub const FIRST: &str =
     "hx 1\nspace one\nkey k 1\nstring v\nservers 1\ntolerate 0\nsession 1\nput \"a\" v=\"x\"\nget \"a\"\n";
 
-const FIRST_REPORT: &str =
+pub const FIRST_REPORT: &str =
     "report 1\nspace one\nkey k 1\nstring v\nservers 1\ntolerate 0\ncall u1.1 begin 1 end 3 put \"a\" v=\"x\" -> done version 1\ncall u1.2 begin 4 end 6 get \"a\" -> found version 1 v=\"x\"\nhistory \"a\"\nitem 1 u1.1 done present v=\"x\"\nitem 1 u1.2 found present v=\"x\"\nepoch 1 servers 1 lost -\nend\n";
 
 /// A number outside its range, in a text with comments and loose spacing.
@@ -122,7 +122,7 @@ const JOINS_REPORT: &str =
 const SURVIVES: &str =
     "session 1\nput \"a\" genre=\"b\" year=1999\nsession 2\nget \"a\"\nsteps\ntick u1\n";
 
-fn words(alloc: Global, line: &str) -> Result<Vec<String>, Fail> {
+pub fn words(alloc: Global, line: &str) -> Result<Vec<String>, Fail> {
     let mut words = Vec::new(alloc);
     for word in line.split_whitespace() {
         words.push(String::from_str(alloc, word)?)?;
@@ -130,7 +130,7 @@ fn words(alloc: Global, line: &str) -> Result<Vec<String>, Fail> {
     Ok(words)
 }
 
-fn run(alloc: Global, line: &str, text: &[u8], sink: &mut MemorySink) -> Result<Done, Fail> {
+pub fn run(alloc: Global, line: &str, text: &[u8], sink: &mut MemorySink) -> Result<Done, Fail> {
     let words = words(alloc, line)?;
     let mut source = MemorySource::new(alloc, text.to_vec(alloc)?, 7, Vec::new(alloc));
     Ok(hyperstore(alloc, words.as_slice(), &mut source, sink))
