@@ -1,0 +1,303 @@
+use crate::errors::PictureError;
+use crate::labels::{Family, label_of};
+use crate::layout::{across, down, height, width};
+use crate::runs::{Post, PostName, Run, Taken};
+use crate::svg::push_text;
+use std::alloc::{AllocError, Global};
+
+/// The most characters of a call that are shown.
+const LONGEST_CALL: usize = 58;
+
+/// The most characters of a message that are shown.
+const LONGEST_LABEL: usize = 24;
+
+/// The diagram of a run.
+pub fn picture(alloc: Global, run: &Run) -> Result<String, PictureError> {
+    let mut svg = String::new(alloc);
+    head(&mut svg, run)?;
+    epochs(&mut svg, run)?;
+    lines(&mut svg, run)?;
+    calls(&mut svg, run)?;
+    for post in &run.posts {
+        arrows(alloc, &mut svg, run, post)?;
+    }
+    points(&mut svg, run)?;
+    svg.push_str("</svg>\n")?;
+    Ok(svg)
+}
+
+/// The size, the style, the title and the legend.
+fn head(svg: &mut String, run: &Run) -> Result<(), AllocError> {
+    let wide = width(run.actors.names().len());
+    let high = height(run.entries.len());
+    write!(
+        svg,
+        "<svg xmlns=\"http://www.w3.org/2000/svg\" width=\"{wide}\" height=\"{high}\" viewBox=\"0 0 {wide} {high}\" font-family=\"ui-sans-serif, system-ui, sans-serif\" font-size=\"12\">\n"
+    )?;
+    svg.push_str("<rect width=\"100%\" height=\"100%\" fill=\"#ffffff\"/>\n<defs>")?;
+    for family in Family::ALL {
+        let color = family.color();
+        let name = family.word();
+        write!(
+            svg,
+            "<marker id=\"{name}\" viewBox=\"0 0 8 8\" refX=\"8\" refY=\"4\" markerWidth=\"7\" markerHeight=\"7\" orient=\"auto\"><path d=\"M0 0L8 4L0 8z\" fill=\"{color}\"/></marker>"
+        )?;
+    }
+    svg.push_str("</defs>\n<text x=\"16\" y=\"28\" font-size=\"16\" font-weight=\"600\">space ")?;
+    push_text(svg, run.space, 40)?;
+    svg.push_str("</text>\n")?;
+    legend(svg)
+}
+
+/// The families of messages with their colors.
+fn legend(svg: &mut String) -> Result<(), AllocError> {
+    let mut left = 16_usize;
+    for family in Family::ALL {
+        let (color, name) = (family.color(), family.name());
+        let text = left.saturating_add(24);
+        let end = left.saturating_add(20);
+        write!(
+            svg,
+            "<path d=\"M{left} 48H{end}\" stroke=\"{color}\" stroke-width=\"2\"/><text x=\"{text}\" y=\"52\" fill=\"{color}\">{name}</text>\n"
+        )?;
+        left = text
+            .saturating_add(name.len().saturating_mul(7))
+            .saturating_add(14);
+    }
+    Ok(())
+}
+
+/// A band for each configuration, from the entry that issues it to the next such entry.
+fn epochs(svg: &mut String, run: &Run) -> Result<(), AllocError> {
+    let mut from = 1_usize;
+    let mut epoch = "1";
+    let mut number = 1_usize;
+    for post in &run.posts {
+        let Some(next) = issued_by(post) else {
+            continue;
+        };
+        if next != epoch {
+            band(svg, run, epoch, number, from, post.name.entry)?;
+            from = post.name.entry;
+            epoch = next;
+            number = number.saturating_add(1);
+        }
+    }
+    let end = run.entries.len().saturating_add(1);
+    band(svg, run, epoch, number, from, end)
+}
+
+/// The epoch of the configuration that a post brings.
+fn issued_by<'a>(post: &Post<'a>) -> Option<&'a str> {
+    if post.kind != "install" {
+        return None;
+    }
+    post.fields.strip_prefix("epoch ")
+}
+
+/// The band of one configuration, every second one shaded.
+fn band(
+    svg: &mut String,
+    run: &Run,
+    epoch: &str,
+    number: usize,
+    from: usize,
+    end: usize,
+) -> Result<(), AllocError> {
+    let top = down(from).saturating_sub(12);
+    let high = down(end).saturating_sub(12).saturating_sub(top);
+    let wide = width(run.actors.names().len());
+    let color = if number % 2 == 0 {
+        "#f3f0e6"
+    } else {
+        "#f7f9fb"
+    };
+    write!(
+        svg,
+        "<rect x=\"0\" y=\"{top}\" width=\"{wide}\" height=\"{high}\" fill=\"{color}\"/>\n"
+    )?;
+    let right = wide.saturating_sub(12);
+    let base = down(from).saturating_add(4);
+    write!(
+        svg,
+        "<text x=\"{right}\" y=\"{base}\" text-anchor=\"end\" fill=\"#8a8f98\">epoch {epoch}</text>\n"
+    )
+}
+
+/// The line of each actor with its name above, dashed from where a server halts.
+fn lines(svg: &mut String, run: &Run) -> Result<(), AllocError> {
+    let bottom = down(run.entries.len()).saturating_add(16);
+    for (line, name) in run.actors.names().iter().enumerate() {
+        let x = across(line);
+        let end = halt_of(run, name).map_or(bottom, down);
+        write!(
+            svg,
+            "<text x=\"{x}\" y=\"88\" text-anchor=\"middle\" font-weight=\"600\">{name}</text><path d=\"M{x} 98V{end}\" stroke=\"#b9c0c8\"/>"
+        )?;
+        write!(
+            svg,
+            "<path d=\"M{x} {end}V{bottom}\" stroke=\"#d5d9de\" stroke-dasharray=\"2 5\"/>\n"
+        )?;
+    }
+    Ok(())
+}
+
+/// The entry at which an actor halts, of itself or because it is told to.
+fn halt_of(run: &Run, name: &str) -> Option<usize> {
+    for (place, entry) in run.entries.iter().enumerate() {
+        if entry.actor == name && is_halt(run, entry.taken) {
+            return Some(place.saturating_add(1));
+        }
+    }
+    None
+}
+
+fn is_halt(run: &Run, taken: Taken) -> bool {
+    match taken {
+        Taken::Tick => false,
+        Taken::Halt => true,
+        Taken::Delivered(name) => run
+            .posts
+            .iter()
+            .any(|post| post.name == name && post.kind == "die"),
+    }
+}
+
+/// Each call left of the entry at which it began.
+fn calls(svg: &mut String, run: &Run) -> Result<(), AllocError> {
+    for call in &run.calls {
+        let y = down(call.begin).saturating_add(4);
+        let caller = call.caller;
+        write!(
+            svg,
+            "<text x=\"16\" y=\"{y}\" fill=\"#1f5fa8\"><tspan font-weight=\"600\">{caller}</tspan> "
+        )?;
+        push_text(svg, call.told, LONGEST_CALL)?;
+        svg.push_str("</text>\n")?;
+    }
+    Ok(())
+}
+
+/// An arrow for each delivery of a post, dashed where it isn't the first; a stub with a cross where
+/// there is none.
+fn arrows(alloc: Global, svg: &mut String, run: &Run, post: &Post) -> Result<(), PictureError> {
+    let label = label_of(alloc, post)?;
+    let Some(from) = maker_of(run, post.name) else {
+        return Ok(());
+    };
+    let to = across(run.actors.line_of(post.to));
+    let mut delivered = false;
+    for (place, entry) in run.entries.iter().enumerate() {
+        if entry.taken != Taken::Delivered(post.name) {
+            continue;
+        }
+        let end = (to, down(place.saturating_add(1)));
+        arrow(svg, post, label.as_str(), from, end, delivered)?;
+        delivered = true;
+    }
+    if !delivered {
+        stub(svg, post, label.as_str(), from, to)?;
+    }
+    Ok(())
+}
+
+/// Where the entry of a post stands.
+fn maker_of(run: &Run, name: PostName) -> Option<(usize, usize)> {
+    let entry = run.entries.get(name.entry.checked_sub(1)?)?;
+    let line = run.actors.line_of(entry.actor);
+    Some((across(line), down(name.entry)))
+}
+
+/// One delivery of a post.
+fn arrow(
+    svg: &mut String,
+    post: &Post,
+    label: &str,
+    from: (usize, usize),
+    to: (usize, usize),
+    again: bool,
+) -> Result<(), AllocError> {
+    let family = Family::of(post.kind);
+    let (color, name) = (family.color(), family.word());
+    let dashes = if again {
+        " stroke-dasharray=\"5 4\""
+    } else {
+        ""
+    };
+    let ((left, top), (right, bottom)) = (from, to);
+    write!(
+        svg,
+        "<path d=\"M{left} {top}L{right} {bottom}\" stroke=\"{color}\" fill=\"none\"{dashes} marker-end=\"url(#{name})\"/>"
+    )?;
+    if again {
+        return svg.push_str("\n");
+    }
+    told(svg, label, color, part_of_way(from, to))
+}
+
+/// A post that nobody took.
+fn stub(
+    svg: &mut String,
+    post: &Post,
+    label: &str,
+    from: (usize, usize),
+    to: usize,
+) -> Result<(), AllocError> {
+    let color = Family::of(post.kind).color();
+    let (left, top) = from;
+    let (right, bottom) = part_of_way(from, (to, top.saturating_add(60)));
+    write!(
+        svg,
+        "<path d=\"M{left} {top}L{right} {bottom}m-4 -4l8 8m0 -8l-8 8\" stroke=\"{color}\" fill=\"none\"/>"
+    )?;
+    told(svg, label, color, (right, bottom))
+}
+
+/// A third of the way from one point to another.
+fn part_of_way(from: (usize, usize), to: (usize, usize)) -> (usize, usize) {
+    (third_from(from.0, to.0), third_from(from.1, to.1))
+}
+
+fn third_from(from: usize, to: usize) -> usize {
+    if to >= from {
+        from.saturating_add((to - from) / 3)
+    } else {
+        from.saturating_sub((from - to) / 3)
+    }
+}
+
+/// The label of a post at a point of its arrow.
+fn told(svg: &mut String, label: &str, color: &str, at: (usize, usize)) -> Result<(), AllocError> {
+    let (x, y) = (at.0, at.1.saturating_sub(4));
+    write!(
+        svg,
+        "<text x=\"{x}\" y=\"{y}\" font-size=\"10\" text-anchor=\"middle\" fill=\"{color}\" stroke=\"#ffffff\" stroke-width=\"3\" paint-order=\"stroke\">"
+    )?;
+    push_text(svg, label, LONGEST_LABEL)?;
+    svg.push_str("</text>\n")
+}
+
+/// The point of each entry with its number; a halt is a cross.
+fn points(svg: &mut String, run: &Run) -> Result<(), AllocError> {
+    for (place, entry) in run.entries.iter().enumerate() {
+        let number = place.saturating_add(1);
+        let (x, y) = (across(run.actors.line_of(entry.actor)), down(number));
+        if is_halt(run, entry.taken) {
+            write!(
+                svg,
+                "<path d=\"M{x} {y}m-6 -6l12 12m0 -12l-12 12\" stroke=\"#b3261e\" stroke-width=\"2.5\"/>"
+            )?;
+        } else {
+            write!(
+                svg,
+                "<circle cx=\"{x}\" cy=\"{y}\" r=\"3.5\" fill=\"#22272e\"/>"
+            )?;
+        }
+        let (beside, base) = (x.saturating_add(7), y.saturating_add(11));
+        write!(
+            svg,
+            "<text x=\"{beside}\" y=\"{base}\" font-size=\"9\" fill=\"#8a8f98\">{number}</text>\n"
+        )?;
+    }
+    Ok(())
+}
