@@ -11,11 +11,10 @@ use Rattle.hx_model.specs.Slots.{Hold, Take, moved, other_version}
 use Rattle.hx_slot.specs.declared.updates.PlacedUpdate.{PlacedUpdate}
 use Rattle.hx_slot.specs.declared.updates.AcceptedUpdate.{AcceptedUpdate}
 use Rattle.hx_slot.specs.declared.slots.Slot.TheInside.{Inside}
-use Rattle.hx_slot.specs.declared.tables.Tables.{Tables}
-use Rattle.hx_slot.specs.Updates.{Ascends, IsHeld, IsPlaced, last_version, newest_first}
+use Rattle.hx_slot.specs.Updates.{Ascends, IsHeld, IsPlaced, last_version, newest_first, places_in}
 use Rattle.hx_slot.specs.Acks.{AreAcked, count_unacked, is_of_version}
+use Rattle.hx_slot.specs.Bases.{kept_in}
 use Rattle.hx_slot.specs.Invariant.{IsLine, IsSlot, coming, pending_in, whole, updates_of, versions_of}
-use Rattle.hx_slot.specs.Tabled.{AreTables, IsNoted}
 use Rattle.hx_slot.proofs.Newest.{last_version-above, newest_first-append, pending-ascends, top-pending}
 
 -- what holds of each, of one more and of those that a test keeps
@@ -88,19 +87,27 @@ count-push (x ∷ ts) t =
     let m : count_unacked (x ∷ ts) ≡ cond x.acknowledged 0 1 + count_unacked ts = refl in
     omega (arith, b, n, m)
 
+-- as many places, and those of the update
+pub places-push : (ts : List AcceptedUpdate) (t : AcceptedUpdate) → places_in (ts ++ t ∷ []) ≡ places_in ts + length t.update.places
+places-push [] t = (let n : places_in (t ∷ []) ≡ length t.update.places + 0 = refl in omega (arith, n))
+places-push (x ∷ ts) t =
+    let b = places-push ts t in
+    let n : places_in ((x ∷ ts) ++ t ∷ []) ≡ length x.update.places + places_in (ts ++ t ∷ []) = refl in
+    let m : places_in (x ∷ ts) ≡ length x.update.places + places_in ts = refl in
+    omega (arith, b, n, m)
+
 -- what is pending with an update more
 pending-push : (a : Inside) → IsSlot a → (t : AcceptedUpdate) → drop a.committed (a.accepted.items ++ t ∷ []) ≡ pending_in a ++ t ∷ []
 pending-push a h t = drop-append-le a.committed a.accepted.items (t ∷ []) h.line.within
 
 -- the slot that accepts an update
-pub accepted-slot : (a : Inside) (t : AcceptedUpdate) (accepted : Vec AcceptedUpdate Global) (early : Vec PlacedUpdate Global) (tables : Tables) (spare : ℕ)
+pub accepted-slot : (a : Inside) (t : AcceptedUpdate) (accepted : Vec AcceptedUpdate Global) (early : Vec PlacedUpdate Global) (spare : ℕ)
     → IsSlot a → IsPlaced a.region t.update t.place → last_version a.base.floor.0 a.accepted.items < t.update.version.0 → t.acknowledged ≡ false
     → accepted.items ≡ a.accepted.items ++ t ∷ [] → vec_len accepted ≡ vec_len a.accepted + 1 → vec_capacity accepted ≡ vec_capacity a.accepted
     → AllByRecursion (IsHeld a.region) early.items → vec_len early ≤ vec_len a.early → vec_capacity early ≡ vec_capacity a.early
-    → (a.marks ≡ true → AreTables (a.accepted.items ++ t ∷ []) tables) → IsNoted a.tables tables
     → spare + 1 ≡ a.spare
-    → IsSlot (record a { accepted = accepted; early = early; tables = tables; spare = spare })
-accepted-slot a t accepted early tables spare h p above f items len capacity held early_len early_capacity noted sizes s =
+    → IsSlot (record a { accepted = accepted; early = early; spare = spare })
+accepted-slot a t accepted early spare h p above f items len capacity held early_len early_capacity s =
     let e = sym items in
     let pending = pending-push a h t ∙ refl in
     let within = h.line.within in
@@ -110,6 +117,8 @@ accepted-slot a t accepted early tables spare h p above f items len capacity hel
     record {
       line = subst (λ (ts : List AcceptedUpdate). IsLine a.region a.base.floor.0 ts a.committed a.floor.0) e (line-push h.line t p above);
       base = h.base;
+      bare = h.bare;
+      untouched = h.untouched;
       acked = subst (λ (ts : List AcceptedUpdate). AreAcked (versions_of a.acked.items) (drop a.committed ts)) e
           (subst (AreAcked (versions_of a.acked.items)) (sym pending) (acked-push a.floor.0 (versions_of a.acked.items) (pending_in a) t h.acked (pending-ascends h.line) (let q = top-pending h.line in omega (arith, q, above)) f));
       early = held;
@@ -123,15 +132,13 @@ accepted-slot a t accepted early tables spare h p above f items len capacity hel
             omega (arith, r, n, count)
             );
         few = (let r = room.few in omega (arith, r));
+        base = λ m. (
+            let r = room.base m in
+            let n = ap places_in items ∙ places-push a.accepted.items t in
+            let few = p.few in
+            record { marks = (let q = r.marks in omega (arith, q)); touches = (let q = r.touches in omega (arith, q, n, few)) }
+            );
       };
-      tables = λ m. subst (λ (ts : List AcceptedUpdate). AreTables ts tables) e (noted m);
-      table_room = λ m. (
-          let r = h.table_room m in
-          record {
-            marks = (let q = r.marks in omega (arith, q, sizes.newest, sizes.newest_capacity));
-            touches = (let q = r.touches in omega (arith, q, sizes.touches, sizes.touches_capacity));
-          }
-          );
     }
 
 -- the updates that a test of their versions keeps
@@ -143,13 +150,13 @@ updates_of-filter v (p ∷ rest) =
     (λ e. updates_of-filter v rest ∙ sym (cond-false (not (eqb p.update.version.0 v)) _ _ e))
 
 -- what contracts see of it
-pub accepted-state : (a : Inside) (t : AcceptedUpdate) (accepted : Vec AcceptedUpdate Global) (early : Vec PlacedUpdate Global) (tables : Tables) (spare : ℕ)
+pub accepted-state : (a : Inside) (t : AcceptedUpdate) (accepted : Vec AcceptedUpdate Global) (early : Vec PlacedUpdate Global) (spare : ℕ)
     → accepted.items ≡ a.accepted.items ++ t ∷ [] → early.items ≡ filter (λ (p : PlacedUpdate). not (eqb p.update.version.0 t.update.version.0)) a.early.items
-    → (whole (record a { accepted = accepted; early = early; tables = tables; spare = spare })).state ≡ moved (Take t.update) (whole a).state
-accepted-state a t accepted early tables spare items kept =
+    → (whole (record a { accepted = accepted; early = early; spare = spare })).state ≡ moved (Take t.update) (whole a).state
+accepted-state a t accepted early spare items kept =
     let line = ap (newest_first []) items ∙ newest_first-append [] a.accepted.items (t ∷ []) in
     let waiting = ap updates_of kept ∙ updates_of-filter t.update.version.0 a.early.items in
-    λ j. record { marks = a.marks; base = a.base; accepted = line j; floor = a.floor.0; acked = versions_of a.acked.items; early = waiting j }
+    λ j. record { marks = a.keeps_marks; base = kept_in a.key a.base; accepted = line j; floor = a.floor.0; acked = versions_of a.acked.items; early = waiting j }
 
 -- the slot with other early updates, no more of them with those to come
 pub held-slot : (a : Inside) (early : Vec PlacedUpdate Global) (spare : ℕ) → IsSlot a → AllByRecursion (IsHeld a.region) early.items → vec_len early + spare ≤ coming a → vec_capacity early ≡ vec_capacity a.early
@@ -159,6 +166,8 @@ held-slot a early spare h held fewer capacity =
     record {
       line = h.line;
       base = h.base;
+      bare = h.bare;
+      untouched = h.untouched;
       acked = h.acked;
       early = held;
       room = record {
@@ -167,19 +176,18 @@ held-slot a early spare h held fewer capacity =
         pending = (let r = room.pending in omega (arith, r));
         acked = (let r = room.acked in omega (arith, r));
         few = (let r = room.few in omega (arith, r));
+        base = λ m. (
+            let r = room.base m in
+            record { marks = (let q = r.marks in omega (arith, q)); touches = (let q = r.touches in omega (arith, q)) }
+            );
       };
-      tables = h.tables;
-      table_room = λ m. (
-          let r = h.table_room m in
-          record { marks = (let q = r.marks in omega (arith, q)); touches = (let q = r.touches in omega (arith, q)) }
-          );
     }
 
 pub held-state : (a : Inside) (p : PlacedUpdate) (early : Vec PlacedUpdate Global) (spare : ℕ) → early.items ≡ filter (λ (q : PlacedUpdate). not (eqb q.update.version.0 p.update.version.0)) a.early.items ++ p ∷ []
     → (whole (record a { early = early; spare = spare })).state ≡ moved (Hold p.update) (whole a).state
 held-state a p early spare items =
     let waiting = ap updates_of items ∙ map_push (λ (q : PlacedUpdate). q.update) _ p ∙ ap (λ (us : List Update). us ++ p.update ∷ []) (updates_of-filter p.update.version.0 a.early.items) in
-    λ j. record { marks = a.marks; base = a.base; accepted = newest_first [] a.accepted.items; floor = a.floor.0; acked = versions_of a.acked.items; early = waiting j }
+    λ j. record { marks = a.keeps_marks; base = kept_in a.key a.base; accepted = newest_first [] a.accepted.items; floor = a.floor.0; acked = versions_of a.acked.items; early = waiting j }
 
 -- without the one that is taken out
 pub by_recursion-remove : {A : Type 0} (P : A → Type 0) (xs : List A) (i : ℕ) → AllByRecursion P xs → AllByRecursion P (remove xs i)
@@ -199,4 +207,4 @@ pub removed-state : (a : Inside) (i : ℕ) (p : PlacedUpdate) (early : Vec Place
     → moved (Take p.update) (whole (record a { early = early; spare = spare })).state ≡ moved (Take p.update) (whole a).state
 removed-state a i p early spare l e items =
     let waiting = ap (λ (ps : List PlacedUpdate). filter (other_version p.update.version.0) (updates_of ps)) items ∙ filter-removed p.update.version.0 a.early.items i p l e refl in
-    λ j. record { marks = a.marks; base = a.base; accepted = p.update ∷ newest_first [] a.accepted.items; floor = a.floor.0; acked = versions_of a.acked.items; early = waiting j }
+    λ j. record { marks = a.keeps_marks; base = kept_in a.key a.base; accepted = p.update ∷ newest_first [] a.accepted.items; floor = a.floor.0; acked = versions_of a.acked.items; early = waiting j }

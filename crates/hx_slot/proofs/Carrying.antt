@@ -13,7 +13,7 @@ use Rattle.hx_types.specs.declared.updates.Place.{Place}
 use Rattle.hx_types.specs.declared.updates.Update.{Update}
 use Rattle.hx_types.specs.declared.values.Value.{Value}
 use Rattle.hx_types.specs.Words.{provided, same_session}
-use Rattle.hx_model.specs.Slots.{KeyState, kept_of, marks_after, row_of, touches_after, with_mark, with_touches}
+use Rattle.hx_model.specs.Slots.{KeyState, kept_of, kept_row, marks_after, row_of, touches_after, with_mark, with_touches}
 use Rattle.hx_slot.specs.declared.updates.AcceptedUpdate.{AcceptedUpdate}
 use Rattle.hx_slot.specs.declared.slots.Slot.TheInside.{Inside}
 use Rattle.hx_slot.specs.Updates.{Ascends, last_version, newest_first, row_by, row_over}
@@ -58,14 +58,14 @@ touches_after-over base o [] = refl
 touches_after-over base o (t ∷ rest) = touches_after-over base (t.update ∷ o) rest
 
 -- the parts of the committed state
-pub marks-seen : (a : Inside) → IsSlot a → provided a.marks (marks_over a.base.marks (take a.committed a.accepted.items)) ≡ (kept_of a.region (whole a).state).marks
-marks-seen a h = ap (provided a.marks) (sym (ap (marks_after a.base.marks) (upto-line h.line) ∙ marks_after-over a.base.marks [] (take a.committed a.accepted.items)))
+pub marks-seen : (a : Inside) → IsSlot a → provided a.keeps_marks (marks_over a.base.marks.items (take a.committed a.accepted.items)) ≡ (kept_of a.region (whole a).state).marks
+marks-seen a h = ap (provided a.keeps_marks) (sym (ap (marks_after a.base.marks.items) (upto-line h.line) ∙ marks_after-over a.base.marks.items [] (take a.committed a.accepted.items)))
 
-pub touches-seen : (a : Inside) → IsSlot a → provided a.marks (touches_over a.base.touches (take a.committed a.accepted.items)) ≡ (kept_of a.region (whole a).state).touches
-touches-seen a h = ap (provided a.marks) (sym (ap (touches_after a.base.touches) (upto-line h.line) ∙ touches_after-over a.base.touches [] (take a.committed a.accepted.items)))
+pub touches-seen : (a : Inside) → IsSlot a → provided a.keeps_marks (touches_over a.base.touches.items (take a.committed a.accepted.items)) ≡ (kept_of a.region (whole a).state).touches
+touches-seen a h = ap (provided a.keeps_marks) (sym (ap (touches_after a.base.touches.items) (upto-line h.line) ∙ touches_after-over a.base.touches.items [] (take a.committed a.accepted.items)))
 
 -- a row of a version up to a higher floor
-row-weaker : (v w : ℕ) (row : Option Row) → v ≤ w → IsRowUpTo v row → IsRowUpTo w row
+pub row-weaker : (v w : ℕ) (row : Option Row) → v ≤ w → IsRowUpTo v row → IsRowUpTo w row
 row-weaker v w None l h = tt
 row-weaker v w (Some r) l h = omega arith
 
@@ -76,7 +76,7 @@ row_of-upto v u l = by u.object
     by None = tt
     by (Some object) = l
 
-row_by-upto : (v : ℕ) (t : AcceptedUpdate) (row : Option Row) → t.update.version.0 ≤ v → IsRowUpTo v row → IsRowUpTo v (row_by t row)
+pub row_by-upto : (v : ℕ) (t : AcceptedUpdate) (row : Option Row) → t.update.version.0 ≤ v → IsRowUpTo v row → IsRowUpTo v (row_by t row)
 row_by-upto v t row l h =
     cond_both t.place.keeps (cond t.update.changes (row_of t.update) row) None (IsRowUpTo v)
     (λ e. cond_both t.update.changes (row_of t.update) row (IsRowUpTo v) (λ q. row_of-upto v t.update l) (λ q. h))
@@ -102,18 +102,28 @@ kept-orderly a h =
     let low = last_version-above a.base.floor.0 line up in
     let updates = newest_first-upto a.floor.0 [] line a.base.floor.0 tt up (omega (arith, f)) in
     let cut = sym (upto-line h.line) in
-    let base_marks = recursion_from_All (λ (m : Mark). m.version.0 ≤ a.floor.0) a.base.marks (All-weaker (λ (m : Mark). m.version.0 ≤ a.base.floor.0) (λ (m : Mark). m.version.0 ≤ a.floor.0) (λ m l. omega (arith, f, low)) a.base.marks h.base.marks) in
-    let base_touches = recursion_from_All (λ (t : Touch). t.version.0 ≤ a.floor.0) a.base.touches (All-weaker (λ (t : Touch). t.version.0 ≤ a.base.floor.0) (λ (t : Touch). t.version.0 ≤ a.floor.0) (λ t l. omega (arith, f, low)) a.base.touches h.base.touches) in
+    let base_marks = recursion_from_All (λ (m : Mark). m.version.0 ≤ a.floor.0) a.base.marks.items (All-weaker (λ (m : Mark). m.version.0 ≤ a.base.floor.0) (λ (m : Mark). m.version.0 ≤ a.floor.0) (λ m l. omega (arith, f, low)) a.base.marks.items h.base.marks) in
+    let base_touches = recursion_from_All (λ (t : Touch). t.version.0 ≤ a.floor.0) a.base.touches.items (All-weaker (λ (t : Touch). t.version.0 ≤ a.base.floor.0) (λ (t : Touch). t.version.0 ≤ a.floor.0) (λ t l. omega (arith, f, low)) a.base.touches.items h.base.touches) in
     record {
       row = subst (IsRowUpTo a.floor.0) (object-seen a h) (row_over-upto a.floor.0 a.base.floor.0 a.base.object line up (omega (arith, f)) (row-weaker a.base.floor.0 a.floor.0 a.base.object (omega (arith, f, low)) h.base.row));
       marks = All-from_recursion (λ (m : Mark). m.version.0 ≤ a.floor.0) _
-          (provided-all (MarksUpTo a.floor.0) a.marks _ tt (subst (λ (us : List Update). MarksUpTo a.floor.0 (marks_after a.base.marks us)) cut (marks_after-upto a.floor.0 a.base.marks (newest_first [] line) base_marks updates)));
+          (provided-all (MarksUpTo a.floor.0) a.keeps_marks _ tt (subst (λ (us : List Update). MarksUpTo a.floor.0 (marks_after a.base.marks.items us)) cut (marks_after-upto a.floor.0 a.base.marks.items (newest_first [] line) base_marks updates)));
       touches = All-from_recursion (λ (t : Touch). t.version.0 ≤ a.floor.0) _
-          (provided-all (TouchesUpTo a.floor.0) a.marks _ tt (subst (λ (us : List Update). TouchesUpTo a.floor.0 (touches_after a.base.touches us)) cut (touches_after-upto a.floor.0 a.base.touches (newest_first [] line) base_touches updates)));
-      sessions_ascend = provided-all AscendBySession a.marks _ tt (marks_after-ascends a.base.marks (upto a.floor.0 (newest_first [] a.accepted.items)) h.base.sessions_ascend);
-      regions_ascend = provided-all AscendByRegion a.marks _ tt (touches_after-ascends a.base.touches (upto a.floor.0 (newest_first [] a.accepted.items)) h.base.regions_ascend);
+          (provided-all (TouchesUpTo a.floor.0) a.keeps_marks _ tt (subst (λ (us : List Update). TouchesUpTo a.floor.0 (touches_after a.base.touches.items us)) cut (touches_after-upto a.floor.0 a.base.touches.items (newest_first [] line) base_touches updates)));
+      sessions_ascend = provided-all AscendBySession a.keeps_marks _ tt (marks_after-ascends a.base.marks.items (upto a.floor.0 (newest_first [] a.accepted.items)) h.base.sessions_ascend);
+      regions_ascend = provided-all AscendByRegion a.keeps_marks _ tt (touches_after-ascends a.base.touches.items (upto a.floor.0 (newest_first [] a.accepted.items)) h.base.regions_ascend);
     }
 
 -- where something is committed
 pub committed-state : (g : RegionId) (s : KeyState) → (s.floor ≡ 0 → ⊥) → Some (kept_of g s) ≡ committed_state g s
 committed-state g s n = sym (cond-false (eqb s.floor 0) _ _ (ne_eqb s.floor 0 n))
+
+-- where every committed update is in the base, it is the committed state
+pub base-kept : (a : Inside) → IsSlot a → a.committed ≡ 0
+    → record { key = a.key; floor = a.floor; object = a.base.object; marks = a.base.marks.items; touches = a.base.touches.items } ≡ kept_of a.region (whole a).state
+base-kept a h e =
+    let none : upto a.floor.0 (newest_first [] a.accepted.items) ≡ [] = upto-line h.line ∙ ap (λ n. newest_first [] (take n a.accepted.items)) e in
+    let object = ap (kept_row a.region a.base.object) (sym none) in
+    let marks = sym h.bare ∙ ap (λ (us : List Update). provided a.keeps_marks (marks_after a.base.marks.items us)) (sym none) in
+    let touches = sym h.untouched ∙ ap (λ (us : List Update). provided a.keeps_marks (touches_after a.base.touches.items us)) (sym none) in
+    λ j. record { key = a.key; floor = a.floor; object = object j; marks = marks j; touches = touches j }

@@ -1,8 +1,8 @@
 -- The slot as contracts see it, without its past: what is known of it with its past holds of it too.
 use Rattle.hx_model.specs.Lines.{upto}
-use Rattle.std.proofs.Common.{◌≡◌, ℕ, ◌-◌, ◌+◌, ◌<◌, ◌≤◌, true, false, List, [], ◌∷◌, ◌++◌, Vec, map, length, take, drop, get_or, set, Option, Some, None, refl, ap, sym, ◌∙◌, subst, arith, not, cond, eqb, leb, ltb}
+use Rattle.std.proofs.Common.{◌≡◌, ℕ, ◌-◌, ◌+◌, ◌<◌, ◌≤◌, true, false, List, [], ◌∷◌, ◌++◌, Vec, map, length, take, get_or, set, None, ap, sym, ◌∙◌, subst, arith, not, eqb, leb, ltb}
 use Rattle.std.specs.List.{All, AllByRecursion, filter, list_any, remove}
-use Rattle.std.specs.Option.{IfSome, unwrap_or}
+use Rattle.std.specs.Option.{IfSome}
 use Rattle.std.specs.declared.alloc.Global.{Global}
 use Rattle.std.proofs.lemmas.Bool.{cond_both, cond-false, lt-leb}
 use Rattle.std.proofs.lemmas.List.Elements.{All-from_recursion, recursion_from_All, All-weaker}
@@ -16,28 +16,30 @@ use Rattle.hx_types.specs.declared.snapshots.Touch.{Touch}
 use Rattle.hx_types.specs.declared.updates.Update.{Update}
 use Rattle.hx_types.specs.Words.{provided}
 use Rattle.hx_model.specs.Places.{touched_in}
-use Rattle.hx_model.specs.Slots.{Acknowledge, Commit, Forget, Hold, KeyState, Move, Take, ack_answer, acknowledged, commits, is_pending, kept_of, kept_row, latest_of, mark_among, mark_of, marks_after, moved, moved_all, object_in, object_of, other_version, pending_of, settled, state_of_kept, top_above, top_of, touches_after, touches_of, waits_below}
+use Rattle.hx_model.specs.Slots.{Acknowledge, Forget, Hold, KeyState, Move, Take, acknowledged, is_pending, kept_of, kept_row, latest_of, mark_among, mark_of, marks_after, moved, moved_all, object_in, object_of, pending_of, settled, top_above, top_of, touches_after, touches_of, waits_below}
 use Rattle.hx_folds.specs.Folding.{Descends, IsSlotOf, ShowSame, above, folded}
-use Rattle.hx_types.specs.declared.outcomes.Acked.TheVariants as an_ack
-use Rattle.hx_folds.proofs.Folds.{folded-twice, kept-folded, mark-folded, object-folded, pending-folded, top-folded, touches-folded}
+use Rattle.hx_folds.proofs.Folds.{folded-twice, kept-folded, mark-folded, touches-folded}
 use Rattle.hx_folds.proofs.Shown.{acknowledged-settled, alike-folded, alike-show, settled-same}
 use Rattle.hx_folds.proofs.Slots.{alike-moved_all, settled-fit, slot-folded, AllFit}
 use Rattle.hx_slot.specs.declared.updates.PlacedUpdate.{PlacedUpdate}
 use Rattle.hx_slot.specs.declared.updates.AcceptedUpdate.{AcceptedUpdate}
 use Rattle.hx_slot.specs.declared.slots.Slot.TheInside.{Inside}
-use Rattle.hx_slot.specs.declared.tables.Tables.{Tables}
+use Rattle.hx_slot.specs.declared.bases.Base.{Base}
 use Rattle.hx_slot.specs.Acks.{AreSameUpdates, front_acked, front_with, is_of_version, is_waiting_below}
 use Rattle.hx_slot.specs.Updates.{Ascends, last_version, newest_first, row_over}
-use Rattle.hx_slot.specs.Invariant.{IsSlot, pending_in, seen, updates_of, versions_of, whole}
+use Rattle.hx_slot.specs.Invariant.{IsSlot, pending_in, seen, versions_of, whole}
 use Rattle.hx_slot.specs.States.{IsOrderly, call_at}
-use Rattle.hx_slot.specs.Tabled.{mark_found, marks_over, newer_of, touch_among, touches_over}
+use Rattle.hx_slot.specs.Bases.{IsCopied, IsWidened}
+use Rattle.hx_slot.specs.Rooms.{IsGrown}
+use Rattle.hx_slot.specs.Tabled.{marks_over, newer_of, newest_over, touched_over, touches_over}
 use Rattle.hx_slot.proofs.Accepting as accepting
 use Rattle.hx_slot.proofs.Acking.{with_ack}
 use Rattle.hx_slot.proofs.Carrying as carrying
-use Rattle.hx_slot.proofs.Newer.{MarksUpTo, mark_among-upto, marks_after-upto}
+use Rattle.hx_slot.proofs.Newer.{mark_among-upto, marks_after-upto}
 use Rattle.hx_slot.proofs.Newest.{floor-top, top_above-newest_first, update_of, upto-line}
 use Rattle.hx_slot.proofs.Reading as reading
 use Rattle.hx_slot.proofs.Regions.{TouchesUpTo, UpdatesUpTo, touched-upto, touches_after-upto}
+use Rattle.hx_slot.proofs.Refitting as refitting
 use Rattle.hx_slot.proofs.Renewed as renewing
 use Rattle.hx_slot.proofs.Settling as settling
 use Rattle.hx_slot.proofs.Turns.{later-held}
@@ -82,11 +84,11 @@ count-seen a h = reading.count-seen a h ∙ sym (ap length (shown a h).pending)
 pub versions-seen : (a : Inside) → IsSlot a → AllByRecursion (λ (u : Update). (a.floor.0 < u.version.0) × (u.version.0 ≤ top_of (seen a).state)) (map update_of (pending_in a))
 versions-seen a h = subst (λ n. AllByRecursion (λ (u : Update). (a.floor.0 < u.version.0) × (u.version.0 ≤ n)) (map update_of (pending_in a))) (top-lean a h) (reading.versions-seen a h)
 
-pub touched-seen : (a : Inside) → IsSlot a → a.marks ≡ true → (g : RegionId) → unwrap_or (touch_among g a.tables.touches.items) (touched_in g a.base.touches) ≡ touched_in g (touches_of (seen a).state)
-touched-seen a h m g = reading.touched-seen a h m g ∙ ap (touched_in g) (sym (touches-folded a.region (whole a).state m))
+pub touched-seen : (a : Inside) → a.keeps_marks ≡ true → (g : RegionId) → touched_over g (touched_in g a.base.touches.items) a.accepted.items ≡ touched_in g (touches_of (seen a).state)
+touched-seen a m g = reading.touched-seen a g ∙ ap (touched_in g) (sym (touches-folded a.region (whole a).state m))
 
-pub mark-seen : (a : Inside) → IsSlot a → a.marks ≡ true → (session : SessionId) → newer_of (mark_found session a.accepted.items a.tables.newest.items) (mark_among session a.base.marks) ≡ mark_of session (seen a).state
-mark-seen a h m session = reading.mark-seen a h m session ∙ sym (mark-folded a.region (whole a).state m session)
+pub mark-seen : (a : Inside) → IsSlot a → a.keeps_marks ≡ true → (session : SessionId) → newer_of (newest_over session None a.accepted.items) (mark_among session a.base.marks.items) ≡ mark_of session (seen a).state
+mark-seen a h m session = reading.mark-seen a h session ∙ sym (mark-folded a.region (whole a).state m session)
 
 -- nothing of it is above its top
 all-above : (P : Update → Type 0) (v : ℕ) (us : List Update) → AllByRecursion P us → AllByRecursion P (above v us)
@@ -125,14 +127,18 @@ mark-below a h session =
     )
 
 -- the committed state
-pub marks-seen : (a : Inside) → IsSlot a → provided a.marks (marks_over a.base.marks (take a.committed a.accepted.items)) ≡ (kept_of a.region (seen a).state).marks
+pub marks-seen : (a : Inside) → IsSlot a → provided a.keeps_marks (marks_over a.base.marks.items (take a.committed a.accepted.items)) ≡ (kept_of a.region (seen a).state).marks
 marks-seen a h = carrying.marks-seen a h ∙ sym (ap (λ (k : Kept). k.marks) (kept-folded a.region (whole a).state))
 
-pub touches-seen : (a : Inside) → IsSlot a → provided a.marks (touches_over a.base.touches (take a.committed a.accepted.items)) ≡ (kept_of a.region (seen a).state).touches
+pub touches-seen : (a : Inside) → IsSlot a → provided a.keeps_marks (touches_over a.base.touches.items (take a.committed a.accepted.items)) ≡ (kept_of a.region (seen a).state).touches
 touches-seen a h = carrying.touches-seen a h ∙ sym (ap (λ (k : Kept). k.touches) (kept-folded a.region (whole a).state))
 
 pub kept-orderly : (a : Inside) → IsSlot a → IsOrderly (kept_of a.region (seen a).state)
 kept-orderly a h = subst IsOrderly (sym (kept-folded a.region (whole a).state)) (carrying.kept-orderly a h)
+
+pub base-kept : (a : Inside) → IsSlot a → a.committed ≡ 0
+    → record { key = a.key; floor = a.floor; object = a.base.object; marks = a.base.marks.items; touches = a.base.touches.items } ≡ kept_of a.region (seen a).state
+base-kept a h e = carrying.base-kept a h e ∙ sym (kept-folded a.region (whole a).state)
 
 -- acknowledgements
 pub settled-count : (a : Inside) → IsSlot a → length (settled (seen a).state) ≡ front_acked (pending_in a)
@@ -173,10 +179,15 @@ pub forgotten-state : (a : Inside) (accepted : Vec AcceptedUpdate Global) (acked
     → (seen (record a { accepted = accepted; acked = acked; early = early })).state ≡ moved Forget (seen a).state
 forgotten-state a accepted acked early same none_acked none_early = ap (folded a.region) (settling.forgotten-state a accepted acked early same none_acked none_early)
 
-pub renewed-state : (a : Inside) (base : Kept) (accepted : Vec AcceptedUpdate Global) (acked : Vec Version Global) (early : Vec PlacedUpdate Global) (tables : Tables) → base ≡ a.base
+pub renewed-state : (a : Inside) (key : List ℕ) (base : Base) (accepted : Vec AcceptedUpdate Global) (acked : Vec Version Global) (early : Vec PlacedUpdate Global) → key ≡ a.key → IsCopied a.base base
     → AreSameUpdates a.accepted.items accepted.items → acked.items ≡ [] → early.items ≡ []
-    → (seen (record a { base = base; accepted = accepted; acked = acked; early = early; tables = tables; spare = 0 })).state ≡ moved Forget (seen a).state
-renewed-state a base accepted acked early tables same_base same none_acked none_early = ap (folded a.region) (renewing.renewed-state a base accepted acked early tables same_base same none_acked none_early)
+    → (seen (record a { key = key; base = base; accepted = accepted; acked = acked; early = early; spare = 0 })).state ≡ moved Forget (seen a).state
+renewed-state a key base accepted acked early same_key copied same none_acked none_early = ap (folded a.region) (renewing.renewed-state a key base accepted acked early same_key copied same none_acked none_early)
+
+pub refitted-state : (a : Inside) (accepted : Vec AcceptedUpdate Global) (early : Vec PlacedUpdate Global) (acked : Vec Version Global) (base : Base) (spare : ℕ)
+    → IsGrown a.accepted accepted → IsGrown a.early early → IsGrown a.acked acked → IsWidened a.base base
+    → (seen (record a { accepted = accepted; early = early; acked = acked; base = base; spare = spare })).state ≡ (seen a).state
+refitted-state a accepted early acked base spare more held acks wider = ap (folded a.region) (refitting.refitted-state a accepted early acked base spare more held acks wider)
 
 -- a taken update above the floor stays above it
 take-folded : (g : RegionId) (s : KeyState) (u : Update) → s.floor < u.version.0 → folded g (moved (Take u) s) ≡ moved (Take u) (folded g s)
@@ -192,11 +203,11 @@ take-folded g s u l =
       early = (moved (Take u) s).early;
     }
 
-pub accepted-state : (a : Inside) (t : AcceptedUpdate) (accepted : Vec AcceptedUpdate Global) (early : Vec PlacedUpdate Global) (tables : Tables) (spare : ℕ) → a.floor.0 < t.update.version.0
+pub accepted-state : (a : Inside) (t : AcceptedUpdate) (accepted : Vec AcceptedUpdate Global) (early : Vec PlacedUpdate Global) (spare : ℕ) → a.floor.0 < t.update.version.0
     → accepted.items ≡ a.accepted.items ++ t ∷ [] → early.items ≡ filter (λ (p : PlacedUpdate). not (eqb p.update.version.0 t.update.version.0)) a.early.items
-    → (seen (record a { accepted = accepted; early = early; tables = tables; spare = spare })).state ≡ moved (Take t.update) (seen a).state
-accepted-state a t accepted early tables spare above items kept =
-    ap (folded a.region) (accepting.accepted-state a t accepted early tables spare items kept) ∙ take-folded a.region (whole a).state t.update above
+    → (seen (record a { accepted = accepted; early = early; spare = spare })).state ≡ moved (Take t.update) (seen a).state
+accepted-state a t accepted early spare above items kept =
+    ap (folded a.region) (accepting.accepted-state a t accepted early spare items kept) ∙ take-folded a.region (whole a).state t.update above
 
 pub held-state : (a : Inside) (p : PlacedUpdate) (early : Vec PlacedUpdate Global) (spare : ℕ) → early.items ≡ filter (λ (q : PlacedUpdate). not (eqb q.update.version.0 p.update.version.0)) a.early.items ++ p ∷ []
     → (seen (record a { early = early; spare = spare })).state ≡ moved (Hold p.update) (seen a).state

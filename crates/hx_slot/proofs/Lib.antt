@@ -1,9 +1,7 @@
 pub mod Rows
 pub mod Newest
 pub mod Regions
-pub mod Sessions
 pub mod Newer
-pub mod Noting
 pub mod Accepting
 pub mod Acking
 pub mod Settling
@@ -17,3 +15,4 @@ pub mod Orderly
 pub mod Renewed
 pub mod Lean
 pub mod Standing
+pub mod Committing

@@ -1,41 +1,19 @@
 -- The marks of updates over those of a base.
-use Rattle.std.proofs.Common.{◌≡◌, ℕ, ◌<◌, ◌≤◌, true, false, List, [], ◌∷◌, map, length, Option, Some, None, refl, ap, sym, ◌∙◌, subst, arith, cond, ltb, eqb, inl, inr}
+use Rattle.std.proofs.Common.{◌≡◌, ℕ, ◌<◌, ◌≤◌, true, false, List, [], ◌∷◌, map, Option, Some, None, refl, ap, sym, ◌∙◌, subst, arith, cond, ltb, eqb}
 use Rattle.std.specs.List.{All, AllByRecursion}
-use Rattle.std.specs.Option.{IfSome, option_map}
-use Rattle.std.proofs.lemmas.Bool.{cases_lt, cond_both, cond-true, cond-false, ltb-true, ltb-false, lt-ltb, le-ltb, eqb-true, eqb-false, ne_eqb}
+use Rattle.std.specs.Option.{IfSome}
+use Rattle.std.proofs.lemmas.Bool.{cond_both, cond-true, cond-false, ltb-true, ltb-false, lt-ltb, le-ltb, eqb-true, eqb-false, ne_eqb}
 use Rattle.std.proofs.lemmas.List.Elements.{All-cons, All-head, All-nil, All-tail, All-weaker}
-use Rattle.std.proofs.lemmas.Option.{slice_get_past}
 use Rattle.hx_types.specs.declared.ids.SessionId.{SessionId}
 use Rattle.hx_types.specs.declared.snapshots.Mark.{Mark}
 use Rattle.hx_types.specs.declared.updates.Update.{Update}
 use Rattle.hx_types.specs.Spaces.{IsAscending}
-use Rattle.hx_types.specs.Words.{same_session, when_some}
+use Rattle.hx_types.specs.Words.{same_session}
 use Rattle.hx_model.specs.Slots.{mark_among, mark_by, marks_after, with_mark}
 use Rattle.hx_slot.specs.declared.updates.AcceptedUpdate.{AcceptedUpdate}
-use Rattle.hx_slot.specs.Tabled.{AreMarks, mark_at, mark_found, newer_of}
+use Rattle.hx_slot.specs.Tabled.{newer_of, newest_over}
+use Rattle.hx_slot.specs.Updates.{newest_first}
 use Rattle.hx_slot.proofs.Regions.{UpdatesUpTo}
-
--- what has a mark stands in the line
-within : (line : List AcceptedUpdate) (i : ℕ) (m : Mark) → mark_at line i ≡ Some m → i < length line
-within line i m e = elim (cases_lt i (length line)) [
-  | inl l ↦ l
-  | inr l ↦ (let n : mark_at line i ≡ None = ap (λ (o : Option AcceptedUpdate). option_map (λ (t : AcceptedUpdate). mark_by t.update) o) (slice_get_past line i l) in absurd (cc))
-]
-
-pub numbers-known : (line : List AcceptedUpdate) (numbers : List ℕ) (marks : List Mark) → AreMarks line numbers marks → All (λ k. k < length line) numbers
-numbers-known line [] [] h = All-nil (λ k. k < length line)
-numbers-known line [] (m ∷ marks) h = absurd h
-numbers-known line (i ∷ numbers) [] h = absurd h
-numbers-known line (i ∷ numbers) (m ∷ marks) h = All-cons (λ k. k < length line) i numbers (within line i m h.0) (numbers-known line numbers marks h.1)
-
--- the mark that is found by the numbers
-pub found-among : (session : SessionId) (line : List AcceptedUpdate) (numbers : List ℕ) (marks : List Mark) → AreMarks line numbers marks → mark_found session line numbers ≡ mark_among session marks
-found-among session line [] [] h = refl
-found-among session line [] (m ∷ marks) h = absurd h
-found-among session line (i ∷ numbers) [] h = absurd h
-found-among session line (i ∷ numbers) (m ∷ marks) h =
-    ap (λ (o : Option Mark). when_some o None (λ (x : Mark). cond (same_session x.session session) (Some x) (mark_found session line numbers))) h.0
-    ∙ ap (λ (o : Option Mark). cond (same_session m.session session) (Some m) o) (found-among session line numbers marks h.1)
 
 abbrev session_of : Mark → ℕ
 session_of m = m.session.0
@@ -94,7 +72,7 @@ after session m x rest new d h =
     (λ e. h ∙ ap (λ (o : Option Mark). cond (same_session m.session session) (newer_of (Some m) o) o) (sym (cond-false (same_session x.session session) _ _ e)))
 
 -- the mark of a session after a mark more
-pub mark_among-with : (session : SessionId) (m : Mark) (marks : List Mark) → AscendBySession marks
+mark_among-with : (session : SessionId) (m : Mark) (marks : List Mark) → AscendBySession marks
     → mark_among session (with_mark m marks) ≡ cond (same_session m.session session) (newer_of (Some m) (mark_among session marks)) (mark_among session marks)
 mark_among-with session m [] h = refl
 mark_among-with session m (x ∷ rest) h =
@@ -126,7 +104,7 @@ above n m (x ∷ rest) l h =
     (λ s. All-cons (λ k. n < k) x.session.0 (map session_of (with_mark m rest)) a (above n m rest l b))
     )
 
-with_mark-ascends : (m : Mark) (marks : List Mark) → AscendBySession marks → AscendBySession (with_mark m marks)
+pub with_mark-ascends : (m : Mark) (marks : List Mark) → AscendBySession marks → AscendBySession (with_mark m marks)
 with_mark-ascends m [] h = (All-nil (λ k. m.session.0 < k), tt)
 with_mark-ascends m (x ∷ rest) h =
     cond_both (ltb m.session.0 x.session.0) (m ∷ x ∷ rest) (cond (same_session m.session x.session) (cond (ltb m.number x.number) x m ∷ rest) (x ∷ with_mark m rest)) AscendBySession
@@ -152,6 +130,13 @@ with_mark-ascends m (x ∷ rest) h =
 pub marks_after-ascends : (base : List Mark) (us : List Update) → AscendBySession base → AscendBySession (marks_after base us)
 marks_after-ascends base [] h = h
 marks_after-ascends base (u ∷ older) h = with_mark-ascends (mark_by u) (marks_after base older) (marks_after-ascends base older h)
+
+-- the mark of a session after updates
+pub newest-marks : (session : SessionId) (base : List Mark) (o : List Update) (ts : List AcceptedUpdate) → AscendBySession base → newest_over session (mark_among session (marks_after base o)) ts ≡ mark_among session (marks_after base (newest_first o ts))
+newest-marks session base o [] h = refl
+newest-marks session base o (t ∷ rest) h =
+    ap (λ (m : Option Mark). newest_over session m rest) (sym (mark_among-with session (mark_by t.update) (marks_after base o) (marks_after-ascends base o h)))
+    ∙ newest-marks session base (t.update ∷ o) rest h
 
 -- the newer of three marks, whichever two are compared first
 newer_of-assoc : (m : Mark) (y z : Option Mark) → newer_of (Some m) (newer_of y z) ≡ newer_of (newer_of (Some m) y) z
@@ -190,7 +175,7 @@ mark-over session base (u ∷ older) h =
 abbrev pub MarksUpTo : ℕ → List Mark → Type 0
 MarksUpTo v marks = AllByRecursion (λ (m : Mark). m.version.0 ≤ v) marks
 
-with_mark-upto : (v : ℕ) (m : Mark) (marks : List Mark) → m.version.0 ≤ v → MarksUpTo v marks → MarksUpTo v (with_mark m marks)
+pub with_mark-upto : (v : ℕ) (m : Mark) (marks : List Mark) → m.version.0 ≤ v → MarksUpTo v marks → MarksUpTo v (with_mark m marks)
 with_mark-upto v m [] l h = (l, tt)
 with_mark-upto v m (x ∷ rest) l h =
     cond_both (ltb m.session.0 x.session.0) (m ∷ x ∷ rest) (cond (same_session m.session x.session) (cond (ltb m.number x.number) x m ∷ rest) (x ∷ with_mark m rest)) (MarksUpTo v)

@@ -1,7 +1,7 @@
 -- What a slot is read by gives the folds of its state.
-use Rattle.std.proofs.Common.{◌≡◌, ℕ, ◌-◌, ◌<◌, ◌≤◌, true, List, [], map, take, length, Option, Some, None, ap, sym, ◌∙◌, arith}
+use Rattle.std.proofs.Common.{◌≡◌, ℕ, ◌-◌, ◌<◌, ◌≤◌, [], map, take, length, Option, Some, None, ap, sym, ◌∙◌, arith}
 use Rattle.std.specs.List.{All, AllByRecursion}
-use Rattle.std.specs.Option.{IfSome, unwrap_or}
+use Rattle.std.specs.Option.{IfSome}
 use Rattle.std.proofs.lemmas.List.{length-drop, length-map}
 use Rattle.std.proofs.lemmas.List.Elements.{All-from_recursion, All-weaker, recursion_from_All}
 use Rattle.hx_types.specs.declared.calls.Answer.{Answer}
@@ -18,8 +18,8 @@ use Rattle.hx_slot.specs.Updates.{IsPlaced, last_version, newest_first, row_over
 use Rattle.hx_slot.specs.declared.updates.AcceptedUpdate.{AcceptedUpdate}
 use Rattle.hx_slot.specs.Invariant.{IsSlot, pending_in, whole}
 use Rattle.hx_slot.specs.States.{HasFewPlaces, IsPlacedIn, call_at}
-use Rattle.hx_slot.specs.Tabled.{mark_found, newer_of, touch_among}
-use Rattle.hx_slot.proofs.Newer.{found-among, mark-over, mark_among-upto, marks_after-upto}
+use Rattle.hx_slot.specs.Tabled.{newer_of, newest_over, touched_over}
+use Rattle.hx_slot.proofs.Newer.{mark-over, mark_among-upto, marks_after-upto, newest-marks}
 use Rattle.hx_slot.proofs.Newest.{by_recursion-drop, by_recursion-take, few-placed, kept_row-newest_first, last_version-above, newest_first-upto, pending-ascends, pending-between, pending-line, placed-within, top-pending, top_above-newest_first, update_of, upto-line}
 use Rattle.hx_slot.proofs.Regions.{UpdatesUpTo, touched-over, touched-upto, touches_after-upto}
 
@@ -64,16 +64,15 @@ updates-upto a h =
 base-upto : (a : Inside) → IsSlot a → a.base.floor.0 ≤ top_of (whole a).state
 base-upto a h = let e = top-seen a in let b = last_version-above a.base.floor.0 a.accepted.items h.line.ascends in omega (arith, e, b)
 
-pub touched-seen : (a : Inside) → IsSlot a → a.marks ≡ true → (g : RegionId) → unwrap_or (touch_among g a.tables.touches.items) (touched_in g a.base.touches) ≡ touched_in g (touches_of (whole a).state)
-touched-seen a h m g =
-    ap (λ (ts : List Touch). unwrap_or (touch_among g ts) (touched_in g a.base.touches)) (h.tables m).touches ∙ touched-over g a.base.touches (newest_first [] a.accepted.items)
+pub touched-seen : (a : Inside) (g : RegionId) → touched_over g (touched_in g a.base.touches.items) a.accepted.items ≡ touched_in g (touches_of (whole a).state)
+touched-seen a g = touched-over g a.base.touches.items [] a.accepted.items
 
 -- no touch is above the top
 touches-upto : (a : Inside) → IsSlot a → AllByRecursion (λ (t : Touch). t.version.0 ≤ top_of (whole a).state) (touches_of (whole a).state)
 touches-upto a h =
     let b = base-upto a h in
-    touches_after-upto (top_of (whole a).state) a.base.touches (newest_first [] a.accepted.items)
-    (recursion_from_All (λ (t : Touch). t.version.0 ≤ top_of (whole a).state) a.base.touches (All-weaker (λ (t : Touch). t.version.0 ≤ a.base.floor.0) (λ (t : Touch). t.version.0 ≤ top_of (whole a).state) (λ t l. omega (arith, b)) a.base.touches h.base.touches))
+    touches_after-upto (top_of (whole a).state) a.base.touches.items (newest_first [] a.accepted.items)
+    (recursion_from_All (λ (t : Touch). t.version.0 ≤ top_of (whole a).state) a.base.touches.items (All-weaker (λ (t : Touch). t.version.0 ≤ a.base.floor.0) (λ (t : Touch). t.version.0 ≤ top_of (whole a).state) (λ t l. omega (arith, b)) a.base.touches.items h.base.touches))
     (updates-upto a h)
 
 pub touches-below : (a : Inside) → IsSlot a → All (λ (t : Touch). t.version.0 ≤ top_of (whole a).state) (touches_of (whole a).state)
@@ -82,10 +81,10 @@ touches-below a h = All-from_recursion (λ (t : Touch). t.version.0 ≤ top_of (
 pub touched-below : (a : Inside) → IsSlot a → (g : RegionId) → touched_in g (touches_of (whole a).state) ≤ top_of (whole a).state
 touched-below a h g = touched-upto (top_of (whole a).state) g (touches_of (whole a).state) (touches-upto a h)
 
-pub mark-seen : (a : Inside) → IsSlot a → a.marks ≡ true → (session : SessionId) → newer_of (mark_found session a.accepted.items a.tables.newest.items) (mark_among session a.base.marks) ≡ mark_of session (whole a).state
-mark-seen a h m session =
-    ap (λ (o : Option Mark). newer_of o (mark_among session a.base.marks)) (found-among session a.accepted.items a.tables.newest.items _ (h.tables m).marks)
-    ∙ mark-over session a.base.marks (newest_first [] a.accepted.items) h.base.sessions_ascend
+pub mark-seen : (a : Inside) → IsSlot a → (session : SessionId) → newer_of (newest_over session None a.accepted.items) (mark_among session a.base.marks.items) ≡ mark_of session (whole a).state
+mark-seen a h session =
+    ap (λ (o : Option Mark). newer_of o (mark_among session a.base.marks.items)) (newest-marks session [] [] a.accepted.items tt)
+    ∙ mark-over session a.base.marks.items (newest_first [] a.accepted.items) h.base.sessions_ascend
 
 pub if_call : (v : ℕ) (o : Option Mark) → IfSome o (λ (m : Mark). m.version.0 ≤ v) → IfSome (call_at o) (λ (c : ℕ × Version × Answer). c.1.0 ≤ v)
 if_call v None h = tt
@@ -98,8 +97,8 @@ mark-below a h session =
     (
     mark_among-upto (top_of (whole a).state) session _
     (
-    marks_after-upto (top_of (whole a).state) a.base.marks (newest_first [] a.accepted.items)
-    (recursion_from_All (λ (m : Mark). m.version.0 ≤ top_of (whole a).state) a.base.marks (All-weaker (λ (m : Mark). m.version.0 ≤ a.base.floor.0) (λ (m : Mark). m.version.0 ≤ top_of (whole a).state) (λ m l. omega (arith, b)) a.base.marks h.base.marks))
+    marks_after-upto (top_of (whole a).state) a.base.marks.items (newest_first [] a.accepted.items)
+    (recursion_from_All (λ (m : Mark). m.version.0 ≤ top_of (whole a).state) a.base.marks.items (All-weaker (λ (m : Mark). m.version.0 ≤ a.base.floor.0) (λ (m : Mark). m.version.0 ≤ top_of (whole a).state) (λ m l. omega (arith, b)) a.base.marks.items h.base.marks))
     (updates-upto a h)
     )
     )

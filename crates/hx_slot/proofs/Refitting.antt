@@ -1,19 +1,21 @@
 -- A slot with more room.
-use Rattle.std.proofs.Common.{◌≡◌, ℕ, ◌+◌, ◌≤◌, true, List, [], ◌∷◌, Vec, length, drop, refl, sym, ◌∙◌, subst, arith, cond}
+use Rattle.std.proofs.Common.{◌≡◌, ℕ, suc, ◌+◌, ◌*◌, ◌≤◌, Bool, List, [], ◌∷◌, Vec, length, drop, refl, ap, sym, ◌∙◌, subst, arith, cond}
 use Rattle.std.specs.List.{AllByRecursion}
 use Rattle.std.specs.declared.alloc.Global.{Global}
 use Rattle.std.proofs.lemmas.Bool.{cond_both}
 use Rattle.hx_types.specs.declared.ids.Version.{Version}
-use Rattle.hx_model.specs.Slots.{marks_after}
+use Rattle.hx_types.specs.declared.ids.RegionId.{RegionId}
+use Rattle.hx_types.specs.Words.{provided}
 use Rattle.hx_slot.specs.declared.updates.PlacedUpdate.{PlacedUpdate}
 use Rattle.hx_slot.specs.declared.updates.AcceptedUpdate.{AcceptedUpdate}
 use Rattle.hx_slot.specs.declared.slots.Slot.TheInside.{Inside}
-use Rattle.hx_slot.specs.declared.tables.Tables.{Tables}
-use Rattle.hx_slot.specs.Updates.{IsHeld, newest_first}
+use Rattle.hx_slot.specs.declared.bases.Base.{Base}
+use Rattle.hx_slot.specs.Updates.{IsHeld, IsPlaced, newest_first, places_in}
 use Rattle.hx_slot.specs.Acks.{AreAcked, count_unacked}
-use Rattle.hx_slot.specs.Invariant.{HasRoom, IsLine, IsSlot, coming, versions_of}
+use Rattle.hx_slot.specs.Bases.{IsCopied, IsWidened, kept_in}
+use Rattle.hx_slot.specs.Invariant.{HasRoom, IsLine, IsSlot, updates_of, versions_of, whole}
 use Rattle.hx_slot.specs.Rooms.{IsGrown}
-use Rattle.hx_slot.specs.Tabled.{AreMarks, AreTables, HasTableRoom}
+use Rattle.hx_slot.specs.States.{HasFewPlaces, IsOrderly}
 
 -- no more updates are unacknowledged than there are
 pub count-length : (ts : List AcceptedUpdate) → count_unacked ts ≤ length ts
@@ -23,25 +25,59 @@ count-length (t ∷ rest) =
     let n : count_unacked (t ∷ rest) ≡ cond t.acknowledged 0 1 + count_unacked rest = refl in
     cond_both t.acknowledged 0 1 (λ k. count_unacked (t ∷ rest) ≡ k + count_unacked rest → count_unacked (t ∷ rest) ≤ length (t ∷ rest)) (λ e q. omega (arith, b, q)) (λ e q. omega (arith, b, q)) n
 
-grown-tables : (line more : List AcceptedUpdate) (old new : Tables) → more ≡ line → new.newest.items ≡ old.newest.items → new.touches.items ≡ old.touches.items → AreTables line old → AreTables more new
-grown-tables line more old new e f g h =
-    subst (λ (ts : List AcceptedUpdate). AreTables ts new) (sym e)
-    (record { marks = subst (λ (numbers : List ℕ). AreMarks line numbers (marks_after [] (newest_first [] line))) (sym f) h.marks; touches = g ∙ h.touches })
+-- an update has at most 17 places
+pub places-few : (ts : List AcceptedUpdate) → AllByRecursion (λ (t : AcceptedUpdate). HasFewPlaces t.update) ts → places_in ts ≤ 17 * length ts
+places-few [] h = omega arith
+places-few (t ∷ rest) h =
+    let b = places-few rest h.1 in
+    let l = h.0 in
+    let n : places_in (t ∷ rest) ≡ length t.update.places + places_in rest = refl in
+    let m : length (t ∷ rest) ≡ suc (length rest) = refl in
+    omega (arith, b, l, n, m)
+
+pub few-places : (g : RegionId) (ts : List AcceptedUpdate) → AllByRecursion (λ (t : AcceptedUpdate). IsPlaced g t.update t.place) ts → AllByRecursion (λ (t : AcceptedUpdate). HasFewPlaces t.update) ts
+few-places g [] h = tt
+few-places g (t ∷ rest) h = (h.0.few, few-places g rest h.1)
+
+-- the same state is in order
+pub same-kept : (key : List ℕ) (old new : Base) → IsCopied old new → kept_in key new ≡ kept_in key old
+same-kept key old new e =
+    let f = e.floor in
+    let o = e.object in
+    let m = e.marks in
+    let t = e.touches in
+    λ j. record { key = key; floor = f j; object = o j; marks = m j; touches = t j }
+
+pub same-provided : {A : Type 0} (b : Bool) (old new : List A) → new ≡ old → provided b old ≡ old → provided b new ≡ new
+same-provided b old new e h = ap (provided b) e ∙ h ∙ sym e
+
+pub widened-copied : (old new : Base) → IsWidened old new → IsCopied old new
+widened-copied old new w = record { floor = w.floor; object = w.object; marks = w.marks.items; touches = w.touches.items }
 
 -- the slot with the same entries and more room
-pub refitted-slot : (a : Inside) (accepted : Vec AcceptedUpdate Global) (early : Vec PlacedUpdate Global) (acked : Vec Version Global) (tables : Tables) (spare : ℕ)
-    → IsSlot a → IsGrown a.accepted accepted → IsGrown a.early early → IsGrown a.acked acked → IsGrown a.tables.newest tables.newest → IsGrown a.tables.touches tables.touches
-    → HasRoom (record a { accepted = accepted; early = early; acked = acked; tables = tables; spare = spare })
-    → (a.marks ≡ true → HasTableRoom tables (coming (record a { accepted = accepted; early = early; acked = acked; tables = tables; spare = spare })))
-    → IsSlot (record a { accepted = accepted; early = early; acked = acked; tables = tables; spare = spare })
-refitted-slot a accepted early acked tables spare h more held acks newest touches room table_room =
+pub refitted-slot : (a : Inside) (accepted : Vec AcceptedUpdate Global) (early : Vec PlacedUpdate Global) (acked : Vec Version Global) (base : Base) (spare : ℕ)
+    → IsSlot a → IsGrown a.accepted accepted → IsGrown a.early early → IsGrown a.acked acked → IsWidened a.base base
+    → HasRoom (record a { accepted = accepted; early = early; acked = acked; base = base; spare = spare })
+    → IsSlot (record a { accepted = accepted; early = early; acked = acked; base = base; spare = spare })
+refitted-slot a accepted early acked base spare h more held acks wider room =
+    let same = same-kept a.key a.base base (widened-copied a.base base wider) in
     record {
-      line = subst (λ (ts : List AcceptedUpdate). IsLine a.region a.base.floor.0 ts a.committed a.floor.0) (sym more.items) h.line;
-      base = h.base;
+      line = subst (λ (n : ℕ). IsLine a.region n accepted.items a.committed a.floor.0) (sym (ap (λ (v : Version). v.0) wider.floor)) (subst (λ (ts : List AcceptedUpdate). IsLine a.region a.base.floor.0 ts a.committed a.floor.0) (sym more.items) h.line);
+      base = subst IsOrderly (sym same) h.base;
+      bare = same-provided a.keeps_marks a.base.marks.items base.marks.items wider.marks.items h.bare;
+      untouched = same-provided a.keeps_marks a.base.touches.items base.touches.items wider.touches.items h.untouched;
       acked = subst (λ (ts : List AcceptedUpdate). AreAcked (versions_of acked.items) (drop a.committed ts)) (sym more.items)
           (subst (λ (vs : List Version). AreAcked (versions_of vs) (drop a.committed a.accepted.items)) (sym acks.items) h.acked);
       early = subst (AllByRecursion (IsHeld a.region)) (sym held.items) h.early;
       room = room;
-      tables = λ m. grown-tables a.accepted.items accepted.items a.tables tables more.items newest.items touches.items (h.tables m);
-      table_room = table_room;
     }
+
+pub refitted-state : (a : Inside) (accepted : Vec AcceptedUpdate Global) (early : Vec PlacedUpdate Global) (acked : Vec Version Global) (base : Base) (spare : ℕ)
+    → IsGrown a.accepted accepted → IsGrown a.early early → IsGrown a.acked acked → IsWidened a.base base
+    → (whole (record a { accepted = accepted; early = early; acked = acked; base = base; spare = spare })).state ≡ (whole a).state
+refitted-state a accepted early acked base spare more held acks wider =
+    let same = same-kept a.key a.base base (widened-copied a.base base wider) in
+    let line = more.items in
+    let none = acks.items in
+    let waiting = held.items in
+    λ j. record { marks = a.keeps_marks; base = same j; accepted = newest_first [] (line j); floor = a.floor.0; acked = versions_of (none j); early = updates_of (waiting j) }

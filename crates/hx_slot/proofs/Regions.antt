@@ -1,6 +1,6 @@
 -- Touches in ascending order of regions: where a region's stands, and a touch more.
-use Rattle.std.proofs.Common.{◌≡◌, ℕ, zero, suc, ◌+◌, ◌<◌, ◌≤◌, List, [], ◌∷◌, map, length, drop, set, get_or, Option, Some, None, Ok, Err, Result, refl, ap, sym, ◌∙◌, subst, arith, cond, ltb, eqb}
-use Rattle.std.specs.List.{All, AllByRecursion, HoldsAt, insert}
+use Rattle.std.proofs.Common.{◌≡◌, ℕ, zero, suc, ◌+◌, ◌<◌, ◌≤◌, Bool, true, false, ◌||◌, List, [], ◌∷◌, ◌++◌, map, length, drop, set, get_or, Option, Some, None, Ok, Err, Result, refl, ap, sym, ◌∙◌, subst, arith, cond, ltb, eqb}
+use Rattle.std.specs.List.{All, AllByRecursion, HoldsAt, insert, list_any}
 use Rattle.std.specs.Option.{option_map, unwrap_or}
 use Rattle.std.specs.List.Sorted.{IsBinarySearchResult, IsNonDecreasingBy, IsPartitionPoint, IsSearchInRange}
 use Rattle.std.specs.Ordering.{nat_cmp, ordering_index}
@@ -19,7 +19,9 @@ use Rattle.hx_types.specs.declared.updates.Update.{Update}
 use Rattle.hx_types.specs.Words.{same_region}
 use Rattle.hx_model.specs.Places.{touched_in}
 use Rattle.hx_model.specs.Slots.{touches_after, with_touch, with_touches}
-use Rattle.hx_slot.specs.Tabled.{AscendByRegion, IsAt, IsGap, touch_among}
+use Rattle.hx_slot.specs.declared.updates.AcceptedUpdate.{AcceptedUpdate}
+use Rattle.hx_slot.specs.Tabled.{AscendByRegion, IsAt, IsGap, has_touched, touch_among, touched_over}
+use Rattle.hx_slot.specs.Updates.{newest_first}
 
 abbrev region_of : Touch → ℕ
 region_of t = t.region.0
@@ -179,52 +181,30 @@ touched-with g t (x ∷ rest) =
     )
     )
 
--- the same of the touch itself
-among-with : (g : RegionId) (t : Touch) (ts : List Touch) → touch_among g (with_touch t ts) ≡ cond (same_region t.region g) (Some t.version.0) (touch_among g ts)
-among-with g t [] = refl
-among-with g t (x ∷ rest) =
-    cond_both (ltb t.region.0 x.region.0) (t ∷ x ∷ rest) (cond (same_region t.region x.region) (t ∷ rest) (x ∷ with_touch t rest)) (λ (l : List Touch). touch_among g l ≡ cond (same_region t.region g) (Some t.version.0) (touch_among g (x ∷ rest)))
-    (λ e. refl)
-    (
-    λ e. cond_both (same_region t.region x.region) (t ∷ rest) (x ∷ with_touch t rest) (λ (l : List Touch). touch_among g l ≡ cond (same_region t.region g) (Some t.version.0) (touch_among g (x ∷ rest)))
-    (
-    λ s. let q = eqb-true t.region.0 x.region.0 s in
-    cond_both (same_region t.region g) (Some t.version.0) (touch_among g (x ∷ rest)) (λ (n : Option ℕ). cond (same_region t.region g) (Some t.version.0) (touch_among g rest) ≡ n)
-    (λ a. cond-true (same_region t.region g) _ _ a)
-    (λ a. cond-false (same_region t.region g) _ _ a ∙ sym (cond-false (same_region x.region g) _ _ (ap (λ (n : ℕ). eqb n g.0) (sym q) ∙ a)))
-    )
-    (
-    λ s. let d = eqb-false t.region.0 x.region.0 s in
-    cond_both (same_region x.region g) (Some x.version.0) (touch_among g (with_touch t rest)) (λ (n : Option ℕ). n ≡ cond (same_region t.region g) (Some t.version.0) (touch_among g (x ∷ rest)))
-    (
-    λ a. let b = eqb-true x.region.0 g.0 a in
-    sym (cond-true (same_region x.region g) _ _ a) ∙ sym (cond-false (same_region t.region g) _ _ (ne_eqb t.region.0 g.0 (λ k. d (k ∙ sym b))))
-    )
-    (λ a. among-with g t rest ∙ ap (λ (n : Option ℕ). cond (same_region t.region g) (Some t.version.0) n) (sym (cond-false (same_region x.region g) _ _ a)))
-    )
-    )
+either : (b c : Bool) (v x : ℕ) → cond c v (cond b v x) ≡ cond (b || c) v x
+either true true v x = refl
+either true false v x = refl
+either false true v x = refl
+either false false v x = refl
 
--- touches that stand over those of a base
-abbrev IsOver : RegionId → List Touch → List Touch → List Touch → Type 0
-IsOver g base all table = unwrap_or (touch_among g table) (touched_in g base) ≡ touched_in g all
+-- and after the touches of places
+touched-places : (g : RegionId) (v : Version) (places : List Place) (ts : List Touch) → touched_in g (with_touches v places ts) ≡ cond (list_any (λ (p : Place). same_region p.region g) places) v.0 (touched_in g ts)
+touched-places g v [] ts = refl
+touched-places g v (p ∷ rest) ts =
+    touched-places g v rest (with_touch (record { region = p.region; version = v }) ts)
+    ∙ ap (λ n. cond (list_any (λ (p : Place). same_region p.region g) rest) v.0 n) (touched-with g (record { region = p.region; version = v }) ts)
+    ∙ either (same_region p.region g) (list_any (λ (p : Place). same_region p.region g) rest) v.0 (touched_in g ts)
 
-over-with : (g : RegionId) (base all table : List Touch) (t : Touch) → IsOver g base all table → IsOver g base (with_touch t all) (with_touch t table)
-over-with g base all table t h =
-    ap (λ (o : Option ℕ). unwrap_or o (touched_in g base)) (among-with g t table)
-    ∙ cond_both (same_region t.region g) (Some t.version.0) (touch_among g table) (λ (o : Option ℕ). unwrap_or o (touched_in g base) ≡ cond (same_region t.region g) t.version.0 (touched_in g all))
-    (λ e. sym (cond-true (same_region t.region g) _ _ e))
-    (λ e. h ∙ sym (cond-false (same_region t.region g) _ _ e))
-    ∙ sym (touched-with g t all)
+-- the last version at a region after updates
+pub touched-over : (g : RegionId) (base : List Touch) (o : List Update) (ts : List AcceptedUpdate) → touched_over g (touched_in g (touches_after base o)) ts ≡ touched_in g (touches_after base (newest_first o ts))
+touched-over g base o [] = refl
+touched-over g base o (t ∷ rest) =
+    ap (λ n. touched_over g n rest) (sym (touched-places g t.update.version t.update.places (touches_after base o))) ∙ touched-over g base (t.update ∷ o) rest
 
-over-places : (g : RegionId) (base all table : List Touch) (v : Version) (places : List Place) → IsOver g base all table → IsOver g base (with_touches v places all) (with_touches v places table)
-over-places g base all table v [] h = h
-over-places g base all table v (p ∷ rest) h =
-    over-places g base (with_touch (record { region = p.region; version = v }) all) (with_touch (record { region = p.region; version = v }) table) v rest (over-with g base all table (record { region = p.region; version = v }) h)
-
--- the last version at a region is that of the updates' touch, or that of the base
-pub touched-over : (g : RegionId) (base : List Touch) (us : List Update) → unwrap_or (touch_among g (touches_after [] us)) (touched_in g base) ≡ touched_in g (touches_after base us)
-touched-over g base [] = refl
-touched-over g base (u ∷ older) = over-places g base (touches_after base older) (touches_after [] older) u.version u.places (touched-over g base older)
+-- with an update more
+touched-push : (g : RegionId) (v : ℕ) (ts : List AcceptedUpdate) (t : AcceptedUpdate) → touched_over g v (ts ++ t ∷ []) ≡ cond (has_touched g t) t.update.version.0 (touched_over g v ts)
+touched-push g v [] t = refl
+touched-push g v (x ∷ ts) t = touched-push g (cond (has_touched g x) x.update.version.0 v) ts t
 
 pub touches_after-ascends : (base : List Touch) (us : List Update) → AscendByRegion base → AscendByRegion (touches_after base us)
 touches_after-ascends base [] h = h
@@ -241,7 +221,7 @@ with_touch-upto v t (x ∷ rest) l h =
     (λ e. (l, h))
     (λ e. cond_both (same_region t.region x.region) (t ∷ rest) (x ∷ with_touch t rest) (TouchesUpTo v) (λ s. (l, h.1)) (λ s. (h.0, with_touch-upto v t rest l h.1)))
 
-with_touches-upto : (v : ℕ) (w : Version) (places : List Place) (ts : List Touch) → w.0 ≤ v → TouchesUpTo v ts → TouchesUpTo v (with_touches w places ts)
+pub with_touches-upto : (v : ℕ) (w : Version) (places : List Place) (ts : List Touch) → w.0 ≤ v → TouchesUpTo v ts → TouchesUpTo v (with_touches w places ts)
 with_touches-upto v w [] ts l h = h
 with_touches-upto v w (p ∷ rest) ts l h = with_touches-upto v w rest (with_touch (record { region = p.region; version = w }) ts) l (with_touch-upto v (record { region = p.region; version = w }) ts l h)
 
@@ -260,3 +240,18 @@ touched-upto v g (t ∷ rest) h = cond_both (same_region t.region g) t.version.0
 pub number-or_zero : (o : Option Version) → (unwrap_or o (record { 0 = 0 })).0 ≡ unwrap_or (option_map (λ (v : Version). v.0) o) 0
 number-or_zero None = refl
 number-or_zero (Some v) = refl
+
+-- the last of the updates has a place there, or leaves it to those before it
+pub touched-here : (g : RegionId) (v : ℕ) (rest older : List AcceptedUpdate) (t : AcceptedUpdate) → rest ≡ older ++ t ∷ [] → has_touched g t ≡ true → t.update.version.0 ≡ touched_over g v rest
+touched-here g v rest older t e k = sym (ap (touched_over g v) e ∙ touched-push g v older t ∙ cond-true (has_touched g t) _ _ k)
+
+pub touched-earlier : (g : RegionId) (v : ℕ) (rest older : List AcceptedUpdate) (t : AcceptedUpdate) → rest ≡ older ++ t ∷ [] → has_touched g t ≡ false → touched_over g v older ≡ touched_over g v rest
+touched-earlier g v rest older t e k = sym (ap (touched_over g v) e ∙ touched-push g v older t ∙ cond-false (has_touched g t) _ _ k)
+
+pub touched-none : (g : RegionId) (v : ℕ) (ts : List AcceptedUpdate) → 0 ≡ length ts → v ≡ touched_over g v ts
+touched-none g v [] e = refl
+touched-none g v (t ∷ rest) e = absurd (omega (arith, e))
+
+pub has-read : (g : RegionId) (t : AcceptedUpdate) (u : Update) (ps : List Place) (b : Bool) → u ≡ t.update → ps ≡ u.places → b ≡ list_any (λ (p : Place). same_region p.region g) ps → b ≡ has_touched g t
+has-read g t u ps b e f h =
+    h ∙ ap (λ (qs : List Place). list_any (λ (p : Place). same_region p.region g) qs) f ∙ ap (λ (x : Update). list_any (λ (p : Place). same_region p.region g) x.places) e

@@ -1,23 +1,23 @@
 -- A copy of a slot that has forgotten acknowledgements and early updates.
-use Rattle.std.proofs.Common.{◌≡◌, ℕ, zero, suc, ◌+◌, ◌-◌, ◌<◌, ◌≤◌, false, List, [], ◌∷◌, ◌++◌, length, take, drop, get_or, Vec, vec_capacity, vec_len, ap, sym, ◌∙◌, subst, arith, add-one}
+use Rattle.std.proofs.Common.{◌≡◌, ℕ, zero, suc, ◌+◌, ◌-◌, ◌<◌, ◌≤◌, true, false, List, [], ◌∷◌, ◌++◌, length, take, drop, get_or, Vec, vec_capacity, vec_len, ap, sym, ◌∙◌, subst, arith, add-one}
 use Rattle.std.specs.List.{AllByRecursion}
 use Rattle.std.specs.declared.alloc.Global.{Global}
 use Rattle.std.proofs.lemmas.List.{length-drop}
 use Rattle.hx_types.specs.declared.ids.Version.{Version}
-use Rattle.hx_types.specs.declared.snapshots.Kept.{Kept}
-use Rattle.hx_model.specs.Slots.{Forget, marks_after, moved}
+use Rattle.hx_model.specs.Slots.{Forget, moved}
 use Rattle.hx_slot.specs.declared.updates.PlacedUpdate.{PlacedUpdate}
 use Rattle.hx_slot.specs.declared.updates.AcceptedUpdate.{AcceptedUpdate}
 use Rattle.hx_slot.specs.declared.slots.Slot.TheInside.{Inside}
-use Rattle.hx_slot.specs.declared.tables.Tables.{Tables}
+use Rattle.hx_slot.specs.declared.bases.Base.{Base}
 use Rattle.hx_slot.specs.Acks.{AreAcked, AreSameUpdates}
-use Rattle.hx_slot.specs.Updates.{IsHeld, newest_first}
-use Rattle.hx_slot.specs.Invariant.{IsSlot, whole, updates_of, versions_of}
-use Rattle.hx_slot.specs.Tabled.{AreMarks, AreTables}
+use Rattle.hx_slot.specs.Updates.{IsHeld, places_in}
+use Rattle.hx_slot.specs.Invariant.{IsLine, IsSlot, whole, updates_of, versions_of}
+use Rattle.hx_slot.specs.Bases.{HasBaseRoom, IsCopied, kept_in}
+use Rattle.hx_slot.specs.States.{IsOrderly}
 use Rattle.hx_slot.proofs.Acking.{acked-none}
 use Rattle.hx_slot.proofs.Newest.{by_recursion-drop}
-use Rattle.hx_slot.proofs.Refitting.{count-length}
-use Rattle.hx_slot.proofs.SameUpdates.{same-length, same-line, same-newest_first, same-tables}
+use Rattle.hx_slot.proofs.Refitting.{count-length, same-kept, same-provided}
+use Rattle.hx_slot.proofs.SameUpdates.{same-length, same-line, same-newest_first, same-places}
 
 -- one entry more on either side
 pub same-push : (xs ys : List AcceptedUpdate) (x y : AcceptedUpdate) → AreSameUpdates xs ys → y.update ≡ x.update → y.place ≡ x.place → AreSameUpdates (xs ++ x ∷ []) (ys ++ y ∷ [])
@@ -39,27 +39,24 @@ pub same-next : (xs ys : List AcceptedUpdate) (i : ℕ) (x y : AcceptedUpdate) �
 same-next xs ys i x y l e h u p =
     subst (λ (zs : List AcceptedUpdate). AreSameUpdates zs (ys ++ y ∷ [])) (sym (ap (λ n. take n xs) (add-one i) ∙ take-one xs i x l e)) (same-push (take i xs) ys x y h u p)
 
-same-numbers : (line : List AcceptedUpdate) (old new : Tables) → new.newest.items ≡ old.newest.items → new.touches.items ≡ old.touches.items → AreTables line old → AreTables line new
-same-numbers line old new f g h =
-    record { marks = subst (λ (numbers : List ℕ). AreMarks line numbers (marks_after [] (newest_first [] line))) (sym f) h.marks; touches = g ∙ h.touches }
-
--- the slot with copies of its updates and no room
-pub renewed-slot : (a : Inside) (base : Kept) (accepted : Vec AcceptedUpdate Global) (acked : Vec Version Global) (early : Vec PlacedUpdate Global) (tables : Tables) → IsSlot a → base ≡ a.base
+-- the slot with copies of its updates and no room for more
+pub renewed-slot : (a : Inside) (key : List ℕ) (base : Base) (accepted : Vec AcceptedUpdate Global) (acked : Vec Version Global) (early : Vec PlacedUpdate Global) → IsSlot a → key ≡ a.key → IsCopied a.base base
     → AreSameUpdates a.accepted.items accepted.items → AllByRecursion (λ (t : AcceptedUpdate). t.acknowledged ≡ false) accepted.items
     → acked.items ≡ [] → vec_len acked ≡ 0 → vec_len a.accepted - a.committed ≤ vec_capacity acked → early.items ≡ [] → vec_len early ≡ 0
-    → tables.newest.items ≡ a.tables.newest.items → tables.touches.items ≡ a.tables.touches.items
-    → IsSlot (record a { base = base; accepted = accepted; acked = acked; early = early; tables = tables; spare = 0 })
-renewed-slot a base accepted acked early tables h same_base same unmarked none_acked no_acks acked_room none_early no_early newest touches =
+    → (a.keeps_marks ≡ true → HasBaseRoom base (length a.accepted.items) (places_in a.accepted.items))
+    → IsSlot (record a { key = key; base = base; accepted = accepted; acked = acked; early = early; spare = 0 })
+renewed-slot a key base accepted acked early h same_key copied same unmarked none_acked no_acks acked_room none_early no_early base_room =
     let ok = accepted.ok in
     let old = a.accepted.ok in
     let size = length-drop a.committed accepted.items in
     let count = same-length a.accepted.items accepted.items same in
     let few = count-length (drop a.committed accepted.items) in
-    let at : Kept → Inside = λ k. record a { base = k; accepted = accepted; acked = acked; early = early; tables = tables; spare = 0 } in
-    subst (λ (k : Kept). IsSlot (at k)) (sym same_base)
-    (record {
-      line = same-line h.line accepted.items same;
-      base = h.base;
+    let kept = (λ j. kept_in (same_key j) base) ∙ same-kept a.key a.base base copied in
+    record {
+      line = subst (λ (n : ℕ). IsLine a.region n accepted.items a.committed a.floor.0) (sym (ap (λ (v : Version). v.0) copied.floor)) (same-line h.line accepted.items same);
+      base = subst IsOrderly (sym kept) h.base;
+      bare = same-provided a.keeps_marks a.base.marks.items base.marks.items copied.marks h.bare;
+      untouched = same-provided a.keeps_marks a.base.touches.items base.touches.items copied.touches h.untouched;
       acked = subst (λ (vs : List Version). AreAcked (versions_of vs) (drop a.committed accepted.items)) (sym none_acked) (acked-none (drop a.committed accepted.items) (by_recursion-drop (λ (t : AcceptedUpdate). t.acknowledged ≡ false) a.committed accepted.items unmarked));
       early = subst (AllByRecursion (IsHeld a.region)) (sym none_early) tt;
       room = record {
@@ -68,18 +65,18 @@ renewed-slot a base accepted acked early tables h same_base same unmarked none_a
         pending = omega (arith, ok.0, old.0, count, no_early, acked_room);
         acked = omega (arith, ok.0, old.0, count, no_early, no_acks, acked_room, few, size);
         few = (let r = h.room.few in omega (arith, r, ok.0, old.0, count, no_early));
+        base = λ m. (
+            let r = base_room m in
+            let n = same-places a.accepted.items accepted.items same in
+            record { marks = (let q = r.marks in omega (arith, q, ok.0, count, no_early)); touches = (let q = r.touches in omega (arith, q, n, no_early)) }
+            );
       };
-      tables = λ m. same-numbers accepted.items a.tables tables newest touches (same-tables a.accepted.items accepted.items a.tables same (h.tables m));
-      table_room = λ m. (
-          let n = tables.newest.ok in
-          let t = tables.touches.ok in
-          record { marks = omega (arith, n.0, n.1, no_early); touches = omega (arith, t.0, t.1, no_early) }
-          );
-    })
+    }
 
-pub renewed-state : (a : Inside) (base : Kept) (accepted : Vec AcceptedUpdate Global) (acked : Vec Version Global) (early : Vec PlacedUpdate Global) (tables : Tables) → base ≡ a.base
+pub renewed-state : (a : Inside) (key : List ℕ) (base : Base) (accepted : Vec AcceptedUpdate Global) (acked : Vec Version Global) (early : Vec PlacedUpdate Global) → key ≡ a.key → IsCopied a.base base
     → AreSameUpdates a.accepted.items accepted.items → acked.items ≡ [] → early.items ≡ []
-    → (whole (record a { base = base; accepted = accepted; acked = acked; early = early; tables = tables; spare = 0 })).state ≡ moved Forget (whole a).state
-renewed-state a base accepted acked early tables same_base same none_acked none_early =
+    → (whole (record a { key = key; base = base; accepted = accepted; acked = acked; early = early; spare = 0 })).state ≡ moved Forget (whole a).state
+renewed-state a key base accepted acked early same_key copied same none_acked none_early =
     let line = same-newest_first [] a.accepted.items accepted.items same in
-    λ j. record { marks = a.marks; base = same_base j; accepted = line j; floor = a.floor.0; acked = versions_of (none_acked j); early = updates_of (none_early j) }
+    let kept = (λ j. kept_in (same_key j) base) ∙ same-kept a.key a.base base copied in
+    λ j. record { marks = a.keeps_marks; base = kept j; accepted = line j; floor = a.floor.0; acked = versions_of (none_acked j); early = updates_of (none_early j) }

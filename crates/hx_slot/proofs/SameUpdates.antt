@@ -1,17 +1,13 @@
 -- Lists of the same updates at the same places.
-use Rattle.std.proofs.Common.{◌≡◌, ℕ, zero, suc, ◌<◌, Bool, List, [], ◌∷◌, length, take, drop, set, get_or, Some, refl, ap, sym, ◌∙◌, subst, arith}
+use Rattle.std.proofs.Common.{◌≡◌, ℕ, zero, suc, ◌+◌, ◌<◌, Bool, List, [], ◌∷◌, length, take, drop, set, get_or, refl, ap, sym, ◌∙◌, subst, arith}
 use Rattle.std.specs.List.{AllByRecursion}
 use Rattle.hx_types.specs.declared.ids.RegionId.{RegionId}
-use Rattle.hx_types.specs.declared.snapshots.Mark.{Mark}
 use Rattle.hx_types.specs.declared.updates.Place.{Place}
 use Rattle.hx_types.specs.declared.updates.Update.{Update}
-use Rattle.hx_model.specs.Slots.{mark_by, marks_after, touches_after}
 use Rattle.hx_slot.specs.declared.updates.AcceptedUpdate.{AcceptedUpdate}
-use Rattle.hx_slot.specs.declared.tables.Tables.{Tables}
 use Rattle.hx_slot.specs.Acks.{AreSameUpdates}
-use Rattle.hx_slot.specs.Updates.{Ascends, IsPlaced, last_version, newest_first}
+use Rattle.hx_slot.specs.Updates.{Ascends, IsPlaced, last_version, newest_first, places_in}
 use Rattle.hx_slot.specs.Invariant.{IsLine}
-use Rattle.hx_slot.specs.Tabled.{AreMarks, AreTables, mark_at}
 
 pub same-refl : (xs : List AcceptedUpdate) → AreSameUpdates xs xs
 same-refl [] = tt
@@ -86,24 +82,9 @@ same-line {g = g} {base = base} {xs = xs} {c = c} line ys h =
       floor_is = line.floor_is ∙ sym (same-last_version base (take c xs) (take c ys) (same-take c xs ys h));
     }
 
-same-slice_get : (xs ys : List AcceptedUpdate) (i : ℕ) → AreSameUpdates xs ys → mark_at ys i ≡ mark_at xs i
-same-slice_get [] [] i h = refl
-same-slice_get [] (y ∷ ys) i h = absurd h
-same-slice_get (x ∷ xs) [] i h = absurd h
-same-slice_get (x ∷ xs) (y ∷ ys) zero h = ap (λ (u : Update). Some (mark_by u)) h.0
-same-slice_get (x ∷ xs) (y ∷ ys) (suc i) h = same-slice_get xs ys i h.2
-
-same-marks : (xs ys : List AcceptedUpdate) (numbers : List ℕ) (marks : List Mark) → AreSameUpdates xs ys → AreMarks xs numbers marks → AreMarks ys numbers marks
-same-marks xs ys [] [] h a = tt
-same-marks xs ys [] (m ∷ marks) h a = a
-same-marks xs ys (i ∷ numbers) [] h a = a
-same-marks xs ys (i ∷ numbers) (m ∷ marks) h a = (same-slice_get xs ys i h ∙ a.0, same-marks xs ys numbers marks h a.1)
-
--- the tables of a line of the same entries
-pub same-tables : (xs ys : List AcceptedUpdate) (tables : Tables) → AreSameUpdates xs ys → AreTables xs tables → AreTables ys tables
-same-tables xs ys tables h a =
-    let e = same-newest_first [] xs ys h in
-    record {
-      marks = subst (λ (us : List Update). AreMarks ys tables.newest.items (marks_after [] us)) (sym e) (same-marks xs ys tables.newest.items _ h a.marks);
-      touches = a.touches ∙ ap (touches_after []) (sym e);
-    }
+-- they have as many places
+pub same-places : (xs ys : List AcceptedUpdate) → AreSameUpdates xs ys → places_in ys ≡ places_in xs
+same-places [] [] h = refl
+same-places [] (y ∷ ys) h = absurd h
+same-places (x ∷ xs) [] h = absurd h
+same-places (x ∷ xs) (y ∷ ys) h = (λ j. length (h.0 j).places + same-places xs ys h.2 j)

@@ -2,7 +2,7 @@
 use Rattle.std.proofs.Common.{◌≡◌, ℕ, zero, suc, ◌+◌, ◌<◌, ◌≤◌, Bool, true, false, not, ◌&&◌, ◌||◌, List, map, [], ◌∷◌, Vec, length, take, drop, set, get_or, Some, vec_capacity, vec_len, refl, ap, sym, ◌∙◌, subst, arith, cond, eqb, ltb}
 use Rattle.std.specs.List.{AllByRecursion, AllWithin, filter, list_any, position}
 use Rattle.std.specs.declared.alloc.Global.{Global}
-use Rattle.std.proofs.lemmas.Bool.{cond_both, cond-false, cond-true, eqb-true}
+use Rattle.std.proofs.lemmas.Bool.{cond-false, cond-true, eqb-true}
 use Rattle.std.proofs.lemmas.List.Quantifiers.{position-Some}
 use Rattle.std.proofs.Math.Seq.{take-add}
 use Rattle.std.proofs.lemmas.List.{drop-drop, drop-set-add, get_or-drop, length-drop, length-map}
@@ -15,12 +15,13 @@ use Rattle.hx_slot.specs.declared.updates.AcceptedUpdate.{AcceptedUpdate}
 use Rattle.hx_slot.specs.declared.slots.Slot.TheInside.{Inside}
 use Rattle.hx_slot.specs.Acks.{AreAcked, AreSameUpdates, count_unacked, front_acked, front_with, is_of_version, is_waiting_below}
 use Rattle.hx_slot.specs.Updates.{IsHeld, last_version, newest_first}
+use Rattle.hx_slot.specs.Bases.{kept_in}
 use Rattle.hx_slot.specs.Invariant.{IsSlot, coming, pending_in, whole, updates_of, versions_of}
 use Rattle.hx_slot.proofs.Acking.{acked-none, acked-settled, acked-set, commits-count, commits-front, commits-state, commits-with, commits_of, count-drop, count-set, dropped, dropped-upto, length-dropped, marked-at, pending-any, versions-filter, with_ack}
 use Rattle.hx_slot.proofs.Newest.{last_version-append, pending-ascends, update_of}
 use Rattle.hx_slot.proofs.Reading.{pending-seen}
 use Rattle.hx_slot.proofs.Refitting.{count-length}
-use Rattle.hx_slot.proofs.SameUpdates.{same-line, same-newest_first, same-set, same-tables}
+use Rattle.hx_slot.proofs.SameUpdates.{same-line, same-newest_first, same-places, same-set}
 
 -- the slot with its lowest pending updates committed
 pub settled-slot : (a : Inside) (n : ℕ) (floor : Version) (acked : Vec Version Global) → IsSlot a → n ≤ length (pending_in a) → floor.0 ≡ last_version a.floor.0 (take n (pending_in a))
@@ -42,6 +43,8 @@ settled-slot a n floor acked h w f items len capacity =
         floor_is = f ∙ ap (λ v. last_version v (take n (pending_in a))) h.line.floor_is ∙ sym (last_version-append a.base.floor.0 (take a.committed a.accepted.items) (take n (pending_in a))) ∙ sym (ap (last_version a.base.floor.0) (take-add a.committed n a.accepted.items));
       };
       base = h.base;
+      bare = h.bare;
+      untouched = h.untouched;
       acked = subst (AreAcked (versions_of acked.items)) pending (subst (λ (vs : List ℕ). AreAcked vs (drop n (pending_in a))) (sym acks) (acked-settled a.floor.0 n (pending_in a) (versions_of a.acked.items) (pending-ascends h.line) h.acked));
       early = h.early;
       room = record {
@@ -50,9 +53,8 @@ settled-slot a n floor acked h w f items len capacity =
         pending = (let r = room.pending in omega (arith, r));
         acked = (let r = room.acked in omega (arith, r, few, left));
         few = room.few;
+        base = room.base;
       };
-      tables = h.tables;
-      table_room = h.table_room;
     }
 
 pub settled-state : (a : Inside) (n : ℕ) (floor : Version) (acked : Vec Version Global) → IsSlot a → n ≡ front_acked (pending_in a) → floor.0 ≡ last_version a.floor.0 (take n (pending_in a))
@@ -62,7 +64,7 @@ settled-state a n floor acked h e f items =
     let moves = ap (commits (versions_of a.acked.items)) (sym (pending-seen a h)) ∙ commits-front (versions_of a.acked.items) (pending_in a) h.acked.marked ∙ ap (λ k. commits_of (take k (pending_in a))) (sym e) in
     let acks = ap versions_of items ∙ versions-filter (ltb floor.0) a.acked.items ∙ ap (λ v. filter (ltb v) (versions_of a.acked.items)) f ∙ sym (dropped-upto a.floor.0 n (pending_in a) (versions_of a.acked.items) (pending-ascends h.line) h.acked.known) in
     let state : (whole (record a { committed = a.committed + n; floor = floor; acked = acked })).state ≡ record (whole a).state { floor = last_version a.floor.0 (take n (pending_in a)); acked = dropped (take n (pending_in a)) (versions_of a.acked.items) } =
-    λ j. record { marks = a.marks; base = a.base; accepted = newest_first [] a.accepted.items; floor = f j; acked = acks j; early = updates_of a.early.items } in
+    λ j. record { marks = a.keeps_marks; base = kept_in a.key a.base; accepted = newest_first [] a.accepted.items; floor = f j; acked = acks j; early = updates_of a.early.items } in
     state ∙ sym (commits-state (take n (pending_in a)) (whole a).state) ∙ sym (ap (λ (ms : List Move). moved_all ms (whole a).state) moves)
 
 pub settled-count : (a : Inside) → IsSlot a → length (settled (whole a).state) ≡ front_acked (pending_in a)
@@ -115,6 +117,8 @@ acknowledged-slot a i t accepted acked h l e items len capacity acks more grown 
     record {
       line = same-line h.line accepted.items same;
       base = h.base;
+      bare = h.bare;
+      untouched = h.untouched;
       acked = subst (AreAcked (versions_of acked.items)) (sym pending) (subst (λ (vs : List ℕ). AreAcked vs (set (pending_in a) i (record t { acknowledged = true }))) (sym acks) (acked-set a.floor.0 (versions_of a.acked.items) (pending_in a) i t (pending-ascends h.line) l e h.acked));
       early = h.early;
       room = record {
@@ -123,9 +127,12 @@ acknowledged-slot a i t accepted acked h l e items len capacity acks more grown 
         pending = (let r = room.pending in omega (arith, r));
         acked = omega (arith, more, count);
         few = (let r = room.few in omega (arith, r));
+        base = λ m. (
+            let r = room.base m in
+            let n = same-places a.accepted.items accepted.items same in
+            record { marks = (let q = r.marks in omega (arith, q)); touches = (let q = r.touches in omega (arith, q, n)) }
+            );
       };
-      tables = λ m. same-tables a.accepted.items accepted.items a.tables same (h.tables m);
-      table_room = h.table_room;
     }
 
 pub acknowledged-state : (a : Inside) (i : ℕ) (t : AcceptedUpdate) (accepted : Vec AcceptedUpdate Global) (acked : Vec Version Global) → i < length (pending_in a) → t ≡ get_or (pending_in a) i t
@@ -135,7 +142,7 @@ acknowledged-state a i t accepted acked l e items acks =
     let size = length-drop a.committed a.accepted.items in
     let same = subst (λ (ts : List AcceptedUpdate). AreSameUpdates a.accepted.items ts) (sym items) (same-set a.accepted.items (a.committed + i) t true (omega (arith, size, l)) (e ∙ get_or-drop a.committed a.accepted.items i t)) in
     let line = same-newest_first [] a.accepted.items accepted.items same in
-    λ j. record { marks = a.marks; base = a.base; accepted = line j; floor = a.floor.0; acked = acks j; early = updates_of a.early.items }
+    λ j. record { marks = a.keeps_marks; base = kept_in a.key a.base; accepted = line j; floor = a.floor.0; acked = acks j; early = updates_of a.early.items }
 
 -- each of the rest
 each-drop : (P : AcceptedUpdate → Type 0) (n : ℕ) (ts : List AcceptedUpdate) → ((k : ℕ) (d : AcceptedUpdate) → n ≤ k → k < length ts → P (get_or ts k d)) → AllByRecursion P (drop n ts)
@@ -158,6 +165,8 @@ forgotten-slot a accepted acked early h same forgotten len capacity none_acked n
     record {
       line = same-line h.line accepted.items same;
       base = h.base;
+      bare = h.bare;
+      untouched = h.untouched;
       acked = subst (λ (vs : List Version). AreAcked (versions_of vs) (drop a.committed accepted.items)) (sym none_acked) (acked-none (drop a.committed accepted.items) unmarked);
       early = subst (AllByRecursion (IsHeld a.region)) (sym none_early) tt;
       room = record {
@@ -166,19 +175,19 @@ forgotten-slot a accepted acked early h same forgotten len capacity none_acked n
         pending = (let r = room.pending in omega (arith, r));
         acked = (let r = room.pending in omega (arith, r, few, size, ok));
         few = (let r = room.few in omega (arith, r));
+        base = λ m. (
+            let r = room.base m in
+            let n = same-places a.accepted.items accepted.items same in
+            record { marks = (let q = r.marks in omega (arith, q)); touches = (let q = r.touches in omega (arith, q, n)) }
+            );
       };
-      tables = λ m. same-tables a.accepted.items accepted.items a.tables same (h.tables m);
-      table_room = λ m. (
-          let r = h.table_room m in
-          record { marks = (let q = r.marks in omega (arith, q)); touches = (let q = r.touches in omega (arith, q)) }
-          );
     }
 
 pub forgotten-state : (a : Inside) (accepted : Vec AcceptedUpdate Global) (acked : Vec Version Global) (early : Vec PlacedUpdate Global) → AreSameUpdates a.accepted.items accepted.items → acked.items ≡ [] → early.items ≡ []
     → (whole (record a { accepted = accepted; acked = acked; early = early })).state ≡ moved Forget (whole a).state
 forgotten-state a accepted acked early same none_acked none_early =
     let line = same-newest_first [] a.accepted.items accepted.items same in
-    λ j. record { marks = a.marks; base = a.base; accepted = line j; floor = a.floor.0; acked = versions_of (none_acked j); early = updates_of (none_early j) }
+    λ j. record { marks = a.keeps_marks; base = kept_in a.key a.base; accepted = line j; floor = a.floor.0; acked = versions_of (none_acked j); early = updates_of (none_early j) }
 
 -- a pending update of the version, read at its place in the line
 pub record IsRead (a : Inside) (v i : ℕ) (t : AcceptedUpdate) : Type 0 where

@@ -2,10 +2,10 @@
 use Rattle.std.proofs.Common.{◌≡◌, ℕ, sym, subst}
 use Rattle.hx_types.specs.declared.ids.RegionId.{RegionId}
 use Rattle.hx_types.specs.declared.updates.Update.{Update}
-use Rattle.hx_model.specs.Slots.{Forget, KeyState, acknowledged, moved, moved_all, offered, settled}
+use Rattle.hx_model.specs.Slots.{Acknowledge, Forget, KeyState, acknowledged, moved, moved_all, offered, settled}
 use Rattle.hx_folds.specs.Folding.{IsAfter, StandsFor, folded}
 use Rattle.hx_folds.proofs.Slots.{later-of}
-use Rattle.hx_folds.proofs.Standing.{stands-acknowledged, stands-forgotten, stands-offered, stands-settled}
+use Rattle.hx_folds.proofs.Standing.{stands-acknowledged, stands-forgotten, stands-marked, stands-offered, stands-settled}
 
 module _ (g h : RegionId) (v new s : KeyState) where
   at : (t : KeyState) → h ≡ g → {w : KeyState} → new ≡ w → StandsFor g w t → StandsFor h new t
@@ -16,6 +16,9 @@ module _ (g h : RegionId) (v new s : KeyState) where
 
   pub stands-ack : (n : ℕ) → new ≡ folded g (moved_all (acknowledged v n) v) → h ≡ g → StandsFor g v s → StandsFor h new (moved_all (acknowledged s n) s)
   stands-ack n e r k = at (moved_all (acknowledged s n) s) r e (stands-acknowledged g v s k n)
+
+  pub stands-mark : (n : ℕ) → new ≡ moved (Acknowledge n) v → h ≡ g → StandsFor g v s → StandsFor h new (moved (Acknowledge n) s)
+  stands-mark n e r k = at (moved (Acknowledge n) s) r e (stands-marked g v s k n)
 
   pub stands-settle : new ≡ folded g (moved_all (settled v) v) → h ≡ g → StandsFor g v s → StandsFor h new (moved_all (settled s) s)
   stands-settle e r k = at (moved_all (settled s) s) r e (stands-settled g v s k)

@@ -1,5 +1,5 @@
 -- The updates that a slot holds, in the order in which they were accepted or came.
-use Rattle.std.specs.Prelude.{◌≡◌, ℕ, ◌<◌, ◌≤◌, ⊤, List, [], ◌∷◌, length, if◌then◌else◌, Option, None, Some}
+use Rattle.std.specs.Prelude.{◌≡◌, ℕ, ◌+◌, ◌<◌, ◌≤◌, ⊤, List, [], ◌∷◌, length, if◌then◌else◌, Option, None, Some}
 use Rattle.std.specs.Option.{option_map}
 use Rattle.hx_types.specs.declared.calls.Row.{Row}
 use Rattle.hx_types.specs.declared.ids.RegionId.{RegionId}
@@ -19,6 +19,11 @@ newest_first older (t ∷ rest) = newest_first (t.update ∷ older) rest
 abbrev pub last_version : ℕ → List AcceptedUpdate → ℕ
 last_version v [] = v
 last_version v (t ∷ rest) = last_version t.update.version.0 rest
+
+-- how many places the updates have in all
+abbrev pub places_in : List AcceptedUpdate → ℕ
+places_in [] = 0
+places_in (t ∷ rest) = length t.update.places + places_in rest
 
 -- each version is above the one before it
 abbrev pub Ascends : ℕ → List AcceptedUpdate → Type 0

@@ -5,23 +5,26 @@
 //! chains. An accepted update is pending until its acknowledgement has come back through the
 //! chain, and then committed, as in chain replication.
 //!
-//! This project's choices are the representation and the room. A [`Slot`] holds all updates that it
-//! has accepted. At a key region it has a table of the newest calls and one of the last touches, so
-//! that [`Slot::mark`] and [`Slot::touched`] don't go through the updates. [`Slot::reserve`] makes
-//! room ahead; offers and acknowledgements then take no memory, so that none of them can fail.
-//! [`Slot::object`] and [`Slot::latest`] go back to the last update that changed the object, and
-//! [`Slot::kept`] goes through all committed ones. It, [`Slot::renewed`] and [`Slot::reserve`] alone
-//! take memory: that they can succeed no contract says, but the tests show it.
+//! This project's choices are the representation and the room. A [`Slot`] has no past: a committed
+//! update goes into its base, which has the row, and at a key region the newest call of each session
+//! and the last version at each region; the pending and the early updates are held whole.
+//! [`Slot::mark`] and [`Slot::touched`] read the pending updates and then the base.
+//! [`Slot::reserve`] makes room ahead; offers, acknowledgements and commits then take no memory, so
+//! that none of them can fail. [`Slot::kept`], [`Slot::renewed`] and [`Slot::reserve`] alone take
+//! memory: that they can succeed no contract says, but the tests show it.
+//!
+//! What a base holds it shares with the update. A value has at most 2^63 owners, so that to share it
+//! may be refused; a committed update is then held until it can go into the base.
 #![tactic(auto)]
 
 mod acks;
+mod bases;
 mod early;
 mod line;
 mod marks;
 mod renewing;
 mod rooms;
 mod slots;
-mod tables;
 mod touches;
 mod updates;
 

@@ -1,8 +1,9 @@
-ghost use Rattle.std.specs.Prelude.{◌≡◌, ◌≤◌, IfOk, drop, length, map, slice_get};
+ghost use Rattle.std.specs.Prelude.{◌≡◌, ◌*◌, ◌^◌, ◌<◌, ◌≤◌, IfOk, drop, length, map, slice_get};
+ghost use Rattle.std.specs.List.{AllByRecursion};
 ghost use Rattle.std.specs.Option.{option_copied};
-ghost use Rattle.hx_slot.specs.Updates.{last_version, row_over, row_seen};
+ghost use Rattle.hx_slot.specs.Updates.{last_version, places_in, row_over, row_seen};
 ghost use Rattle.hx_model.specs.Slots.{object_in, row_of};
-ghost use Rattle.hx_slot.specs.States.{object_at, object_seen};
+ghost use Rattle.hx_slot.specs.States.{HasFewPlaces, object_at, object_seen};
 ghost use Rattle.hx_slot.specs.declared.updates.AcceptedUpdate.{AcceptedUpdate};
 
 use crate::updates::AcceptedUpdate;
@@ -35,6 +36,20 @@ pub fn rest_of(line: &[AcceptedUpdate], count: usize) -> &[AcceptedUpdate]
     &line[count..]
 }
 
+/// How many places the updates have in all.
+pub fn place_count(line: &[AcceptedUpdate]) -> usize
+    requires few { AllByRecursion (λ (t : AcceptedUpdate). HasFewPlaces t.update) line.now }
+    requires short { length line.now < 2 ^ 32 }
+    ensures count { result ≡ places_in line.now }
+    ensures bound { result ≤ 17 * length line.now }
+{
+    let mut count = 0;
+    for taken in line {
+        count += taken.update.places.len();
+    }
+    count
+}
+
 /// The row after these updates, sought from the last one back: the first that changes, or that
 /// doesn't keep, decides.
 pub fn row_over<'a>(base: Option<&'a Row>, line: &'a [AcceptedUpdate]) -> Option<RowRef<'a>>
@@ -60,7 +75,8 @@ pub fn row_over<'a>(base: Option<&'a Row>, line: &'a [AcceptedUpdate]) -> Option
     }
 }
 
-fn row_of(taken: &AcceptedUpdate) -> Option<RowRef<'_>>
+/// The row that an update sets, where there is an object after it.
+pub fn row_of(taken: &AcceptedUpdate) -> Option<RowRef<'_>>
     ensures { row_seen result ≡ row_of taken.now.update }
 {
     let update = taken.update.get();

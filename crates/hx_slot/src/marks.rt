@@ -1,32 +1,42 @@
-ghost use Rattle.std.specs.Prelude.{◌≡◌, ◌+◌, ◌<◌, ◌≤◌, IfOk, OnOk, Some, length, vec_capacity, vec_len};
-ghost use Rattle.std.specs.List.{All};
+ghost use Rattle.std.specs.Prelude.{◌≡◌, ◌+◌, ◌<◌, ◌≤◌, None, IfOk, Some, vec_capacity, vec_len};
 ghost use Rattle.std.specs.Option.{option_copied, option_map};
 ghost use Rattle.hx_model.specs.Slots.{mark_among, mark_by, with_mark};
 ghost use Rattle.hx_types.specs.Words.{provided};
 ghost use Rattle.hx_slot.specs.States.{call_at, call_seen};
-ghost use Rattle.hx_slot.specs.Tabled.{mark_found, marks_over, newer_of, with_number};
+ghost use Rattle.hx_slot.specs.Tabled.{marks_over, newer_of, newest_over, newest_with};
 
-use crate::rooms::insert_within;
+use crate::rooms::{copy_all, insert_within};
 use crate::updates::AcceptedUpdate;
 use hx_types::{Answer, Exact, Mark, Marks, Memory, SessionId, Update, Version};
 use std::alloc::Global;
 
-/// The update whose mark is that of the session, among those of these numbers in the line.
-pub fn newest_of<'a>(
-    numbers: &[u32],
-    line: &'a [AcceptedUpdate],
+/// The update of the session's newest call among these: of the highest call number, and of equal
+/// ones the last.
+pub fn newest_of(line: &[AcceptedUpdate], session: SessionId) -> Option<&Update>
+    ensures { option_map mark_by (option_copied result) ≡ newest_over session None line.now }
+{
+    let mut newest: Option<&Update> = None;
+    for taken in line {
+        newest = newer_call(newest, taken.update.get(), session);
+    }
+    newest
+}
+
+/// The later of two updates, where it is of the session and its call number isn't lower.
+fn newer_call<'a>(
+    newest: Option<&'a Update>,
+    update: &'a Update,
     session: SessionId,
 ) -> Option<&'a Update>
-    requires { All (λ n. n < length line.now) numbers.now }
-    ensures { option_map mark_by (option_copied result) ≡ mark_found session line.now numbers.now }
+    ensures { option_map mark_by (option_copied result) ≡ newest_with session (mark_by update.now) (option_map mark_by (option_copied newest.entry)) }
 {
-    for number in numbers {
-        let update = line[*number as usize].update.get();
-        if update.caller.session.0 == session.0 {
-            return Some(update);
-        }
+    if update.caller.session.0 != session.0 {
+        return newest;
     }
-    None
+    match newest {
+        Some(known) if update.caller.number < known.caller.number => Some(known),
+        _ => Some(update),
+    }
 }
 
 /// The mark of the session.
@@ -63,52 +73,28 @@ fn call_of(update: &Update) -> (u32, Version, &Answer)
     (update.caller.number, update.version, &update.answer)
 }
 
-/// Puts the number of a further update where its session's stands, unless that one has a higher
-/// call number. There is room for a number more.
-pub fn note_mark(numbers: &mut Vec<u32>, line: &[AcceptedUpdate], number: u32, update: &Update)
-    requires known { All (λ n. n < length line.now) numbers.old.items }
-    requires room { vec_len numbers.old < vec_capacity numbers.old }
-    ensures items { numbers.new.items ≡ with_number line.now number (mark_by update.now) numbers.old.items }
-    ensures len { vec_len numbers.new ≤ vec_len numbers.old + 1 }
-    ensures capacity { vec_capacity numbers.old ≤ vec_capacity numbers.new }
-{
-    for place in 0..numbers.len() {
-        let known = line[numbers[place] as usize].update.caller;
-        if update.caller.session.0 < known.session.0 {
-            insert_within(numbers, place, number);
-            return;
-        }
-        if update.caller.session.0 == known.session.0 {
-            if update.caller.number >= known.number {
-                numbers[place] = number;
-            }
-            return;
-        }
-    }
-    numbers.push_reserved(number);
-}
-
 /// The marks after these updates, from those before them; none where marks aren't kept.
 pub fn marks_over(
     alloc: Global,
     kept: bool,
-    base: &Marks,
+    base: &Vec<Mark>,
     line: &[AcceptedUpdate],
 ) -> Result<Marks, Memory>
-    ensures { IfOk result (λ marks. marks ≡ provided kept (marks_over base.now line.now)) }
+    ensures { IfOk result (λ marks. marks ≡ provided kept (marks_over base.now.items line.now)) }
 {
     if !kept {
         return Ok(Marks::new(alloc));
     }
-    let mut marks = base.copy(alloc)?.into_vec();
+    let mut marks = copy_all(base)?;
     for taken in line {
-        put_mark(&mut marks, mark_by(alloc, &taken.update)?)?;
+        marks.reserve(1)?;
+        put_mark(&mut marks, mark_by(alloc, &taken.update)?);
     }
     Ok(Marks::from_vec(marks))
 }
 
 /// The mark of an update's call.
-fn mark_by(alloc: Global, update: &Update) -> Result<Mark, Memory>
+pub fn mark_by(alloc: Global, update: &Update) -> Result<Mark, Memory>
     ensures { IfOk result (λ mark. mark ≡ mark_by update.now) }
 {
     Ok(Mark {
@@ -119,23 +105,26 @@ fn mark_by(alloc: Global, update: &Update) -> Result<Mark, Memory>
     })
 }
 
-/// Puts a mark where its session's stands, unless that one has a higher call number.
-fn put_mark(marks: &mut Vec<Mark>, mark: Mark) -> Result<(), Memory>
-    ensures { OnOk result (marks.new.items ≡ with_mark mark marks.old.items) }
+/// Puts a mark where its session's stands, unless that one has a higher call number. There is room
+/// for a mark more.
+pub fn put_mark(marks: &mut Vec<Mark>, mark: Mark)
+    requires room { vec_len marks.old < vec_capacity marks.old }
+    ensures items { marks.new.items ≡ with_mark mark marks.old.items }
+    ensures len { vec_len marks.new ≤ vec_len marks.old + 1 }
+    ensures capacity { vec_capacity marks.old ≤ vec_capacity marks.new }
 {
     for place in 0..marks.len() {
         let known = marks[place].session;
         if mark.session.0 < known.0 {
-            marks.insert(place, mark)?;
-            return Ok(());
+            insert_within(marks, place, mark);
+            return;
         }
         if mark.session.0 == known.0 {
             if mark.number >= marks[place].number {
                 marks[place] = mark;
             }
-            return Ok(());
+            return;
         }
     }
-    marks.push(mark)?;
-    Ok(())
+    marks.push_reserved(mark);
 }

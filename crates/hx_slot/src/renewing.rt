@@ -1,9 +1,13 @@
-ghost use Rattle.std.specs.Prelude.{◌≡◌, IfOk, false};
+ghost use Rattle.std.specs.Prelude.{◌≡◌, ◌^◌, ◌<◌, IfOk, false, length, true};
 ghost use Rattle.std.specs.List.{AllByRecursion};
 ghost use Rattle.hx_slot.specs.Acks.{AreSameUpdates};
+ghost use Rattle.hx_slot.specs.Bases.{HasBaseRoom, IsCopied};
+ghost use Rattle.hx_slot.specs.States.{HasFewPlaces};
+ghost use Rattle.hx_slot.specs.Updates.{places_in};
 ghost use Rattle.hx_slot.specs.declared.updates.AcceptedUpdate.{AcceptedUpdate};
 
-use crate::tables::Tables;
+use crate::bases::Base;
+use crate::rooms::copy_all;
 use crate::updates::AcceptedUpdate;
 use hx_types::{Exact, Memory};
 use std::alloc::Global;
@@ -24,13 +28,24 @@ pub fn renewed_line(alloc: Global, line: &[AcceptedUpdate]) -> Result<Vec<Accept
     Ok(copy)
 }
 
-/// A copy of the tables.
-pub fn renewed_tables(alloc: Global, tables: &Tables) -> Result<Tables, Memory>
-    ensures newest { IfOk result (λ copy. copy.newest.items ≡ tables.now.newest.items) }
-    ensures touches { IfOk result (λ copy. copy.touches.items ≡ tables.now.touches.items) }
+/// A copy of a base, with room for the updates of a line.
+pub fn renewed_base(
+    alloc: Global,
+    base: &Base,
+    kept: bool,
+    line: &[AcceptedUpdate],
+) -> Result<Base, Memory>
+    requires few { AllByRecursion (λ (t : AcceptedUpdate). HasFewPlaces t.update) line.now }
+    requires short { length line.now < 2 ^ 32 }
+    ensures copied { IfOk result (IsCopied base.now) }
+    ensures room { IfOk result (λ copy. kept ≡ true → HasBaseRoom copy (length line.now) (places_in line.now)) }
 {
-    Ok(Tables {
-        newest: Vec::from_slice(alloc, tables.newest.as_slice())?,
-        touches: Vec::from_slice(alloc, tables.touches.as_slice())?,
-    })
+    let mut copy = Base {
+        floor: base.floor,
+        object: base.object.copy(alloc)?,
+        marks: copy_all(&base.marks)?,
+        touches: copy_all(&base.touches)?,
+    };
+    copy.reserve(kept, line, 0)?;
+    Ok(copy)
 }

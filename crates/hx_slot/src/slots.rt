@@ -1,4 +1,4 @@
-ghost use Rattle.std.specs.Prelude.{◌≡◌, ℕ, ◌+◌, ◌^◌, ◌<◌, ◌≤◌, ◌==◌, [], IfOk, IfSome, IsTrue, OnOk, is_some, length, true, slice_get, vec_capacity, vec_len};
+ghost use Rattle.std.specs.Prelude.{◌≡◌, ℕ, ◌+◌, ◌^◌, ◌<◌, ◌≤◌, ◌==◌, [], IfErr, IfOk, IfSome, IsTrue, OnOk, is_some, length, true, slice_get, vec_capacity, vec_len};
 ghost use Rattle.std.specs.List.{All, AllByRecursion, find, list_any};
 ghost use Rattle.std.specs.Option.{option_copied};
 ghost use Rattle.hx_folds.specs.Folding.{IsBare, StandsFor, folded};
@@ -19,14 +19,14 @@ use crate::acks::{
     acknowledged_front, acknowledged_with, drop_ack, drop_acks_upto, forget_acks, has_update,
     has_version, place_of, waits_below,
 };
+use crate::bases::Base;
 use crate::early::{drop_version, early_after, early_at};
 use crate::line::{
     RowRef, copy_row, last_version, only_object, rest_of, row_over, update_at, version_and_object,
 };
 use crate::marks::{mark_of, marks_over, newer, newest_of};
-use crate::renewing::{renewed_line, renewed_tables};
+use crate::renewing::{renewed_base, renewed_line};
 use crate::rooms::{grow, insert_within};
-use crate::tables::Tables;
 use crate::touches::{last_touch, touches_over};
 use crate::updates::{AcceptedUpdate, PlacedUpdate};
 use hx_types::{
@@ -36,19 +36,20 @@ use hx_types::{
 use std::alloc::Global;
 use std::marker::Model;
 
-/// For how many offers at most a slot makes room ahead of those that are asked for.
-const MOST_MORE: usize = 8;
-
 /// The state of one key at one replica of a region.
 #[derive(Drop)]
 pub struct Slot {
     region: RegionId,
-    marks: bool,
-    /// The committed state that was installed, or nothing.
-    base: Kept,
+    /// For how many offers there is room.
+    spare: u32,
+    keeps_marks: bool,
+    key: Text,
+    /// What the committed updates left.
+    base: Base,
     /// The updates accepted since, the oldest first.
     accepted: Vec<AcceptedUpdate>,
-    /// How many of them are committed.
+    /// How many of them are committed: none, but where a count of owners was full when they were to
+    /// go into the base.
     committed: usize,
     /// The version of the last committed one, or that of the base.
     floor: Version,
@@ -56,10 +57,6 @@ pub struct Slot {
     acked: Vec<Version>,
     /// The updates that came before their turn, in the order of their coming.
     early: Vec<PlacedUpdate>,
-    /// Kept at a key region alone.
-    tables: Tables,
-    /// For how many offers there is room.
-    spare: u32,
 }
 
 impl Model for Slot {
@@ -115,18 +112,20 @@ impl Slot {
         let floor = base.floor;
         Slot {
             region,
-            marks,
-            base,
+            spare: 0,
+            keeps_marks: marks,
+            key: base.key,
+            base: Base {
+                floor,
+                object: base.object,
+                marks: base.marks.into_vec(),
+                touches: base.touches.into_vec(),
+            },
             accepted: Vec::new(alloc),
             committed: 0,
             floor,
             acked: Vec::new(alloc),
             early: Vec::new(alloc),
-            tables: Tables {
-                newest: Vec::new(alloc),
-                touches: Vec::new(alloc),
-            },
-            spare: 0,
         }
     }
 
@@ -141,14 +140,14 @@ impl Slot {
     pub fn key(&self) -> &Text
         ensures { result.now ≡ self.now.state.base.key }
     {
-        &self.base.key
+        &self.key
     }
 
     /// Whether the slot keeps marks and touches.
     pub fn keeps_marks(&self) -> bool
         ensures { result ≡ self.now.state.marks }
     {
-        self.marks
+        self.keeps_marks
     }
 
     /// For how many offers there is room.
@@ -190,8 +189,7 @@ impl Slot {
         row_over(self.base.object.as_ref(), &self.accepted[..self.committed])
     }
 
-    /// The committed state, or `None` where nothing is committed. It goes through all committed
-    /// updates.
+    /// A copy of the committed state, or `None` where nothing is committed.
     pub fn kept(&self, alloc: Global) -> Result<Option<Kept>, Memory>
         ensures kept { IfOk result (λ kept. kept ≡ committed_state self.now.region self.now.state) }
         ensures orderly { IfOk result (λ kept. IfSome kept IsOrderly) }
@@ -202,11 +200,35 @@ impl Slot {
         let line = &self.accepted[..self.committed];
         let row = row_over(self.base.object.as_ref(), line);
         Ok(Some(Kept {
-            key: self.base.key.copy(alloc)?,
+            key: self.key.copy(alloc)?,
             floor: self.floor,
             object: copy_row(alloc, row)?,
-            marks: marks_over(alloc, self.marks, &self.base.marks, line)?,
-            touches: touches_over(alloc, self.marks, &self.base.touches, line)?,
+            marks: marks_over(alloc, self.keeps_marks, &self.base.marks, line)?,
+            touches: touches_over(alloc, self.keeps_marks, &self.base.touches, line)?,
+        }))
+    }
+
+    /// The committed state, or `None` where nothing is committed; all else of the slot is dropped. It
+    /// takes no memory. Where a count of owners is full the slot comes back, as it was.
+    pub fn into_kept(self) -> Result<Option<Kept>, Slot>
+        ensures kept { IfOk result (λ kept. kept ≡ committed_state self.region self.state) }
+        ensures orderly { IfOk result (λ kept. IfSome kept IsOrderly) }
+        ensures back { IfErr result (λ slot. slot ≡ self) }
+    {
+        let mut slot = self;
+        slot.fold();
+        if slot.committed > 0 {
+            return Err(slot);
+        }
+        if slot.floor.0 == 0 {
+            return Ok(None);
+        }
+        Ok(Some(Kept {
+            key: slot.key,
+            floor: slot.floor,
+            object: slot.base.object,
+            marks: Marks::from_vec(slot.base.marks),
+            touches: Touches::from_vec(slot.base.touches),
         }))
     }
 
@@ -218,18 +240,19 @@ impl Slot {
     {
         let mut acked = Vec::new(alloc);
         grow(&mut acked, self.accepted.len() - self.committed)?;
-        let accepted = renewed_line(alloc, self.accepted.as_slice())?;
+        let line = self.accepted.as_slice();
+        let accepted = renewed_line(alloc, line)?;
         Ok(Slot {
             region: self.region,
-            marks: self.marks,
-            base: self.base.copy(alloc)?,
+            spare: 0,
+            keeps_marks: self.keeps_marks,
+            key: self.key.copy(alloc)?,
+            base: renewed_base(alloc, &self.base, self.keeps_marks, line)?,
             accepted,
             committed: self.committed,
             floor: self.floor,
             acked,
             early: Vec::new(alloc),
-            tables: renewed_tables(alloc, &self.tables)?,
-            spare: 0,
         })
     }
 
@@ -266,11 +289,7 @@ impl Slot {
         ensures mark { call_seen result ≡ call_at (mark_of session self.now.state) }
         ensures below { IfSome (call_seen result) (λ (c : ℕ × Version × Answer). c.1.0 ≤ top_of self.now.state) }
     {
-        let newest = newest_of(
-            self.tables.newest.as_slice(),
-            self.accepted.as_slice(),
-            session,
-        );
+        let newest = newest_of(self.accepted.as_slice(), session);
         newer(newest, mark_of(self.base.marks.as_slice(), session))
     }
 
@@ -281,15 +300,15 @@ impl Slot {
         ensures below { result.0 ≤ top_of self.now.state }
     {
         last_touch(
-            self.tables.touches.as_slice(),
+            self.accepted.as_slice(),
             self.base.touches.as_slice(),
             region,
         )
     }
 
-    /// Makes room for n offers, none of which then takes memory: where there is less, for as many
-    /// as the slot has accepted, up to 8. A slot holds fewer than 4,294,967,295 updates; where it
-    /// would hold more, that is [`Memory`] too.
+    /// Makes room for n offers and for what is acknowledged and committed of them, none of which
+    /// then takes memory. A slot holds fewer than 4,294,967,295 updates; where it would hold more,
+    /// that is [`Memory`] too.
     pub fn reserve(&mut self, _alloc: Global, n: u32) -> Result<(), Memory>
         ensures region { self.new.region ≡ self.old.region }
         ensures state { self.new.state ≡ self.old.state }
@@ -299,7 +318,6 @@ impl Slot {
         if n <= self.spare {
             return Ok(());
         }
-        let n = n.max(self.accepted.len().min(MOST_MORE) as u32);
         let coming = self.early.len() + n as usize;
         if self.accepted.len() + coming >= u32::MAX as usize {
             return Err(Memory);
@@ -313,7 +331,8 @@ impl Slot {
             &mut self.acked,
             acks,
         )?;
-        self.tables.reserve(self.marks, coming)?;
+        self.base
+            .reserve(self.keeps_marks, self.accepted.as_slice(), coming)?;
         self.spare = n;
         Ok(())
     }
@@ -448,12 +467,13 @@ impl Slot {
         acknowledged_with(pending, version) as u32
     }
 
-    /// Marks a pending version as acknowledged, and commits nothing.
+    /// Marks a pending version as acknowledged, and commits nothing. It takes no memory.
     pub fn acknowledge(&mut self, version: Version)
         requires pending { is_pending version.0 self.old.state ≡ true }
         ensures state { self.new.state ≡ moved (Acknowledge version.0) self.old.state }
         ensures region { self.new.region ≡ self.old.region }
         ensures spare { self.old.spare ≤ self.new.spare }
+        ensures stands { (s : KeyState) → StandsFor self.old.region self.old.state s → StandsFor self.new.region self.new.state (moved (Acknowledge version.0) s) }
     {
         let pending = rest_of(self.accepted.as_slice(), self.committed);
         let Some(place) = place_of(pending, version) else {
@@ -464,7 +484,8 @@ impl Slot {
         insert_within(&mut self.acked, 0, version);
     }
 
-    /// Commits the lowest pending updates, as far as they are acknowledged, and gives how many.
+    /// Commits the lowest pending updates, as far as they are acknowledged, and gives how many. It
+    /// takes no memory.
     pub fn settle(&mut self) -> u32
         ensures count { result ≡ length (settled self.old.state) }
         ensures state { self.new.state ≡ folded self.old.region (moved_all (settled self.old.state) self.old.state) }
@@ -477,10 +498,12 @@ impl Slot {
         self.floor = last_version(self.floor, &pending[..count]);
         self.committed += count;
         drop_acks_upto(&mut self.acked, self.floor);
+        self.fold();
         count as u32
     }
 
-    /// Forgets the acknowledgements of pending updates and all early updates.
+    /// Forgets the acknowledgements of pending updates and all early updates, in place. It takes no
+    /// memory.
     pub fn reset_acks(&mut self)
         ensures state { self.new.state ≡ moved Forget self.old.state }
         ensures region { self.new.region ≡ self.old.region }
@@ -490,6 +513,34 @@ impl Slot {
         self.acked.clear();
         self.early.clear();
         forget_acks(&mut self.accepted, self.committed);
+    }
+
+    /// The committed updates go into the base, the lowest first, as far as they can.
+    fn fold(&mut self)
+        ensures { self.new ≡ self.old }
+    {
+        for _ in 0..self.committed {
+            if !self.fold_lowest() {
+                return;
+            }
+        }
+    }
+
+    /// The lowest committed update goes into the base, if there is one and no count of owners is
+    /// full.
+    fn fold_lowest(&mut self) -> bool
+        ensures { self.new ≡ self.old }
+    {
+        if self.committed == 0 {
+            return false;
+        }
+        let alloc = *self.accepted.allocator();
+        let Ok(()) = self.base.fold(alloc, self.keeps_marks, &self.accepted[0]) else {
+            return false;
+        };
+        self.accepted.remove(0);
+        self.committed -= 1;
+        true
     }
 
     /// How many early updates have their turns one after another from this version on.
@@ -553,8 +604,6 @@ impl Slot {
     {
         let PlacedUpdate { update, place } = placed;
         drop_version(&mut self.early, update.version);
-        self.tables
-            .note(self.marks, self.accepted.as_slice(), &update);
         self.accepted.push_reserved(AcceptedUpdate {
             update,
             place,

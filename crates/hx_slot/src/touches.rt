@@ -1,15 +1,17 @@
-ghost use Rattle.std.specs.Prelude.{◌≡◌, ◌+◌, ◌<◌, ◌≤◌, IfOk, MatchResult, length, vec_capacity, vec_len};
+ghost use Rattle.std.specs.Prelude.{◌≡◌, ◌+◌, ◌<◌, ◌≤◌, ◌==◌, IfOk, MatchResult, length, vec_capacity, vec_len};
+ghost use Rattle.std.specs.List.{list_any};
 ghost use Rattle.std.specs.List.Sorted.{IsSearchInRange};
-ghost use Rattle.std.specs.Option.{option_map, unwrap_or};
+ghost use Rattle.std.specs.Option.{option_map};
 ghost use Rattle.hx_model.specs.Places.{touched_in};
 ghost use Rattle.hx_model.specs.Slots.{with_touch, with_touches};
-ghost use Rattle.hx_slot.specs.Tabled.{AscendByRegion, IsAt, IsGap, touch_among, touches_over};
+ghost use Rattle.hx_slot.specs.Tabled.{AscendByRegion, IsAt, IsGap, touch_among, touched_over, touches_over};
 ghost use Rattle.hx_types.specs.Words.{provided};
 ghost use Rattle.hx_types.specs.declared.ids.Version.{Version};
+ghost use Rattle.hx_types.specs.declared.updates.Place.{Place};
 
-use crate::rooms::insert_within;
+use crate::rooms::{copy_all, insert_within};
 use crate::updates::AcceptedUpdate;
-use hx_types::{Exact, Memory, Place, RegionId, Touch, Touches, Version};
+use hx_types::{Memory, Place, RegionId, Touch, Touches, Version};
 use std::alloc::Global;
 
 /// The version of a region's touch, found by halving.
@@ -23,16 +25,27 @@ pub fn touch_of(touches: &[Touch], region: RegionId) -> Option<Version>
     }
 }
 
-/// The version of a region's touch in the first list that has one, or 0.
-pub fn last_touch(newer: &[Touch], older: &[Touch], region: RegionId) -> Version
-    requires newer { AscendByRegion newer.now }
-    requires older { AscendByRegion older.now }
-    ensures { result.0 ≡ unwrap_or (touch_among region newer.now) (touched_in region older.now) }
+/// The last version at a region: that of the last of these updates that has a place there, or else
+/// of the region's touch, or 0.
+pub fn last_touch(line: &[AcceptedUpdate], touches: &[Touch], region: RegionId) -> Version
+    requires { AscendByRegion touches.now }
+    ensures { result.0 ≡ touched_over region (touched_in region touches.now) line.now }
 {
-    match touch_of(newer, region) {
-        Some(version) => version,
-        None => touch_of(older, region).unwrap_or(Version(0)),
+    let mut rest = line;
+    while let Some((taken, older)) = rest.split_last() {
+        if has_place(taken.update.places.as_slice(), region) {
+            return taken.update.version;
+        }
+        rest = older;
     }
+    touch_of(touches, region).unwrap_or(Version(0))
+}
+
+/// Whether one of the places is in the region.
+fn has_place(places: &[Place], region: RegionId) -> bool
+    ensures { result ≡ list_any (λ (p : Place). p.region.0 == region.0) places.now }
+{
+    places.iter().any(|place| place.region.0 == region.0)
 }
 
 /// Notes the version as the last one at each of the places. There is room for a touch a place.
@@ -78,16 +91,16 @@ fn search(touches: &[Touch], region: RegionId) -> Result<usize, usize>
 pub fn touches_over(
     alloc: Global,
     kept: bool,
-    base: &Touches,
+    base: &Vec<Touch>,
     line: &[AcceptedUpdate],
 ) -> Result<Touches, Memory>
-    requires { AscendByRegion base.now }
-    ensures { IfOk result (λ touches. touches ≡ provided kept (touches_over base.now line.now)) }
+    requires { AscendByRegion base.now.items }
+    ensures { IfOk result (λ touches. touches ≡ provided kept (touches_over base.now.items line.now)) }
 {
     if !kept {
         return Ok(Touches::new(alloc));
     }
-    let mut touches = base.copy(alloc)?.into_vec();
+    let mut touches = copy_all(base)?;
     for taken in line {
         let update = taken.update.get();
         let places = update.places.as_slice();

@@ -1,6 +1,8 @@
-use Rattle.std.proofs.Common.{◌≡◌, drop}
-use Rattle.hx_slot.specs.Tabled.{mark_found}
+use Rattle.std.proofs.Common.{◌≡◌, None, drop}
+use Rattle.std.specs.Option.{option_copied, option_map}
+use Rattle.hx_model.specs.Slots.{mark_by}
+use Rattle.hx_slot.specs.Tabled.{newest_over}
 use Rattle.hx_slot.proofs.marks.newest_of.Given as goal
 
-abbrev pub invariant-loop-number : goal.invariant-loop-number
-invariant-loop-number l = mark_found l.session l.line (drop l.number-index l.numbers) ≡ mark_found l.session l.line l.numbers
+abbrev pub invariant-loop-taken : goal.invariant-loop-taken
+invariant-loop-taken l = newest_over l.session (option_map mark_by (option_copied l.newest)) (drop l.taken-index l.line) ≡ newest_over l.session None l.line

@@ -3,8 +3,8 @@ use Rattle.hx_types.specs.declared.snapshots.Mark.{Mark}
 use Rattle.hx_slot.proofs.Carrying.{mark-over_at}
 use Rattle.hx_slot.proofs.marks.put_mark.Goals as goal
 
-pub returns-then-mark-index : goal.returns-then-mark-index
-returns-then-mark-index c =
+pub returns-then-mark-index-clause-items : goal.returns-then-mark-index-clause-items
+returns-then-mark-index-clause-items c =
     let i = c.loop-place.place in
     let same = c.loop-place.invariant.items in
     let x = c.index.result.now in

@@ -1,5 +1,5 @@
 -- The update follows the accepted ones, and no copy of it is held.
-use Rattle.std.proofs.Common.{◌-◌, ◌<◌, ◌++◌, ◌∷◌, [], ◌∙◌, false, List, ap, arith, not, eqb, refl, subst, sym}
+use Rattle.std.proofs.Common.{◌-◌, ◌<◌, ◌∙◌, false, ap, arith, not, eqb, refl, subst, sym}
 use Rattle.std.specs.List.{AllByRecursion, filter}
 use Rattle.hx_types.specs.declared.updates.Update.{Update}
 use Rattle.hx_model.specs.Slots.{Take, moved, top_of}
@@ -7,7 +7,6 @@ use Rattle.hx_slot.specs.declared.updates.PlacedUpdate.{PlacedUpdate}
 use Rattle.hx_slot.specs.declared.updates.AcceptedUpdate.{AcceptedUpdate}
 use Rattle.hx_slot.specs.Updates.{IsHeld, IsPlaced, last_version}
 use Rattle.hx_slot.specs.States.{SlotState}
-use Rattle.hx_slot.specs.Tabled.{AreTables}
 use Rattle.hx_slot.proofs.Lean.{accepted-state, floor-seen, top-seen}
 use Rattle.hx_slot.proofs.Accepting.{accepted-slot, by_recursion-filter}
 use Rattle.hx_slot.proofs.slots.Slot.accept.Goals as goal
@@ -23,11 +22,9 @@ invariant_of-self c =
     let held = by_recursion-filter (IsHeld a.region) (λ (p : PlacedUpdate). not (eqb p.update.version.0 t.update.version.0)) a.early.items c.self.invariant.early in
     let dropped = c.drop_version.ensures.items ∙ ap (λ (u : Update). filter (λ (p : PlacedUpdate). not (eqb p.update.version.0 u.version.0)) a.early.items) c.deref.ensures in
     let spare = subst (λ (s : SlotState). 0 < s.spare) (sym c.self.view_is) c.requires.spare in
-    accepted-slot a t c.push_reserved.new.self c.drop_version.new.early c.note.new.self _ c.self.invariant placed above refl
+    accepted-slot a t c.push_reserved.new.self c.drop_version.new.early _ c.self.invariant placed above refl
     c.push_reserved.ensures.items c.push_reserved.ensures.len c.push_reserved.ensures.capacity
     (subst (AllByRecursion (IsHeld a.region)) (sym dropped) held) c.drop_version.ensures.len c.drop_version.ensures.capacity
-    (λ kept. subst (λ (line : List AcceptedUpdate). AreTables (line ++ t ∷ []) c.note.new.self) c.as_slice.ensures.value (c.note.ensures.tables t (sym c.deref-2.ensures) kept))
-    c.note.ensures.sizes
     (omega (arith, spare))
 
 pub returns-clause-state : goal.returns-clause-state
@@ -36,5 +33,5 @@ returns-clause-state c =
     let top = subst (λ (s : SlotState). top_of s.state < t.update.version.0) (sym c.self.view_is) c.requires.above in
     let dropped = c.drop_version.ensures.items ∙ ap (λ (u : Update). filter (λ (p : PlacedUpdate). not (eqb p.update.version.0 u.version.0)) c.self.inside.early.items) c.deref.ensures in
     let floor = floor-seen c.self.inside c.self.invariant in
-    accepted-state c.self.inside t c.push_reserved.new.self c.drop_version.new.early c.note.new.self (c.self.inside.spare - 1) (omega (arith, top, floor)) c.push_reserved.ensures.items dropped
+    accepted-state c.self.inside t c.push_reserved.new.self c.drop_version.new.early (c.self.inside.spare - 1) (omega (arith, top, floor)) c.push_reserved.ensures.items dropped
     ∙ ap (λ (s : SlotState). moved (Take c.args.placed.update) s.state) c.self.view_is

@@ -11,6 +11,7 @@ use Rattle.hx_slot.specs.States.{SlotState}
 use Rattle.hx_slot.proofs.Lean.{acknowledged-state, pending-version}
 use Rattle.hx_slot.proofs.Acking.{none-pending}
 use Rattle.hx_slot.proofs.Settling.{ack-room, acknowledged-slot, acks-with, read-at}
+use Rattle.hx_slot.proofs.Standing.{stands-mark}
 use Rattle.hx_slot.proofs.slots.Slot.acknowledge.Goals as goal
 
 pub unreachable-requires : goal.unreachable-requires
@@ -61,3 +62,6 @@ returns-clause-state c =
     (acks-with v t.update.version.0 a.acked.items c.drop_ack.new.acked.items c.insert_within.new.items.items c.args.version refl at.version c.drop_ack.ensures.items c.insert_within.ensures.items)
     ∙ ap (λ k. moved (Acknowledge k) (seen a).state) at.version
     ∙ ap (λ (s : SlotState). moved (Acknowledge v) s.state) c.self.view_is
+
+pub returns-clause-stands : goal.returns-clause-stands
+returns-clause-stands c = λ s h. stands-mark c.args.self.now.region _ c.args.self.now.state _ s c.args.version.0 (returns-clause-state c) (ap (λ (x : SlotState). x.region) c.self.view_is) h

@@ -25,8 +25,8 @@ made c =
     in
     let key = c.in_ok-copy.ensures in
     let object = c.in_ok-copy_row.ensures ∙ row in
-    let marks = c.in_ok-marks_over.ensures ∙ ap (λ (ts : List AcceptedUpdate). provided a.marks (marks_over a.base.marks ts)) line ∙ marks-seen a c.self.invariant in
-    let touches = c.in_ok-touches_over.ensures ∙ ap (λ (ts : List AcceptedUpdate). provided a.marks (touches_over a.base.touches ts)) line ∙ touches-seen a c.self.invariant in
+    let marks = c.in_ok-marks_over.ensures ∙ ap (λ (ts : List AcceptedUpdate). provided a.keeps_marks (marks_over a.base.marks.items ts)) line ∙ marks-seen a c.self.invariant in
+    let touches = c.in_ok-touches_over.ensures ∙ ap (λ (ts : List AcceptedUpdate). provided a.keeps_marks (touches_over a.base.touches.items ts)) line ∙ touches-seen a c.self.invariant in
     λ j. record { key = key j; floor = a.floor; object = object j; marks = marks j; touches = touches j }
 
 pub returns-clause-kept : goal.returns-clause-kept

@@ -1,6 +1,5 @@
--- The newer of the table's mark and the base's.
-use Rattle.std.proofs.Common.{ℕ, ◌≡◌, ◌<◌, ◌≤◌, List, Option, ◌∙◌, ap, length, subst, sym}
-use Rattle.std.specs.List.{All}
+-- The newer of the accepted updates' mark and the base's.
+use Rattle.std.proofs.Common.{ℕ, ◌≡◌, ◌≤◌, List, Option, None, ◌∙◌, ap, subst, sym}
 use Rattle.std.specs.Option.{IfSome, option_copied}
 use Rattle.hx_types.specs.declared.calls.Answer.{Answer}
 use Rattle.hx_types.specs.declared.ids.Version.{Version}
@@ -8,32 +7,20 @@ use Rattle.hx_types.specs.declared.snapshots.Mark.{Mark}
 use Rattle.hx_model.specs.Slots.{mark_among, mark_of, top_of}
 use Rattle.hx_slot.specs.declared.updates.AcceptedUpdate.{AcceptedUpdate}
 use Rattle.hx_slot.specs.States.{SlotState, call_at, call_seen}
-use Rattle.hx_slot.specs.Tabled.{mark_found, newer_of}
+use Rattle.hx_slot.specs.Tabled.{newer_of, newest_over}
 use Rattle.hx_slot.proofs.Lean.{mark-below, mark-seen}
-use Rattle.hx_slot.proofs.Newer.{numbers-known}
 use Rattle.hx_slot.proofs.slots.Slot.mark.Goals as goal
-
-pub newest_of-newest-requires : goal.newest_of-newest-requires
-newest_of-newest-requires c =
-    let kept = subst (λ (s : SlotState). s.state.marks ≡ _) (sym c.self.view_is) c.requires in
-    let known = numbers-known c.self.inside.accepted.items c.self.inside.tables.newest.items _ (c.self.invariant.tables kept).marks in
-    subst (λ (numbers : List ℕ). All (λ k. k < length c.as_slice-2.result.now) numbers) (sym c.as_slice.ensures.value)
-    (subst (λ (line : List AcceptedUpdate). All (λ k. k < length line) c.self.inside.tables.newest.items) (sym c.as_slice-2.ensures.value) known)
 
 pub returns-clause-mark : goal.returns-clause-mark
 returns-clause-mark c =
     let kept = subst (λ (s : SlotState). s.state.marks ≡ _) (sym c.self.view_is) c.requires in
-    let newest =
-    c.newest_of-newest.ensures
-    ∙ ap (λ (line : List AcceptedUpdate). mark_found c.args.session line c.as_slice.result.now) c.as_slice-2.ensures.value
-    ∙ ap (mark_found c.args.session c.self.inside.accepted.items) c.as_slice.ensures.value
-    in
-    let base = c.mark_of.ensures ∙ ap (mark_among c.args.session) c.as_slice-3.ensures in
+    let newest = c.newest_of-newest.ensures ∙ ap (λ (line : List AcceptedUpdate). newest_over c.args.session None line) c.as_slice.ensures.value in
+    let base = c.mark_of.ensures ∙ ap (mark_among c.args.session) c.as_slice-2.ensures.value in
     subst (λ (s : SlotState). call_seen c.newer.result ≡ call_at (mark_of c.args.session s.state)) c.self.view_is
     (
     c.newer.ensures
     ∙ ap (λ (o : Option Mark). call_at (newer_of o (option_copied c.mark_of.result))) newest
-    ∙ ap (λ (o : Option Mark). call_at (newer_of (mark_found c.args.session c.self.inside.accepted.items c.self.inside.tables.newest.items) o)) base
+    ∙ ap (λ (o : Option Mark). call_at (newer_of (newest_over c.args.session None c.self.inside.accepted.items) o)) base
     ∙ ap call_at (mark-seen c.self.inside c.self.invariant kept c.args.session)
     )
 

@@ -1,22 +1,16 @@
--- The last touch of the table, or else that of the base.
+-- The last touch of the accepted updates, or else that of the base.
 use Rattle.std.proofs.Common.{◌≡◌, ◌≤◌, List, ◌∙◌, ap, arith, subst, sym}
-use Rattle.std.specs.Option.{unwrap_or}
 use Rattle.hx_types.specs.declared.snapshots.Touch.{Touch}
 use Rattle.hx_model.specs.Places.{touched_in}
 use Rattle.hx_model.specs.Slots.{top_of, touches_of}
+use Rattle.hx_slot.specs.declared.updates.AcceptedUpdate.{AcceptedUpdate}
 use Rattle.hx_slot.specs.States.{SlotState}
-use Rattle.hx_slot.specs.Tabled.{AscendByRegion, touch_among}
+use Rattle.hx_slot.specs.Tabled.{AscendByRegion, touched_over}
 use Rattle.hx_slot.proofs.Lean.{touched-below, touched-seen}
-use Rattle.hx_slot.proofs.Noting.{touches-ascend}
 use Rattle.hx_slot.proofs.slots.Slot.touched.Goals as goal
 
 pub last_touch-requires : goal.last_touch-requires
-last_touch-requires c =
-    let kept = subst (λ (s : SlotState). s.state.marks ≡ _) (sym c.self.view_is) c.requires in
-    record {
-      newer = subst AscendByRegion (sym c.as_slice.ensures.value) (touches-ascend c.self.inside.accepted.items c.self.inside.tables (c.self.invariant.tables kept));
-      older = subst AscendByRegion (sym c.as_slice-2.ensures) c.self.invariant.base.regions_ascend;
-    }
+last_touch-requires c = subst AscendByRegion (sym c.as_slice-2.ensures.value) c.self.invariant.base.regions_ascend
 
 pub returns-clause-touched : goal.returns-clause-touched
 returns-clause-touched c =
@@ -24,9 +18,9 @@ returns-clause-touched c =
     subst (λ (s : SlotState). c.last_touch.result.0 ≡ touched_in c.args.region (touches_of s.state)) c.self.view_is
     (
     c.last_touch.ensures
-    ∙ ap (λ (ts : List Touch). unwrap_or (touch_among c.args.region ts) (touched_in c.args.region c.as_slice-2.result.now)) c.as_slice.ensures.value
-    ∙ ap (λ (ts : List Touch). unwrap_or (touch_among c.args.region c.self.inside.tables.touches.items) (touched_in c.args.region ts)) c.as_slice-2.ensures
-    ∙ touched-seen c.self.inside c.self.invariant kept c.args.region
+    ∙ ap (λ (ts : List AcceptedUpdate). touched_over c.args.region (touched_in c.args.region c.as_slice-2.result.now) ts) c.as_slice.ensures.value
+    ∙ ap (λ (ts : List Touch). touched_over c.args.region (touched_in c.args.region ts) c.self.inside.accepted.items) c.as_slice-2.ensures.value
+    ∙ touched-seen c.self.inside kept c.args.region
     )
 
 pub returns-clause-below : goal.returns-clause-below

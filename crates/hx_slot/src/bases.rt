@@ -1,0 +1,95 @@
+ghost use Rattle.std.specs.Prelude.{◌≡◌, ℕ, ◌+◌, ◌*◌, ◌^◌, ◌<◌, IfOk, OnErr, OnOk, Option, length, true};
+ghost use Rattle.std.specs.List.{AllByRecursion};
+ghost use Rattle.std.specs.Option.{unwrap_or};
+ghost use Rattle.hx_types.specs.declared.calls.Row.{Row};
+ghost use Rattle.hx_slot.specs.Bases.{HasBaseRoom, IsFolded, IsWidened};
+ghost use Rattle.hx_slot.specs.States.{HasFewPlaces};
+ghost use Rattle.hx_slot.specs.Tabled.{AscendByRegion};
+ghost use Rattle.hx_slot.specs.Updates.{places_in, row_by};
+ghost use Rattle.hx_slot.specs.declared.updates.AcceptedUpdate.{AcceptedUpdate};
+
+use crate::line::{copy_row, place_count, row_of};
+use crate::marks::{mark_by, put_mark};
+use crate::rooms::grow;
+use crate::touches::note_touches;
+use crate::updates::AcceptedUpdate;
+use hx_types::{MOST_PLACES, Mark, Memory, Row, Touch, Version};
+use std::alloc::Global;
+
+/// What the updates up to a version left of a key: its row, and at a key region the newest call of
+/// each session in ascending order of sessions, and the last version at each region in ascending
+/// order of regions.
+#[derive(Drop)]
+pub struct Base {
+    pub floor: Version,
+    pub object: Option<Row>,
+    pub marks: Vec<Mark>,
+    pub touches: Vec<Touch>,
+}
+
+impl Base {
+    /// Makes room for the marks and the touches of the updates of a line and of so many more, where
+    /// they are kept: each brings a mark, and a touch for each of its places, of which it has at
+    /// most 17.
+    pub fn reserve(
+        &mut self,
+        kept: bool,
+        line: &[AcceptedUpdate],
+        coming: usize,
+    ) -> Result<(), Memory>
+        requires few { AllByRecursion (λ (t : AcceptedUpdate). HasFewPlaces t.update) line.now }
+        requires short { length line.now + coming < 2 ^ 32 }
+        ensures same { IsWidened self.old self.new }
+        ensures room { OnOk result (kept ≡ true → HasBaseRoom self.new (length line.now + coming) (places_in line.now + 17 * coming)) }
+    {
+        if !kept {
+            return Ok(());
+        }
+        grow(&mut self.marks, line.len() + coming)?;
+        grow(&mut self.touches, place_count(line) + MOST_PLACES * coming)?;
+        Ok(())
+    }
+
+    /// Takes an update in: the row after it, and where they are kept its mark and its touches, for
+    /// which there is room. It takes no memory. Where the count of the owners of a shared value is
+    /// full, which it is with 2^63 of them, the base stays.
+    pub fn fold(&mut self, alloc: Global, kept: bool, taken: &AcceptedUpdate) -> Result<(), Memory>
+        requires ascending { AscendByRegion self.old.touches.items }
+        requires room { kept ≡ true → HasBaseRoom self.old 1 (length taken.now.update.places) }
+        ensures folded { OnOk result (IsFolded kept taken.now self.old self.new) }
+        ensures stays { OnErr result (self.new ≡ self.old) }
+    {
+        let change = row_change(alloc, taken)?;
+        if kept {
+            let update = taken.update.get();
+            let mark = mark_by(alloc, update)?;
+            put_mark(&mut self.marks, mark);
+            note_touches(&mut self.touches, update.version, update.places.as_slice());
+        }
+        self.floor = taken.update.version;
+        change_row(&mut self.object, change);
+        Ok(())
+    }
+}
+
+/// The row after an update, where it isn't the one before it.
+fn row_change(alloc: Global, taken: &AcceptedUpdate) -> Result<Option<Option<Row>>, Memory>
+    ensures { IfOk result (λ change. (old : Option Row) → unwrap_or change old ≡ row_by taken.now old) }
+{
+    if !taken.place.keeps {
+        return Ok(Some(None));
+    }
+    if !taken.update.changes {
+        return Ok(None);
+    }
+    let row = copy_row(alloc, row_of(taken))?;
+    Ok(Some(row))
+}
+
+fn change_row(row: &mut Option<Row>, change: Option<Option<Row>>)
+    ensures { row.new ≡ unwrap_or change row.old }
+{
+    if let Some(after) = change {
+        *row = after;
+    }
+}
