@@ -1,3 +1,4 @@
+pub mod Posted
 pub mod Coordinators
 pub mod Changes
 pub mod Leaving

@@ -1,8 +1,10 @@
-ghost use Rattle.std.specs.Prelude.{◌≡◌, IfOk};
+ghost use Rattle.std.specs.Prelude.{◌≡◌, ℕ, ◌+◌, IfOk};
+ghost use Rattle.hx_types.specs.declared.spaces.Space.{Space as SpaceSeen};
 ghost use Rattle.hx_types.specs.Spaces.{IsSpace};
 ghost use Rattle.hx_model.specs.CoordinatorSteps.{coordinator_at_start, coordinator_step};
 ghost use Rattle.hx_coord.specs.Changes.{IsMade, IsPlanOn};
-ghost use Rattle.hx_coord.specs.Coordinators.{CanTake};
+ghost use Rattle.hx_coord.specs.Coordinators.{CanTake, CoordinatorUpTo, IsCoordinatorOf, IsInputOf, known_to};
+ghost use Rattle.hx_coord.specs.Posted.{ArePostsOf, NameOnly, PostsUpTo};
 
 use crate::agendas::Agenda;
 use crate::hearing::hear;
@@ -36,7 +38,8 @@ impl Coordinator {
     /// epoch 1, with nothing to be done.
     pub fn start(alloc: Global, space: &Space, sessions: u32) -> Result<Coordinator, Memory>
         requires { IsSpace space.now }
-        ensures { IfOk result (λ coordinator. coordinator ≡ coordinator_at_start space.now sessions) }
+        ensures state { IfOk result (λ coordinator. coordinator ≡ coordinator_at_start space.now sessions) }
+        ensures of_space { IfOk result (IsCoordinatorOf space.now) }
     {
         let config = Shared::new(alloc, first_config(alloc, space)?)?;
         Ok(Coordinator {
@@ -46,11 +49,16 @@ impl Coordinator {
     }
 
     /// Computes the step that this input makes, and takes all memory that it needs. Nothing
-    /// changes.
+    /// changes. The posts of its entry are of each space of which the coordinator and the input
+    /// are, name only the coordinator and actors that it or the input names, and have epochs at
+    /// most 1 above the greatest that it keeps.
     pub fn prepare(&mut self, alloc: Global, input: &Input) -> Result<Plan, Memory>
         requires { CanTake self.old input.now }
         ensures plan { IfOk result (IsPlanOn self.new) }
         ensures input { IfOk result (λ plan. plan.entry.input ≡ input.now) }
+        ensures of_space { IfOk result (λ plan. (space : SpaceSeen) → IsCoordinatorOf space self.old → IsInputOf space self.old.sessions input.now → ArePostsOf space plan.entry.outputs) }
+        ensures named { IfOk result (λ plan. NameOnly (known_to self.old input.now) plan.entry.outputs) }
+        ensures small { IfOk result (λ plan. (most : ℕ) → CoordinatorUpTo most self.old → PostsUpTo (most + 1) plan.entry.outputs) }
         ensures state { self.new ≡ self.old }
     {
         let made = self.made(alloc, input)?;
@@ -68,11 +76,13 @@ impl Coordinator {
         })
     }
 
-    /// Makes a prepared step, and gives its entry. It takes no memory.
+    /// Makes a prepared step, and gives its entry. It takes no memory. What the coordinator keeps
+    /// stays of its space.
     pub fn apply(&mut self, plan: Plan) -> Entry
         requires { IsPlanOn self.old plan }
         ensures entry { result ≡ plan.entry }
         ensures state { self.new ≡ (coordinator_step self.old plan.entry.input).state }
+        ensures of_space { (space : SpaceSeen) → IsCoordinatorOf space self.old → IsInputOf space self.old.sessions plan.entry.input → IsCoordinatorOf space self.new }
     {
         let Plan {
             entry,

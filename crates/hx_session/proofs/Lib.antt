@@ -3,5 +3,8 @@ pub mod Texts
 pub mod Joining
 pub mod Kept
 pub mod Finding
+pub mod Staying
 pub mod Order
 pub mod Examples
+pub mod Making
+pub mod Posted

@@ -32,9 +32,10 @@ use Rattle.hx_session.specs.declared.parts.Part.{Part}
 use Rattle.hx_session.specs.declared.plans.Change.{Change}
 use Rattle.hx_session.specs.declared.sessions.Session.TheInside.{Inside}
 use Rattle.hx_session.specs.Changes.{changed, part_seen, parts_after}
-use Rattle.hx_session.specs.Inside.{IsInOrder, IsSession, value_of}
-use Rattle.hx_session.specs.Sessions.{SessionValue}
+use Rattle.hx_session.specs.Inside.{IsInOrder, IsSession, IsStateOf, value_of}
+use Rattle.hx_session.specs.Sessions.{CanTake, SessionValue}
 use Rattle.hx_session.proofs.Kept.{regions_of, regions_stay}
+use Rattle.hx_session.proofs.Staying.{step_of_space}
 
 -- the session is in order after a step
 abbrev InOrder : SessionStep → Type 0
@@ -131,8 +132,12 @@ applied_state i v c config parts view adopted put =
     ∙ ap (λ (w : SessionValue). changed w.state c) view
 
 pub applied_in_order : (i : Inside) (v : SessionValue) (c : Change) (config : Config) (parts : List Part) (input : Input) → value_of i ≡ v → IsSession i → config ≡ unwrap_or c.config i.config
-    → map part_seen parts ≡ parts_after (map part_seen i.parts) c.parts → changed v.state c ≡ (session_step v.space v.state input).state → IsSession (after_change i c config parts)
-applied_in_order i v c config parts input view ok adopted put step = record {
-  map_is = ok.map_is;
-  in_order = subst IsInOrder (sym (applied_state i v c config parts view adopted put ∙ step)) (step_in_order v.space v.state (subst (λ (w : SessionValue). IsInOrder w.state) view ok.in_order) input);
-}
+    → map part_seen parts ≡ parts_after (map part_seen i.parts) c.parts → changed v.state c ≡ (session_step v.space v.state input).state → CanTake v.space v.state input → IsSession (after_change i c config parts)
+applied_in_order i v c config parts input view ok adopted put step can =
+    let same : (value_of (after_change i c config parts)).state ≡ (session_step v.space v.state input).state = applied_state i v c config parts view adopted put ∙ step in
+    record {
+      map_is = ok.map_is;
+      of_space = subst (λ (x : Space). IsStateOf x (value_of (after_change i c config parts)).state) (sym (ap (λ (w : SessionValue). w.space) view))
+          (subst (IsStateOf v.space) (sym same) (step_of_space v.space v.state (subst (λ (w : SessionValue). IsStateOf w.space w.state) view ok.of_space) input can));
+      in_order = subst IsInOrder (sym same) (step_in_order v.space v.state (subst (λ (w : SessionValue). IsInOrder w.state) view ok.in_order) input);
+    }

@@ -25,7 +25,7 @@ use Rattle.hx_session.specs.declared.plans.Made.{Made}
 use Rattle.hx_session.specs.declared.plans.Plan.{Plan}
 use Rattle.hx_session.specs.declared.plans.Progress.{Progress}
 use Rattle.hx_session.specs.declared.sending.Sender.{Sender}
-use Rattle.hx_session.specs.Sessions.{SessionValue, session_entry}
+use Rattle.hx_session.specs.Sessions.{CanTake, SessionValue, session_entry}
 
 -- a part as the definitions say it
 abbrev pub part_seen : Part → PartSeen
@@ -73,8 +73,9 @@ pub record IsMade (s : SessionState) (step : SessionStep) (made : Made) : Type 0
   pub notes : made.notes ≡ step.notes
   pub state : changed s made.change ≡ step.state
 
--- the plan is that of the session's step
+-- the plan is that of the session's step on an input that it can take
 pub record IsPlanOn (s : SessionValue) (plan : Plan) : Type 0 where
+  pub takes : CanTake s.space s.state plan.entry.input
   pub entry : plan.entry ≡ session_entry s.space s.state plan.entry.input
   pub change : changed s.state plan.change ≡ (session_step s.space s.state plan.entry.input).state
 

@@ -1,6 +1,8 @@
 -- What contracts see of a session, and what it keeps true.
 use Rattle.std.specs.Prelude.{◌≡◌, ◌≤◌, map, length}
-use Rattle.hx_types.specs.Spaces.{IsAscending}
+use Rattle.std.specs.List.{All}
+use Rattle.hx_types.specs.declared.spaces.Space.{Space}
+use Rattle.hx_types.specs.Spaces.{Fits, IsAscending, IsConfigOf}
 use Rattle.hx_model.specs.SessionSteps.{Part as PartSeen, SessionState}
 use Rattle.hx_session.specs.declared.sessions.Session.TheInside.{Inside}
 use Rattle.hx_session.specs.Changes.{part_seen}
@@ -26,7 +28,13 @@ pub record IsInOrder (s : SessionState) : Type 0 where
   pub few : length s.calls ≤ 16384
   pub ascend : IsAscending (map (λ (p : PartSeen). p.region.0) s.parts)
 
+-- the configuration and the calls are of the space
+pub record IsStateOf (space : Space) (s : SessionState) : Type 0 where
+  pub config : IsConfigOf space s.config
+  pub calls : All (Fits space) s.calls
+
 -- the map is that of the space
 pub record IsSession (s : Inside) : Type 0 where
   pub map_is : s.map ≡ s.space
+  pub of_space : IsStateOf s.space (value_of s).state
   pub in_order : IsInOrder (value_of s).state

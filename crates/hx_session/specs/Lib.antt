@@ -1,4 +1,5 @@
 pub mod Kinds
+pub mod Posted
 pub mod Sessions
 pub mod Changes
 pub mod Joined

@@ -1,17 +1,19 @@
 -- A session as contracts see it, and which inputs it can take.
-use Rattle.std.specs.Prelude.{ℕ, ◌<◌, ◌^◌, Bool, not, ◌&&◌, nat_lt, length, ⊤}
+use Rattle.std.specs.Prelude.{ℕ, ◌<◌, ◌≤◌, ◌^◌, Bool, not, ◌&&◌, nat_lt, length, List, ◌∷◌, ◌++◌, ⊤}
+use Rattle.std.specs.List.{flat_map}
 use Rattle.hx_types.specs.declared.messages.Message.{Message}
 use Rattle.hx_types.specs.declared.ids.Actor.{Actor}
 use Rattle.hx_types.specs.declared.ids.SessionId.{SessionId}
 use Rattle.hx_types.specs.declared.spaces.Space.{Space}
 use Rattle.hx_types.specs.declared.traces.Entry.{Entry}
 use Rattle.hx_types.specs.declared.traces.Input.{Input}
-use Rattle.hx_types.specs.declared.ids.Actor.TheVariants.{Session}
+use Rattle.hx_types.specs.declared.ids.Actor.TheVariants.{Coordinator, Session}
 use Rattle.hx_types.specs.declared.traces.Input.TheVariants.{Tick, Halt, Deliver}
 use Rattle.hx_types.specs.Posts.{IsSoundPost}
 use Rattle.hx_types.specs.Words.{post}
 use Rattle.hx_model.specs.Runs.{entry_of}
 use Rattle.hx_model.specs.SessionSteps.{SessionState, session_step}
+use Rattle.hx_session.specs.Posted.{actors_of_config, actors_of_input, actors_of_op}
 
 -- a session of a space, and its state as the definitions fold it
 pub record SessionValue : Type 0 where
@@ -39,3 +41,11 @@ CanTake space s (Deliver id from m) = IsSoundDelivery space s.id from m
 -- no call is left and none is under way
 abbrev pub is_ended : SessionState → Bool
 is_ended s = not s.under_way && not (nat_lt s.begun (length s.calls))
+
+-- whom the posts of a step may name: the coordinator, and the actors of the session's configuration, of its calls and of the input
+abbrev pub known_to : SessionState → Input → List Actor
+known_to s input = Coordinator ∷ actors_of_config s.config ++ flat_map actors_of_op s.calls ++ actors_of_input input
+
+-- the session's epoch isn't above the bound
+abbrev pub SessionUpTo : ℕ → SessionState → Type 0
+SessionUpTo most s = s.config.epoch.0 ≤ most

@@ -1,4 +1,4 @@
-ghost use Rattle.std.specs.Prelude.{◌≡◌, ◌≤◌, ◌+◌, true, false, length, slice_get, IfOk, IsSomeAnd, None, if◌then◌else◌};
+ghost use Rattle.std.specs.Prelude.{◌≡◌, ℕ, ◌≤◌, ◌+◌, true, false, length, slice_get, IfOk, IsSomeAnd, None, if◌then◌else◌};
 ghost use Rattle.std.specs.List.{All};
 ghost use Rattle.std.specs.Option.{option_copied};
 ghost use Rattle.hx_types.specs.Fitting.{numbered};
@@ -6,7 +6,8 @@ ghost use Rattle.hx_types.specs.Spaces.{Fits, IsSpace};
 ghost use Rattle.hx_model.specs.Schedule.{is_idle};
 ghost use Rattle.hx_model.specs.SessionSteps.{Part as PartSeen, awaits, begin, call_under_way, end_with_parts, ending, found_step, session_at_start, session_install, session_message, session_step, session_tick, staying};
 ghost use Rattle.hx_session.specs.Changes.{IsMade, IsPlanOn, in_config, sent_anew, with_parts};
-ghost use Rattle.hx_session.specs.Sessions.{CanTake, is_ended};
+ghost use Rattle.hx_session.specs.Posted.{ArePostsOf, InputUpTo, NameOnly, PostsUpTo};
+ghost use Rattle.hx_session.specs.Sessions.{CanTake, SessionUpTo, is_ended, known_to};
 ghost use Rattle.hx_session.specs.Kinds.{kind_test};
 
 use crate::kinds::{CallKind, is_of};
@@ -83,11 +84,15 @@ impl Session {
     }
 
     /// Computes the step that this input makes, and takes all memory that it needs. Nothing
-    /// changes.
+    /// changes. The posts of its entry are of the space, name only the coordinator and actors that
+    /// the session or the input names, and have no epoch above the greatest of theirs.
     pub fn prepare(&mut self, alloc: Global, input: &Input) -> Result<Plan, Memory>
         requires { CanTake self.old.space self.old.state input.now }
         ensures plan { IfOk result (IsPlanOn self.new) }
         ensures input { IfOk result (λ plan. plan.entry.input ≡ input.now) }
+        ensures of_space { IfOk result (λ plan. ArePostsOf self.old.space plan.entry.outputs) }
+        ensures named { IfOk result (λ plan. NameOnly (known_to self.old.state input.now) plan.entry.outputs) }
+        ensures small { IfOk result (λ plan. (most : ℕ) → SessionUpTo most self.old.state → InputUpTo most input.now → PostsUpTo most plan.entry.outputs) }
         ensures space { self.new.space ≡ self.old.space }
         ensures state { self.new.state ≡ self.old.state }
     {

@@ -1,0 +1,19 @@
+use Rattle.std.proofs.Common.{sym, subst}
+use Rattle.hx_session.specs.Inside.{IsStateOf}
+use Rattle.hx_session.specs.Posted.{ArePostsOf, NameOnly, PostsUpTo}
+use Rattle.hx_session.specs.Sessions.{SessionValue, known_to}
+use Rattle.hx_session.proofs.Posted.{posts_named, posts_of_space, posts_small}
+use Rattle.hx_session.proofs.sessions.Session.prepare.Goals as goal
+
+pub returns-clause-of_space : goal.returns-clause-of_space
+returns-clause-of_space c =
+    subst (ArePostsOf c.args.self.now.space) (sym c.in_ok-made.ensures.posts)
+    (posts_of_space c.args.self.now.space c.args.self.now.state (subst (λ (v : SessionValue). IsStateOf v.space v.state) c.self.view_is c.self.invariant.of_space) c.args.input.now c.requires)
+
+pub returns-clause-named : goal.returns-clause-named
+returns-clause-named c =
+    subst (NameOnly (known_to c.args.self.now.state c.args.input.now)) (sym c.in_ok-made.ensures.posts) (posts_named c.args.self.now.space c.args.self.now.state c.args.input.now)
+
+pub returns-clause-small : goal.returns-clause-small
+returns-clause-small c = λ most low brings.
+    subst (PostsUpTo most) (sym c.in_ok-made.ensures.posts) (posts_small c.args.self.now.space c.args.self.now.state c.args.input.now most low brings)
