@@ -1,8 +1,8 @@
-ghost use Rattle.std.specs.Prelude.{◌≡◌, ◌<◌, ◌≤◌, ◌+◌, IfOk, IsSome, OnOk, [], ◌∷◌, vec_capacity, vec_len};
+ghost use Rattle.std.specs.Prelude.{◌≡◌, ◌<◌, ◌≤◌, ◌+◌, IfOk, IsSome, OnOk, [], ◌∷◌};
 ghost use Rattle.std.specs.List.{repeat};
 ghost use Rattle.hx_index.specs.Orders.{IndexState, IsIndexOf, IsWithout, count_of, rows_at, rows_without};
 
-use crate::orders::{insert_number, remove_number};
+use crate::orders::{empty_orders, insert_everywhere, remove_everywhere, widen_everywhere};
 use hx_slot::Slot;
 use hx_types::Memory;
 use std::alloc::Global;
@@ -36,10 +36,7 @@ impl Index {
         ensures orders { IfOk result (λ index. index.orders ≡ repeat (attributes + 1) ([] ∷ [])) }
         ensures room { IfOk result (λ index. index.room ≡ 0) }
     {
-        let mut orders = Vec::new(alloc);
-        for _ in 0..attributes as usize + 1 {
-            orders.push(Vec::new(alloc))?;
-        }
+        let orders = empty_orders(alloc, attributes as usize + 1)?;
         Ok(Index { orders, room: 0 })
     }
 
@@ -52,9 +49,7 @@ impl Index {
         if n <= self.room {
             return Ok(());
         }
-        for attribute in 0..self.orders.len() {
-            widen(&mut self.orders[attribute], n as usize)?;
-        }
+        widen_everywhere(&mut self.orders, n)?;
         self.room = n;
         Ok(())
     }
@@ -70,9 +65,7 @@ impl Index {
         ensures count { count_of self.new ≡ count_of self.old + 1 }
         ensures room { self.new.room ≡ self.old.room }
     {
-        for attribute in 0..self.orders.len() {
-            insert_number(&mut self.orders[attribute], slots, attribute as u32, id);
-        }
+        insert_everywhere(&mut self.orders, slots, id);
     }
 
     /// Takes the slot with this number out of every order, by the object that it has still. It
@@ -85,21 +78,6 @@ impl Index {
         ensures count { count_of self.new + 1 ≡ count_of self.old }
         ensures room { self.new.room ≡ self.old.room }
     {
-        for attribute in 0..self.orders.len() {
-            remove_number(&mut self.orders[attribute], slots, attribute as u32, id);
-        }
+        remove_everywhere(&mut self.orders, slots, id);
     }
-}
-
-/// Makes room for so many numbers in all.
-fn widen(order: &mut Vec<u32>, n: usize) -> Result<(), Memory>
-    ensures items { order.new.items ≡ order.old.items }
-    ensures len { vec_len order.new ≡ vec_len order.old }
-    ensures capacity { vec_capacity order.old ≤ vec_capacity order.new }
-    ensures room { OnOk result (n ≤ vec_capacity order.new) }
-{
-    if order.len() < n {
-        order.reserve(n - order.len())?;
-    }
-    Ok(())
 }
