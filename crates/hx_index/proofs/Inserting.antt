@@ -56,7 +56,7 @@ module _ (R : ℕ → ℕ → Ordering) (o : IsTotalOrder R) where
         by Equal q f = absurd (n (exact x id q))
         by Greater q f = refl
 
-    less-differs : (x y : ℕ) → R x y ≡ Less → x ≡ y → ⊥
+    pub less-differs : (x y : ℕ) → R x y ≡ Less → x ≡ y → ⊥
     less-differs x y e q = by (R x x) (o.antisymm x x) (ap (λ z. R x z) q ∙ e)
       where
         by : (a : Ordering) → a ≡ ordering_reverse a → a ≡ Less → ⊥

@@ -5,3 +5,7 @@ pub mod Looping
 pub mod Showing
 pub mod Siding
 pub mod Halving
+pub mod Running
+pub mod Narrowing
+pub mod Matched
+pub mod Examples

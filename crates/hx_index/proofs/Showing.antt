@@ -1,11 +1,12 @@
 -- What an index keeps, and what contracts see of it.
 use Rattle.std.proofs.Common.{◌≡◌, ℕ, zero, suc, ◌+◌, ◌<◌, ◌≤◌, ◌^◌, List, [], ◌∷◌, ◌++◌, length, map, slice_get, slice_index_or, Some, None, Option, IsSome, Vec, vec_len, vec_capacity, refl, ap, sym, ◌∙◌, subst, arith}
 use Rattle.std.specs.List.{repeat}
+use Rattle.std.specs.List.Sorted.{IsStrictlySortedBy}
 use Rattle.std.proofs.lemmas.Option.{same_Some, slice_get-get_or, slice_get_within}
 use Rattle.hx_types.specs.Words.{when_some}
 use Rattle.hx_types.specs.declared.calls.Row.{Row}
 use Rattle.hx_index.specs.Invariant.{AreOrders, EachMoves, HasOrders, HasRoom, HaveRoom, HaveRoomFor, IsAdded, IsRemoved, IsWidened, items_of}
-use Rattle.hx_index.specs.Orders.{IndexState, IsIndexOf, IsOrder, IsWithout, count_of, order_of, rows_without, without}
+use Rattle.hx_index.specs.Orders.{IndexState, IsIndexOf, IsOrder, IsWithout, count_of, no_rows, order_of, rows_without, without}
 
 -- an empty list more
 repeat-more : (n : ℕ) (xs : List (List ℕ)) → repeat n xs ++ xs ≡ xs ++ repeat n xs → repeat (suc n) xs ++ xs ≡ xs ++ repeat (suc n) xs
@@ -113,6 +114,7 @@ module _ {Z : Type 0} where
 
       pub added-orders : EachMoves (IsAdded rows id) os new → count_in os < room → HasOrders new room
       added-orders m less = record {
+        small = h.small;
         within = (let c = added-count m in omega (arith, c, less));
         some = (let s = h.some in let n = m.count in omega (arith, s, n));
         few = (let s = h.few in let n = m.count in omega (arith, s, n));
@@ -142,6 +144,7 @@ module _ {Z : Type 0} where
 
       pub removed-orders : EachMoves (IsRemoved rows id) os new → HasOrders new room
       removed-orders m = record {
+        small = h.small;
         within = (let c = removed-count m in let w = h.within in omega (arith, c, w));
         some = (let s = h.some in let n = m.count in omega (arith, s, n));
         few = (let s = h.few in let n = m.count in omega (arith, s, n));
@@ -166,8 +169,9 @@ module _ {Z : Type 0} where
         map-same [] = refl
         map-same (x ∷ xs) = ap (λ (l : List (List ℕ)). x ∷ l) (map-same xs)
 
-    pub widened-orders : (new : List (Vec ℕ Z)) (most : ℕ) → room ≤ most → EachMoves IsWidened os new → ((k : ℕ) (o : Vec ℕ Z) → slice_get new k ≡ Some o → room ≤ vec_capacity o → most ≤ vec_capacity o) → HasOrders new most
-    widened-orders new most least m more = record {
+    pub widened-orders : (new : List (Vec ℕ Z)) (most : ℕ) → room ≤ most → most < 2 ^ 32 → EachMoves IsWidened os new → ((k : ℕ) (o : Vec ℕ Z) → slice_get new k ≡ Some o → room ≤ vec_capacity o → most ≤ vec_capacity o) → HasOrders new most
+    widened-orders new most least small m more = record {
+      small = small;
       within = (let w = h.within in let c = ap (λ (l : List (List ℕ)). length (when_some (slice_get l 0) [] (λ (numbers : List ℕ). numbers))) (widened-same new m) in omega (arith, c, w, least));
       some = (let s = h.some in let n = m.count in omega (arith, s, n));
       few = (let s = h.few in let n = m.count in omega (arith, s, n));
@@ -184,6 +188,7 @@ pub empty-orders : {Z : Type 0} (os : List (Vec ℕ Z)) (n : ℕ) → items_of o
 empty-orders os n e few =
     let count : length os ≡ n + 1 = sym (items-length os) ∙ ap length e ∙ length-repeat (n + 1) in
     record {
+      small = omega arith;
       some = omega (arith, count);
       few = omega (arith, count, few);
       within = (let first : length (when_some (slice_get (items_of os) 0) [] (λ (numbers : List ℕ). numbers)) ≡ 0 = ap (λ (l : List (List ℕ)). length (when_some (slice_get l 0) [] (λ (numbers : List ℕ). numbers))) (e ∙ ap (λ m. repeat m ([] ∷ [])) (let s : n + 1 ≡ suc n = omega arith in s)) in omega (arith, first));
@@ -193,3 +198,15 @@ empty-orders os n e few =
         let zero_len = ap length none in
         record { len = omega (arith, zero_len, first); room = omega arith };
     }
+
+-- the index of no slots
+pub empty-index : (index : IndexState) (n : ℕ) → index.orders ≡ repeat n ([] ∷ []) → IsIndexOf no_rows index
+unfolding IsStrictlySortedBy
+empty-index index n e k l =
+    let none : order_of index k ≡ [] = ap (λ (os : List (List ℕ)). when_some (slice_get os k) [] (λ (numbers : List ℕ). numbers)) e ∙ by n k in
+    subst (IsOrder no_rows k) (sym none) (record { ascend = tt; each = λ i. refl })
+  where
+    by : (n k : ℕ) → when_some (slice_get (repeat n (no-numbers ∷ [])) k) [] (λ (numbers : List ℕ). numbers) ≡ []
+    by zero k = refl
+    by (suc n) zero = refl
+    by (suc n) (suc k) = by n k

@@ -71,6 +71,7 @@ pub record HasOrders {Z : Type 0} (orders : List (Vec ℕ Z)) (most : ℕ) : Typ
   pub some : 0 < length orders
   pub few : length orders ≤ 2 ^ 32
   pub within : length (when_some (slice_get (items_of orders) 0) [] (λ (numbers : List ℕ). numbers)) ≤ most
+  pub small : most < 2 ^ 32
   pub each : (k : ℕ) (order : Vec ℕ Z) → slice_get orders k ≡ Some order → HasRoom (length (when_some (slice_get (items_of orders) 0) [] (λ (numbers : List ℕ). numbers))) most order
 
 -- in the order of an attribute all that match stand from the first place to the end

@@ -86,3 +86,7 @@ rows_without id rows i = if i == id then None else rows i
 -- in every order the numbers of the one index are those of the other but for one, in the same order
 abbrev pub IsWithout : ℕ → IndexState → IndexState → Type 0
 IsWithout id fewer more = fewer.orders ≡ map (without id) more.orders
+
+-- no slot keeps an object
+abbrev pub no_rows : ℕ → Option Row
+no_rows i = None

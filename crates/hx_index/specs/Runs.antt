@@ -1,5 +1,5 @@
 -- The run of a term: the part of the order of its attribute whose objects meet it.
-use Rattle.std.specs.Prelude.{◌≡◌, ℕ, ◌<◌, ◌≤◌, ◌&&◌, List, length, nat_lt, nat_le, slice_index_or}
+use Rattle.std.specs.Prelude.{◌≡◌, ℕ, ◌<◌, ◌≤◌, ◌&&◌, List, length, nat_lt, nat_le, slice_index_or, Option}
 use Rattle.hx_types.specs.declared.calls.Row.{Row}
 use Rattle.hx_types.specs.declared.values.Term.{Term}
 use Rattle.hx_index.specs.Sides.{meets_at}

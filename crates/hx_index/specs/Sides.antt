@@ -9,7 +9,7 @@ use Rattle.hx_types.specs.declared.values.Value.TheVariants as a_value
 use Rattle.hx_types.specs.declared.values.Term.TheVariants as a_term
 use Rattle.hx_types.specs.Spaces.{attribute_of}
 use Rattle.hx_types.specs.Words.{when_some}
-use Rattle.hx_model.specs.Matching.{matches}
+use Rattle.hx_model.specs.Matching.{matches, term_holds}
 use Rattle.hx_index.specs.declared.looking.Side.{Side}
 use Rattle.hx_index.specs.declared.looking.Side.TheVariants.{Below, Meets, Above}
 use Rattle.hx_index.specs.Orders.{compare_values, value_of}
@@ -37,15 +37,10 @@ side_of term found = when_some found Below (side_of_value term)
 abbrev pub side_at : (ℕ → Option Row) → Term → ℕ → Side
 side_at rows term i = when_some (rows i) Below (λ (r : Row). side_of term (value_of (attribute_of term) r))
 
-abbrev pub is_meets : Side → Bool
-is_meets Below = false
-is_meets Meets = true
-is_meets Above = false
-
--- the kept object of a slot meets the term
+-- the term holds of the kept object of a slot
 abbrev pub meets_at : (ℕ → Option Row) → Term → ℕ → Bool
-meets_at rows term i = is_meets (side_at rows term i)
+meets_at rows term i = when_some (rows i) false (λ (r : Row). term_holds r.key r.object term)
 
--- every term holds of the kept object of a slot
+-- every term holds of it
 abbrev pub matches_at : (ℕ → Option Row) → List Term → ℕ → Bool
 matches_at rows terms i = when_some (rows i) false (λ (r : Row). matches terms r.key r.object)

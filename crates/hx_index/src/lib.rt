@@ -19,5 +19,5 @@ pub use indexes::Index;
 pub use looking::{Ids, Look, Side};
 pub use views::View;
 
-
-
+#[cfg(test)]
+mod tests;

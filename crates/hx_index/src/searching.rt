@@ -1,4 +1,4 @@
-ghost use Rattle.std.specs.Prelude.{◌≡◌, ◌<◌, ◌≤◌, ◌+◌, ◌-◌, IfOk, IsSome, length};
+ghost use Rattle.std.specs.Prelude.{◌≡◌, ◌<◌, ◌≤◌, ◌+◌, ◌-◌, IfOk, IsSome, if◌then◌else◌, length, nat_lt};
 ghost use Rattle.std.specs.List.{All, filter};
 ghost use Rattle.hx_types.specs.Spaces.{attribute_of};
 ghost use Rattle.hx_index.specs.Invariant.{IsEnd, is_part};
@@ -18,13 +18,16 @@ pub struct Span {
     pub end: u32,
 }
 
-impl Span {
-    /// How many numbers stand in it.
-    pub fn len(self) -> u32
-        requires { self.first ≤ self.end }
-        ensures { result ≡ self.end - self.first }
-    {
-        self.end - self.first
+/// The part with fewer numbers, the other one where they have as many.
+pub fn shorter(one: Span, other: Span) -> Span
+    requires one { one.first ≤ one.end }
+    requires other { other.first ≤ other.end }
+    ensures { result ≡ (if nat_lt (one.end - one.first) (other.end - other.first) then one else other) }
+{
+    if one.end - one.first < other.end - other.first {
+        one
+    } else {
+        other
     }
 }
 
