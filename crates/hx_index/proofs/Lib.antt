@@ -1,0 +1,11 @@
+pub mod Totals
+pub mod Inserting
+pub mod Placing
+pub mod Looping
+pub mod Showing
+pub mod Siding
+pub mod Halving
+pub mod Running
+pub mod Narrowing
+pub mod Matched
+pub mod Examples

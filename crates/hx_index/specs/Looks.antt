@@ -1,0 +1,21 @@
+-- How looks at objects are counted.
+use Rattle.std.specs.Prelude.{ℕ, zero, suc, ◌+◌, ◌/◌, ◌==◌, List, if◌then◌else◌}
+use Rattle.hx_slot.specs.States.{SlotState}
+
+-- one look more; the count stays at the greatest `u64`
+abbrev pub raised : ℕ → ℕ
+raised looks = if looks == 0xffff_ffff_ffff_ffff then looks else looks + 1
+
+-- the number of binary digits of n, as far as so many
+abbrev pub digits_within : ℕ → ℕ → ℕ
+digits_within zero n = 0
+digits_within (suc most) n = if n == 0 then 0 else suc (digits_within most (n / 2))
+
+-- the number of binary digits of n, 0 for 0
+abbrev pub digits_of : ℕ → ℕ
+digits_of n = digits_within n n
+
+-- a look at slots: their kept objects, and the number of looks so far
+pub record ViewState : Type 0 where
+  pub slots : List SlotState
+  pub looks : ℕ

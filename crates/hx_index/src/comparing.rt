@@ -1,0 +1,117 @@
+ghost use Rattle.std.specs.Prelude.{◌≡◌};
+ghost use Rattle.std.specs.Option.{option_cmp, option_copied};
+ghost use Rattle.std.specs.Ordering.{is_lt};
+ghost use Rattle.hx_slot.specs.Updates.{row_seen};
+ghost use Rattle.hx_index.specs.Orders.{compare_at, compare_rows, compare_values, row_lent, rows_at};
+ghost use Rattle.hx_index.specs.Sides.{side_in, side_of, side_of_value};
+
+use crate::looking::Side;
+use hx_slot::{RowRef, Slot};
+use hx_types::{Term, Value};
+use std::cmp::Ordering;
+
+/// Texts by bytes, then numbers by size.
+fn compare_values(one: &Value, other: &Value) -> Ordering
+    ensures { result ≡ compare_values one.now other.now }
+{
+    match (one, other) {
+        (Value::Text(one), Value::Text(other)) => one.cmp(other),
+        (Value::Text(_), Value::Int(_)) => Ordering::Less,
+        (Value::Int(_), Value::Text(_)) => Ordering::Greater,
+        (Value::Int(one), Value::Int(other)) => one.cmp(other),
+    }
+}
+
+/// The missing value first.
+fn compare_found(one: Option<&Value>, other: Option<&Value>) -> Ordering
+    ensures { result ≡ option_cmp compare_values (option_copied one.entry) (option_copied other.entry) }
+{
+    match (one, other) {
+        (None, None) => Ordering::Equal,
+        (None, Some(_)) => Ordering::Less,
+        (Some(_), None) => Ordering::Greater,
+        (Some(one), Some(other)) => compare_values(one, other),
+    }
+}
+
+/// Rows by an attribute, then by their keys.
+fn compare_rows(attribute: u32, one: RowRef<'_>, other: RowRef<'_>) -> Ordering
+    ensures { result ≡ compare_rows attribute (row_lent one.entry) (row_lent other.entry) }
+{
+    if attribute == 0 {
+        return one.key.cmp(other.key);
+    }
+    let number = attribute as usize - 1;
+    match compare_found(one.object.get(number), other.object.get(number)) {
+        Ordering::Less => Ordering::Less,
+        Ordering::Equal => one.key.cmp(other.key),
+        Ordering::Greater => Ordering::Greater,
+    }
+}
+
+/// The kept object of a slot.
+pub fn row_at(slots: &[Slot], id: u32) -> Option<RowRef<'_>>
+    ensures { row_seen result ≡ rows_at slots.now id }
+{
+    match slots.get(id as usize) {
+        Some(slot) => slot.row(),
+        None => None,
+    }
+}
+
+/// The slots without a kept object first.
+fn compare_kept(attribute: u32, one: Option<RowRef<'_>>, other: Option<RowRef<'_>>) -> Ordering
+    ensures { result ≡ option_cmp (compare_rows attribute) (row_seen one.entry) (row_seen other.entry) }
+{
+    match (one, other) {
+        (None, None) => Ordering::Equal,
+        (None, Some(_)) => Ordering::Less,
+        (Some(_), None) => Ordering::Greater,
+        (Some(one), Some(other)) => compare_rows(attribute, one, other),
+    }
+}
+
+/// Whether a slot stands before another in the order of an attribute.
+pub fn is_before(slots: &[Slot], attribute: u32, one: u32, other: u32) -> bool
+    ensures { result ≡ is_lt (compare_at (rows_at slots.now) attribute one other) }
+{
+    match compare_kept(attribute, row_at(slots, one), row_at(slots, other)) {
+        Ordering::Less => true,
+        Ordering::Equal => one < other,
+        Ordering::Greater => false,
+    }
+}
+
+/// On which side of the values that meet a term a value lies; a missing one lies below.
+pub fn side_of(term: &Term, found: Option<&Value>) -> Side
+    ensures { result ≡ side_of term.now (option_copied found.entry) }
+{
+    match found {
+        Some(found) => side_of_value(term, found),
+        None => Side::Below,
+    }
+}
+
+fn side_of_value(term: &Term, found: &Value) -> Side
+    ensures { result ≡ side_of_value term.now found.now }
+{
+    match term {
+        Term::Equal { value, .. } => match compare_values(found, value) {
+            Ordering::Less => Side::Below,
+            Ordering::Equal => Side::Meets,
+            Ordering::Greater => Side::Above,
+        },
+        Term::Range { lo, hi, .. } => side_of_range(*lo, *hi, found),
+    }
+}
+
+fn side_of_range(lo: i64, hi: i64, found: &Value) -> Side
+    ensures { result ≡ side_in lo hi found.now }
+{
+    match found {
+        Value::Text(_) => Side::Below,
+        Value::Int(number) if *number < lo => Side::Below,
+        Value::Int(number) if *number <= hi => Side::Meets,
+        Value::Int(_) => Side::Above,
+    }
+}
