@@ -11,4 +11,6 @@ pub use hx_clock::{Part, Parts, Stamped};
 pub use merging::merge;
 
 #[cfg(test)]
+mod small_run;
+#[cfg(test)]
 mod tests;
