@@ -1,5 +1,5 @@
 -- What stays of a port: its name, and that it carries it.
-use Rattle.std.proofs.Common.{◌≡◌, ℕ, ◌≤◌, ◌+◌, eqb, List, ◌++◌, map, Some, refl, ap, sym, subst, ◌∙◌, arith}
+use Rattle.std.proofs.Common.{◌≡◌, ℕ, ◌≤◌, eqb, List, ◌++◌, map, Some, refl, sym, subst, ◌∙◌, arith}
 use Rattle.std.specs.Prelude.{Option, None, MatchOption}
 use Rattle.crossbeam_queue.specs.Fifo.{Forks}
 use Rattle.hx_clock.specs.Views.{either_count, one}
@@ -63,7 +63,7 @@ first_count (Some m) d n none e = e
 pub join_named : (name splits : ℕ) (v w both : PortView) → IsNamed name splits v → ((n : ℕ) → w.splits ≡ Some n → ⊥) → both ≡ joined_port v w → IsNamed name splits both
 join_named name splits v w both h none is =
     subst (IsNamed name splits) (sym is)
-        (named_on name splits v (joined_port v w) refl (λ n e. first_count v.splits w.splits n none e) (λ k. join_more k v.lists w.lists) h)
+    (named_on name splits v (joined_port v w) refl (λ n e. first_count v.splits w.splits n none e) (λ k. join_more k v.lists w.lists) h)
 
 pub take_either : (H : Type 0) (name splits : ℕ) (v w : PortView) (r : Option Letter) → IsNamed name splits v
     → MatchOption r ((w ≡ v) × H) (λ x. (w ≡ after_take (sent_of x) v) × ((n : BoxNames) → v.of_box ≡ Some n → IsFor n x)) → IsNamed name splits w

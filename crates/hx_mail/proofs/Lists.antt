@@ -1,19 +1,16 @@
 -- The lists of what was put and taken under names.
-use Rattle.std.proofs.Common.{◌≡◌, ◌≢◌, ℕ, zero, suc, ◌+◌, ◌<◌, ◌≤◌, ◌⊎◌, inl, inr, ⊎_elim, Bool, true, false, cond, eqb, List, [], ◌∷◌, ◌++◌, map, length, Option, Some, None, refl, ap, sym, subst, ◌∙◌, arith, append_assoc, append-nil, eqb-true}
+use Rattle.std.proofs.Common.{◌≡◌, ◌≢◌, ℕ, ◌<◌, ◌≤◌, inl, inr, ⊎_elim, Bool, true, false, cond, eqb, List, [], ◌∷◌, ◌++◌, map, refl, ap, sym, subst, ◌∙◌, arith, append-nil}
 use Rattle.std.specs.Prelude.{nat_lt}
 use Rattle.std.proofs.lemmas.Bool.{ltb-true}
 use Rattle.std.proofs.lemmas.Bool.Decides.{eqb_tells, nat_tests}
 use Rattle.hx_mail.specs.declared.views.Mailed.{Mailed}
 use Rattle.std.specs.List.{AllByRecursion}
-use mathlib.Core.List.{IsPrefix}
 use Rattle.hx_types.specs.Words.{IsIn}
-use Rattle.hx_clock.specs.Views.{either_count, one, total}
-use Rattle.hx_clock.specs.Rule.{counts}
-use Rattle.hx_clock.proofs.Lists.{total-append, total-at, each_in}
+use Rattle.hx_clock.specs.Views.{one}
 use Rattle.hx_mail.specs.declared.views.PortLists.{PortLists}
 use Rattle.hx_mail.specs.declared.views.Sent.{Sent}
-use Rattle.hx_mail.specs.Ports.{sent, lists_of, put_by, times, put_in, take_in}
-use Rattle.hx_mail.specs.Rule.{TakenBy, taken_under, taken_by}
+use Rattle.hx_mail.specs.Ports.{lists_of, put_by, times, put_in, take_in}
+use Rattle.hx_mail.specs.Rule.{TakenBy, taken_by}
 
 pub map-snoc : {A B : Type 0} (f : A → B) (xs : List A) (x : A) → map f (xs ++ x ∷ []) ≡ map f xs ++ f x ∷ []
 map-snoc f [] x = refl
@@ -100,8 +97,8 @@ pub lists-of : (k : ℕ) (bs : List PortLists) → 1 ≤ times k bs → (b : Por
 lists-of k [] h = absurd (omega arith)
 lists-of k (c ∷ bs) h =
     ⊎_elim (λ (e : (eqb k c.name ≡ true) × (k ≡ c.name)). (c, inl refl, e.1))
-        (λ (e : (eqb k c.name ≡ false) × (k ≢ c.name)). let z = one-not k c.name e.1 in let r = lists-of k bs (omega arith) in (r.0, inr r.1, r.2))
-        (eqb_tells k c.name)
+    (λ (e : (eqb k c.name ≡ false) × (k ≢ c.name)). let z = one-not k c.name e.1 in let r = lists-of k bs (omega arith) in (r.0, inr r.1, r.2))
+    (eqb_tells k c.name)
 
 pub put_in-name : (own : ℕ) (p : Mailed) (b : PortLists) → (put_in own p b).name ≡ b.name
 put_in-name own p b = elim (eqb own b.name) as (λ c. (cond c (lists_of b.name (b.put ++ p ∷ []) b.taken) b).name ≡ b.name) [ true ↦ refl | false ↦ refl ]
@@ -119,17 +116,17 @@ pub put_in-put : (log : List Sent) (s : Sent) (b : PortLists) → b.put ≡ put_
 put_in-put log s b e =
     let P : Bool → Type 0 = λ c. (cond c (lists_of b.name (b.put ++ s.mailed ∷ []) b.taken) b).put ≡ put_by b.name (log ++ s ∷ []) in
     ⊎_elim
-        (λ (h : (eqb s.port b.name ≡ true) × (s.port ≡ b.name)). subst P (sym h.0) (ap (λ w. w ++ s.mailed ∷ []) e ∙ sym (put-own b.name log s (sym h.1))))
-        (λ (h : (eqb s.port b.name ≡ false) × (s.port ≢ b.name)). subst P (sym h.0) (e ∙ sym (put-other b.name log s (λ q. h.1 (sym q)))))
-        (eqb_tells s.port b.name)
+    (λ (h : (eqb s.port b.name ≡ true) × (s.port ≡ b.name)). subst P (sym h.0) (ap (λ w. w ++ s.mailed ∷ []) e ∙ sym (put-own b.name log s (sym h.1))))
+    (λ (h : (eqb s.port b.name ≡ false) × (s.port ≢ b.name)). subst P (sym h.0) (e ∙ sym (put-other b.name log s (λ q. h.1 (sym q)))))
+    (eqb_tells s.port b.name)
 
 pub take_in-taken : (out : List TakenBy) (g : TakenBy) (b : PortLists) → b.taken ≡ taken_by b.name out → (take_in g.port g.sent b).taken ≡ taken_by b.name (out ++ g ∷ [])
 take_in-taken out g b e =
     let P : Bool → Type 0 = λ c. (cond c (lists_of b.name b.put (b.taken ++ g.sent ∷ [])) b).taken ≡ taken_by b.name (out ++ g ∷ []) in
     ⊎_elim
-        (λ (h : (eqb g.port b.name ≡ true) × (g.port ≡ b.name)). subst P (sym h.0) (ap (λ w. w ++ g.sent ∷ []) e ∙ sym (taken-own b.name out g (sym h.1))))
-        (λ (h : (eqb g.port b.name ≡ false) × (g.port ≢ b.name)). subst P (sym h.0) (e ∙ sym (taken-other b.name out g (λ q. h.1 (sym q)))))
-        (eqb_tells g.port b.name)
+    (λ (h : (eqb g.port b.name ≡ true) × (g.port ≡ b.name)). subst P (sym h.0) (ap (λ w. w ++ g.sent ∷ []) e ∙ sym (taken-own b.name out g (sym h.1))))
+    (λ (h : (eqb g.port b.name ≡ false) × (g.port ≢ b.name)). subst P (sym h.0) (e ∙ sym (taken-other b.name out g (λ q. h.1 (sym q)))))
+    (eqb_tells g.port b.name)
 
 pub times-map : (k : ℕ) (f : PortLists → PortLists) (bs : List PortLists) → ((b : PortLists) → (f b).name ≡ b.name) → times k (map f bs) ≡ times k bs
 times-map k f [] e = refl
@@ -140,16 +137,16 @@ taken_in [] g h = absurd h
 taken_in (a ∷ out) g h =
     let P : Bool → Type 0 = λ c. IsIn g.sent (cond c (a.sent ∷ taken_by g.port out) (taken_by g.port out)) in
     ⊎_elim
-        (λ (e : (eqb g.port a.port ≡ true) × (g.port ≡ a.port)).
-            subst P (sym e.0) (⊎_elim (λ (y : g ≡ a). inl (ap (λ (r : TakenBy). r.sent) y)) (λ r. inr (taken_in out g r)) h))
-        (λ (e : (eqb g.port a.port ≡ false) × (g.port ≢ a.port)).
-            subst P (sym e.0) (⊎_elim (λ (y : g ≡ a). absurd (e.1 (ap (λ (r : TakenBy). r.port) y))) (λ r. taken_in out g r) h))
-        (eqb_tells g.port a.port)
+    (λ (e : (eqb g.port a.port ≡ true) × (g.port ≡ a.port)).
+    subst P (sym e.0) (⊎_elim (λ (y : g ≡ a). inl (ap (λ (r : TakenBy). r.sent) y)) (λ r. inr (taken_in out g r)) h))
+    (λ (e : (eqb g.port a.port ≡ false) × (g.port ≢ a.port)).
+    subst P (sym e.0) (⊎_elim (λ (y : g ≡ a). absurd (e.1 (ap (λ (r : TakenBy). r.port) y))) (λ r. taken_in out g r) h))
+    (eqb_tells g.port a.port)
 
 pub all_by : (t : ℕ) (out : List TakenBy) → AllByRecursion (λ g. g.port ≡ t) out → taken_by t out ≡ map (λ (g : TakenBy). g.sent) out
 all_by t [] h = refl
 all_by t (g ∷ out) h =
     ⊎_elim
-        (λ (e : (eqb t g.port ≡ true) × (t ≡ g.port)). ap (λ c. cond c (g.sent ∷ taken_by t out) (taken_by t out)) e.0 ∙ ap (λ w. g.sent ∷ w) (all_by t out h.1))
-        (λ (e : (eqb t g.port ≡ false) × (t ≢ g.port)). absurd (e.1 (sym h.0)))
-        (eqb_tells t g.port)
+    (λ (e : (eqb t g.port ≡ true) × (t ≡ g.port)). ap (λ c. cond c (g.sent ∷ taken_by t out) (taken_by t out)) e.0 ∙ ap (λ w. g.sent ∷ w) (all_by t out h.1))
+    (λ (e : (eqb t g.port ≡ false) × (t ≢ g.port)). absurd (e.1 (sym h.0)))
+    (eqb_tells t g.port)

@@ -1,21 +1,17 @@
 -- A port with all names knows that each put was taken at most once.
-use Rattle.std.proofs.Common.{◌≡◌, ◌≢◌, ℕ, ◌+◌, ◌<◌, ◌≤◌, ⊎_elim, Bool, true, false, cond, eqb, List, [], ◌∷◌, ◌++◌, map, Option, Some, refl, ap, sym, subst, ◌∙◌, arith, map-id, eqb-true}
-use mathlib.Core.Option.{some}
-use lib.ListN.{get_elem?}
+use Rattle.std.proofs.Common.{◌≡◌, ◌≢◌, ℕ, ◌<◌, ⊎_elim, Bool, true, false, cond, eqb, List, [], ◌∷◌, ◌++◌, map, refl, ap, sym, subst, ◌∙◌, arith, map-id, eqb-true}
 use Rattle.std.specs.Prelude.{flat_map, nat_lt, IsPermutation}
 use Rattle.std.proofs.lemmas.Bool.Decides.{eqb_tells, nat_tests}
 use Rattle.std.proofs.lemmas.List.Sorted.{IsPermutation-refl, IsPermutation-trans, IsPermutation-sym, IsPermutation-middle, IsPermutation-append_left, IsPermutation-append_right, IsPermutation-cons}
 use Rattle.crossbeam_queue.specs.Fifo.{Learns}
 use Rattle.hx_mail.specs.declared.views.Mailed.{Mailed}
 use Rattle.std.specs.List.{AllByRecursion}
-use Rattle.hx_types.specs.Words.{IsIn}
-use Rattle.hx_clock.specs.Views.{one, total}
+use Rattle.hx_clock.specs.Views.{one}
 use Rattle.hx_clock.proofs.Lists.{each_map, total-at}
-use Rattle.hx_mail.specs.declared.envelopes.Letter.{Letter}
 use Rattle.hx_mail.specs.declared.views.PortLists.{PortLists}
 use Rattle.hx_mail.specs.declared.views.PortView.{PortView}
 use Rattle.hx_mail.specs.declared.views.Sent.{Sent}
-use Rattle.hx_mail.specs.Ports.{sent, sent_of, put_by, times, CarriesAll, IsOnce, all_put, all_taken}
+use Rattle.hx_mail.specs.Ports.{sent, sent_of, put_by, times, IsOnce, all_put, all_taken}
 use Rattle.hx_mail.specs.Rule.{TakenBy, taken_by, Fits, IsKept}
 use Rattle.hx_mail.proofs.Lists.{one-same, one-le}
 
@@ -34,27 +30,27 @@ module _ {B : Type 0} where
   plus-other k s R [] e = refl
   plus-other k s R (b ∷ bs) e =
       ⊎_elim
-          (λ (h : (eqb b.name k ≡ true) × (b.name ≡ k)). let o = one-same k b.name (sym h.1) in absurd (omega arith))
-          (λ (h : (eqb b.name k ≡ false) × (b.name ≢ k)).
-              ap (λ c. cond c (s ∷ R b.name) (R b.name) ++ flat_map (λ (b : PortLists). cond (eqb b.name k) (s ∷ R b.name) (R b.name)) bs) h.0
-              ∙ ap (λ w. R b.name ++ w) (plus-other k s R bs (omega arith)))
-          (eqb_tells b.name k)
+      (λ (h : (eqb b.name k ≡ true) × (b.name ≡ k)). let o = one-same k b.name (sym h.1) in absurd (omega arith))
+      (λ (h : (eqb b.name k ≡ false) × (b.name ≢ k)).
+      ap (λ c. cond c (s ∷ R b.name) (R b.name) ++ flat_map (λ (b : PortLists). cond (eqb b.name k) (s ∷ R b.name) (R b.name)) bs) h.0
+      ∙ ap (λ w. R b.name ++ w) (plus-other k s R bs (omega arith)))
+      (eqb_tells b.name k)
 
   plus-own : (k : ℕ) (s : B) (R : ℕ → List B) (bs : List PortLists) → times k bs ≡ 1 → IsPermutation (s ∷ flat_map (λ (b : PortLists). R b.name) bs) (flat_map (λ (b : PortLists). cond (eqb b.name k) (s ∷ R b.name) (R b.name)) bs)
   plus-own k s R [] e = absurd (omega arith)
   plus-own k s R (b ∷ bs) e =
       let P : Bool → Type 0 = λ c. IsPermutation (s ∷ (R b.name ++ flat_map (λ (b : PortLists). R b.name) bs)) (cond c (s ∷ R b.name) (R b.name) ++ flat_map (λ (b : PortLists). cond (eqb b.name k) (s ∷ R b.name) (R b.name)) bs) in
       ⊎_elim
-          (λ (h : (eqb b.name k ≡ true) × (b.name ≡ k)).
-              let o = one-same k b.name (sym h.1) in
-              subst P (sym h.0) (subst (λ w. IsPermutation (s ∷ (R b.name ++ flat_map (λ (b : PortLists). R b.name) bs)) (s ∷ (R b.name ++ w))) (sym (plus-other k s R bs (omega arith))) (IsPermutation-refl _)))
-          (λ (h : (eqb b.name k ≡ false) × (b.name ≢ k)).
-              let z : one (eqb k b.name) ≡ 0 = grind (arith, nat_tests) in
-              subst P (sym h.0)
-                  (IsPermutation-trans _ _ _
-                      (IsPermutation-sym _ _ (IsPermutation-middle (R b.name) s (flat_map (λ (b : PortLists). R b.name) bs)))
-                      (IsPermutation-append_right (R b.name) _ _ (plus-own k s R bs (omega arith)))))
-          (eqb_tells b.name k)
+      (λ (h : (eqb b.name k ≡ true) × (b.name ≡ k)).
+      let o = one-same k b.name (sym h.1) in
+      subst P (sym h.0) (subst (λ w. IsPermutation (s ∷ (R b.name ++ flat_map (λ (b : PortLists). R b.name) bs)) (s ∷ (R b.name ++ w))) (sym (plus-other k s R bs (omega arith))) (IsPermutation-refl _)))
+      (λ (h : (eqb b.name k ≡ false) × (b.name ≢ k)).
+      let z : one (eqb k b.name) ≡ 0 = grind (arith, nat_tests) in
+      subst P (sym h.0)
+      (IsPermutation-trans _ _ _
+      (IsPermutation-sym _ _ (IsPermutation-middle (R b.name) s (flat_map (λ (b : PortLists). R b.name) bs)))
+      (IsPermutation-append_right (R b.name) _ _ (plus-own k s R bs (omega arith)))))
+      (eqb_tells b.name k)
 
 all_keys : {A B : Type 0} (key : A → ℕ) (val : A → B) (xs : List A) (bs : List PortLists) → AllByRecursion (λ x. times (key x) bs ≡ 1) xs → IsPermutation (map val xs) (flat_map (λ (b : PortLists). of_key key val b.name xs) bs)
 all_keys key val [] bs h = subst (IsPermutation []) (sym (empty_keys key val bs)) (IsPermutation-refl [])
@@ -89,18 +85,17 @@ once id v items views kept at all =
     let f : Fits kept.of_box kept.log kept.out kept.ports v = kept.fits id v at in
     let is = (f.number all.0 all.1).0 in
     let one_each : (k : ℕ) → k < kept.ports → times k v.lists ≡ 1 = λ k lt.
-      let a = total-at (λ v. times k v.lists) views id v at in
-      let b = kept.carried_once k in
-      let c = one-le (nat_lt k kept.ports) in
-      let d = all.2 k (omega arith) in omega arith in
+    let a = total-at (λ v. times k v.lists) views id v at in
+    let b = kept.carried_once k in
+    let c = one-le (nat_lt k kept.ports) in
+    let d = all.2 k (omega arith) in omega arith in
     let put : IsPermutation kept.log (all_put v.lists) =
-      subst (IsPermutation kept.log) (sym (puts_keys kept.log v.lists f.put))
-          (subst (λ l. IsPermutation l (flat_map (λ (b : PortLists). of_key (λ (s : Sent). s.port) (λ s. s) b.name kept.log) v.lists)) (map-id kept.log)
-              (all_keys (λ (s : Sent). s.port) (λ s. s) kept.log v.lists (each_map _ _ kept.log (λ s i lt. one_each s.port lt) kept.log_within))) in
+    subst (IsPermutation kept.log) (sym (puts_keys kept.log v.lists f.put))
+    (subst (λ l. IsPermutation l (flat_map (λ (b : PortLists). of_key (λ (s : Sent). s.port) (λ s. s) b.name kept.log) v.lists)) (map-id kept.log)
+    (all_keys (λ (s : Sent). s.port) (λ s. s) kept.log v.lists (each_map _ _ kept.log (λ s i lt. one_each s.port lt) kept.log_within))) in
     let taken : IsPermutation (map (λ (g : TakenBy). g.sent) kept.out) (all_taken v.lists) =
-      subst (IsPermutation (map (λ (g : TakenBy). g.sent) kept.out)) (sym (takes_keys kept.out v.lists f.taken))
-          (all_keys (λ (g : TakenBy). g.port) (λ g. g.sent) kept.out v.lists (each_map _ _ kept.out (λ g i lt. one_each g.port lt) kept.out_within)) in
-    (
+    subst (IsPermutation (map (λ (g : TakenBy). g.sent) kept.out)) (sym (takes_keys kept.out v.lists f.taken))
+    (all_keys (λ (g : TakenBy). g.port) (λ g. g.sent) kept.out v.lists (each_map _ _ kept.out (λ g i lt. one_each g.port lt) kept.out_within)) in (
       map sent_of items,
       IsPermutation-trans _ _ _ (IsPermutation-sym _ _ put)
           (subst (λ l. IsPermutation l (all_taken v.lists ++ map sent_of items)) (sym kept.log_is) (IsPermutation-append_left (map sent_of items) _ _ taken)),

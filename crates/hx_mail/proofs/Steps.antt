@@ -1,14 +1,12 @@
 -- AllByRecursion step keeps the rule of a box.
-use Rattle.std.proofs.Common.{◌≡◌, ◌≢◌, ℕ, zero, suc, ◌+◌, ◌<◌, ◌≤◌, ◌⊎◌, inl, inr, ⊎_elim, Bool, true, false, cond, eqb, List, [], ◌∷◌, ◌++◌, map, length, set, slice_set, Option, Some, None, refl, ap, sym, subst, ◌∙◌, arith, append_assoc, append-nil}
+use Rattle.std.proofs.Common.{◌≡◌, ◌≢◌, ℕ, ◌+◌, ◌<◌, ◌≤◌, inl, inr, ⊎_elim, true, false, eqb, List, [], ◌∷◌, ◌++◌, map, set, slice_set, Option, Some, None, refl, ap, sym, subst, ◌∙◌, arith, append_assoc}
 use mathlib.Core.Option.{some, some-ne-none}
 use lib.ListN.{get_elem?}
 use Rattle.std.specs.Prelude.{nat_lt}
 use Rattle.std.proofs.lemmas.Bool.Decides.{eqb_tells, nat_tests}
-use Rattle.crossbeam_queue.proofs.Lists.{at_set, at_snoc}
+use Rattle.crossbeam_queue.proofs.Lists.{at_set}
 use Rattle.crossbeam_queue.specs.Fifo.{Pushes, Pops, Forks, Merges, Learns}
-use Rattle.hx_mail.specs.declared.views.Mailed.{Mailed}
 use Rattle.std.specs.List.{AllByRecursion}
-use mathlib.Core.List.{IsPrefix}
 use Rattle.hx_types.specs.Words.{IsIn}
 use Rattle.hx_clock.specs.Views.{either_count, one, total}
 use Rattle.hx_clock.specs.Rule.{counts}
@@ -18,10 +16,10 @@ use Rattle.hx_mail.specs.declared.views.PortLists.{PortLists}
 use Rattle.hx_mail.specs.declared.views.BoxNames.{BoxNames}
 use Rattle.hx_mail.specs.declared.views.PortView.{PortView}
 use Rattle.hx_mail.specs.declared.views.Sent.{Sent}
-use Rattle.hx_mail.specs.Ports.{mailed_of, sent, sent_of, lists_of, port, spent_port, first_port, put_by, times, put_in, take_in, after_put, after_take, next_name, splitting, split_off, joined_port, CarriesAll, TookAlone, IsInOrder}
+use Rattle.hx_mail.specs.Ports.{mailed_of, sent_of, port, spent_port, first_port, put_by, times, put_in, take_in, after_put, after_take, splitting, split_off, joined_port, CarriesAll, TookAlone, IsInOrder}
 use Rattle.hx_mail.specs.Boxes.{IsFor}
 use Rattle.hx_mail.specs.Rule.{TakenBy, taken_under, taken_by, Fits, IsKept}
-use Rattle.hx_mail.proofs.Lists.{map-snoc, each_under, one-same, one-lt, one-le, put_by-append, put-other, taken-other, put-none, taken-none, times-in, lists-of, put_in-name, put_in-taken, take_in-name, take_in-put, put_in-put, take_in-taken, times-map, taken_in, all_by}
+use Rattle.hx_mail.proofs.Lists.{map-snoc, each_under, one-lt, one-le, put_by-append, put-other, taken-other, put-none, taken-none, times-in, lists-of, put_in-name, put_in-taken, take_in-name, take_in-put, put_in-put, take_in-taken, times-map, taken_in, all_by}
 
 -- another port doesn't carry the name
 apart : (views : List PortView) (c : ℕ) (id j : ℕ) (v u : PortView) (k : ℕ) → total (λ v. times k v.lists) views ≡ one (nat_lt k c) → get_elem? views id ≡ some v → get_elem? views j ≡ some u → j ≢ id → 1 ≤ times k v.lists
@@ -57,8 +55,7 @@ puts cap id v x n named sound own mine items views room kept at =
     let f : Fits kept.of_box kept.log kept.out kept.ports v = kept.fits id v at in
     let lt : v.own < kept.ports = drawn views kept.ports id v.own v (kept.carried_once v.own) at mine in
     let name : kept.of_box ≡ Some n = f.named n named in
-    let same : (k : ℕ) → times k w.lists ≡ times k v.lists = λ k. times-map k (put_in v.own (mailed_of x.envelope)) v.lists (put_in-name v.own (mailed_of x.envelope)) in
-    (
+    let same : (k : ℕ) → times k w.lists ≡ times k v.lists = λ k. times-map k (put_in v.own (mailed_of x.envelope)) v.lists (put_in-name v.own (mailed_of x.envelope)) in (
       w,
       record {
         of_box = kept.of_box;
@@ -76,21 +73,21 @@ puts cap id v x n named sound own mine items views room kept at =
             (record {
               put = each_under _ _ (put_in v.own (mailed_of x.envelope)) v.lists
                   (λ b i e.
-                      let P : ℕ → Type 0 = λ o. (put_in o (mailed_of x.envelope) b).put ≡ put_by (put_in o (mailed_of x.envelope) b).name (kept.log ++ s ∷ []) in
-                      subst P own (put_in-put kept.log s b e ∙ ap (λ k. put_by k (kept.log ++ s ∷ [])) (sym (put_in-name s.port s.mailed b)))) f.put;
+                  let P : ℕ → Type 0 = λ o. (put_in o (mailed_of x.envelope) b).put ≡ put_by (put_in o (mailed_of x.envelope) b).name (kept.log ++ s ∷ []) in
+                  subst P own (put_in-put kept.log s b e ∙ ap (λ k. put_by k (kept.log ++ s ∷ [])) (sym (put_in-name s.port s.mailed b)))) f.put;
               taken = each_under _ _ (put_in v.own (mailed_of x.envelope)) v.lists
                   (λ b i e. put_in-taken v.own (mailed_of x.envelope) b ∙ e ∙ ap (λ k. taken_by k kept.out) (sym (put_in-name v.own (mailed_of x.envelope) b))) f.taken;
               number = f.number;
               named = f.named;
             })
             (λ j u other there.
-                let g : Fits kept.of_box kept.log kept.out kept.ports u = kept.fits j u there in
-                record {
-                  put = each_map _ _ u.lists (λ b i e. e ∙ sym (put-other b.name kept.log s (λ q. apart views kept.ports id j v u v.own (kept.carried_once v.own) at there other mine b i (q ∙ own)))) g.put;
-                  taken = g.taken;
-                  number = g.number;
-                  named = g.named;
-                });
+            let g : Fits kept.of_box kept.log kept.out kept.ports u = kept.fits j u there in
+            record {
+              put = each_map _ _ u.lists (λ b i e. e ∙ sym (put-other b.name kept.log s (λ q. apart views kept.ports id j v u v.own (kept.carried_once v.own) at there other mine b i (q ∙ own)))) g.put;
+              taken = g.taken;
+              number = g.number;
+              named = g.named;
+            });
       },
       refl,
     )
@@ -103,8 +100,7 @@ takes id v mine x items views kept at =
     let w : PortView = after_take s v in
     let f : Fits kept.of_box kept.log kept.out kept.ports v = kept.fits id v at in
     let lt : v.own < kept.ports = drawn views kept.ports id v.own v (kept.carried_once v.own) at mine in
-    let same : (k : ℕ) → times k w.lists ≡ times k v.lists = λ k. times-map k (take_in v.own s) v.lists (take_in-name v.own s) in
-    (
+    let same : (k : ℕ) → times k w.lists ≡ times k v.lists = λ k. times-map k (take_in v.own s) v.lists (take_in-name v.own s) in (
       w,
       record {
         of_box = kept.of_box;
@@ -128,13 +124,13 @@ takes id v mine x items views kept at =
               named = f.named;
             })
             (λ j u other there.
-                let h : Fits kept.of_box kept.log kept.out kept.ports u = kept.fits j u there in
-                record {
-                  put = h.put;
-                  taken = each_map _ _ u.lists (λ b i e. e ∙ sym (taken-other b.name kept.out g (λ q. apart views kept.ports id j v u v.own (kept.carried_once v.own) at there other mine b i q))) h.taken;
-                  number = h.number;
-                  named = h.named;
-                });
+            let h : Fits kept.of_box kept.log kept.out kept.ports u = kept.fits j u there in
+            record {
+              put = h.put;
+              taken = each_map _ _ u.lists (λ b i e. e ∙ sym (taken-other b.name kept.out g (λ q. apart views kept.ports id j v u v.own (kept.carried_once v.own) at there other mine b i q))) h.taken;
+              number = h.number;
+              named = h.named;
+            });
       },
       (refl, λ n e. (kept.sound n (f.named n e)).0),
     )
@@ -163,15 +159,15 @@ splits_seen id own n of_box lists items views kept at =
       log_within = each_map _ _ kept.log (λ s i h. omega arith) kept.log_within;
       out_within = each_map _ _ kept.out (λ g i h. omega arith) kept.out_within;
       carried_once = λ k.
-        let p = total-set (λ v. times k v.lists) views id v a at in
-        let q = total-append (λ v. times k v.lists) (set views id a) (b ∷ []) in
-        let r = kept.carried_once k in
-        let z = ap (λ m. one (eqb k m)) is in
-        omega (arith, one_lt-next k kept.ports);
+          let p = total-set (λ v. times k v.lists) views id v a at in
+          let q = total-append (λ v. times k v.lists) (set views id a) (b ∷ []) in
+          let r = kept.carried_once k in
+          let z = ap (λ m. one (eqb k m)) is in
+          omega (arith, one_lt-next k kept.ports);
       counted_once =
-        let p = total-set (λ v. counts v.splits) views id v a at in
-        let q = total-append (λ v. counts v.splits) (set views id a) (b ∷ []) in
-        let r = kept.counted_once in omega arith;
+          let p = total-set (λ v. counts v.splits) views id v a at in
+          let q = total-append (λ v. counts v.splits) (set views id a) (b ∷ []) in
+          let r = kept.counted_once in omega arith;
       unnamed = kept.unnamed;
       sound = kept.sound;
       fits = all_snoc (Fits kept.of_box kept.log kept.out (kept.ports + 1)) (slice_set views id a) b
@@ -182,20 +178,20 @@ splits_seen id own n of_box lists items views kept at =
             named = f.named;
           })
           (all_set (Fits kept.of_box kept.log kept.out (kept.ports + 1)) views id a
-              (record {
-                put = f.put;
-                taken = f.taken;
-                number = λ m e. ((let s : n + 1 ≡ m = some-same (n + 1) m e in omega arith), named);
-                named = f.named;
-              })
-              (λ j u other there.
-                  let g : Fits kept.of_box kept.log kept.out kept.ports u = kept.fits j u there in
-                  record {
-                    put = g.put;
-                    taken = g.taken;
-                    number = λ m e. absurd (uncounted views id j v u m kept.counted_once at there other refl e);
-                    named = g.named;
-                  }));
+          (record {
+            put = f.put;
+            taken = f.taken;
+            number = λ m e. ((let s : n + 1 ≡ m = some-same (n + 1) m e in omega arith), named);
+            named = f.named;
+          })
+          (λ j u other there.
+          let g : Fits kept.of_box kept.log kept.out kept.ports u = kept.fits j u there in
+          record {
+            put = g.put;
+            taken = g.taken;
+            number = λ m e. absurd (uncounted views id j v u m kept.counted_once at there other refl e);
+            named = g.named;
+          }));
     }
 
 pub splits : (id : ℕ) (v : PortView) (n : ℕ) → v.splits ≡ Some n → Forks IsKept id v (splitting v) (split_off v)
@@ -224,27 +220,27 @@ binds id own n lists given m is items views kept at =
       log_within = kept.log_within;
       out_within = kept.out_within;
       carried_once = λ k.
-        let p = total-set (λ v. times k v.lists) views id v a at in
-        let q = total-append (λ v. times k v.lists) (set views id a) (spent_port ∷ []) in
-        let r = kept.carried_once k in omega arith;
+          let p = total-set (λ v. times k v.lists) views id v a at in
+          let q = total-append (λ v. times k v.lists) (set views id a) (spent_port ∷ []) in
+          let r = kept.carried_once k in omega arith;
       counted_once =
-        let p = total-set (λ v. counts v.splits) views id v a at in
-        let q = total-append (λ v. counts v.splits) (set views id a) (spent_port ∷ []) in
-        let r = kept.counted_once in omega arith;
+          let p = total-set (λ v. counts v.splits) views id v a at in
+          let q = total-append (λ v. counts v.splits) (set views id a) (spent_port ∷ []) in
+          let r = kept.counted_once in omega arith;
       unnamed = λ e. absurd (not_none m (sym e ∙ is));
       sound = λ k e. each_nil (IsFor k) items (kept.unnamed none);
       fits = all_snoc (Fits given kept.log kept.out kept.ports) (slice_set views id a) spent_port
           (record { put = tt; taken = tt; number = λ m e. no-number m kept.ports None given e; named = λ k e. absurd (not_none k e) })
           (all_set (Fits given kept.log kept.out kept.ports) views id a
-              (record { put = f.put; taken = f.taken; number = λ m e. ((f.number m e).0, refl); named = λ k e. e })
-              (λ j u other there.
-                  let g : Fits kept.of_box kept.log kept.out kept.ports u = kept.fits j u there in
-                  record {
-                    put = g.put;
-                    taken = g.taken;
-                    number = λ m e. absurd (uncounted views id j v u m kept.counted_once at there other refl e);
-                    named = λ k e. absurd (not_none k (sym none ∙ g.named k e));
-                  }));
+          (record { put = f.put; taken = f.taken; number = λ m e. ((f.number m e).0, refl); named = λ k e. e })
+          (λ j u other there.
+          let g : Fits kept.of_box kept.log kept.out kept.ports u = kept.fits j u there in
+          record {
+            put = g.put;
+            taken = g.taken;
+            number = λ m e. absurd (uncounted views id j v u m kept.counted_once at there other refl e);
+            named = λ k e. absurd (not_none k (sym none ∙ g.named k e));
+          }));
     }
 
 counts-either : (c d : Option ℕ) → counts c + counts d ≤ 1 → counts (either_count c d) ≡ counts c + counts d
@@ -278,25 +274,25 @@ merges id v other w alike items views kept at two at' =
       log_within = kept.log_within;
       out_within = kept.out_within;
       carried_once = λ k.
-        let p = total-set (λ v. times k v.lists) views id v both at in
-        let q = total-set (λ v. times k v.lists) mid other w spent_port at' in
-        let r = kept.carried_once k in omega (arith, times-append k v.lists w.lists);
+          let p = total-set (λ v. times k v.lists) views id v both at in
+          let q = total-set (λ v. times k v.lists) mid other w spent_port at' in
+          let r = kept.carried_once k in omega (arith, times-append k v.lists w.lists);
       counted_once =
-        let p = total-set (λ v. counts v.splits) views id v both at in
-        let q = total-set (λ v. counts v.splits) mid other w spent_port at' in omega arith;
+          let p = total-set (λ v. counts v.splits) views id v both at in
+          let q = total-set (λ v. counts v.splits) mid other w spent_port at' in omega arith;
       unnamed = kept.unnamed;
       sound = kept.sound;
       fits = all_set (Fits kept.of_box kept.log kept.out kept.ports) mid other spent_port
           (record { put = tt; taken = tt; number = λ m e. no-number m kept.ports None kept.of_box e; named = λ k e. absurd (not_none k e) })
           (λ j u x there.
-              all_set (Fits kept.of_box kept.log kept.out kept.ports) views id both
-                  (record {
-                    put = each_append _ v.lists w.lists f.put g.put;
-                    taken = each_append _ v.lists w.lists f.taken g.taken;
-                    number = λ n. either-number v.splits w.splits n kept.ports v.of_box w.of_box kept.of_box f.number g.number alike;
-                    named = f.named;
-                  })
-                  (λ j u other there. kept.fits j u there) j u there);
+          all_set (Fits kept.of_box kept.log kept.out kept.ports) views id both
+          (record {
+            put = each_append _ v.lists w.lists f.put g.put;
+            taken = each_append _ v.lists w.lists f.taken g.taken;
+            number = λ n. either-number v.splits w.splits n kept.ports v.of_box w.of_box kept.of_box f.number g.number alike;
+            named = f.named;
+          })
+          (λ j u other there. kept.fits j u there) j u there);
     }
 
 -- what is taken under other names is nothing
@@ -319,14 +315,13 @@ pub learns : (id : ℕ) (v : PortView) → Learns IsKept id v (λ items. IsInOrd
 learns id v items views kept at all t ti alone b bi =
     let f : Fits kept.of_box kept.log kept.out kept.ports v = kept.fits id v at in
     let whole : taken_by t.name kept.out ≡ map (λ (g : TakenBy). g.sent) kept.out =
-      all_by t.name kept.out (each_by t.name kept.out (none_other v kept.out kept.ports t.name all (λ n e. (f.number n e).0) f.taken alone kept.out_within)) in
-    let mine : t.taken ≡ map (λ (g : TakenBy). g.sent) kept.out = each_in _ v.lists t f.taken ti ∙ whole in
-    (
+    all_by t.name kept.out (each_by t.name kept.out (none_other v kept.out kept.ports t.name all (λ n e. (f.number n e).0) f.taken alone kept.out_within)) in
+    let mine : t.taken ≡ map (λ (g : TakenBy). g.sent) kept.out = each_in _ v.lists t f.taken ti ∙ whole in (
       put_by b.name (map sent_of items),
       ap (λ l. put_by b.name l ++ put_by b.name (map sent_of items)) mine
-      ∙ sym (put_by-append b.name (map (λ (g : TakenBy). g.sent) kept.out) (map sent_of items))
-      ∙ ap (put_by b.name) (sym kept.log_is)
-      ∙ sym (each_in _ v.lists b f.put bi),
+          ∙ sym (put_by-append b.name (map (λ (g : TakenBy). g.sent) kept.out) (map sent_of items))
+          ∙ ap (put_by b.name) (sym kept.log_is)
+          ∙ sym (each_in _ v.lists b f.put bi),
     )
 
 pub opens : IsKept [] (first_port None ∷ [])

@@ -1,3 +1,4 @@
 pub mod Ports
 pub mod Boxes
 pub mod Rule
+pub mod Examples

@@ -3,7 +3,6 @@ use Rattle.std.specs.Prelude.{ℕ, ◌≡◌, ◌+◌, ◌<◌, nat_lt, cond, eq
 use Rattle.std.specs.List.{AllByRecursion}
 use mathlib.Core.Option.{some}
 use lib.ListN.{get_elem?}
-use Rattle.hx_types.specs.Posts.{IsSoundPost}
 use Rattle.hx_clock.specs.Rule.{counts}
 use Rattle.hx_clock.specs.Views.{one, total}
 use Rattle.hx_mail.specs.declared.envelopes.Letter.{Letter}

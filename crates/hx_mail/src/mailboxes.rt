@@ -72,8 +72,9 @@ impl<'a> Mailbox<'a> {
         ensures capacity { IfOk result (λ made. made.0.capacity ≡ capacity) }
         ensures port { IfOk result (λ made. IsPortOf made.0 made.1 × (made.1.view ≡ first_port (Some made.0.names))) }
     {
-        let (queue, mut pass) =
-            RuledArrayQueue::<Letter, PortView, OneOrder>::ruled(alloc, capacity)?;
+        let (queue, mut pass) = RuledArrayQueue::<Letter, PortView, OneOrder>::ruled(
+            alloc, capacity,
+        )?;
         let _spent = queue.another::<Name<N>>(&mut pass);
         let made = Mailbox {
             queue,
