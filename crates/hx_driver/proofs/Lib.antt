@@ -1,2 +1,4 @@
 pub mod Sources
+pub mod Seated
+pub mod Gathers
 pub mod Examples

@@ -24,7 +24,7 @@ use Rattle.itertools.specs.declared.kmerge_impl.KMergeBy.{KMergeBy}
 use Rattle.hx_clock.specs.declared.parts.Stamped.{Stamped}
 use Rattle.std.specs.List.{AllByRecursion}
 use Rattle.hx_clock.specs.Parts.{all_of, stamps_of, IsCausal}
-use Rattle.hx_driver.specs.Merged.{IsMerged}
+use Rattle.hx_law_threads.specs.Merged.{IsMerged}
 
 -- a vector's iterator gives its items
 vec_gives : {X Z : Type 0} (xs : List X) (s : IntoIter X Z) → into_iter_items s ≡ xs → AlwaysYields into_iter_steps (λ x. x) s xs

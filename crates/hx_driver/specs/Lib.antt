@@ -1,2 +1,2 @@
-pub mod Merged
 pub mod Examples
+pub mod Gathered

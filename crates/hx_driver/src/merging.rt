@@ -1,7 +1,7 @@
 ghost use Rattle.std.specs.Prelude.{◌≡◌, List, map, IfOk};
 ghost use Rattle.hx_clock.specs.declared.parts.Stamped.{Stamped};
 ghost use Rattle.hx_clock.specs.Parts.{IsCausal};
-ghost use Rattle.hx_driver.specs.Merged.{IsMerged};
+ghost use Rattle.hx_law_threads.specs.Merged.{IsMerged};
 
 use hx_clock::{Parts, Stamped};
 use hx_types::{Memory, Sequence, Trace};
@@ -14,11 +14,29 @@ pub fn merge(alloc: Global, parts: Parts) -> Result<Trace, Memory>
     ensures merged { IfOk result (λ trace. (merged : List Stamped) × IsMerged parts merged × (trace ≡ map (λ x. x.entry) merged)) }
 {
     let lists = lists_of(alloc, parts)?;
-    let mut trace = Sequence::new(alloc);
+    merge_lists(alloc, lists)
+}
+
+// The entries of the lists in the order of their stamps. There is room for all before the first is
+// moved, so that the trace never grows.
+pub(crate) fn merge_lists(alloc: Global, lists: Vec<Vec<Stamped>>) -> Result<Trace, Memory>
+    requires causal { IsCausal (map (λ list. list.items) lists.items) }
+    ensures merged { IfOk result (λ trace. (merged : List Stamped) × IsMerged (map (λ list. list.items) lists.items) merged × (trace ≡ map (λ x. x.entry) merged)) }
+{
+    let mut trace = Sequence::with_capacity(alloc, entries_in(lists.as_slice()))?;
     for stamped in lists.into_iter().kmerge(alloc)? {
         trace.push(stamped.entry)?;
     }
     Ok(trace)
+}
+
+// How many entries the lists have, up to the greatest number that there is.
+fn entries_in(lists: &[Vec<Stamped>]) -> usize {
+    let mut entries: usize = 0;
+    for list in lists {
+        entries = entries.saturating_add(list.len());
+    }
+    entries
 }
 
 // The parts as vectors.

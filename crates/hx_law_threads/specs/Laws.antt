@@ -1,0 +1,44 @@
+-- The laws on what threads make: the parts of all actors, merged, are a run.
+use Rattle.std.specs.Prelude.{◌≡◌, List}
+use Rattle.hx_types.specs.declared.ids.Actor.{Actor}
+use Rattle.hx_types.specs.declared.ids.ServerId.{ServerId}
+use Rattle.hx_types.specs.declared.ids.SessionId.{SessionId}
+use Rattle.hx_types.specs.declared.traces.Entry.{Entry}
+use Rattle.hx_types.specs.declared.traces.Input.{Input}
+use Rattle.hx_types.specs.declared.traces.Script.{Script}
+use Rattle.hx_types.specs.declared.ids.Actor.TheVariants.{Coordinator, Server, Session}
+use Rattle.hx_model.specs.Runs.{coordinator_of, has_halted, made_of, server_of, session_of, IsRun}
+use Rattle.hx_clock.specs.declared.parts.Stamped.{Stamped}
+use Rattle.hx_law_threads.specs.Own.{own_entries, past_of, IsOwn}
+use Rattle.hx_law_threads.specs.Merged.{parts_in, ActorPart, AreOwnParts, AreWholeParts, HasOwnParts, HasStampsAsPlaces, IsMerged}
+
+-- an actor's state after a trace, and what it makes there, is that after its own entries
+pub record IsByOwnEntries (script : Script) (trace : List Entry) : Type 0 where
+  pub coordinator : coordinator_of script (own_entries Coordinator trace) ≡ coordinator_of script trace
+  pub server : (s : ServerId) → server_of script s (own_entries (Server s) trace) ≡ server_of script s trace
+  pub session : (u : SessionId) → session_of script u (own_entries (Session u) trace) ≡ session_of script u trace
+  pub halted : (a : Actor) → has_halted script (own_entries a trace) a ≡ has_halted script trace a
+  pub made : (a : Actor) (input : Input) → made_of script (own_entries a trace) a input ≡ made_of script trace a input
+
+-- of every trace
+abbrev pub StatesAreByOwnEntries : Type 0
+StatesAreByOwnEntries = (script : Script) (trace : List Entry) → IsByOwnEntries script trace
+
+-- in a run each actor's entries are its own steps
+abbrev pub EntriesOfRunsAreOwn : Type 0
+EntriesOfRunsAreOwn = (script : Script) (trace : List Entry) → IsRun script trace → (a : Actor) → IsOwn script a (own_entries a trace)
+
+-- what actors made on their own, merged, is a run in which each actor's entries are its part
+pub record IsRunOfParts (script : Script) (whole : List ActorPart) (merged : List Stamped) : Type 0 where
+  pub run : IsRun script (past_of merged)
+  pub own : HasOwnParts whole (past_of merged)
+
+abbrev pub MergedPartsAreRuns : Type 0
+MergedPartsAreRuns =
+    (script : Script) (whole : List ActorPart) (merged : List Stamped)
+    → AreOwnParts script whole → AreWholeParts (parts_in whole) → IsMerged (parts_in whole) merged
+    → IsRunOfParts script whole merged
+
+-- the merge of whole parts has each entry at the place of its stamp
+abbrev pub MergedStampsArePlaces : Type 0
+MergedStampsArePlaces = (parts : List (List Stamped)) (merged : List Stamped) → AreWholeParts parts → IsMerged parts merged → HasStampsAsPlaces merged
