@@ -1,0 +1,5 @@
+pub mod Lists
+pub mod Steps
+pub mod Keeping
+pub mod Once
+pub mod Examples

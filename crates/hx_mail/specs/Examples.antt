@@ -1,0 +1,24 @@
+-- What the tests send: the coordinator asks server 1 of a small space to halt.
+use Rattle.std.specs.Prelude.{[], ◌∷◌}
+use Rattle.atomic_table.specs.Seated.{TableId}
+use Rattle.hx_types.specs.declared.ids.Actor.{Actor}
+use Rattle.hx_types.specs.declared.ids.Actor.TheVariants.{Coordinator, Server}
+use Rattle.hx_types.specs.declared.messages.Message.TheVariants as a_message
+use Rattle.hx_types.specs.declared.messages.Post.{Post}
+use Rattle.hx_types.specs.declared.spaces.Space.{Space}
+use Rattle.hx_types.specs.Words.{post}
+use Rattle.hx_mail.specs.declared.views.BoxNames.{BoxNames}
+
+-- a space of two regions on four servers
+abbrev pub small : Space
+small = record { name = 115 ∷ []; key_name = 107 ∷ []; key_parts = 2; attributes = []; subspaces = []; servers = 4; tolerate = 1 }
+
+abbrev pub first_server : Actor
+first_server = Server (record { 0 = 1 })
+
+abbrev pub halting : Post
+halting = post Coordinator first_server a_message.Die
+
+-- the box of server 1
+abbrev pub of_first_server : TableId → BoxNames
+of_first_server clock = record { clock = clock; owner = first_server; space = small; sessions = 0 }

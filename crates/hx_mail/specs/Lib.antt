@@ -1,0 +1,4 @@
+pub mod Ports
+pub mod Boxes
+pub mod Rule
+pub mod Examples

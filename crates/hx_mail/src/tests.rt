@@ -1,0 +1,112 @@
+ghost use Rattle.std.specs.Prelude.{ℕ, ◌≡◌, ◌<◌, ◌++◌, ◌∷◌, [], IfOk, List, length};
+ghost use Rattle.hx_clock.specs.declared.parts.Stamped.{Stamped};
+ghost use Rattle.hx_clock.specs.Views.{Owns};
+ghost use Rattle.hx_mail.specs.Boxes.{IsAddressed, IsPortOf};
+ghost use Rattle.hx_mail.specs.Ports.{CarriesName};
+ghost use Rattle.hx_mail.specs.Examples.{halting, of_first_server, small};
+
+use super::*;
+use hx_clock::{Clock, Seat};
+use hx_types::{
+    Actor, Attributes, Entry, Input, Memory, Message, Notes, Post, PostId, Posts, ServerId, Space,
+    Subspaces, Text,
+};
+use std::alloc::Global;
+use std::sync::Wait;
+use std::test::Fail;
+
+const SERVER: Actor = Actor::Server(ServerId(1));
+
+fn space(alloc: Global) -> Result<Space, Memory>
+    ensures { IfOk result (λ space. space ≡ small) }
+{
+    Ok(Space {
+        name: Text::from_str(alloc, "s")?,
+        key_name: Text::from_str(alloc, "k")?,
+        key_parts: 2,
+        attributes: Attributes::new(alloc),
+        subspaces: Subspaces::new(alloc),
+        servers: 4,
+        tolerate: 1,
+    })
+}
+
+fn halting() -> Post
+    ensures { result ≡ halting }
+{
+    Post {
+        from: Actor::Coordinator,
+        to: SERVER,
+        message: Message::Die,
+    }
+}
+
+/// The coordinator asks server 1 to halt.
+fn ask(alloc: Global, clock: &Clock, seat: &mut Seat) -> Result<Envelope, Memory>
+    requires clock { seat.old.clock ≡ clock.now }
+    requires own { (k : ℕ) × (part : List Stamped) × Owns seat.old.view k part × (length part < 2) }
+    ensures clock { seat.new.clock ≡ clock.now }
+    ensures own { IfOk result (λ _. (k : ℕ) (part : List Stamped) → Owns seat.old.view k part → (x : Stamped) × Owns seat.new.view k (part ++ x ∷ [])) }
+    ensures addressed { IfOk result (λ envelope. IsAddressed (of_first_server clock.now) envelope) }
+{
+    let mut outputs = Posts::new(alloc);
+    outputs.push(halting())?;
+    let entry = Entry {
+        actor: Actor::Coordinator,
+        input: Input::Tick,
+        outputs,
+        notes: Notes::new(alloc),
+    };
+    let stamp = clock.act(seat, &entry);
+    let id = PostId {
+        entry: stamp.0 + 1,
+        place: 0,
+    };
+    let pass = clock.tell(seat, id);
+    Ok(Envelope {
+        id,
+        post: halting(),
+        pass,
+    })
+}
+
+/// Puts an envelope. The number of its entry comes back where the box is full.
+fn put<R: Wait>(rt: &R, mailbox: &Mailbox, envelope: Envelope, port: &mut Port) -> Option<u64>
+    requires port { IsPortOf mailbox.now port.old }
+    requires addressed { IsAddressed mailbox.now.names envelope }
+    ensures port { IsPortOf mailbox.now port.new }
+    ensures later { ¬ (CarriesName 0 port.old.view) → ¬ (CarriesName 0 port.new.view) }
+{
+    match mailbox.put(rt, envelope, port) {
+        Ok(()) => None,
+        Err(full) => Some(full.0.id.entry),
+    }
+}
+
+/// Takes an envelope: the name under which it was put, and the number of its entry.
+fn take<R: Wait>(rt: &R, mailbox: &Mailbox, port: &mut Port) -> Option<(u32, u64)>
+    requires port { IsPortOf mailbox.now port.old }
+    ensures port { IsPortOf mailbox.now port.new }
+{
+    let letter = mailbox.take(rt, port)?;
+    Some((letter.port, letter.envelope.id.entry))
+}
+
+#[test]
+fn a_box_of_one_place_is_empty_then_full(rt: HostRuntime) -> Result<(), Fail> {
+    let alloc: Global = rt.alloc();
+    let (mut clock, mut counting) = Clock::new(alloc)?;
+    let (_, mut seat) = clock.enrol(&mut counting);
+    let space = space(alloc)?;
+    let (mailbox, mut taking) = Mailbox::new(alloc, &clock, SERVER, &space, 0, 1)?;
+    let mut putting = mailbox.split(&rt, &mut taking)?;
+    assert!(rt; take(&rt, &mailbox, &mut taking).is_none());
+    let first = ask(alloc, &clock, &mut seat)?;
+    let second = ask(alloc, &clock, &mut seat)?;
+    assert!(rt; put(&rt, &mailbox, first, &mut putting).is_none());
+    assert!(rt; put(&rt, &mailbox, second, &mut putting) == Some(2));
+    mailbox.join(&rt, &mut taking, putting);
+    assert!(rt; take(&rt, &mailbox, &mut taking) == Some((1, 1)));
+    assert!(rt; take(&rt, &mailbox, &mut taking).is_none());
+    Ok(())
+}
