@@ -1,10 +1,12 @@
 #!/usr/bin/env bash
 # hx: runs the store with these words on standard input and output. The program is proved and built
 # first where it is missing or older than its sources; --unproved runs it before it is proved.
+# `hx picture` makes a space-time diagram (SVG) of the replay of a script.
 set -u
 top=$(cd "$(dirname "${BASH_SOURCE[0]}")" && pwd)
 folder=$top/crates/hx_tool
 program=$folder/out/hx_tool
+picture=$top/crates/hx_picture/out/hx_picture
 log=$folder/hx-build.log
 
 # commands: whether the words are some that the program takes; wrong words never start a build
@@ -62,16 +64,28 @@ build() {
   return 1
 }
 
+# draw: the picture of the replay of the script on standard input; its program is built where it is
+# missing or older than its sources
+draw() {
+  if [ ! -x "$picture" ] || [ -n "$(find "${picture%/out/*}/src" -newer "$picture" -print -quit)" ]; then
+    (cd "${picture%/out/*}" && rt run -- --built </dev/null) >>"$log" 2>&1
+    [ -x "$picture" ] || { printf 'hx: the picture was not built; the whole log is %s\n' "$log" >&2; return 1; }
+  fi
+  set -o pipefail
+  "$program" replay --trace | "$picture"
+}
+
 if [ "${1-}" = --unproved ]; then
   shift
   commands "$@" || { printf 'usage: hx replay or run or soak or plan\n' >&2; exit 2; }
   printf 'hx: what follows is written by code that has not been proved\n' >&2
   cd "$folder" && exec rt try -- "$@" 2> >(grep -vE '^(checked|races|run)[:=]' >&2)
 fi
-if ! commands "$@"; then
+if [ "$*" != picture ] && ! commands "$@"; then
   printf 'usage: hx replay or run or soak or plan\n' >&2
   exit 2
 fi
 command -v rt >/dev/null || { printf 'hx: the Rattle toolchain (rt) is not on the path\n' >&2; exit 1; }
 if stale; then build || exit 1; fi
+if [ "$*" = picture ]; then draw; exit; fi
 exec "$program" "$@"
