@@ -19,7 +19,7 @@ use Rattle.hx_slot.specs.declared.slots.Slot.TheInside.{Inside}
 use Rattle.hx_slot.specs.Updates.{Ascends, last_version, newest_first, row_by, row_over}
 use Rattle.hx_slot.specs.Invariant.{IsSlot, whole}
 use Rattle.hx_slot.specs.States.{IsOrderly, IsRowUpTo, committed_state}
-use Rattle.hx_slot.specs.Tabled.{AscendByRegion, marks_over, touches_over}
+use Rattle.hx_slot.specs.MarksAndTouches.{AscendByRegion, marks_over, touches_over}
 use Rattle.hx_slot.proofs.Acking.{ascends-take}
 use Rattle.hx_slot.proofs.Newer.{AscendBySession, MarksUpTo, marks_after-ascends, marks_after-upto}
 use Rattle.hx_slot.proofs.Newest.{last_version-above, newest_first-upto, upto-line}

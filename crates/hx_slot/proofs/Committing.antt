@@ -21,7 +21,7 @@ use Rattle.hx_slot.specs.Acks.{AreAcked, count_unacked}
 use Rattle.hx_slot.specs.Bases.{IsFolded, kept_in}
 use Rattle.hx_slot.specs.Invariant.{IsLine, IsSlot, seen, updates_of, versions_of}
 use Rattle.hx_slot.specs.States.{IsOrderly, IsRowUpTo}
-use Rattle.hx_slot.specs.Tabled.{AscendByRegion, marks_over, touches_over}
+use Rattle.hx_slot.specs.MarksAndTouches.{AscendByRegion, marks_over, touches_over}
 use Rattle.hx_slot.specs.Updates.{Ascends, IsPlaced, last_version, newest_first, places_in, row_by, row_over}
 use Rattle.hx_slot.proofs.Carrying.{marks_after-over, row-weaker, row_by-upto, touches_after-over}
 use Rattle.hx_slot.proofs.Newer.{AscendBySession, MarksUpTo, with_mark-ascends, with_mark-upto}

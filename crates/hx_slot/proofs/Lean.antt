@@ -31,7 +31,7 @@ use Rattle.hx_slot.specs.Invariant.{IsSlot, pending_in, seen, versions_of, whole
 use Rattle.hx_slot.specs.States.{IsOrderly, call_at}
 use Rattle.hx_slot.specs.Bases.{IsCopied, IsWidened}
 use Rattle.hx_slot.specs.Rooms.{IsGrown}
-use Rattle.hx_slot.specs.Tabled.{marks_over, newer_of, newest_over, touched_over, touches_over}
+use Rattle.hx_slot.specs.MarksAndTouches.{marks_over, newer_of, newest_over, touched_over, touches_over}
 use Rattle.hx_slot.proofs.Accepting as accepting
 use Rattle.hx_slot.proofs.Acking.{with_ack}
 use Rattle.hx_slot.proofs.Carrying as carrying

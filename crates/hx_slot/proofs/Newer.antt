@@ -11,7 +11,7 @@ use Rattle.hx_types.specs.Spaces.{IsAscending}
 use Rattle.hx_types.specs.Words.{same_session}
 use Rattle.hx_model.specs.Slots.{mark_among, mark_by, marks_after, with_mark}
 use Rattle.hx_slot.specs.declared.updates.AcceptedUpdate.{AcceptedUpdate}
-use Rattle.hx_slot.specs.Tabled.{newer_of, newest_over}
+use Rattle.hx_slot.specs.MarksAndTouches.{newer_of, newest_over}
 use Rattle.hx_slot.specs.Updates.{newest_first}
 use Rattle.hx_slot.proofs.Regions.{UpdatesUpTo}
 

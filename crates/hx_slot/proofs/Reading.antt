@@ -18,7 +18,7 @@ use Rattle.hx_slot.specs.Updates.{IsPlaced, last_version, newest_first, row_over
 use Rattle.hx_slot.specs.declared.updates.AcceptedUpdate.{AcceptedUpdate}
 use Rattle.hx_slot.specs.Invariant.{IsSlot, pending_in, whole}
 use Rattle.hx_slot.specs.States.{HasFewPlaces, IsPlacedIn, call_at}
-use Rattle.hx_slot.specs.Tabled.{newer_of, newest_over, touched_over}
+use Rattle.hx_slot.specs.MarksAndTouches.{newer_of, newest_over, touched_over}
 use Rattle.hx_slot.proofs.Newer.{mark-over, mark_among-upto, marks_after-upto, newest-marks}
 use Rattle.hx_slot.proofs.Newest.{by_recursion-drop, by_recursion-take, few-placed, kept_row-newest_first, last_version-above, newest_first-upto, pending-ascends, pending-between, pending-line, placed-within, top-pending, top_above-newest_first, update_of, upto-line}
 use Rattle.hx_slot.proofs.Regions.{UpdatesUpTo, touched-over, touched-upto, touches_after-upto}

@@ -20,7 +20,7 @@ use Rattle.hx_types.specs.Words.{same_region}
 use Rattle.hx_model.specs.Places.{touched_in}
 use Rattle.hx_model.specs.Slots.{touches_after, with_touch, with_touches}
 use Rattle.hx_slot.specs.declared.updates.AcceptedUpdate.{AcceptedUpdate}
-use Rattle.hx_slot.specs.Tabled.{AscendByRegion, IsAt, IsGap, has_touched, touch_among, touched_over}
+use Rattle.hx_slot.specs.MarksAndTouches.{AscendByRegion, IsAt, IsGap, has_touched, touch_among, touched_over}
 use Rattle.hx_slot.specs.Updates.{newest_first}
 
 abbrev region_of : Touch → ℕ

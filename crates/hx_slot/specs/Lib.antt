@@ -1,7 +1,7 @@
 pub mod States
 pub mod Updates
 pub mod Acks
-pub mod Tabled
+pub mod MarksAndTouches
 pub mod Rooms
 pub mod Bases
 pub mod Invariant

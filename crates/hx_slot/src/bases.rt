@@ -4,7 +4,7 @@ ghost use Rattle.std.specs.Option.{unwrap_or};
 ghost use Rattle.hx_types.specs.declared.calls.Row.{Row};
 ghost use Rattle.hx_slot.specs.Bases.{HasBaseRoom, IsFolded, IsWidened};
 ghost use Rattle.hx_slot.specs.States.{HasFewPlaces};
-ghost use Rattle.hx_slot.specs.Tabled.{AscendByRegion};
+ghost use Rattle.hx_slot.specs.MarksAndTouches.{AscendByRegion};
 ghost use Rattle.hx_slot.specs.Updates.{places_in, row_by};
 ghost use Rattle.hx_slot.specs.declared.updates.AcceptedUpdate.{AcceptedUpdate};
 

@@ -6,15 +6,15 @@
 //! chain, and then committed, as in chain replication.
 //!
 //! This project's choices are the representation and the room. A [`Slot`] has no past: a committed
-//! update goes into its base, which has the row, and at a key region the newest call of each session
-//! and the last version at each region; the pending and the early updates are held whole.
-//! [`Slot::mark`] and [`Slot::touched`] read the pending updates and then the base.
-//! [`Slot::reserve`] makes room ahead; offers, acknowledgements and commits then take no memory, so
-//! that none of them can fail. [`Slot::kept`], [`Slot::renewed`] and [`Slot::reserve`] alone take
-//! memory: that they can succeed no contract says, but the tests show it.
+//! update goes into its base, which has the row, and at a key region the newest call of each
+//! session and the last version at each region. The pending and the early updates are held whole;
+//! [`Slot::mark`] and [`Slot::touched`] read the pending ones and then the base. [`Slot::reserve`]
+//! makes room ahead; offers, acknowledgements and commits then take no memory, so that none of them
+//! can fail. [`Slot::kept`], [`Slot::renewed`] and [`Slot::reserve`] alone take memory: that they
+//! can succeed no contract says, but the tests show it.
 //!
-//! What a base holds it shares with the update. A value has at most 2^63 owners, so that to share it
-//! may be refused; a committed update is then held until it can go into the base.
+//! What a base holds it shares with the update, and a shared value has at most 2^63 owners: an
+//! update that finds their count full is held, committed, until it can go into the base.
 #![tactic(auto)]
 
 mod acks;

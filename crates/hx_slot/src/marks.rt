@@ -3,7 +3,7 @@ ghost use Rattle.std.specs.Option.{option_copied, option_map};
 ghost use Rattle.hx_model.specs.Slots.{mark_among, mark_by, with_mark};
 ghost use Rattle.hx_types.specs.Words.{provided};
 ghost use Rattle.hx_slot.specs.States.{call_at, call_seen};
-ghost use Rattle.hx_slot.specs.Tabled.{marks_over, newer_of, newest_over, newest_with};
+ghost use Rattle.hx_slot.specs.MarksAndTouches.{marks_over, newer_of, newest_over, newest_with};
 
 use crate::rooms::{copy_all, insert_within};
 use crate::updates::AcceptedUpdate;

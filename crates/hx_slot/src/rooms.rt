@@ -17,8 +17,8 @@ pub fn insert_within<T: Drop>(items: &mut Vec<T>, place: usize, item: T)
 /// Up to how many items a list gets no more room than is asked for.
 const FEW: usize = 8;
 
-/// Makes room for so many items more. A list of few items gets just that room, since most lists of a
-/// slot stay short.
+/// Makes room for so many items more. A list of few items gets just that room, since most lists of
+/// a slot stay short.
 pub fn grow<T>(items: &mut Vec<T>, more: usize) -> Result<(), Memory>
     ensures same { IsGrown items.old items.new }
     ensures room { OnOk result (vec_len items.new + more ≤ vec_capacity items.new) }

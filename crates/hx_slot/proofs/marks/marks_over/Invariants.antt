@@ -1,5 +1,5 @@
 use Rattle.std.proofs.Common.{◌≡◌, drop}
-use Rattle.hx_slot.specs.Tabled.{marks_over}
+use Rattle.hx_slot.specs.MarksAndTouches.{marks_over}
 use Rattle.hx_slot.proofs.marks.marks_over.Given as goal
 
 abbrev pub invariant-loop-taken : goal.invariant-loop-taken

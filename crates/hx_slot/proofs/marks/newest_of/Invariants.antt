@@ -1,7 +1,7 @@
 use Rattle.std.proofs.Common.{◌≡◌, None, drop}
 use Rattle.std.specs.Option.{option_copied, option_map}
 use Rattle.hx_model.specs.Slots.{mark_by}
-use Rattle.hx_slot.specs.Tabled.{newest_over}
+use Rattle.hx_slot.specs.MarksAndTouches.{newest_over}
 use Rattle.hx_slot.proofs.marks.newest_of.Given as goal
 
 abbrev pub invariant-loop-taken : goal.invariant-loop-taken

@@ -1,6 +1,6 @@
 use Rattle.std.proofs.Common.{◌≡◌, length}
 use Rattle.hx_model.specs.Places.{touched_in}
-use Rattle.hx_slot.specs.Tabled.{touched_over}
+use Rattle.hx_slot.specs.MarksAndTouches.{touched_over}
 use Rattle.hx_slot.proofs.touches.last_touch.Given as goal
 
 abbrev pub invariant-loop-taken : goal.invariant-loop-taken

@@ -1,5 +1,5 @@
 use Rattle.std.proofs.Common.{◌∙◌, arith, subst, sym}
-use Rattle.hx_slot.specs.Tabled.{AscendByRegion}
+use Rattle.hx_slot.specs.MarksAndTouches.{AscendByRegion}
 use Rattle.hx_slot.proofs.Regions.{with_touch-ascends, with_touches-more}
 use Rattle.hx_slot.proofs.touches.note_touches.Goals as goal
 

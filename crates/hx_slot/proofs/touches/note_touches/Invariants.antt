@@ -1,6 +1,6 @@
 use Rattle.std.proofs.Common.{◌≡◌, ◌+◌, ◌≤◌, drop, vec_capacity, vec_len}
 use Rattle.hx_model.specs.Slots.{with_touches}
-use Rattle.hx_slot.specs.Tabled.{AscendByRegion}
+use Rattle.hx_slot.specs.MarksAndTouches.{AscendByRegion}
 use Rattle.hx_slot.proofs.touches.note_touches.Given as goal
 
 abbrev pub invariant-loop-place : goal.invariant-loop-place

@@ -1,7 +1,7 @@
 use Rattle.std.proofs.Common.{◌∙◌, ap, subst, sym}
 use Rattle.hx_types.specs.declared.updates.Update.{Update}
 use Rattle.hx_model.specs.Slots.{with_touches}
-use Rattle.hx_slot.specs.Tabled.{AscendByRegion}
+use Rattle.hx_slot.specs.MarksAndTouches.{AscendByRegion}
 use Rattle.hx_slot.proofs.Carrying.{touches_over-more}
 use Rattle.hx_slot.proofs.Regions.{with_touches-ascends}
 use Rattle.hx_slot.proofs.touches.touches_over.Goals as goal

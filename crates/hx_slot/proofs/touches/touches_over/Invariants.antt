@@ -1,5 +1,5 @@
 use Rattle.std.proofs.Common.{◌≡◌, drop}
-use Rattle.hx_slot.specs.Tabled.{AscendByRegion, touches_over}
+use Rattle.hx_slot.specs.MarksAndTouches.{AscendByRegion, touches_over}
 use Rattle.hx_slot.proofs.touches.touches_over.Given as goal
 
 abbrev pub invariant-loop-taken : goal.invariant-loop-taken

@@ -8,7 +8,7 @@ use Rattle.hx_slot.specs.declared.updates.AcceptedUpdate.{AcceptedUpdate}
 use Rattle.hx_slot.specs.Updates.{row_over}
 use Rattle.hx_slot.specs.Invariant.{seen}
 use Rattle.hx_slot.specs.States.{IsOrderly, SlotState, committed_state}
-use Rattle.hx_slot.specs.Tabled.{marks_over, touches_over}
+use Rattle.hx_slot.specs.MarksAndTouches.{marks_over, touches_over}
 use Rattle.hx_slot.proofs.Lean.{kept-orderly, marks-seen, object-seen, touches-seen}
 use Rattle.hx_slot.proofs.Carrying.{committed-state}
 use Rattle.hx_slot.proofs.slots.Slot.kept.Goals as goal

@@ -7,7 +7,7 @@ use Rattle.hx_types.specs.declared.snapshots.Mark.{Mark}
 use Rattle.hx_model.specs.Slots.{mark_among, mark_of, top_of}
 use Rattle.hx_slot.specs.declared.updates.AcceptedUpdate.{AcceptedUpdate}
 use Rattle.hx_slot.specs.States.{SlotState, call_at, call_seen}
-use Rattle.hx_slot.specs.Tabled.{newer_of, newest_over}
+use Rattle.hx_slot.specs.MarksAndTouches.{newer_of, newest_over}
 use Rattle.hx_slot.proofs.Lean.{mark-below, mark-seen}
 use Rattle.hx_slot.proofs.slots.Slot.mark.Goals as goal
 

@@ -5,7 +5,7 @@ use Rattle.hx_model.specs.Places.{touched_in}
 use Rattle.hx_model.specs.Slots.{top_of, touches_of}
 use Rattle.hx_slot.specs.declared.updates.AcceptedUpdate.{AcceptedUpdate}
 use Rattle.hx_slot.specs.States.{SlotState}
-use Rattle.hx_slot.specs.Tabled.{AscendByRegion, touched_over}
+use Rattle.hx_slot.specs.MarksAndTouches.{AscendByRegion, touched_over}
 use Rattle.hx_slot.proofs.Lean.{touched-below, touched-seen}
 use Rattle.hx_slot.proofs.slots.Slot.touched.Goals as goal
 
