@@ -1,0 +1,4 @@
+mod Examples
+pub mod Dealing
+pub mod Fitting
+pub mod Owners

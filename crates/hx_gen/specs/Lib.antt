@@ -1,0 +1,4 @@
+pub mod Drawing
+pub mod Calling
+pub mod Soaking
+pub mod Owning

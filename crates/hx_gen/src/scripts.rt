@@ -1,0 +1,100 @@
+//! The script of a seed.
+
+ghost use Rattle.std.specs.Prelude.{◌≡◌, ◌≤◌, ◌∷◌, [], IfOk};
+ghost use Rattle.hx_types.specs.declared.spaces.Kind.TheVariants as a_kind;
+ghost use Rattle.hx_types.specs.declared.limits.TheConstants.{MOST_CALLS};
+ghost use Rattle.hx_types.specs.Fitting.{IsScript};
+ghost use Rattle.hx_gen.specs.Owning.{KeysAreOwned};
+ghost use Rattle.hx_gen.specs.Soaking.{attributes_of_soak, calls_drawn, script_drawn, soak};
+
+use crate::calls::call_drawn;
+use crate::drawing::SplitMix64;
+use hx_types::{
+    Attribute, Attributes, Axes, Axis, Calls, Kind, Memory, Script, Sessions, Space, Steps,
+    Subspaces, Text,
+};
+use std::alloc::Global;
+
+/// The script of a seed: so many calls, dealt out in turn to four sessions, on a space of its own,
+/// and no steps.
+///
+/// It can be run as it is: its calls fit its space. Each key is called by one session alone. At
+/// most 16,384 calls are drawn, as many as a script has. It fails for want of memory alone.
+pub fn script_of(alloc: Global, seed: u64, calls: u32) -> Result<Script, Memory>
+    requires { calls ≤ MOST_CALLS }
+    ensures exact { IfOk result (λ script. script ≡ script_drawn seed calls) }
+    ensures valid { IfOk result IsScript }
+    ensures owned { IfOk result KeysAreOwned }
+{
+    let space = soak(alloc)?;
+    let mut sessions = Sessions::new(alloc);
+    sessions.push(calls_drawn(alloc, seed, calls, 1)?)?;
+    sessions.push(calls_drawn(alloc, seed, calls, 2)?)?;
+    sessions.push(calls_drawn(alloc, seed, calls, 3)?)?;
+    sessions.push(calls_drawn(alloc, seed, calls, 4)?)?;
+    Ok(Script {
+        space,
+        sessions,
+        steps: Steps::new(alloc),
+    })
+}
+
+/// The calls of a session: of all that are drawn, those of its turns.
+fn calls_drawn(alloc: Global, seed: u64, calls: u32, session: u32) -> Result<Calls, Memory>
+    ensures { IfOk result (λ made. made ≡ calls_drawn seed calls session) }
+{
+    let mut generator = SplitMix64::new(seed);
+    let mut made = Calls::new(alloc);
+    for turn in 0..calls {
+        let draw = generator.draw();
+        if turn % 4 + 1 == session {
+            made.push(call_drawn(alloc, session, draw)?)?;
+        }
+    }
+    Ok(made)
+}
+
+/// The space: objects with a color and a size, spread by each of them, on four servers.
+fn soak(alloc: Global) -> Result<Space, Memory>
+    ensures { IfOk result (λ space. space ≡ soak) }
+{
+    let mut subspaces = Subspaces::new(alloc);
+    subspaces.push(axes(alloc, 1)?)?;
+    subspaces.push(axes(alloc, 2)?)?;
+    Ok(Space {
+        name: Text::from_str(alloc, "soak")?,
+        key_name: Text::from_str(alloc, "k")?,
+        key_parts: 4,
+        attributes: attributes(alloc)?,
+        subspaces,
+        servers: 4,
+        tolerate: 1,
+    })
+}
+
+fn attributes(alloc: Global) -> Result<Attributes, Memory>
+    ensures { IfOk result (λ made. made ≡ attributes_of_soak) }
+{
+    let mut made = Attributes::new(alloc);
+    made.push(Attribute {
+        name: Text::from_str(alloc, "color")?,
+        kind: Kind::Text,
+    })?;
+    made.push(Attribute {
+        name: Text::from_str(alloc, "size")?,
+        kind: Kind::Int { lo: 0, hi: 999 },
+    })?;
+    Ok(made)
+}
+
+/// One axis of four parts.
+fn axes(alloc: Global, attribute: u32) -> Result<Axes, Memory>
+    ensures { IfOk result (λ made. made ≡ record { attribute = attribute; parts = 4 } ∷ []) }
+{
+    let mut made = Axes::new(alloc);
+    made.push(Axis {
+        attribute,
+        parts: 4,
+    })?;
+    Ok(made)
+}
