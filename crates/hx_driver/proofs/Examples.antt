@@ -15,7 +15,6 @@ use Rattle.hx_driver.specs.declared.gathering.SeatedPart.{SeatedPart}
 use Rattle.hx_driver.specs.Gathered.{parts_by}
 use Rattle.hx_types.specs.declared.ids.Actor.{Actor}
 use Rattle.hx_law_threads.specs.Merged.{ActorPart, AreOwnParts}
-use Rattle.hx_law_threads.specs.Own.{past_of, IsOwn}
 use Rattle.hx_driver.specs.Examples.{answering, asking, ended, first_server, first_session, halting, one_get, turns, HasMade}
 
 two_rise : (a b : ℕ) → a < b → IsStrictlyIncreasing (a ∷ b ∷ [])

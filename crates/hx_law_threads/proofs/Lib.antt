@@ -4,3 +4,8 @@ pub mod Lists
 pub mod Sets
 pub mod Places
 pub mod Runs
+pub mod Retries
+pub mod Sessions
+pub mod Totals
+pub mod Weights
+mod Example

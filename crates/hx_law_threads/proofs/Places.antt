@@ -23,7 +23,7 @@ abbrev pub AreCounted : List Stamped → Type 0
 AreCounted [] = ⊤
 AreCounted (x ∷ older) = (x.stamp.0 ≡ length older) × AreCounted older
 
-length-entries : (ms : List Stamped) → length (entries ms) ≡ length ms
+pub length-entries : (ms : List Stamped) → length (entries ms) ≡ length ms
 length-entries [] = refl
 length-entries (x ∷ ms) = omega (arith, length-entries ms)
 

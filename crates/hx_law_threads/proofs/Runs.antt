@@ -29,7 +29,7 @@ use Rattle.hx_law_threads.proofs.Sets.{posts_set}
 use Rattle.hx_law_threads.proofs.Places.{are_counted, counted_below, entries, post_found, AreCounted}
 
 -- the entries of an actor
-abbrev mine : Actor → List Stamped → List Stamped
+abbrev pub mine : Actor → List Stamped → List Stamped
 mine a ms = filter (λ (x : Stamped). same_actor x.entry.actor a) ms
 
 own-case : (b : Bool) (x : Stamped) (es : List Entry) (ms : List Stamped) → es ≡ entries ms → cond b (x.entry ∷ es) es ≡ entries (cond b (x ∷ ms) ms)
@@ -40,11 +40,11 @@ own_mine : (a : Actor) (ms : List Stamped) → own_entries a (entries ms) ≡ en
 own_mine a [] = refl
 own_mine a (x ∷ ms) = own-case (same_actor x.entry.actor a) x (own_entries a (entries ms)) (mine a ms) (own_mine a ms)
 
-past_is : (part : List Stamped) → past_of part ≡ entries (reverse part)
+pub past_is : (part : List Stamped) → past_of part ≡ entries (reverse part)
 past_is part = sym (map_reverse (λ (x : Stamped). x.entry) part)
 
 -- what is known of merged parts, newest first, up to an entry
-record AreSteps (script : Script) (whole : List ActorPart) (ms : List Stamped) : Type 0 where
+pub record AreSteps (script : Script) (whole : List ActorPart) (ms : List Stamped) : Type 0 where
   pub counted : AreCounted ms
   pub own : (p : ActorPart) → IsIn p whole → IsOwn script p.actor (entries (mine p.actor ms))
   pub known : (z : Stamped) → IsIn z ms → (p : ActorPart) × IsIn p whole × (z.entry.actor ≡ p.actor)
@@ -144,7 +144,7 @@ module _ (script : Script) (whole : List ActorPart) (merged : List Stamped) (o :
   actor_in : (p : ActorPart) (z : Stamped) → IsIn p whole → IsIn z p.part → z.entry.actor ≡ p.actor
   actor_in p z i j = by_actor script p.actor (reverse p.part) z (own_of_part p i) (in_reverse p.part z j)
 
-  mine_is : (p : ActorPart) → IsIn p whole → mine p.actor (reverse merged) ≡ reverse p.part
+  pub mine_is : (p : ActorPart) → IsIn p whole → mine p.actor (reverse merged) ≡ reverse p.part
   mine_is p i =
       same_falling (λ (x : Stamped). x.stamp.0) (mine p.actor (reverse merged)) (reverse p.part)
       (filter_falls (λ (x : Stamped). x.stamp.0) (λ (x : Stamped). same_actor x.entry.actor p.actor) (reverse merged) (falls (λ (x : Stamped). x.stamp.0) merged m.by_stamp))
@@ -164,7 +164,7 @@ module _ (script : Script) (whole : List ActorPart) (merged : List Stamped) (o :
   posted_in n id p h =
       ∥∥₁_map h (λ (y : (x : Stamped) × IsIn x (all_of (parts_in whole)) × (x.stamp.0 < n) × Posted x id p). (y.0, into y.0 y.1, y.2, y.3))
 
-  all_steps : AreSteps script whole (reverse merged)
+  pub all_steps : AreSteps script whole (reverse merged)
   all_steps = record {
     counted = are_counted (parts_in whole) merged w m;
     own = λ p i. subst (λ l. IsOwn script p.actor (entries l)) (sym (mine_is p i)) (own_of_part p i);

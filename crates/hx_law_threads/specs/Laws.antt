@@ -1,5 +1,5 @@
--- The laws on what threads make: the parts of all actors, merged, are a run.
-use Rattle.std.specs.Prelude.{◌≡◌, List}
+-- The laws on what threads make: the parts of all actors, merged, are a run, and who retries in it.
+use Rattle.std.specs.Prelude.{◌≡◌, ℕ, ◌+◌, true, List, Some}
 use Rattle.hx_types.specs.declared.ids.Actor.{Actor}
 use Rattle.hx_types.specs.declared.ids.ServerId.{ServerId}
 use Rattle.hx_types.specs.declared.ids.SessionId.{SessionId}
@@ -7,9 +7,11 @@ use Rattle.hx_types.specs.declared.traces.Entry.{Entry}
 use Rattle.hx_types.specs.declared.traces.Input.{Input}
 use Rattle.hx_types.specs.declared.traces.Script.{Script}
 use Rattle.hx_types.specs.declared.ids.Actor.TheVariants.{Coordinator, Server, Session}
-use Rattle.hx_model.specs.Runs.{coordinator_of, has_halted, made_of, server_of, session_of, IsRun}
+use Rattle.hx_model.specs.Runs.{coordinator_of, entry_at, has_halted, made_of, server_of, session_of, IsRun}
 use Rattle.hx_clock.specs.declared.parts.Stamped.{Stamped}
 use Rattle.hx_law_threads.specs.Own.{own_entries, past_of, IsOwn}
+use Rattle.hx_law_threads.specs.Cuts.{first_entries, is_retry, is_waiting, own_at, Cut}
+use Rattle.hx_law_threads.specs.Pacing.{retries_at}
 use Rattle.hx_law_threads.specs.Merged.{parts_in, ActorPart, AreOwnParts, AreWholeParts, HasOwnParts, HasStampsAsPlaces, IsMerged}
 
 -- an actor's state after a trace, and what it makes there, is that after its own entries
@@ -42,3 +44,16 @@ MergedPartsAreRuns =
 -- the merge of whole parts has each entry at the place of its stamp
 abbrev pub MergedStampsArePlaces : Type 0
 MergedStampsArePlaces = (parts : List (List Stamped)) (merged : List Stamped) → AreWholeParts parts → IsMerged parts merged → HasStampsAsPlaces merged
+
+-- in a run each retry is of an actor that waits after its entries before
+abbrev pub RetriesWait : Type 0
+RetriesWait =
+    (script : Script) (trace : List Entry) → IsRun script trace
+    → (a : Actor) (n : ℕ) (x : Entry) → entry_at (n + 1) (own_entries a trace) ≡ Some x → is_retry x ≡ true
+    → is_waiting script (first_entries n (own_entries a trace)) a ≡ true
+
+-- so whoever retries first after a cut waited there
+abbrev pub RetriersWaited : Type 0
+RetriersWaited =
+    (script : Script) (trace : List Entry) → IsRun script trace
+    → (cut : Cut) (a : Actor) → retries_at cut trace a ≡ true → is_waiting script (own_at cut trace a) a ≡ true

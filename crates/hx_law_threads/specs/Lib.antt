@@ -1,3 +1,7 @@
 pub mod Own
 pub mod Merged
+pub mod Cuts
+pub mod Pacing
+pub mod Calls
+pub mod Counting
 pub mod Laws

@@ -2,7 +2,9 @@
 //! one clock, is a run of the script, so that every law over all runs holds of it.
 #![tactic(auto)]
 
-ghost use Rattle.hx_law_threads.specs.Laws.{EntriesOfRunsAreOwn, MergedPartsAreRuns, MergedStampsArePlaces, StatesAreByOwnEntries};
+ghost use Rattle.hx_law_threads.specs.Calls.{CallsOfDoneSessionsEnd, CallsUnderWayAreOpen};
+ghost use Rattle.hx_law_threads.specs.Counting.{CutsAddUp, OpenAreCounted, PostsAreNamedOnce, PostsOfCutsWeigh};
+ghost use Rattle.hx_law_threads.specs.Laws.{EntriesOfRunsAreOwn, MergedPartsAreRuns, MergedStampsArePlaces, RetriersWaited, RetriesWait, StatesAreByOwnEntries};
 
 /// An actor's state, and what it makes of an input, are those after its own entries, whatever others
 /// do in between; and in every run its entries are its own steps.
@@ -17,4 +19,29 @@ pub fn actors_see_their_own_entries()
 pub fn merged_parts_are_runs()
     ensures runs { MergedPartsAreRuns }
     ensures places { MergedStampsArePlaces }
+{}
+
+/// In every run a retry is of an actor that hasn't halted, is no idle session and has something to
+/// do: so after no cut does anybody retry who didn't wait there.
+pub fn only_waiting_actors_retry()
+    ensures retries { RetriesWait }
+    ensures cuts { RetriersWaited }
+{}
+
+/// In every run a session that has no call under way and none left has ended each of its calls; and
+/// where it has one under way, that call began and hasn't ended.
+pub fn sessions_note_their_calls()
+    ensures done { CallsOfDoneSessionsEnd }
+    ensures under_way { CallsUnderWayAreOpen }
+{}
+
+/// What the entries of a cut of merged parts add up to can be counted part by part: so too the posts
+/// that they made and delivered, each of which has a name of its own. Where whatever holds of no
+/// post that was delivered, and of none to a halted server, holds of at most so many, at most so
+/// many are open.
+pub fn cuts_add_up()
+    ensures cuts { CutsAddUp }
+    ensures posts { PostsOfCutsWeigh }
+    ensures few_open { OpenAreCounted }
+    ensures names { PostsAreNamedOnce }
 {}

@@ -1,10 +1,8 @@
-use Rattle.std.proofs.Common.{◌≡◌, ℕ, ◌+◌, List, [], ◌∷◌, ◌++◌, Some, slice_get, refl, ap, sym, subst, ◌∙◌}
+use Rattle.std.proofs.Common.{◌≡◌, [], ◌∷◌, ◌++◌, slice_get, ap, sym, subst, ◌∙◌}
 use Rattle.hx_types.specs.declared.traces.Entry.{Entry}
 use Rattle.hx_clock.specs.Parts.{stamped, DeliveryMeets}
 use Rattle.hx_clock.specs.Views.{Knows}
-use Rattle.hx_clock.specs.declared.parts.Stamped.{Stamped}
 use Rattle.hx_clock.specs.declared.view.View.{View}
-use Rattle.hx_driver.specs.declared.gathering.SeatedPart.{SeatedPart}
 use Rattle.hx_driver.specs.Examples.{one_get}
 use Rattle.hx_driver.proofs.Examples.{both_here, both_own, made_post, post_known}
 use Rattle.hx_driver.proofs.Gathers.{part_of_it}
