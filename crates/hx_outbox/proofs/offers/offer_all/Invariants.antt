@@ -1,0 +1,24 @@
+use Rattle.std.proofs.Common.{◌≡◌, ◌+◌, ◌*◌, ◌≤◌, ◌++◌, length}
+use Rattle.std.specs.VecDeque.{deque_len, deque_capacity}
+use Rattle.hx_outbox.specs.Outboxes.{kept_weight, out_weight, AreGood, IsOutbox, MorePut}
+use Rattle.hx_outbox.specs.Offers.{firsts_of, named, IsOffered, IsTotal}
+use Rattle.hx_outbox.proofs.offers.offer_all.Given as goal
+
+abbrev pub invariant-loop-copies : goal.invariant-loop-copies
+invariant-loop-copies g l =
+    (l.seat ≡ l.initial.seat)
+    × IsOutbox l.boxes l.out
+    × (l.out.index ≡ l.initial.out.index)
+    × MorePut l.initial.out.ports.items l.out.ports.items
+    × (AreGood l.script l.clock l.initial.kept.items → AreGood l.script l.clock l.kept.items)
+    × (deque_capacity l.kept ≡ deque_capacity l.initial.kept)
+    × (deque_len l.kept ≤ deque_len l.initial.kept + 2 * l.place)
+    × (out_weight (λ m. 1) l.out.ports.items + kept_weight (λ m. 1) l.kept.items ≤ out_weight (λ m. 1) l.initial.out.ports.items + kept_weight (λ m. 1) l.initial.kept.items + 2 * l.place)
+    × (l.totals.posts ≡ l.initial.totals.posts + l.place)
+    × IsTotal l.totals
+    × (l.place ≡ length l.yielded)
+    × (l.yielded ++ l.copies-iterator.rest.items ≡ l.fn.posts.items)
+    × IsOffered (λ h. out_weight h l.initial.out.ports.items + kept_weight h l.initial.kept.items) (λ h. out_weight h l.out.ports.items + kept_weight h l.kept.items) l.initial.totals l.totals
+    (record { chosen = (g.dyn-1.0.entry l.initial.fate.vtable).1.choices l.initial.fate.value; lost = (g.dyn-1.0.entry l.initial.fate.vtable).1.losses l.initial.fate.value; doubled = (g.dyn-1.0.entry l.initial.fate.vtable).1.repeats l.initial.fate.value })
+    (record { chosen = (g.dyn-1.0.entry l.fate.vtable).1.choices l.fate.value; lost = (g.dyn-1.0.entry l.fate.vtable).1.losses l.fate.value; doubled = (g.dyn-1.0.entry l.fate.vtable).1.repeats l.fate.value })
+    (named l.entry 0 (firsts_of l.yielded))

@@ -1,0 +1,5 @@
+use Rattle.hx_outbox.proofs.Offering.{offered-one}
+use Rattle.hx_outbox.proofs.offers.offer_one.Goals as goal
+
+pub returns-clause-offered : goal.returns-clause-offered
+returns-clause-offered g c = offered-one _ _ _ _ _ _ _ _ c.ask-choice.ensures c.count.ensures.counted c.put_times.ensures.weight

@@ -1,0 +1,4 @@
+pub mod Zipped
+pub mod Places
+pub mod Outboxes
+pub mod Offers
