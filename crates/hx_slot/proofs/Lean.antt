@@ -1,6 +1,6 @@
 -- The slot as contracts see it, without its past: what is known of it with its past holds of it too.
 use Rattle.hx_model.specs.Lines.{upto}
-use Rattle.std.proofs.Common.{◌≡◌, ℕ, ◌-◌, ◌+◌, ◌<◌, ◌≤◌, true, false, List, [], ◌∷◌, ◌++◌, Vec, map, length, take, drop, get_or, set, Option, Some, None, refl, ap, sym, ◌∙◌, subst, arith, not, cond, eqb, leb, ltb}
+use Rattle.std.proofs.Common.{◌≡◌, ℕ, ◌-◌, ◌+◌, ◌<◌, ◌≤◌, true, false, List, [], ◌∷◌, ◌++◌, Vec, map, length, take, get_or, set, ap, sym, ◌∙◌, subst, arith, not, eqb, leb, ltb}
 use Rattle.std.specs.List.{All, AllByRecursion, filter, list_any, remove}
 use Rattle.std.specs.Option.{IfSome, unwrap_or}
 use Rattle.std.specs.declared.alloc.Global.{Global}
@@ -16,10 +16,9 @@ use Rattle.hx_types.specs.declared.snapshots.Touch.{Touch}
 use Rattle.hx_types.specs.declared.updates.Update.{Update}
 use Rattle.hx_types.specs.Words.{provided}
 use Rattle.hx_model.specs.Places.{touched_in}
-use Rattle.hx_model.specs.Slots.{Acknowledge, Commit, Forget, Hold, KeyState, Move, Take, ack_answer, acknowledged, commits, is_pending, kept_of, kept_row, latest_of, mark_among, mark_of, marks_after, moved, moved_all, object_in, object_of, other_version, pending_of, settled, state_of_kept, top_above, top_of, touches_after, touches_of, waits_below}
+use Rattle.hx_model.specs.Slots.{Acknowledge, Forget, Hold, KeyState, Move, Take, acknowledged, is_pending, kept_of, kept_row, latest_of, mark_among, mark_of, marks_after, moved, moved_all, object_in, object_of, pending_of, settled, top_above, top_of, touches_after, touches_of, waits_below}
 use Rattle.hx_folds.specs.Folding.{Descends, IsSlotOf, ShowSame, above, folded}
-use Rattle.hx_types.specs.declared.outcomes.Acked.TheVariants as an_ack
-use Rattle.hx_folds.proofs.Folds.{folded-twice, kept-folded, mark-folded, object-folded, pending-folded, top-folded, touches-folded}
+use Rattle.hx_folds.proofs.Folds.{folded-twice, kept-folded, mark-folded, touches-folded}
 use Rattle.hx_folds.proofs.Shown.{acknowledged-settled, alike-folded, alike-show, settled-same}
 use Rattle.hx_folds.proofs.Slots.{alike-moved_all, settled-fit, slot-folded, AllFit}
 use Rattle.hx_slot.specs.declared.updates.PlacedUpdate.{PlacedUpdate}
@@ -28,13 +27,13 @@ use Rattle.hx_slot.specs.declared.slots.Slot.TheInside.{Inside}
 use Rattle.hx_slot.specs.declared.tables.Tables.{Tables}
 use Rattle.hx_slot.specs.Acks.{AreSameUpdates, front_acked, front_with, is_of_version, is_waiting_below}
 use Rattle.hx_slot.specs.Updates.{Ascends, last_version, newest_first, row_over}
-use Rattle.hx_slot.specs.Invariant.{IsSlot, pending_in, seen, updates_of, versions_of, whole}
+use Rattle.hx_slot.specs.Invariant.{IsSlot, pending_in, seen, versions_of, whole}
 use Rattle.hx_slot.specs.States.{IsOrderly, call_at}
 use Rattle.hx_slot.specs.Tabled.{mark_found, marks_over, newer_of, touch_among, touches_over}
 use Rattle.hx_slot.proofs.Accepting as accepting
 use Rattle.hx_slot.proofs.Acking.{with_ack}
 use Rattle.hx_slot.proofs.Carrying as carrying
-use Rattle.hx_slot.proofs.Newer.{MarksUpTo, mark_among-upto, marks_after-upto}
+use Rattle.hx_slot.proofs.Newer.{mark_among-upto, marks_after-upto}
 use Rattle.hx_slot.proofs.Newest.{floor-top, top_above-newest_first, update_of, upto-line}
 use Rattle.hx_slot.proofs.Reading as reading
 use Rattle.hx_slot.proofs.Regions.{TouchesUpTo, UpdatesUpTo, touched-upto, touches_after-upto}

@@ -2,7 +2,7 @@
 use Rattle.std.proofs.Common.{◌≡◌, ℕ, zero, suc, ◌+◌, ◌<◌, ◌≤◌, Bool, true, false, not, ◌&&◌, ◌||◌, List, map, [], ◌∷◌, Vec, length, take, drop, set, get_or, Some, vec_capacity, vec_len, refl, ap, sym, ◌∙◌, subst, arith, cond, eqb, ltb}
 use Rattle.std.specs.List.{AllByRecursion, AllWithin, filter, list_any, position}
 use Rattle.std.specs.declared.alloc.Global.{Global}
-use Rattle.std.proofs.lemmas.Bool.{cond_both, cond-false, cond-true, eqb-true}
+use Rattle.std.proofs.lemmas.Bool.{cond-false, cond-true, eqb-true}
 use Rattle.std.proofs.lemmas.List.Quantifiers.{position-Some}
 use Rattle.std.proofs.Math.Seq.{take-add}
 use Rattle.std.proofs.lemmas.List.{drop-drop, drop-set-add, get_or-drop, length-drop, length-map}

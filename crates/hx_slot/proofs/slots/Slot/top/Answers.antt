@@ -1,4 +1,4 @@
-use Rattle.std.proofs.Common.{◌≡◌, ◌≤◌, ℕ, [], ◌∙◌, ap, arith, subst, sym}
+use Rattle.std.proofs.Common.{◌≡◌, ◌≤◌, ℕ, ◌∙◌, ap, arith, subst, sym}
 use Rattle.std.specs.List.{All}
 use Rattle.hx_types.specs.declared.snapshots.Touch.{Touch}
 use Rattle.hx_model.specs.Slots.{top_of, touches_of}
@@ -6,7 +6,6 @@ use Rattle.hx_slot.specs.Updates.{last_version}
 use Rattle.hx_slot.specs.Invariant.{seen}
 use Rattle.hx_slot.specs.States.{SlotState}
 use Rattle.hx_slot.proofs.Lean.{floor-seen, top-seen, touches-below}
-use Rattle.hx_slot.proofs.Newest.{floor-top, top_above-newest_first}
 use Rattle.hx_slot.proofs.slots.Slot.top.Goals as goal
 
 pub returns-clause-top : goal.returns-clause-top
