@@ -5,4 +5,4 @@ mod deciding;
 mod stuck_updates;
 
 pub use deciding::decide;
-pub use stuck_updates::stuck;
+pub use stuck_updates::{stuck, stuck_from};

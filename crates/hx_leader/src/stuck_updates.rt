@@ -1,6 +1,7 @@
-ghost use Rattle.std.specs.Prelude.{◌≡◌};
+ghost use Rattle.std.specs.Prelude.{◌≡◌, drop};
 ghost use Rattle.hx_leader.specs.Parts.{stuck_seen};
-ghost use Rattle.hx_model.specs.Leading.{first_lost, stuck_of};
+ghost use Rattle.hx_model.specs.Leading.{first_lost, stuck_among, stuck_of};
+ghost use Rattle.hx_model.specs.Slots.{pending_of};
 
 use hx_slot::Slot;
 use hx_types::{Config, Places, RegionId, Version};
@@ -9,11 +10,20 @@ use hx_types::{Config, Places, RegionId, Version};
 /// region: what stands behind it may never be committed. `None` where no pending version has.
 ///
 /// It takes no memory.
-#[tactic(auto, using(crate::proofs::Pending::drop_at, crate::proofs::Pending::none_at))]
 pub fn stuck(config: &Config, slot: &Slot) -> Option<(Version, RegionId)>
     ensures { stuck_seen result ≡ stuck_of config.now slot.now.state }
 {
-    for i in 0..slot.pending_count() {
+    stuck_from(config, slot, 0)
+}
+
+/// What [`stuck`] would give if so many of the lowest pending updates were committed.
+///
+/// It takes no memory.
+#[tactic(auto, using(crate::proofs::Pending::drop_at, crate::proofs::Pending::none_at))]
+pub fn stuck_from(config: &Config, slot: &Slot, committed: u32) -> Option<(Version, RegionId)>
+    ensures { stuck_seen result ≡ stuck_among config.now (drop committed (pending_of slot.now.state)) }
+{
+    for i in committed..slot.pending_count() {
         let Some(update) = slot.pending(i) else {
             return None;
         };

@@ -17,7 +17,7 @@ pub accepted_moves : (spot : ModelSpot) (s : KeyState) (u : Update) (posts : Lis
 accepted_moves spot s u posts ends a = ap (λ (ms : List Move). with_commits s (offered spot.region s u ++ ms)) a.ends_are
 
 -- commits take the lowest pending updates, as many as they are
-told_first : (spot : ModelSpot) (acked : List ℕ) (us : List Update) → flat_map (told_of spot) (take (length (commits acked us)) us) ≡ flat_map (move_posts spot) (commits acked us)
+pub told_first : (spot : ModelSpot) (acked : List ℕ) (us : List Update) → flat_map (told_of spot) (take (length (commits acked us)) us) ≡ flat_map (move_posts spot) (commits acked us)
 told_first spot acked [] = refl
 told_first spot acked (u ∷ rest) = by (list_any (λ v. v == u.version.0) acked) (told_first spot acked rest)
   where

@@ -1,5 +1,5 @@
 -- The small space is one, and its server can take the put.
-use Rattle.std.proofs.Common.{◌≡◌, ℕ, ◌≤◌, true, ◌&&◌, List, [], ◌∷◌, map, refl, ap, sym, ◌∙◌, subst, arith, ⊎_elim}
+use Rattle.std.proofs.Common.{◌≡◌, ℕ, ◌≤◌, true, ◌&&◌, List, [], ◌∷◌, map, refl, ap, sym, subst, arith, ⊎_elim}
 use Rattle.std.specs.Prelude.{◌≢◌}
 use Rattle.std.proofs.lemmas.List.Elements.{All-from_recursion}
 use Rattle.hx_types.specs.declared.spaces.Attribute.{Attribute}
@@ -13,7 +13,7 @@ use Rattle.hx_types.specs.declared.ids.Actor.TheVariants.{Coordinator, Server}
 use Rattle.hx_types.specs.declared.traces.Input.TheVariants.{Tick, Halt}
 use Rattle.hx_types.specs.Posts.{IsSoundMessage, goes_between}
 use Rattle.hx_types.specs.Configs.{first_config}
-use Rattle.hx_types.specs.Spaces.{AssignFits, TermFits, IsKind, IsName, IsServerOf, IsSpace, IsSubspaceOf, is_letter}
+use Rattle.hx_types.specs.Spaces.{AssignFits, TermFits, IsKind, IsName, IsSpace, IsSubspaceOf, is_letter}
 use Rattle.hx_types.specs.Words.{IsIn}
 use Rattle.hx_model.specs.ServerSteps.{Replica, ServerState, listed_regions, server_at_start}
 use Rattle.hx_model.specs.Slots.{KeyState}

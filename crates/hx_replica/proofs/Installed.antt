@@ -21,7 +21,8 @@ use Rattle.hx_replica.specs.declared.plans.Change.{Change}
 use Rattle.hx_replica.specs.declared.plans.Plan.{Plan}
 use Rattle.hx_replica.specs.declared.plans.Change.TheVariants as a_change
 use Rattle.hx_replica.specs.declared.replicas.Replica.{Replica}
-use Rattle.hx_replica.specs.Adopting.{AreAdopted, lean_adopted, lean_replica}
+use Rattle.hx_replica.specs.Adopting.{lean_adopted, lean_replica}
+use Rattle.hx_replica.specs.Replicas.{new_replica}
 use Rattle.hx_replica.specs.Plans.{IsAdoptionOn, IsChange, IsPlanOn}
 use Rattle.hx_replica.specs.Servers.{ServerValue}
 use Rattle.hx_replica.specs.Ticking.{standing}
@@ -66,23 +67,24 @@ adopting_plan server input posts config replicas =
     record { entry = record { actor = Server server; input = input; outputs = posts; notes = [] }; change = a_change.Adopt config replicas }
 
 -- a newer configuration is adopted
-pub adoption_planned : (v : ServerValue) (input : Input) (config copy : Config) (replicas : Vec Replica Global) (before posts : List Post) (plan : Plan) → v.state.config.epoch.0 < config.epoch.0 → folded_server v.state ≡ v.state
-    → server_step v.space v.state input ≡ install_at v.space v.state config → before ≡ []
-    → AreAdopted v.space (standing config v.state.id) v.state.replicas (listed_regions config v.state.id) before posts replicas.items
+pub adoption_planned : (v : ServerValue) (input : Input) (config copy : Config) (replicas : Vec Replica Global) (posts : List Post) (plan : Plan) → v.state.config.epoch.0 < config.epoch.0 → folded_server v.state ≡ v.state
+    → server_step v.space v.state input ≡ install_at v.space v.state config
+    → posts ≡ flat_map (λ (g : RegionId). adopted_posts v.space (standing config v.state.id) (replica_or_new v.state.replicas g)) (listed_regions config v.state.id)
+    → replicas.items ≡ map (new_replica v.space) (listed_regions config v.state.id)
     → copy ≡ config → plan ≡ adopting_plan v.state.id input posts copy replicas → IsPlanOn v plan
-adoption_planned v input config copy replicas before posts plan newer bare is none a same e =
+adoption_planned v input config copy replicas posts plan newer bare is p new same e =
     let s : ServerState = v.state in
     let next : ServerState = with_config s config in
     let step : server_step v.space s input ≡ adopted v.space next = is ∙ cond-true _ (adopted v.space next) (unmoved s) (lt-ltb s.config.epoch.0 config.epoch.0 newer) in
     let gs = listed_regions config s.id in
-    let said : posts ≡ (adopted v.space next).posts = a.posts ∙ ap (λ (l : List Post). l ++ flat_map (λ (g : RegionId). adopted_posts v.space (standing config s.id) (replica_or_new s.replicas g)) gs) none ∙ posts_of v.space next s.replicas gs in
-    let views = a.views ∙ views_of_all v.space next s.replicas gs (λ g. sym (new-folded s.replicas g) ∙ ap (λ (x : ServerState). replica_or_new x.replicas g) bare) in
+    let said : posts ≡ (adopted v.space next).posts = p ∙ posts_of v.space next s.replicas gs in
+    let views = views_of_all v.space next s.replicas gs (λ g. sym (new-folded s.replicas g) ∙ ap (λ (x : ServerState). replica_or_new x.replicas g) bare) in
     subst (IsPlanOn v) (sym (e ∙ ap (λ (c : Config). adopting_plan s.id input posts c replicas) same))
     (record {
       entry = ap (λ (ps : List Post). record { actor = Server s.id; input = input; outputs = ps; notes = [] }) said
           ∙ ap (λ (t : ServerStep). record { actor = Server s.id; input = input; outputs = t.posts; notes = t.notes }) (sym step);
       change = record {
-        are = a.are;
+        new = new;
         state = ap (λ (t : ServerStep). folded_server t.state) step ∙ ap (λ (l : List ReplicaState). record { id = s.id; config = config; sealed = next.sealed; halted = s.halted; replicas = l }) (sym views);
       };
     })

@@ -15,8 +15,10 @@ pub mod Inside
 pub mod Examples
 pub mod Sending
 pub mod Searching
+pub mod Committing
 pub mod Resumed
 pub mod Adopted
+pub mod Kept
 pub mod Installed
 pub mod Joined
 pub mod Snapped

@@ -170,7 +170,7 @@ told_commits spot acked after ends same (b ∷ bs) =
     by false more = refl
 
 -- the versions whose chain ends here
-acknowledging_append : (xs ys : List Version) → acknowledging (xs ++ ys) ≡ acknowledging xs ++ acknowledging ys
+pub acknowledging_append : (xs ys : List Version) → acknowledging (xs ++ ys) ≡ acknowledging xs ++ acknowledging ys
 acknowledging_append [] ys = refl
 acknowledging_append (x ∷ xs) ys = ap (λ ms. Acknowledge x.0 ∷ ms) (acknowledging_append xs ys)
 
@@ -190,7 +190,7 @@ ends_marked spot (b ∷ bs) =
 abbrev pub Stands : List Update → Version → Type 0
 Stands us v = list_any (λ (u : Update). u.version.0 == v.0) us ≡ true
 
-all_append : {A : Type 0} (P : A → Type 0) (xs ys : List A) → All P xs → All P ys → All P (xs ++ ys)
+pub all_append : {A : Type 0} (P : A → Type 0) (xs ys : List A) → All P xs → All P ys → All P (xs ++ ys)
 all_append P [] ys h k = k
 all_append P (x ∷ xs) ys h k = All-cons P x (xs ++ ys) (All-head P x xs h) (all_append P xs ys (All-tail P x xs h) k)
 
@@ -208,6 +208,12 @@ ends_stand spot us (b ∷ bs) h =
 or_true : (a b : Bool) → b ≡ true → (a || b) ≡ true
 or_true true b e = refl
 or_true false b e = e
+
+pub self_among : (before : List Update) (u : Update) (us : List Update) → Stands (before ++ u ∷ us) u.version
+self_among before u us =
+    list_any-append (λ (x : Update). x.version.0 == u.version.0) before (u ∷ us)
+    ∙ or_true (list_any (λ (x : Update). x.version.0 == u.version.0) before) _
+    (ap (λ t. t || list_any (λ (x : Update). x.version.0 == u.version.0) us) (eq-eqb u.version.0 u.version.0 refl))
 
 self_stands : (before : List Update) (b : Bor Update) (bs : List (Bor Update)) → Stands (before ++ b.now ∷ seen bs) b.now.version
 self_stands before b bs =

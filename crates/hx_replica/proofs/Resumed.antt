@@ -1,86 +1,155 @@
 -- What is posted of a slot that goes on in a new configuration.
-use Rattle.std.proofs.Common.{◌≡◌, Bool, true, false, cond, List, [], ◌∷◌, ◌++◌, map, nat_le, refl, ap, sym, ◌∙◌, subst, append_assoc}
-use Rattle.std.specs.Borrow.{Bor}
+use Rattle.std.proofs.Common.{◌≡◌, ℕ, suc, Bool, true, false, cond, List, [], ◌∷◌, ◌++◌, drop, length, map, take, Option, None, Some, nat_le, nat_lt, refl, ap, sym, ◌∙◌, subst, append_assoc, append-nil, arith}
 use Rattle.std.specs.List.{All, filter, flat_map}
+use Rattle.std.proofs.lemmas.Bool.Decides.{nat_tests}
 use Rattle.std.proofs.lemmas.Grind.{flat_map-append}
+use Rattle.std.proofs.lemmas.List.Elements.{All-nil, All-cons, All-head, All-tail}
 use Rattle.hx_types.specs.declared.messages.Post.{Post}
-use Rattle.hx_types.specs.declared.ids.RegionId.{RegionId}
 use Rattle.hx_types.specs.declared.ids.Version.{Version}
 use Rattle.hx_types.specs.declared.updates.Update.{Update}
+use Rattle.hx_types.specs.Configs.{leads}
 use Rattle.hx_types.specs.Words.{provided}
-use Rattle.hx_model.specs.ServerSteps.{Spot as ModelSpot, doubt_in, end_marks, leader_doubts, move_posts, passed_on, resumed, resumed_posts}
-use Rattle.hx_model.specs.Slots.{Forget, KeyState, Move, commits, moved, moved_all, pending_of, settled}
-use Rattle.hx_folds.specs.Folding.{folded}
-use Rattle.hx_folds.proofs.Steps.{doubts-folded}
+use Rattle.hx_model.specs.Leading.{StuckAt, stuck_among}
+use Rattle.hx_model.specs.Neighbours.{is_end}
+use Rattle.hx_model.specs.ServerSteps.{Spot as ModelSpot, doubt_in, doubts_from, end_marks, leader_doubts, move_posts, next_at, passed_on, resumed, resumed_posts}
+use Rattle.hx_model.specs.Slots.{Acknowledge, Forget, KeyState, Move, commits, moved, moved_all, pending_of, settled}
+use Rattle.hx_folds.specs.Folding.{Descends, IsSlotOf}
 use Rattle.hx_store.specs.Stores.{ArePending, acknowledging}
-use Rattle.hx_replica.specs.Adopting.{IsCarriedOn, doubt_of}
-use Rattle.hx_replica.specs.Made.{end_of, seen, settled_among, told_of}
-use Rattle.hx_replica.proofs.Offers.{Stands, ends_marked, ends_stand, marks_acked, marks_pending, no_end_posts, seen_stand, told_commits}
-use Rattle.hx_replica.proofs.Sending.{of_updates}
+use Rattle.hx_store.proofs.Moves.{moved_all_append}
+use Rattle.hx_replica.specs.Adopting.{IsCarriedOn, doubt_of, doubts_among, doubts_on}
+use Rattle.hx_replica.specs.Made.{end_of, ended_count, told_of}
+use Rattle.hx_replica.proofs.Acked.{told_first}
+use Rattle.hx_replica.proofs.Committing.{commits_left, ended_is}
+use Rattle.hx_replica.proofs.Offers.{Stands, acknowledging_append, all_append, marks_acked, marks_pending, no_end_posts, self_among}
 
 -- the callers that are told of a lost region
-pub doubts : (spot : ModelSpot) (s : KeyState) (first : Version) (g : RegionId) (line : List (Bor Update)) → seen line ≡ pending_of s
-    → flat_map (λ (b : Bor Update). doubt_of spot first g b.now) line ≡ map (λ (u : Update). doubt_in spot u.caller u.version g) (filter (λ (u : Update). nat_le first.0 u.version.0) (pending_of s))
-doubts spot s first g line e = of_updates (doubt_of spot first g) line ∙ each (seen line) ∙ ap (λ (us : List Update). map told (filter from us)) e
+doubts : (spot : ModelSpot) (us : List Update) (x : StuckAt) → map (λ (u : Update). doubt_in spot u.caller u.version x.region) (filter (λ (u : Update). nat_le x.version.0 u.version.0) us) ≡ flat_map (doubt_of spot x.version x.region) us
+doubts spot [] x = refl
+doubts spot (u ∷ us) x = by (nat_le x.version.0 u.version.0) (doubts spot us x)
   where
     told : Update → Post
-    told u = doubt_in spot u.caller u.version g
+    told u = doubt_in spot u.caller u.version x.region
 
     from : Update → Bool
-    from u = nat_le first.0 u.version.0
+    from u = nat_le x.version.0 u.version.0
 
-    each : (us : List Update) → flat_map (doubt_of spot first g) us ≡ map told (filter from us)
-    each [] = refl
-    each (u ∷ us) = by (from u) (each us)
-      where
-        by : (t : Bool) → flat_map (doubt_of spot first g) us ≡ map told (filter from us) → provided t (told u ∷ []) ++ flat_map (doubt_of spot first g) us ≡ map told (cond t (u ∷ filter from us) (filter from us))
-        by true more = ap (λ ps. told u ∷ ps) more
-        by false more = more
+    by : (t : Bool) → map told (filter from us) ≡ flat_map (doubt_of spot x.version x.region) us → map told (cond t (u ∷ filter from us) (filter from us)) ≡ provided t (told u ∷ []) ++ flat_map (doubt_of spot x.version x.region) us
+    by true more = ap (λ ps. told u ∷ ps) more
+    by false more = more
 
--- the pending updates of a slot that has forgotten its acknowledgements are passed on, end and are told of
-pub carried_on : (spot : ModelSpot) (s next : KeyState) (line : List (Bor Update)) (ends : List Version) (old passed posts : List Post) → seen line ≡ pending_of s → next.acked ≡ []
-    → ends ≡ flat_map (λ (b : Bor Update). end_of spot b.now) line
-    → passed ≡ old ++ flat_map (λ (b : Bor Update). passed_on spot b.now) line
-    → posts ≡ passed ++ flat_map (λ (b : Bor Update). told_of spot b.now) (settled_among next.acked ends line)
+doubts_same : (spot : ModelSpot) (s : KeyState) → leader_doubts spot s ≡ doubts_among spot (pending_of s)
+doubts_same spot s = by (stuck_among spot.config (pending_of s))
+  where
+    by : (o : Option StuckAt) → provided (leads spot.space spot.config spot.server spot.region) (doubts_from spot s o) ≡ provided (leads spot.space spot.config spot.server spot.region) (doubts_on spot (pending_of s) o)
+    by None = refl
+    by (Some x) = ap (provided (leads spot.space spot.config spot.server spot.region)) (doubts spot (pending_of s) x)
+
+-- the versions of the updates whose chain ends here
+pub marks_of_ends : (spot : ModelSpot) (us : List Update) → acknowledging (flat_map (end_of spot) us) ≡ end_marks spot us
+marks_of_ends spot [] = refl
+marks_of_ends spot (u ∷ us) = acknowledging_append (end_of spot u) (flat_map (end_of spot) us) ∙ by (is_end (next_at spot u)) (marks_of_ends spot us)
+  where
+    by : (t : Bool) → acknowledging (flat_map (end_of spot) us) ≡ end_marks spot us
+        → acknowledging (provided t (u.version ∷ [])) ++ acknowledging (flat_map (end_of spot) us)
+        ≡ map (λ (v : Update). Acknowledge v.version.0) (cond t (u ∷ filter (λ (v : Update). is_end (next_at spot v)) us) (filter (λ (v : Update). is_end (next_at spot v)) us))
+    by true more = ap (λ ms. Acknowledge u.version.0 ∷ ms) more
+    by false more = more
+
+stand_among : (before us : List Update) → All (λ (u : Update). Stands (before ++ us) u.version) us
+stand_among before [] = All-nil (λ (u : Update). Stands (before ++ []) u.version)
+stand_among before (u ∷ us) =
+    All-cons (λ (x : Update). Stands (before ++ u ∷ us) x.version) u us (self_among before u us)
+    (subst (λ (all : List Update). All (λ (x : Update). Stands all x.version) us) (append_assoc before (u ∷ []) us) (stand_among (before ++ u ∷ []) us))
+
+ends_among : (spot : ModelSpot) (all us : List Update) → All (λ (u : Update). Stands all u.version) us → All (Stands all) (flat_map (end_of spot) us)
+ends_among spot all [] h = All-nil (Stands all)
+ends_among spot all (u ∷ us) h =
+    all_append (Stands all) (end_of spot u) (flat_map (end_of spot) us)
+    (by (is_end (next_at spot u)) (All-head (λ (x : Update). Stands all x.version) u us h))
+    (ends_among spot all us (All-tail (λ (x : Update). Stands all x.version) u us h))
+  where
+    by : (t : Bool) → Stands all u.version → All (Stands all) (provided t (u.version ∷ []))
+    by true s = All-cons (Stands all) u.version [] s (All-nil (Stands all))
+    by false s = All-nil (Stands all)
+
+pub ends_pending : (spot : ModelSpot) (s : KeyState) → ArePending s (flat_map (end_of spot) (pending_of s))
+ends_pending spot s = ends_among spot (pending_of s) (pending_of s) (stand_among [] (pending_of s))
+
+-- the pending updates are passed on, end and are told of
+pub carried_on : (spot : ModelSpot) (s : KeyState) (ends : List Version) (old passed posts : List Post) → ends ≡ flat_map (end_of spot) (pending_of s)
+    → passed ≡ old ++ flat_map (passed_on spot) (pending_of s)
+    → posts ≡ passed ++ flat_map (told_of spot) (take (ended_count ends (pending_of s)) (pending_of s))
     → IsCarriedOn spot s old posts ends
-carried_on spot s next line ends old passed posts lined none ended went posted =
+carried_on spot s ends old passed posts ended went posted =
     let fresh : KeyState = moved Forget s in
-    let marks = end_marks spot (pending_of s) in
-    let marked : acknowledging ends ≡ marks = ap acknowledging ended ∙ ends_marked spot line ∙ ap (end_marks spot) lined in
+    let us = pending_of s in
+    let marks = end_marks spot us in
+    let marked : acknowledging ends ≡ marks = ap acknowledging ended ∙ marks_of_ends spot us in
     let all : KeyState = moved_all (acknowledging ends) fresh in
-    let told = told_commits spot [] all.acked ends (λ v. marks_acked ends fresh v) line in
-    let settle : settled all ≡ commits all.acked (seen line) = ap (commits all.acked) (marks_pending ends fresh ∙ sym lined) in
+    let same : ended_count ends us ≡ length (commits all.acked us) = ended_is ends all.acked (λ v. marks_acked ends fresh v) us in
+    let settle : settled all ≡ commits all.acked us = ap (commits all.acked) (marks_pending ends fresh) in
     let rest : List Move = settled (moved_all marks fresh) in
-    let whole : flat_map (move_posts spot) (marks ++ rest) ≡ flat_map (move_posts spot) rest = flat_map-append (move_posts spot) marks rest ∙ ap (λ (ps : List Post). ps ++ flat_map (move_posts spot) rest) (no_end_posts spot (pending_of s)) in
+    let whole : flat_map (move_posts spot) (marks ++ rest) ≡ flat_map (move_posts spot) rest = flat_map-append (move_posts spot) marks rest ∙ ap (λ (ps : List Post). ps ++ flat_map (move_posts spot) rest) (no_end_posts spot us) in
     record {
       posts =
           posted
-          ∙ ap (λ (acked : List _). passed ++ flat_map (λ (b : Bor Update). told_of spot b.now) (settled_among acked ends line)) none
-          ∙ ap (λ (ps : List Post). passed ++ ps) (told ∙ ap (flat_map (move_posts spot)) (sym settle ∙ ap (λ (ms : List Move). settled (moved_all ms fresh)) marked) ∙ sym whole)
-          ∙ ap (λ (ps : List Post). ps ++ flat_map (move_posts spot) (marks ++ rest)) (went ∙ ap (λ (ps : List Post). old ++ ps) (of_updates (passed_on spot) line ∙ ap (flat_map (passed_on spot)) lined))
-          ∙ append_assoc old (flat_map (passed_on spot) (pending_of s)) (flat_map (move_posts spot) (marks ++ rest));
+          ∙ ap (λ (ps : List Post). passed ++ ps)
+          (
+          ap (λ n. flat_map (told_of spot) (take n us)) same ∙ told_first spot all.acked us
+          ∙ ap (flat_map (move_posts spot)) (sym settle ∙ ap (λ (ms : List Move). settled (moved_all ms fresh)) marked) ∙ sym whole
+          )
+          ∙ ap (λ (ps : List Post). ps ++ flat_map (move_posts spot) (marks ++ rest)) went
+          ∙ append_assoc old (flat_map (passed_on spot) us) (flat_map (move_posts spot) (marks ++ rest));
       ends_are = marked;
-      pending = subst (λ (vs : List Version). ArePending s vs) (sym ended)
-          (subst (λ (us : List Update). All (Stands us) (flat_map (λ (b : Bor Update). end_of spot b.now) line)) lined (ends_stand spot (seen line) line (seen_stand [] line)));
+      pending = subst (ArePending s) (sym ended) (ends_pending spot s);
     }
 
--- the state of a slot that goes on
-pub resumed_state : (spot : ModelSpot) (s fresh next : KeyState) (ends : List Version) → fresh ≡ moved Forget s → acknowledging ends ≡ end_marks spot (pending_of s)
-    → next ≡ folded spot.region (moved_all (acknowledging ends ++ settled (moved_all (acknowledging ends) fresh)) fresh) → next ≡ folded spot.region (moved_all (resumed spot s) s)
-resumed_state spot s fresh next ends f e n =
-    n ∙ ap (λ (ms : List Move). folded spot.region (moved_all (ms ++ settled (moved_all ms fresh)) fresh)) e
-    ∙ ap (λ (x : KeyState). folded spot.region (moved_all (end_marks spot (pending_of s) ++ settled (moved_all (end_marks spot (pending_of s)) x)) x)) f
+marks_accepted : (ends : List Version) (s : KeyState) → (moved_all (acknowledging ends) s).accepted ≡ s.accepted
+marks_accepted [] s = refl
+marks_accepted (e ∷ ends) s = marks_accepted ends (moved (Acknowledge e.0) s)
+
+-- what is pending once it went on
+left_pending : (spot : ModelSpot) (s : KeyState) (ends : List Version) → IsSlotOf spot.region s → acknowledging ends ≡ end_marks spot (pending_of s) → pending_of (moved_all (resumed spot s) s) ≡ drop (ended_count ends (pending_of s)) (pending_of s)
+left_pending spot s ends is marked =
+    let fresh : KeyState = moved Forget s in
+    let us = pending_of s in
+    let all : KeyState = moved_all (acknowledging ends) fresh in
+    let pending : pending_of all ≡ us = marks_pending ends fresh in
+    let same : ended_count ends us ≡ length (commits all.acked us) = ended_is ends all.acked (λ v. marks_acked ends fresh v) us in
+    ap pending_of
+    (
+    ap (λ (ms : List Move). moved_all (ms ++ settled (moved_all ms fresh)) fresh) (sym marked)
+    ∙ moved_all_append (acknowledging ends) (settled all) fresh
+    ∙ ap (λ (l : List Update). moved_all (commits all.acked l) all) pending
+    )
+    ∙ commits_left s.base.floor.0 all.acked us all (subst (Descends s.base.floor.0) (sym (marks_accepted ends fresh)) is.descends) pending
+    ∙ ap (λ n. drop n us) (sym same)
 
 -- and all that is posted of it
-pub resumed_whole : (spot : ModelSpot) (s next : KeyState) (old carried posts : List Post) → next ≡ folded spot.region (moved_all (resumed spot s) s)
-    → carried ≡ old ++ (flat_map (passed_on spot) (pending_of s) ++ flat_map (move_posts spot) (resumed spot s))
-    → posts ≡ carried ++ leader_doubts spot next → posts ≡ old ++ resumed_posts spot s
-resumed_whole spot s next old carried posts n e p =
-    p ∙ ap (λ (x : KeyState). carried ++ leader_doubts spot x) n
-    ∙ ap (λ (ps : List Post). carried ++ ps) (doubts-folded spot spot.region (moved_all (resumed spot s) s))
-    ∙ ap (λ (ps : List Post). ps ++ leader_doubts spot (moved_all (resumed spot s) s)) e
+pub resumed_whole : (spot : ModelSpot) (s : KeyState) (ends : List Version) (old carried posts : List Post) → IsSlotOf spot.region s → IsCarriedOn spot s old carried ends
+    → posts ≡ carried ++ doubts_among spot (drop (ended_count ends (pending_of s)) (pending_of s)) → posts ≡ old ++ resumed_posts spot s
+resumed_whole spot s ends old carried posts is went p =
+    p ∙ ap (λ (us : List Update). carried ++ doubts_among spot us) (sym (left_pending spot s ends is went.ends_are))
+    ∙ ap (λ (ps : List Post). carried ++ ps) (sym (doubts_same spot (moved_all (resumed spot s) s)))
+    ∙ ap (λ (ps : List Post). ps ++ leader_doubts spot (moved_all (resumed spot s) s)) went.posts
     ∙ append_assoc old (flat_map (passed_on spot) (pending_of s) ++ flat_map (move_posts spot) (resumed spot s)) (leader_doubts spot (moved_all (resumed spot s) s))
 
--- what is pending stays so where acknowledgements are forgotten
-pub still_pending : (s : KeyState) (ends : List Version) → ArePending s ends → ArePending (moved Forget s) ends
-still_pending s ends h = h
+some_pending : (n : ℕ) → nat_lt 0 (suc n) ≡ false → ⊥
+some_pending n e = grind (arith, nat_tests, e)
+
+-- where nothing is pending nothing is posted
+pub resumed_nothing : (spot : ModelSpot) (s : KeyState) (old : List Post) → IsSlotOf spot.region s → nat_lt 0 (length (pending_of s)) ≡ false → old ≡ old ++ resumed_posts spot s
+resumed_nothing spot s old is none =
+    let empty : pending_of s ≡ [] = by (pending_of s) none in
+    let start = λ (us : List Update). old ++ flat_map (passed_on spot) us in
+    let went : IsCarriedOn spot s old old [] = carried_on spot s [] old old old (sym (ap (flat_map (end_of spot)) empty)) (sym (ap start empty ∙ append-nil old)) (sym (ap (λ (us : List Update). old ++ flat_map (told_of spot) (take (ended_count [] us) us)) empty ∙ append-nil old)) in
+    resumed_whole spot s [] old old old is went
+    (sym (ap (λ (us : List Update). old ++ doubts_among spot (drop (ended_count [] us) us)) empty ∙ ap (λ (ps : List Post). old ++ ps) (nothing (leads spot.space spot.config spot.server spot.region)) ∙ append-nil old))
+  where
+    by : (us : List Update) → nat_lt 0 (length us) ≡ false → us ≡ []
+    by [] e = refl
+    by (u ∷ us) e = absurd (some_pending (length us) e)
+
+    nothing : (b : Bool) → provided {A = Post} b [] ≡ []
+    nothing true = refl
+    nothing false = refl

@@ -1,11 +1,10 @@
 -- The slots of a store one after another, and those that are made of them.
-use Rattle.std.proofs.Common.{◌≡◌, ℕ, zero, suc, ◌+◌, ◌<◌, true, false, List, [], ◌∷◌, ◌++◌, map, take, length, None, Some, refl, ap, sym, ◌∙◌, append_assoc, append-nil, subst, arith}
+use Rattle.std.proofs.Common.{◌≡◌, ℕ, zero, suc, ◌+◌, ◌<◌, true, false, List, [], ◌∷◌, ◌++◌, drop, map, take, length, None, Some, refl, add-one, ap, sym, ◌∙◌, append_assoc, append-nil, subst, arith}
 use Rattle.std.specs.List.{AllByRecursion, flat_map, slice_get}
 use Rattle.std.proofs.lemmas.Bool.{cond-false, false_from_ne_true, false≢true}
 use Rattle.std.proofs.lemmas.Grind.{flat_map-append}
 use Rattle.std.proofs.lemmas.List.{map_push}
 use Rattle.std.proofs.lemmas.Option.{same_Some}
-use Rattle.hx_types.specs.declared.messages.Post.{Post}
 use Rattle.hx_types.specs.Words.{same_text, text_below}
 use Rattle.hx_model.proofs.States.{eq_of_same_text, same_text_self}
 use Rattle.hx_model.specs.Slots.{KeyState, with_state}
@@ -14,10 +13,19 @@ use Rattle.hx_folds.proofs.Texts.{below-differs, below-trans}
 use Rattle.hx_replica.proofs.Turns.{take_next}
 
 -- what is posted of one item more
-pub flat_more : {A : Type 0} (f : A → List Post) (xs : List A) (i : ℕ) (x : A) (old new posts : List Post) → slice_get xs i ≡ Some x → old ≡ posts ++ flat_map f (take i xs) → new ≡ old ++ f x → new ≡ posts ++ flat_map f (take (i + 1) xs)
+pub flat_more : {A B : Type 0} (f : A → List B) (xs : List A) (i : ℕ) (x : A) (old new posts : List B) → slice_get xs i ≡ Some x → old ≡ posts ++ flat_map f (take i xs) → new ≡ old ++ f x → new ≡ posts ++ flat_map f (take (i + 1) xs)
 flat_more f xs i x old new posts at o n =
-    n ∙ ap (λ (ps : List Post). ps ++ f x) o ∙ append_assoc posts (flat_map f (take i xs)) (f x)
-    ∙ ap (λ (ps : List Post). posts ++ ps) (ap (λ (ps : List Post). flat_map f (take i xs) ++ ps) (sym (append-nil (f x))) ∙ sym (flat_map-append f (take i xs) (x ∷ [])) ∙ ap (flat_map f) (sym (take_next xs i x at)))
+    n ∙ ap (λ (ps : List _). ps ++ f x) o ∙ append_assoc posts (flat_map f (take i xs)) (f x)
+    ∙ ap (λ (ps : List _). posts ++ ps) (ap (λ (ps : List _). flat_map f (take i xs) ++ ps) (sym (append-nil (f x))) ∙ sym (flat_map-append f (take i xs) (x ∷ [])) ∙ ap (flat_map f) (sym (take_next xs i x at)))
+
+-- what stands at a place is the first of the rest, and nothing stands past the end
+pub drop_at : {A : Type 0} (xs : List A) (i : ℕ) (x : A) → slice_get xs i ≡ Some x → drop i xs ≡ x ∷ drop (i + 1) xs
+drop_at xs i x e = by xs i e ∙ ap (λ n. x ∷ drop n xs) (sym (add-one i))
+  where
+    by : (ys : List _) (i : ℕ) → slice_get ys i ≡ Some x → drop i ys ≡ x ∷ drop (suc i) ys
+    by [] i e = absurd cc
+    by (y ∷ ys) zero e = ap (λ z. z ∷ ys) (same_Some y x e)
+    by (y ∷ ys) (suc i) e = by ys i e
 
 -- there is an item at each place of a list
 pub none_within : {A : Type 0} (xs : List A) (i : ℕ) → None ≡ slice_get xs i → i < length xs → ⊥
@@ -43,7 +51,7 @@ put_last s (x ∷ rest) h =
     ∙ cond-false (text_below s.base.key x.base.key) _ _ (not_above x.base.key s.base.key h.0)
     ∙ ap (λ states. x ∷ states) (put_last s rest h.1)
 
-each_at : {A : Type 0} (P : A → Type 0) (xs : List A) (i : ℕ) (x : A) → AllByRecursion P xs → slice_get xs i ≡ Some x → P x
+pub each_at : {A : Type 0} (P : A → Type 0) (xs : List A) (i : ℕ) (x : A) → AllByRecursion P xs → slice_get xs i ≡ Some x → P x
 each_at P [] i x h e = absurd cc
 each_at P (y ∷ ys) zero x h e = subst P (same_Some y x e) h.0
 each_at P (y ∷ ys) (suc i) x h e = each_at P ys i x h.1 e

@@ -1,23 +1,33 @@
 -- What a server makes of a configuration that it adopts.
-use Rattle.std.specs.Prelude.{◌≡◌, Bool, if◌then◌else◌, List, [], ◌∷◌, ◌++◌, map, nat_le}
+use Rattle.std.specs.Prelude.{◌≡◌, ℕ, zero, suc, Bool, true, false, IsSomeAnd, if◌then◌else◌, List, [], ◌∷◌, ◌++◌, map, nat_le, Option, None, Some, slice_get}
 use Rattle.std.specs.List.{flat_map}
+use Rattle.hx_types.specs.declared.configs.Config.{Config}
 use Rattle.hx_types.specs.declared.messages.Post.{Post}
 use Rattle.hx_types.specs.declared.ids.RegionId.{RegionId}
 use Rattle.hx_types.specs.declared.ids.Version.{Version}
 use Rattle.hx_types.specs.declared.spaces.Space.{Space}
 use Rattle.hx_types.specs.declared.updates.Update.{Update}
-use Rattle.hx_types.specs.Words.{provided}
-use Rattle.hx_model.specs.ServerSteps.{Replica as ReplicaState, ServerState, Spot as ModelSpot, adopted_posts, doubt_in, is_active, end_marks, move_posts, passed_on, ready_post, replica_or_new, resumed, resumed_posts, snap_posts, spot_of}
-use Rattle.hx_model.specs.Slots.{Forget, KeyState, moved, moved_all, pending_of}
+use Rattle.hx_types.specs.Configs.{leads}
+use Rattle.hx_types.specs.Words.{provided, when_some}
+use Rattle.hx_model.specs.Leading.{StuckAt, stuck_among}
+use Rattle.hx_model.specs.ServerSteps.{Replica as ReplicaState, ServerState, Spot as ModelSpot, doubt_in, end_marks, is_active, listed_regions, move_posts, passed_on, ready_post, replica_or_new, resumed, resumed_posts, snap_posts, spot_of}
+use Rattle.hx_model.specs.Slots.{Forget, KeyState, is_pending, moved, moved_all, pending_of}
 use Rattle.hx_folds.specs.Folding.{folded}
 use Rattle.hx_store.specs.Stores.{ArePending, acknowledging}
-use Rattle.hx_replica.specs.declared.replicas.Replica.{Replica}
-use Rattle.hx_replica.specs.Replicas.{AreReplicas, IsReplicaIn, view_of, views_of}
+use Rattle.hx_replica.specs.Made.{end_of}
 use Rattle.hx_replica.specs.Ticking.{kept_here, standing}
 
 -- the caller of an update from a version on is told of a lost region
 abbrev pub doubt_of : ModelSpot → Version → RegionId → Update → List Post
 doubt_of spot first g u = provided (nat_le first.0 u.version.0) (doubt_in spot u.caller u.version g ∷ [])
+
+-- the callers of these pending updates from the lowest one on that has a place in a lost region, where the server leads the region
+abbrev pub doubts_on : ModelSpot → List Update → Option StuckAt → List Post
+doubts_on spot us None = []
+doubts_on spot us (Some x) = flat_map (doubt_of spot x.version x.region) us
+
+abbrev pub doubts_among : ModelSpot → List Update → List Post
+doubts_among spot us = provided (leads spot.space spot.config spot.server spot.region) (doubts_on spot us (stuck_among spot.config us))
 
 -- the pending updates were passed on and told of, and these versions end here
 pub record IsCarriedOn (spot : ModelSpot) (s : KeyState) (old new : List Post) (ends : List Version) : Type 0 where
@@ -37,14 +47,25 @@ lean_adopted spot active s = if active then folded spot.region (moved_all (resum
 abbrev pub lean_replica : Space → ServerState → ReplicaState → ReplicaState
 lean_replica space s r = record r { states = map (lean_adopted (spot_of space s r.region) (is_active s.config r)) r.states }
 
--- a replica became this one
-pub record IsAdopted (space : Space) (s : ServerState) (r : ReplicaState) (old new : List Post) (next : Replica) : Type 0 where
-  pub posts : new ≡ old ++ adopted_posts space s r
-  pub view : view_of next ≡ lean_replica space s r
-  pub is : IsReplicaIn space next
+-- a server that has adopted a configuration
+abbrev pub lean_with_config : Space → ServerState → Config → ServerState
+lean_with_config space s config =
+    record s {
+      config = config;
+      sealed = false;
+      replicas = map (λ (g : RegionId). lean_replica space (standing config s.id) (replica_or_new s.replicas g)) (listed_regions config s.id);
+    }
 
--- the replicas of these regions became these
-pub record AreAdopted (space : Space) (s : ServerState) (old : List ReplicaState) (regions : List RegionId) (before after : List Post) (next : List Replica) : Type 0 where
-  pub posts : after ≡ before ++ flat_map (λ (g : RegionId). adopted_posts space s (replica_or_new old g)) regions
-  pub views : views_of next ≡ map (λ (g : RegionId). lean_replica space s (replica_or_new old g)) regions
-  pub are : AreReplicas space next
+-- the slot with this number changes so
+abbrev pub changed_at : (KeyState → KeyState) → ℕ → List KeyState → List KeyState
+changed_at f i [] = []
+changed_at f zero (s ∷ rest) = f s ∷ rest
+changed_at f (suc i) (s ∷ rest) = s ∷ changed_at f i rest
+
+-- the version is pending at the slot with this number
+abbrev pub IsPendingAt : ℕ → Version → List KeyState → Type 0
+IsPendingAt i v states = IsSomeAnd (slice_get states i) (λ (s : KeyState). is_pending v.0 s ≡ true)
+
+-- the pending update with a number is acknowledged, where its chain ends here
+abbrev pub marked_end : ModelSpot → ℕ → KeyState → KeyState
+marked_end spot k s = moved_all (acknowledging (when_some (slice_get (pending_of s) k) [] (end_of spot))) s

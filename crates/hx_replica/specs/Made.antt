@@ -39,6 +39,10 @@ seen (b ∷ rest) = b.now ∷ seen rest
 abbrev pub end_of : ModelSpot → Update → List Version
 end_of spot u = provided (is_end (next_at spot u)) (u.version ∷ [])
 
+-- how many of the lowest updates have one of these versions
+abbrev pub ended_count : List Version → List Update → ℕ
+ended_count ends us = prefix_len (λ (u : Update). list_any (λ (e : Version). e.0 == u.version.0) ends) us
+
 -- what is posted of an update that is committed
 abbrev pub told_of : ModelSpot → Update → List Post
 told_of spot u = told_to spot u (prev_at spot u)

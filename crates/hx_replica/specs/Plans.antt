@@ -1,5 +1,5 @@
 -- A step of a server that is ready to be made.
-use Rattle.std.specs.Prelude.{◌≡◌, ℕ, ◌<◌, true, false, List, IsSomeAnd, Some, length, slice_get}
+use Rattle.std.specs.Prelude.{◌≡◌, ℕ, ◌<◌, true, List, IsSomeAnd, Some, length, map, slice_get}
 use Rattle.hx_types.specs.declared.configs.Config.{Config}
 use Rattle.hx_types.specs.declared.messages.Message.{Message}
 use Rattle.hx_types.specs.declared.messages.PostId.{PostId}
@@ -7,7 +7,7 @@ use Rattle.hx_types.specs.declared.ids.Actor.{Actor}
 use Rattle.hx_types.specs.declared.spaces.Space.{Space}
 use Rattle.hx_types.specs.declared.traces.Input.{Input}
 use Rattle.hx_types.specs.declared.traces.Input.TheVariants.{Deliver}
-use Rattle.hx_model.specs.ServerSteps.{Replica as ReplicaState, ServerState, server_step, spot_of, state_in, with_replica, with_slot}
+use Rattle.hx_model.specs.ServerSteps.{Replica as ReplicaState, ServerState, listed_regions, server_step, spot_of, state_in, with_replica, with_slot}
 use Rattle.hx_folds.specs.Folding.{folded_server}
 use Rattle.hx_replica.specs.declared.made.SlotChange.{SlotChange}
 use Rattle.hx_replica.specs.declared.made.SlotMade.{SlotMade}
@@ -16,7 +16,8 @@ use Rattle.hx_replica.specs.declared.plans.Change.TheVariants.{Nothing, Seal, Ha
 use Rattle.hx_replica.specs.declared.plans.Plan.{Plan}
 use Rattle.hx_replica.specs.Made.{ChangeFits, HasRoomFor, IsMade, IsSlotInput, key_in, slot_step_of, stepped}
 use Rattle.hx_replica.specs.declared.replicas.Replica.{Replica}
-use Rattle.hx_replica.specs.Replicas.{AreReplicas, IsReplicaIn, view_of, views_of}
+use Rattle.hx_replica.specs.Adopting.{lean_with_config}
+use Rattle.hx_replica.specs.Replicas.{IsReplicaIn, new_replica, view_of}
 use Rattle.hx_replica.specs.Servers.{ServerValue, server_entry}
 
 -- the replica with a number among the server's has at a place room for n more updates of the key
@@ -49,10 +50,10 @@ pub record IsChangeOn (s : ServerValue) (input : Input) (number place : ℕ) (ch
   pub fits : ChangeFits replica.region (state_in s.space replica key) key change
   pub state : folded_server (server_step s.space s.state input).state ≡ with_slot s.state replica (stepped change replica.region (state_in s.space replica key))
 
--- these are the replicas of a server of the space that takes this configuration, and that is the server's step
+-- these are new replicas of the regions in which the configuration lists the server, and to adopt it is the server's step
 pub record IsAdoptionOn (s : ServerValue) (input : Input) (config : Config) (replicas : List Replica) : Type 0 where
-  pub are : AreReplicas s.space replicas
-  pub state : folded_server (server_step s.space s.state input).state ≡ record s.state { config = config; sealed = false; replicas = views_of replicas }
+  pub new : replicas ≡ map (new_replica s.space) (listed_regions config s.state.id)
+  pub state : folded_server (server_step s.space s.state input).state ≡ lean_with_config s.space s.state config
 
 -- the replica is one of the region of that with this number, and that is the server's step
 pub record IsJoinOn (s : ServerValue) (input : Input) (number : ℕ) (replica : Replica) : Type 0 where

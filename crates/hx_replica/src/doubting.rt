@@ -1,58 +1,50 @@
-ghost use Rattle.std.specs.Prelude.{◌≡◌, ◌++◌, OnOk, Some};
-ghost use Rattle.std.specs.Borrow.{Bor};
+ghost use Rattle.std.specs.Prelude.{◌≡◌, ◌++◌, OnOk, drop};
 ghost use Rattle.std.specs.List.{flat_map};
-ghost use Rattle.hx_types.specs.declared.updates.Update.{Update as Updated};
-ghost use Rattle.hx_model.specs.ServerSteps.{doubts_from, leader_doubts};
-ghost use Rattle.hx_replica.specs.Adopting.{doubt_of};
+ghost use Rattle.hx_model.specs.Slots.{pending_of};
+ghost use Rattle.hx_replica.specs.Adopting.{doubt_of, doubts_among};
 ghost use Rattle.hx_replica.specs.Made.{spot_seen};
 
-use crate::settling::pending_line;
 use crate::spots::{Spot, doubt};
-use hx_leader::stuck;
+use hx_leader::stuck_from;
 use hx_slot::Slot;
-use hx_types::{Memory, Posts, RegionId, Shared, Update, Version};
-use std::alloc::Global;
+use hx_types::{Memory, Posts, RegionId, Update, Version};
 
 /// Where the server leads the region and a lost region stands in the way of a pending update, the
-/// callers of that update and of all later ones are told that their writes are in doubt.
-pub fn tell_doubts(alloc: Global, spot: &Spot, slot: &Slot, posts: &mut Posts) -> Result<(), Memory>
-    ensures { OnOk result (posts.new ≡ posts.old ++ leader_doubts (spot_seen spot.now) slot.now.state) }
+/// callers of that update and of all later ones are told that their writes are in doubt. So many of
+/// the lowest pending updates are committed before.
+pub fn tell_doubts(
+    spot: &Spot,
+    slot: &Slot,
+    committed: u32,
+    posts: &mut Posts,
+) -> Result<(), Memory>
+    ensures { OnOk result (posts.new ≡ posts.old ++ doubts_among (spot_seen spot.now) (drop committed (pending_of slot.now.state))) }
 {
     if !spot.config.leads(spot.space, spot.server, spot.region) {
         return Ok(());
     }
-    match stuck(spot.config, slot) {
-        Some((first, region)) => doubt_from(alloc, spot, slot, first, region, posts),
+    match stuck_from(spot.config, slot, committed) {
+        Some((first, region)) => doubt_from(spot, slot, committed, first, region, posts),
         None => Ok(()),
     }
 }
 
 /// The callers of the pending updates from a version on are told of the lost region.
 fn doubt_from(
-    alloc: Global,
     spot: &Spot,
     slot: &Slot,
+    committed: u32,
     first: Version,
     region: RegionId,
     posts: &mut Posts,
 ) -> Result<(), Memory>
-    ensures { OnOk result (posts.new ≡ posts.old ++ doubts_from (spot_seen spot.now) slot.now.state (Some (record { version = first; region = region }))) }
+    ensures { OnOk result (posts.new ≡ posts.old ++ flat_map (doubt_of (spot_seen spot.now) first region) (drop committed (pending_of slot.now.state))) }
 {
-    let line = pending_line(alloc, slot)?;
-    doubt_all(spot, line.as_slice(), first, region, posts)
-}
-
-fn doubt_all(
-    spot: &Spot,
-    updates: &[&Shared<Update>],
-    first: Version,
-    region: RegionId,
-    posts: &mut Posts,
-) -> Result<(), Memory>
-    ensures { OnOk result (posts.new ≡ posts.old ++ flat_map (λ (b : Bor Updated). doubt_of (spot_seen spot.now) first region b.now) updates.now) }
-{
-    for update in updates {
-        doubt_one(spot, update, first, region, posts)?;
+    for i in committed..slot.pending_count() {
+        match slot.pending(i) {
+            Some(update) => doubt_one(spot, update, first, region, posts)?,
+            None => unreachable!(),
+        }
     }
     Ok(())
 }

@@ -106,7 +106,7 @@ fn joined(
 {
     let mut next = slot;
     offer_all(alloc, spot, &mut next, pending)?;
-    let ends = carry_on(alloc, spot, &next, &next, posts)?;
+    let ends = carry_on(alloc, spot, &next, posts)?;
     settle_all(&mut next, ends.as_slice());
     Ok(next)
 }

@@ -5,6 +5,7 @@ mod accepting;
 mod adopting;
 mod doubting;
 mod installing;
+mod keeping;
 mod keys;
 mod made;
 mod members;

@@ -18,7 +18,8 @@ pub enum Change {
     Seal,
     /// The server takes no further step.
     Halt,
-    /// The server adopts a configuration: it isn't sealed any more, and has these replicas.
+    /// The server adopts a configuration: it isn't sealed any more, and its replicas of the regions
+    /// in which it is listed take their places among these, which are new.
     Adopt {
         config: Shared<Config>,
         replicas: Vec<Replica>,

@@ -4,7 +4,7 @@ ghost use Rattle.hx_types.specs.Subspaces.{region_count};
 ghost use Rattle.hx_model.specs.ServerSteps.{listed_regions, replica_of};
 ghost use Rattle.hx_store.specs.Stores.{after_step, key_at, state_at};
 ghost use Rattle.hx_replica.specs.Made.{ChangeFits, HasRoomFor, stepped};
-ghost use Rattle.hx_replica.specs.Replicas.{AscendByRegion, first_replica, views_of};
+ghost use Rattle.hx_replica.specs.Replicas.{AscendByRegion, first_replica, new_replica, views_of};
 
 use crate::made::SlotChange;
 use hx_store::Store;
@@ -38,6 +38,33 @@ pub fn first_replicas(
             replicas.push(Replica {
                 region,
                 installed: true,
+                store,
+            })?;
+        }
+    }
+    Ok(replicas)
+}
+
+/// A new replica, empty and not installed, of each region in which the configuration lists the
+/// server.
+pub fn new_replicas(
+    alloc: Global,
+    space: &Space,
+    config: &Config,
+    regions: u32,
+    server: ServerId,
+) -> Result<Vec<Replica>, Memory>
+    requires { regions ≡ length config.now.regions }
+    ensures { IfOk result (λ replicas. replicas.items ≡ map (new_replica space.now) (listed_regions config.now server)) }
+{
+    let mut replicas = Vec::new(alloc);
+    for number in 0..regions {
+        let region = RegionId(number);
+        if config.lists(region, server) {
+            let store = Store::new(alloc, region, number < space.key_parts);
+            replicas.push(Replica {
+                region,
+                installed: false,
                 store,
             })?;
         }

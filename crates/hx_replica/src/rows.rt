@@ -12,7 +12,8 @@ ghost use Rattle.hx_replica.specs.Made.{IsComing, IsLeading, IsMade, IsSlotInput
 
 use crate::accepting::accepted;
 use crate::made::{SlotChange, SlotMade, saying, staying};
-use crate::spots::{Spot, acknowledge_back, doubt, place_at, reply, tell};
+use crate::settling::tell_lowest;
+use crate::spots::{Spot, acknowledge_back, doubt, place_at, reply};
 use hx_leader::{decide, stuck};
 use hx_slot::Slot;
 use hx_types::{
@@ -240,11 +241,6 @@ fn settled(alloc: Global, spot: &Spot, slot: &Slot, version: Version) -> Result<
     ensures { IfOk result (λ posts. posts ≡ (ack_step (spot_seen spot.now) slot.now.state version.0).posts) }
 {
     let mut posts = Posts::new(alloc);
-    for i in 0..slot.would_commit(version) {
-        match slot.pending(i) {
-            Some(update) => tell(alloc, spot, update, &mut posts)?,
-            None => unreachable!(),
-        }
-    }
+    tell_lowest(alloc, spot, slot, slot.would_commit(version), &mut posts)?;
     Ok(posts)
 }

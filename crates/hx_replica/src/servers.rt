@@ -1,23 +1,26 @@
-ghost use Rattle.std.specs.Prelude.{◌≡◌, ◌<◌, ◌≤◌, IfOk, IfNone, IfSome, IsSomeAnd, Some, None, length, slice_get};
+ghost use Rattle.std.specs.Prelude.{◌≡◌, ◌<◌, ◌≤◌, IfOk, IfNone, IfSome, IsSomeAnd, Some, None, length, map, slice_get};
 ghost use Rattle.std.specs.Option.{option_map};
 ghost use Rattle.hx_types.specs.Effects.{key_of};
 ghost use Rattle.hx_types.specs.Spaces.{IsConfigOf, IsServerOf, IsSpace};
 ghost use Rattle.hx_types.specs.Subspaces.{is_key_region};
 ghost use Rattle.hx_types.specs.Words.{when_some};
 ghost use Rattle.hx_folds.specs.Folding.{folded_server};
-ghost use Rattle.hx_model.specs.ServerSteps.{Replica as ReplicaState, asked, halting, hearing, if_installed, install_at, replica_of, seal_at, server_at_start, server_step, snapped, state_in, tick_step};
+ghost use Rattle.hx_model.specs.ServerSteps.{Replica as ReplicaState, asked, halting, hearing, if_installed, install_at, listed_regions, replica_of, seal_at, server_at_start, server_step, snapped, state_in, tick_step};
 ghost use Rattle.hx_model.specs.Slots.{new_state};
 ghost use Rattle.hx_replica.specs.Hearing.{IsOfOneSlot, heard, leading};
 ghost use Rattle.hx_replica.specs.Installing.{IsSnapshot};
+ghost use Rattle.hx_replica.specs.Adopting.{lean_with_config};
 ghost use Rattle.hx_replica.specs.Made.{key_in};
+ghost use Rattle.hx_replica.specs.Replicas.{new_replica};
 ghost use Rattle.hx_replica.specs.Plans.{CanStep, HasRoomAt, IsDelivery, IsMadeAt, IsPlanOn};
 ghost use Rattle.hx_replica.specs.Servers.{CanTake, server_entry};
 
-use crate::adopting::adopt_all;
+use crate::adopting::post_adoption;
 use crate::installing::installed;
+use crate::keeping::keep_all;
 use crate::made::SlotMade;
 use crate::plans::{Change, Plan, moved, said, to_coordinator, unmoved};
-use crate::replicas::{Replica, change_slot, first_replicas, place_of};
+use crate::replicas::{Replica, change_slot, first_replicas, new_replicas, place_of};
 use crate::rows::step_slot;
 use crate::spots::Spot;
 use crate::ticking::{tell_ready, tick_all};
@@ -115,11 +118,7 @@ impl Server {
             Change::Nothing => {}
             Change::Seal => self.sealed = true,
             Change::Halt => self.halted = true,
-            Change::Adopt { config, replicas } => {
-                self.config = config;
-                self.sealed = false;
-                self.replicas = replicas;
-            }
+            Change::Adopt { config, replicas } => self.adopt(config, replicas),
             Change::Join { number, replica } => self.replicas[number] = replica,
             Change::Slot {
                 replica,
@@ -131,6 +130,25 @@ impl Server {
             }
         }
         entry
+    }
+
+    /// The server adopts a configuration, in which these are new replicas of its regions.
+    fn adopt(&mut self, config: Shared<Config>, replicas: Vec<Replica>)
+        requires { replicas.items ≡ map (new_replica self.old.space) (listed_regions config self.old.state.id) }
+        ensures space { self.new.space ≡ self.old.space }
+        ensures state { self.new.state ≡ lean_with_config self.old.space self.old.state config }
+    {
+        let old = std::mem::replace(&mut self.replicas, replicas);
+        keep_all(
+            &self.space,
+            &self.map,
+            &config,
+            self.id,
+            old,
+            &mut self.replicas,
+        );
+        self.config = config;
+        self.sealed = false;
     }
 
     /// Whether the server has halted.
@@ -219,7 +237,7 @@ impl Server {
             return unmoved(alloc, self.id, input);
         }
         let mut posts = Posts::new(alloc);
-        let replicas = adopt_all(
+        post_adoption(
             alloc,
             &self.space,
             &self.map,
@@ -228,6 +246,7 @@ impl Server {
             self.replicas.as_slice(),
             &mut posts,
         )?;
+        let replicas = new_replicas(alloc, &self.space, config, self.map.regions(), self.id)?;
         let config = config.copy(alloc)?;
         said(
             alloc,

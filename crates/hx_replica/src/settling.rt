@@ -1,12 +1,13 @@
 ghost use Rattle.std.specs.Prelude.{◌≡◌, ◌≤◌, ◌++◌, ◌==◌, IfOk, OnOk, length, take};
 ghost use Rattle.std.specs.Borrow.{Bor};
 ghost use Rattle.std.specs.List.{All, flat_map, list_any, prefix_len};
+ghost use Rattle.hx_model.specs.ServerSteps.{passed_on};
 ghost use Rattle.hx_model.specs.Slots.{pending_of};
 ghost use Rattle.hx_types.specs.declared.ids.Version.{Version as Numbered};
 ghost use Rattle.hx_types.specs.declared.updates.Update.{Update as Updated};
-ghost use Rattle.hx_replica.specs.Made.{IsHere, seen, settled_among, settles, spot_seen, told_of};
+ghost use Rattle.hx_replica.specs.Made.{IsHere, end_of, ended_count, seen, settled_among, settles, spot_seen, told_of};
 
-use crate::spots::{Spot, tell};
+use crate::spots::{Spot, pass_on, tell};
 use hx_slot::Slot;
 use hx_types::{Memory, Posts, Shared, Update, Version};
 use std::alloc::Global;
@@ -80,6 +81,67 @@ pub fn line_of<'a>(
         line.push(*update)?;
     }
     Ok(line)
+}
+
+/// Each pending update goes to the next replica of its chain, the lowest version first; the versions
+/// of those whose chain ends here are added.
+pub fn pass_on_pending(
+    alloc: Global,
+    spot: &Spot,
+    slot: &Slot,
+    posts: &mut Posts,
+    ends: &mut Vec<Version>,
+) -> Result<(), Memory>
+    requires { slot.now.region ≡ spot.now.region }
+    ensures posts { OnOk result (posts.new ≡ posts.old ++ flat_map (passed_on (spot_seen spot.now)) (pending_of slot.now.state)) }
+    ensures ends { OnOk result (ends.new.items ≡ ends.old.items ++ flat_map (end_of (spot_seen spot.now)) (pending_of slot.now.state)) }
+{
+    for i in 0..slot.pending_count() {
+        match slot.pending(i) {
+            Some(update) => pass_on(alloc, spot, update, posts, ends)?,
+            None => unreachable!(),
+        }
+    }
+    Ok(())
+}
+
+/// How many of the lowest pending updates have one of these versions.
+pub fn ended_count(slot: &Slot, ends: &[Version]) -> u32
+    ensures { result ≡ ended_count ends.now (pending_of slot.now.state) }
+{
+    let count = slot.pending_count();
+    for i in 0..count {
+        match slot.pending(i) {
+            Some(update) => {
+                if !is_among(ends, update.version) {
+                    return i;
+                }
+            }
+            None => unreachable!(),
+        }
+    }
+    count
+}
+
+/// Tells of so many of the lowest pending updates: they are committed.
+pub fn tell_lowest(
+    alloc: Global,
+    spot: &Spot,
+    slot: &Slot,
+    count: u32,
+    posts: &mut Posts,
+) -> Result<(), Memory>
+    requires region { slot.now.region ≡ spot.now.region }
+    requires count { count ≤ length (pending_of slot.now.state) }
+    ensures { OnOk result (posts.new ≡ posts.old ++ flat_map (told_of (spot_seen spot.now)) (take count (pending_of slot.now.state))) }
+{
+    for i in 0..count {
+        match slot.pending(i) {
+            Some(update) => tell(alloc, spot, update, posts)?,
+            None => unreachable!(),
+        }
+    }
+    Ok(())
 }
 
 /// The pending updates of a slot, the lowest version first.

@@ -1,6 +1,7 @@
 ghost use Rattle.std.specs.Prelude.{◌≡◌, ◌≤◌, ◌<◌, ◌^◌, ◌++◌, ◌∷◌, [], OnOk, IfOk, length, true};
 ghost use Rattle.std.specs.List.{flat_map};
 ghost use Rattle.hx_types.specs.declared.outcomes.Hop.TheVariants.{At};
+ghost use Rattle.hx_types.specs.Words.{list_of};
 ghost use Rattle.hx_model.specs.Neighbours.{place_number, region_at};
 ghost use Rattle.hx_model.specs.ServerSteps.{ack_to, doubt_in, next_at, passed_on, prev_at, reply, update_to};
 ghost use Rattle.hx_slot.specs.States.{IsPlacedIn};
@@ -44,6 +45,18 @@ fn next_of(spot: &Spot, update: &Update) -> Hop
     ensures { result ≡ next_at (spot_seen spot.now) update.now }
 {
     next(spot.config, update, place_at(spot, update), spot.server)
+}
+
+/// The version of an update, where its chain ends at the spot.
+pub fn end_version(spot: &Spot, update: &Update) -> Option<Version>
+    requires placed { IsPlacedIn spot.now.region update.now }
+    requires few { length update.now.places ≤ 17 }
+    ensures { list_of result ≡ end_of (spot_seen spot.now) update.now }
+{
+    match next_of(spot, update) {
+        Hop::End => Some(update.version),
+        Hop::At { .. } | Hop::Blocked(_) => None,
+    }
 }
 
 /// The replica before the spot's in the chain of an update.

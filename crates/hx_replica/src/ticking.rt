@@ -8,10 +8,9 @@ ghost use Rattle.hx_replica.specs.Replicas.{view_of};
 ghost use Rattle.hx_replica.specs.Ticking.{kept_here, standing};
 ghost use Rattle.hx_replica.specs.declared.replicas.Replica.{Replica as Held};
 
-use crate::accepting::pass_on_all;
 use crate::members::joiner_for;
 use crate::replicas::Replica;
-use crate::settling::pending_line;
+use crate::settling::pass_on_pending;
 use crate::spots::Spot;
 use hx_region::RegionMap;
 use hx_slot::Slot;
@@ -112,9 +111,8 @@ fn send_slot(alloc: Global, spot: &Spot, slot: &Slot, posts: &mut Posts) -> Resu
     requires { slot.now.region ≡ spot.now.region }
     ensures { OnOk result (posts.new ≡ posts.old ++ flat_map (passed_on (spot_seen spot.now)) (pending_of slot.now.state)) }
 {
-    let line = pending_line(alloc, slot)?;
     let mut ends = Vec::new(alloc);
-    pass_on_all(alloc, spot, line.as_slice(), posts, &mut ends)
+    pass_on_pending(alloc, spot, slot, posts, &mut ends)
 }
 
 /// Tells the coordinator that this server has joined, where it is listed as joining.

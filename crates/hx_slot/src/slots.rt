@@ -1,7 +1,7 @@
-ghost use Rattle.std.specs.Prelude.{◌≡◌, ℕ, ◌+◌, ◌^◌, ◌<◌, ◌≤◌, ◌==◌, [], IfErr, IfOk, IfSome, IsTrue, OnOk, is_some, length, true, slice_get, vec_capacity, vec_len};
+ghost use Rattle.std.specs.Prelude.{◌≡◌, ℕ, ◌+◌, ◌^◌, ◌<◌, ◌≤◌, ◌==◌, [], IfErr, IfOk, IfSome, IsTrue, OnOk, is_some, length, nat_lt, true, slice_get, vec_capacity, vec_len};
 ghost use Rattle.std.specs.List.{All, AllByRecursion, find, list_any};
 ghost use Rattle.std.specs.Option.{option_copied};
-ghost use Rattle.hx_folds.specs.Folding.{IsBare, StandsFor, folded};
+ghost use Rattle.hx_folds.specs.Folding.{IsBare, IsSlotOf, StandsFor, folded};
 ghost use Rattle.hx_model.specs.Places.{touched_in};
 ghost use Rattle.hx_model.specs.Neighbours.{place_number};
 ghost use Rattle.hx_model.specs.ServerSteps.{state_from};
@@ -261,6 +261,15 @@ impl Slot {
         ensures { option_copied result ≡ latest_of self.now.region self.now.state }
     {
         only_object(row_over(self.base.object.as_ref(), self.accepted.as_slice()))
+    }
+
+    /// Whether an update is pending. Versions of a slot's updates ascend, and the floor is one of
+    /// them or that of the base.
+    pub fn has_pending(&self) -> bool
+        ensures pending { result ≡ nat_lt 0 (length (pending_of self.now.state)) }
+        ensures slot { IsSlotOf self.now.region self.now.state }
+    {
+        self.committed < self.accepted.len()
     }
 
     /// How many updates are pending.

@@ -32,6 +32,12 @@ keeps_nothing g s = (refl, refl)
 pub keeps_folded : (moves : RegionId → KeyState → List Move) (g : RegionId) (s : KeyState) → ((folded g (moved_all (moves g s) s)).base.key ≡ s.base.key) × ((folded g (moved_all (moves g s) s)).marks ≡ s.marks)
 keeps_folded moves g s = let parts = moved_all_parts (moves g s) s in (ap (λ (k : Kept). k.key) parts.0, parts.1)
 
+pub keeps_forgotten : (g : RegionId) (s : KeyState) → ((moved Forget s).base.key ≡ s.base.key) × ((moved Forget s).marks ≡ s.marks)
+keeps_forgotten g s = (refl, refl)
+
+pub keeps_marked : (v : ℕ) (g : RegionId) (s : KeyState) → ((moved (Acknowledge v) s).base.key ≡ s.base.key) × ((moved (Acknowledge v) s).marks ≡ s.marks)
+keeps_marked v g s = (refl, refl)
+
 pub still_pending : (v w : ℕ) (s : KeyState) → is_pending v (moved (Acknowledge w) s) ≡ is_pending v s
 still_pending v w s = refl
 

@@ -8,7 +8,7 @@ use Rattle.hx_types.specs.declared.updates.Update.{Update}
 use Rattle.hx_types.specs.Words.{same_text, when_some}
 use Rattle.hx_model.specs.Neighbours.{place_number}
 use Rattle.hx_folds.specs.Folding.{folded}
-use Rattle.hx_model.specs.Slots.{Acknowledge, KeyState, acknowledged, Move, is_pending, moved_all, offered, settled, state_among, with_state}
+use Rattle.hx_model.specs.Slots.{Acknowledge, Forget, KeyState, acknowledged, Move, is_pending, moved, moved_all, offered, settled, state_among, with_state}
 
 -- a key of which a replica has heard, and for how many more updates there is room at its slot
 pub record Room : Type 0 where
@@ -98,3 +98,15 @@ accepted_at u ends g s = folded g (moved_all (accepted g s u ends) s)
 
 abbrev pub acknowledged_at : ℕ → RegionId → KeyState → KeyState
 acknowledged_at v g s = folded g (moved_all (acknowledged s v) s)
+
+-- a slot that has forgotten its acknowledgements and early updates
+abbrev pub forgotten_at : RegionId → KeyState → KeyState
+forgotten_at g s = moved Forget s
+
+-- a slot of which a version is acknowledged, and nothing else
+abbrev pub marked_at : ℕ → RegionId → KeyState → KeyState
+marked_at v g s = moved (Acknowledge v) s
+
+-- a slot that has committed what it can
+abbrev pub settled_at : RegionId → KeyState → KeyState
+settled_at g s = folded g (moved_all (settled s) s)

@@ -1,13 +1,13 @@
 ghost use Rattle.std.specs.Prelude.{◌≡◌, ◌<◌, ◌≤◌, ◌+◌, IfNone, IfSome, IsSome, IsSomeAnd, OnErr, OnOk, Some, false, insert, length, true, vec_capacity, vec_len};
 ghost use Rattle.std.specs.List.{list_any};
 ghost use Rattle.indexmap.specs.IndexMap.{set_value_at};
-ghost use Rattle.hx_model.specs.Slots.{moved_all, offered};
+ghost use Rattle.hx_model.specs.Slots.{is_pending, moved_all, offered};
 ghost use Rattle.hx_types.specs.Words.{same_text, text_below};
 ghost use Rattle.hx_store.specs.Invariant.{AscendAt, Entry, HasMoved, IsAdded, IsListedAt, IsReplacedAt, IsSplit, key_in, stored_at};
-ghost use Rattle.hx_store.specs.Stores.{ArePending, CanBeOffered, accepted_at, acknowledged_at, no_moves};
+ghost use Rattle.hx_store.specs.Stores.{ArePending, CanBeOffered, accepted_at, acknowledged_at, forgotten_at, marked_at, no_moves, settled_at};
 ghost use Rattle.hx_store.specs.declared.store_slot.StoreSlot.{StoreSlot as Stored};
 
-use crate::store_slot::{StoreSlot, accept, acknowledge};
+use crate::store_slot::{StoreSlot, accept, acknowledge, mark, reset_acks, settle};
 use hx_slot::Slot;
 use hx_types::{Exact, Memory, RegionId, Shared, Text, Update, Version};
 use indexmap::IndexMap;
@@ -153,6 +153,39 @@ pub fn acknowledge_at(slots: &mut Slots, place: usize, version: Version)
 {
     match slots.get_index_mut(place) {
         Some(stored) => acknowledge(stored, version),
+        None => unreachable!(),
+    }
+}
+
+/// The slot at a place forgets which pending updates are acknowledged, and all early updates.
+pub fn reset_at(slots: &mut Slots, place: usize)
+    requires { place < length slots.old.entries }
+    ensures { HasMoved place forgotten_at 0 slots.old.entries slots.new.entries }
+{
+    match slots.get_index_mut(place) {
+        Some(stored) => reset_acks(stored),
+        None => unreachable!(),
+    }
+}
+
+/// A pending version is marked as acknowledged at the slot at a place.
+pub fn mark_at(slots: &mut Slots, place: usize, version: Version)
+    requires { IsSomeAnd (stored_at slots.old.entries place) (λ (s : Stored). is_pending version.0 s.slot.state ≡ true) }
+    ensures { HasMoved place (marked_at version.0) 0 slots.old.entries slots.new.entries }
+{
+    match slots.get_index_mut(place) {
+        Some(stored) => mark(stored, version),
+        None => unreachable!(),
+    }
+}
+
+/// What can be committed of the slot at a place is.
+pub fn settle_at(slots: &mut Slots, place: usize)
+    requires { place < length slots.old.entries }
+    ensures { HasMoved place settled_at 0 slots.old.entries slots.new.entries }
+{
+    match slots.get_index_mut(place) {
+        Some(stored) => settle(stored),
         None => unreachable!(),
     }
 }

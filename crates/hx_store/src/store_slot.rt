@@ -1,6 +1,6 @@
-ghost use Rattle.std.specs.Prelude.{◌≡◌, ◌<◌, ◌≤◌, ◌+◌, ◌++◌};
+ghost use Rattle.std.specs.Prelude.{◌≡◌, ◌<◌, ◌≤◌, ◌+◌, ◌++◌, true};
 ghost use Rattle.hx_folds.specs.Folding.{folded};
-ghost use Rattle.hx_model.specs.Slots.{acknowledged, moved_all, offered, settled};
+ghost use Rattle.hx_model.specs.Slots.{Acknowledge, Forget, acknowledged, is_pending, moved, moved_all, offered, settled};
 ghost use Rattle.hx_store.specs.Stores.{ArePending, CanBeOffered, accepted, acknowledging};
 
 use hx_slot::Slot;
@@ -59,4 +59,35 @@ pub fn acknowledge(stored: &mut StoreSlot, version: Version)
     ensures spare { stored.old.slot.spare ≤ stored.new.slot.spare }
 {
     let _ = stored.slot.ack(version);
+}
+
+/// The slot forgets which pending updates are acknowledged, and all early updates.
+pub fn reset_acks(stored: &mut StoreSlot)
+    ensures listed { stored.new.listed ≡ stored.old.listed }
+    ensures state { stored.new.slot.state ≡ moved Forget stored.old.slot.state }
+    ensures region { stored.new.slot.region ≡ stored.old.slot.region }
+    ensures spare { stored.old.slot.spare ≤ stored.new.slot.spare }
+{
+    stored.slot.reset_acks();
+}
+
+/// A pending version is marked as acknowledged.
+pub fn mark(stored: &mut StoreSlot, version: Version)
+    requires { is_pending version.0 stored.old.slot.state ≡ true }
+    ensures listed { stored.new.listed ≡ stored.old.listed }
+    ensures state { stored.new.slot.state ≡ moved (Acknowledge version.0) stored.old.slot.state }
+    ensures region { stored.new.slot.region ≡ stored.old.slot.region }
+    ensures spare { stored.old.slot.spare ≤ stored.new.slot.spare }
+{
+    stored.slot.acknowledge(version);
+}
+
+/// What can be committed is.
+pub fn settle(stored: &mut StoreSlot)
+    ensures listed { stored.new.listed ≡ stored.old.listed }
+    ensures state { stored.new.slot.state ≡ folded stored.old.slot.region (moved_all (settled stored.old.slot.state) stored.old.slot.state) }
+    ensures region { stored.new.slot.region ≡ stored.old.slot.region }
+    ensures spare { stored.old.slot.spare ≤ stored.new.slot.spare }
+{
+    let _ = stored.slot.settle();
 }

@@ -1,17 +1,17 @@
-ghost use Rattle.std.specs.Prelude.{◌≡◌, ℕ, ◌<◌, ◌≤◌, [], IfNone, IfOk, IfSome, OnErr, OnOk, false, is_some, length, map, slice_get, take};
+ghost use Rattle.std.specs.Prelude.{◌≡◌, ℕ, ◌<◌, ◌≤◌, [], IfNone, IfOk, IfSome, OnErr, OnOk, Some, false, is_some, length, map, slice_get, take, true};
 ghost use Rattle.std.specs.Borrow.{Bor};
 ghost use Rattle.std.specs.List.{All};
 ghost use Rattle.std.specs.Option.{option_map};
 ghost use Rattle.hx_folds.specs.Folding.{KeptsAscend, KeysAscend};
 ghost use Rattle.hx_model.specs.ServerSteps.{state_from};
-ghost use Rattle.hx_model.specs.Slots.{found_in, moved_all, offered, pending_of_all, snapshot_of, with_state};
+ghost use Rattle.hx_model.specs.Slots.{found_in, is_pending, moved_all, offered, pending_of_all, snapshot_of, with_state};
 ghost use Rattle.hx_slot.specs.States.{IsOrderly, SlotState};
-ghost use Rattle.hx_store.specs.Stores.{ArePending, CanBeOffered, IsPlace, KeepsOtherRooms, KeepsRooms, UsesRoom, accepted_at, acknowledged_at, after_step, has_place, has_slot, key_at, no_moves, spare_at, state_at};
+ghost use Rattle.hx_store.specs.Stores.{ArePending, CanBeOffered, IsPlace, KeepsOtherRooms, KeepsRooms, UsesRoom, accepted_at, acknowledged_at, after_step, forgotten_at, has_place, has_slot, key_at, marked_at, no_moves, settled_at, spare_at, state_at};
 
 use crate::copying::{add_kept, add_pending};
 use crate::places::{
-    Slots, accept_at, acknowledge_at, add, insert_within, list_at, lower_count, place_of,
-    replace_at, reserve_at, stored_at,
+    Slots, accept_at, acknowledge_at, add, insert_within, list_at, lower_count, mark_at, place_of,
+    replace_at, reserve_at, reset_at, settle_at, stored_at,
 };
 use crate::searching::add_match;
 use hx_slot::Slot;
@@ -263,6 +263,55 @@ impl Store {
     {
         self.open(place);
         acknowledge_at(&mut self.slots, place, version);
+    }
+
+    /// The place of the slot with this number from 0, in byte order of keys.
+    pub fn place_at(&self, i: usize) -> usize
+        requires { i < length self.now.states }
+        ensures within { result < length self.now.rooms }
+        ensures ascend { KeysAscend self.now.states }
+        ensures slot { slice_get self.now.states i ≡ Some (state_at self.now (key_at self.now result)) }
+    {
+        self.order[i]
+    }
+
+    /// The slot at a place forgets which pending updates are acknowledged, and all early updates. It
+    /// takes no memory.
+    pub fn reset_acks(&mut self, place: usize)
+        requires { place < length self.old.rooms }
+        ensures region { self.new.region ≡ self.old.region }
+        ensures marks { self.new.marks ≡ self.old.marks }
+        ensures states { self.new.states ≡ after_step self.old (key_at self.old place) forgotten_at }
+        ensures rooms { KeepsRooms self.old.rooms self.new.rooms }
+    {
+        self.open(place);
+        reset_at(&mut self.slots, place);
+    }
+
+    /// A pending version is marked as acknowledged at a place, and nothing is committed. It takes no
+    /// memory.
+    pub fn mark(&mut self, place: usize, version: Version)
+        requires place { place < length self.old.rooms }
+        requires pending { is_pending version.0 (state_at self.old (key_at self.old place)) ≡ true }
+        ensures region { self.new.region ≡ self.old.region }
+        ensures marks { self.new.marks ≡ self.old.marks }
+        ensures states { self.new.states ≡ after_step self.old (key_at self.old place) (marked_at version.0) }
+        ensures rooms { KeepsRooms self.old.rooms self.new.rooms }
+    {
+        self.open(place);
+        mark_at(&mut self.slots, place, version);
+    }
+
+    /// What can be committed at a place is. It takes no memory.
+    pub fn settle(&mut self, place: usize)
+        requires { place < length self.old.rooms }
+        ensures region { self.new.region ≡ self.old.region }
+        ensures marks { self.new.marks ≡ self.old.marks }
+        ensures states { self.new.states ≡ after_step self.old (key_at self.old place) settled_at }
+        ensures rooms { KeepsRooms self.old.rooms self.new.rooms }
+    {
+        self.open(place);
+        settle_at(&mut self.slots, place);
     }
 
     /// Puts a slot at its key, in place of the one that is there.

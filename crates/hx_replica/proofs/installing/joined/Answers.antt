@@ -4,11 +4,11 @@ use Rattle.hx_folds.specs.Folding.{folded}
 use Rattle.hx_model.specs.Slots.{moved_all, settled}
 use Rattle.hx_store.specs.Stores.{acknowledging}
 use Rattle.hx_replica.specs.Made.{spot_seen}
-use Rattle.hx_replica.proofs.Joined.{joined_posts, joined_state, none_acked}
+use Rattle.hx_replica.proofs.Joined.{joined_posts, joined_state}
 use Rattle.hx_replica.proofs.installing.joined.Goals as goal
 
-pub carry_on-requires-clause-next : goal.carry_on-requires-clause-next
-carry_on-requires-clause-next c = none_acked (spot_seen c.args.spot.now) c.args.pending.now c.args.slot.state c.offer_all.new.slot.state c.requires.fresh c.requires.pending c.in_ok-offer_all.ensures.state
+pub carry_on-requires : goal.carry_on-requires
+carry_on-requires c = c.offer_all.ensures.region ∙ c.requires.region
 
 pub returns-clause-state : goal.returns-clause-state
 returns-clause-state c =

@@ -1,26 +1,20 @@
-use Rattle.std.proofs.Common.{◌≡◌, ◌++◌, [], take, ap, sym, ◌∙◌, arith}
+use Rattle.std.proofs.Common.{◌≤◌, ◌++◌, List, ℕ, ap, length, subst, sym, take, ◌∙◌}
 use Rattle.std.specs.List.{flat_map}
-use Rattle.hx_types.specs.declared.updates.Update.{Update}
-use Rattle.hx_model.specs.Slots.{ack_answer, pending_of}
-use Rattle.hx_slot.specs.States.{committed_count}
+use Rattle.hx_types.specs.declared.messages.Post.{Post}
+use Rattle.hx_model.specs.Slots.{pending_of}
 use Rattle.hx_replica.specs.Made.{spot_seen, told_of}
 use Rattle.hx_replica.proofs.Acked.{ack_told, ack_within}
-use Rattle.hx_replica.proofs.Walking.{flat_more, none_within}
 use Rattle.hx_replica.proofs.rows.settled.Goals as goal
 
-pub loop-i-preserved : goal.loop-i-preserved
-loop-i-preserved c =
-    flat_more (told_of (spot_seen c.args.spot.now)) (pending_of c.args.slot.now.state) c.loop-i.i c.in-Some.update.now c.loop-i.posts c.tell.new.posts [] (sym c.in-Some.ensures.pending) c.loop-i.invariant
-    (c.in_ok-tell-in-Some.ensures ∙ ap (λ (u : Update). c.loop-i.posts ++ told_of (spot_seen c.args.spot.now) u) c.deref.ensures)
-
-pub unreachable-requires : goal.unreachable-requires
-unreachable-requires c =
-    let l = ack_within c.args.slot.now.state c.args.version.0 in
-    none_within (pending_of c.args.slot.now.state) c.loop-i.i c.in-None.ensures.pending (omega (arith, c.loop-i-test.true, c.would_commit-i-end.ensures, l))
+pub tell_lowest-requires-clause-count : goal.tell_lowest-requires-clause-count
+tell_lowest-requires-clause-count c =
+    subst (λ (n : ℕ). n ≤ length (pending_of c.args.slot.now.state)) (sym c.would_commit.ensures) (ack_within c.args.slot.now.state c.args.version.0)
 
 pub returns : goal.returns
 returns c =
     let spot = spot_seen c.args.spot.now in
     let us = pending_of c.args.slot.now.state in
-    let all : c.loop-i.i ≡ committed_count (ack_answer c.args.slot.now.state c.args.version.0) = omega (arith, c.would_commit-i-end.ensures, c.loop-i-test.false, c.loop-i.auto.i-end) in
-    c.loop-i.invariant ∙ ap (λ n. flat_map (told_of spot) (take n us)) all ∙ ack_told spot c.args.slot.now.state c.args.version.0
+    c.in_ok-tell_lowest.ensures
+    ∙ ap (λ (ps : List Post). ps ++ flat_map (told_of spot) (take c.would_commit.result us)) c.new-posts.ensures
+    ∙ ap (λ n. flat_map (told_of spot) (take n us)) c.would_commit.ensures
+    ∙ ack_told spot c.args.slot.now.state c.args.version.0

@@ -1,13 +1,15 @@
-use Rattle.std.proofs.Common.{◌≡◌, ◌<◌, List, ap, arith, subst, sym}
+use Rattle.std.proofs.Common.{◌≡◌, ◌++◌, ◌<◌, List, ap, arith, map, subst, sym, ◌∙◌}
+use Rattle.std.specs.List.{flat_map}
 use Rattle.std.proofs.lemmas.Result.{IfOk-weaker}
 use Rattle.hx_types.specs.declared.configs.Config.{Config}
-use Rattle.hx_model.specs.ServerSteps.{install_at, listed_regions, server_step}
+use Rattle.hx_types.specs.declared.ids.RegionId.{RegionId}
+use Rattle.hx_types.specs.declared.messages.Post.{Post}
+use Rattle.hx_model.specs.ServerSteps.{adopted_posts, install_at, listed_regions, replica_or_new, server_step}
 use Rattle.hx_folds.specs.Folding.{folded_server}
 use Rattle.hx_replica.specs.declared.replicas.Replica.{Replica}
-use Rattle.hx_replica.specs.Adopting.{AreAdopted}
 use Rattle.hx_replica.specs.Inside.{value_of}
 use Rattle.hx_replica.specs.Plans.{IsPlanOn}
-use Rattle.hx_replica.specs.Replicas.{views_of}
+use Rattle.hx_replica.specs.Replicas.{new_replica, views_of}
 use Rattle.hx_replica.specs.Servers.{ServerValue}
 use Rattle.hx_replica.specs.Ticking.{standing}
 use Rattle.hx_replica.proofs.Installed.{adoption_planned}
@@ -20,17 +22,19 @@ returns-clause-plan c =
     let mine = ap (λ (k : Config). k.epoch.0) c.deref-2.ensures in
     let other = ap (λ (k : Config). k.epoch.0) c.deref.ensures in
     let newer : i.config.epoch.0 < config.epoch.0 = omega (arith, c.if-deref.false, mine, other) in
+    let all = λ (k : Config) (rs : List Replica). flat_map (λ (g : RegionId). adopted_posts i.space (standing k i.id) (replica_or_new (views_of rs) g)) (listed_regions k i.id) in
+    let posts : c.post_adoption.new.posts ≡ all config i.replicas.items =
+    c.in_ok-post_adoption.ensures ∙ ap (λ (ps : List Post). ps ++ all c.deref-3.result.now c.as_slice.result.now) c.new-posts.ensures
+    ∙ ap (λ (k : Config). all k c.as_slice.result.now) c.deref-3.ensures ∙ ap (all config) c.as_slice.ensures.value in
+    let new : c.in_ok-replicas.replicas.items ≡ map (new_replica i.space) (listed_regions config i.id) = c.in_ok-replicas.ensures ∙ ap (λ (k : Config). map (new_replica i.space) (listed_regions k i.id)) c.deref-4.ensures in
     IfOk-weaker c.said.result _ _
     (
     λ plan e. subst (λ (v : ServerValue). IsPlanOn v plan) c.self.view_is
     (
-    adoption_planned (value_of i) c.args.input.now config c.in_ok-config.config c.in_ok-replicas.replicas c.new-posts.result c.adopt_all.new.posts plan newer
+    adoption_planned (value_of i) c.args.input.now config c.in_ok-config.config c.in_ok-replicas.replicas c.post_adoption.new.posts plan newer
     (subst (λ (v : ServerValue). folded_server v.state ≡ v.state) (sym c.self.view_is) c.requires.bare)
     (subst (λ (v : ServerValue). server_step v.space v.state c.args.input.now ≡ install_at v.space v.state config) (sym c.self.view_is) c.requires.step)
-    c.new-posts.ensures
-    (subst (λ (k : Config). AreAdopted i.space (standing k i.id) (views_of i.replicas.items) (listed_regions k i.id) c.new-posts.result c.adopt_all.new.posts c.in_ok-replicas.replicas.items) c.deref-3.ensures
-    (subst (λ (rs : List Replica). AreAdopted i.space (standing c.deref-3.result.now i.id) (views_of rs) (listed_regions c.deref-3.result.now i.id) c.new-posts.result c.adopt_all.new.posts c.in_ok-replicas.replicas.items) c.as_slice.ensures.value c.in_ok-replicas.ensures))
-    c.in_ok-config.ensures e
+    posts new c.in_ok-config.ensures e
     )
     )
     c.said.ensures

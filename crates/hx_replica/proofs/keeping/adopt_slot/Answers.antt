@@ -1,0 +1,24 @@
+use Rattle.std.proofs.Common.{◌<◌, ap, length, subst, sym, ◌∙◌}
+use Rattle.hx_model.specs.ServerSteps.{end_marks}
+use Rattle.hx_model.specs.Slots.{Forget, KeyState, moved, moved_all, pending_of}
+use Rattle.hx_replica.specs.Adopting.{changed_at, lean_adopted}
+use Rattle.hx_replica.specs.Made.{spot_seen}
+use Rattle.hx_replica.proofs.Kept.{changed_length, gone_on}
+use Rattle.hx_replica.proofs.keeping.adopt_slot.Goals as goal
+
+pub mark_ends-requires-clause-number : goal.mark_ends-requires-clause-number
+mark_ends-requires-clause-number c =
+    let n = ap length c.reset_acks.ensures.states ∙ changed_length (moved Forget) c.args.i c.args.store.now.states in
+    subst (λ m. c.args.i < m) (sym n) c.requires.number
+
+pub settle-requires : goal.settle-requires
+settle-requires c =
+    let n = ap length c.mark_ends.ensures.states ∙ changed_length (λ (s : KeyState). moved_all (end_marks (spot_seen c.args.spot.now) (pending_of s)) s) c.args.i c.reset_acks.new.store.states
+    ∙ ap length c.reset_acks.ensures.states ∙ changed_length (moved Forget) c.args.i c.args.store.now.states in
+    subst (λ m. c.args.i < m) (sym n) c.requires.number
+
+pub returns-then-active-clause-states : goal.returns-then-active-clause-states
+returns-then-active-clause-states c =
+    gone_on (spot_seen c.args.spot.now) c.mark_ends.new.store.region c.args.i c.args.store.now.states c.reset_acks.new.store.states c.mark_ends.new.store.states c.settle.new.store.states
+    (c.mark_ends.ensures.region ∙ c.reset_acks.ensures.region ∙ c.requires.region) c.reset_acks.ensures.states c.mark_ends.ensures.states c.settle.ensures.states
+    ∙ ap (λ b. changed_at (lean_adopted (spot_seen c.args.spot.now) b) c.args.i c.args.store.now.states) (sym c.if-active.true)

@@ -1,0 +1,12 @@
+use Rattle.std.proofs.Common.{refl, ◌∙◌}
+use Rattle.hx_store.specs.Stores.{marked_at}
+use Rattle.hx_replica.proofs.Kept.{pending_there, step_at}
+use Rattle.hx_replica.proofs.keeping.mark.Goals as goal
+
+pub mark-requires-clause-pending : goal.mark-requires-clause-pending
+mark-requires-clause-pending c = pending_there c.args.store.now.states c.args.i c.args.version _ c.requires.pending c.place_at-place.ensures.slot
+
+pub returns-clause-states : goal.returns-clause-states
+returns-clause-states c =
+    c.mark.ensures.states
+    ∙ step_at c.args.store.now c.place_at-place.result c.args.i (marked_at c.args.version.0) (λ t. refl) c.place_at-place.ensures.ascend c.place_at-place.ensures.slot

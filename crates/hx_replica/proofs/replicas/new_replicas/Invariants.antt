@@ -1,0 +1,9 @@
+use Rattle.std.proofs.Common.{◌≡◌, map}
+use Rattle.hx_types.specs.declared.ids.RegionId.{RegionId}
+use Rattle.hx_types.specs.Configs.{lists}
+use Rattle.hx_replica.specs.Replicas.{new_replica}
+use Rattle.hx_replica.proofs.Starting.{passing}
+use Rattle.hx_replica.proofs.replicas.new_replicas.Given as goal
+
+abbrev pub invariant-loop-number : goal.invariant-loop-number
+invariant-loop-number l = l.replicas.items ≡ map (new_replica l.space) (passing (λ (g : RegionId). lists l.config g l.server) l.number)

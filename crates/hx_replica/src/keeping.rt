@@ -1,0 +1,193 @@
+ghost use Rattle.std.specs.Prelude.{◌≡◌, ◌<◌, length, map};
+ghost use Rattle.hx_types.specs.Words.{list_of, when_some};
+ghost use Rattle.hx_types.specs.declared.ids.RegionId.{RegionId as Numbered};
+ghost use Rattle.hx_model.specs.ServerSteps.{end_marks, listed_regions, replica_or_new, with_replica};
+ghost use Rattle.hx_model.specs.Slots.{Acknowledge, Forget, KeyState, moved, moved_all, pending_of};
+ghost use Rattle.std.specs.Prelude.{slice_get, Some, true, []};
+ghost use Rattle.std.specs.Option.{option_map};
+ghost use Rattle.hx_store.specs.Stores.{acknowledging, settled_at};
+ghost use Rattle.hx_replica.specs.Adopting.{IsPendingAt, changed_at, lean_adopted, lean_replica, marked_end};
+ghost use Rattle.hx_replica.specs.Made.{end_of, spot_seen};
+ghost use Rattle.hx_replica.specs.Replicas.{AreReplicas, IsReplicaIn, new_replica, view_of, views_of};
+ghost use Rattle.hx_replica.specs.Ticking.{standing};
+
+use crate::adopting::is_active;
+use crate::replicas::{Replica, place_of};
+use crate::spots::{Spot, end_version};
+use hx_region::RegionMap;
+use hx_slot::Slot;
+use hx_store::Store;
+use hx_types::{Config, ServerId, Space, Version};
+
+/// The replicas of a server that adopts a configuration: each that it has of a region in which the
+/// configuration lists it takes its place among the new ones, and goes on. It takes no memory.
+pub fn keep_all(
+    space: &Space,
+    regions: &RegionMap,
+    config: &Config,
+    server: ServerId,
+    mut old: Vec<Replica>,
+    next: &mut Vec<Replica>,
+)
+    requires old { AreReplicas space.now old.items }
+    requires next { next.old.items ≡ map (new_replica space.now) (listed_regions config.now server) }
+    ensures views { views_of next.new.items ≡ map (λ (g : Numbered). lean_replica space.now (standing config.now server) (replica_or_new (views_of old.items) g)) (listed_regions config.now server) }
+    ensures are { AreReplicas space.now next.new.items }
+{
+    'replicas: while let Some(replica) = old.pop() {
+        keep(space, regions, config, server, replica, next);
+    }
+}
+
+/// A replica takes the place of the new one of its region, if there is one, and goes on.
+fn keep(
+    space: &Space,
+    regions: &RegionMap,
+    config: &Config,
+    server: ServerId,
+    mut replica: Replica,
+    next: &mut Vec<Replica>,
+)
+    requires is { IsReplicaIn space.now replica }
+    requires next { AreReplicas space.now next.old.items }
+    ensures views { views_of next.new.items ≡ with_replica (lean_replica space.now (standing config.now server) (view_of replica)) (views_of next.old.items) }
+    ensures are { AreReplicas space.now next.new.items }
+{
+    if let Some(number) = place_of(next.as_slice(), replica.region) {
+        let spot = Spot {
+            space,
+            map: regions,
+            config,
+            server,
+            region: replica.region,
+        };
+        adopt_replica(&spot, &mut replica);
+        next[number] = replica;
+    }
+}
+
+/// A replica goes on in a new configuration: where it is installed and its region isn't lost its
+/// slots go on, else they forget.
+fn adopt_replica(spot: &Spot, replica: &mut Replica)
+    requires region { replica.old.region ≡ spot.now.region }
+    requires is { IsReplicaIn spot.now.space.now replica.old }
+    ensures view { view_of replica.new ≡ lean_replica spot.now.space.now (standing spot.now.config.now spot.now.server) (view_of replica.old) }
+    ensures is { IsReplicaIn spot.now.space.now replica.new }
+{
+    let active = is_active(spot.config, replica);
+    adopt_slots(spot, &mut replica.store, active);
+}
+
+fn adopt_slots(spot: &Spot, store: &mut Store, active: bool)
+    requires { store.old.region ≡ spot.now.region }
+    ensures region { store.new.region ≡ store.old.region }
+    ensures marks { store.new.marks ≡ store.old.marks }
+    ensures states { store.new.states ≡ map (lean_adopted (spot_seen spot.now) active) store.old.states }
+{
+    for i in 0..store.len() {
+        adopt_slot(spot, store, i, active);
+    }
+}
+
+/// A slot forgets its acknowledgements and early updates. Where it goes on, its pending updates
+/// whose chain ends here are acknowledged, and what can be committed is.
+fn adopt_slot(spot: &Spot, store: &mut Store, i: usize, active: bool)
+    requires region { store.old.region ≡ spot.now.region }
+    requires number { i < length store.old.states }
+    ensures region { store.new.region ≡ store.old.region }
+    ensures marks { store.new.marks ≡ store.old.marks }
+    ensures states { store.new.states ≡ changed_at (lean_adopted (spot_seen spot.now) active) i store.old.states }
+{
+    reset_acks(store, i);
+    if active {
+        mark_ends(spot, store, i);
+        settle(store, i);
+    }
+}
+
+/// The slot with this number forgets its acknowledgements and early updates.
+fn reset_acks(store: &mut Store, i: usize)
+    requires { i < length store.old.states }
+    ensures region { store.new.region ≡ store.old.region }
+    ensures marks { store.new.marks ≡ store.old.marks }
+    ensures states { store.new.states ≡ changed_at (moved Forget) i store.old.states }
+{
+    let place = store.place_at(i);
+    store.reset_acks(place);
+}
+
+/// The slot with this number commits what it can.
+fn settle(store: &mut Store, i: usize)
+    requires { i < length store.old.states }
+    ensures region { store.new.region ≡ store.old.region }
+    ensures marks { store.new.marks ≡ store.old.marks }
+    ensures states { store.new.states ≡ changed_at (settled_at store.old.region) i store.old.states }
+{
+    let place = store.place_at(i);
+    store.settle(place);
+}
+
+/// Of the slot with this number each pending update whose chain ends here is acknowledged.
+fn mark_ends(spot: &Spot, store: &mut Store, i: usize)
+    requires region { store.old.region ≡ spot.now.region }
+    requires number { i < length store.old.states }
+    ensures region { store.new.region ≡ store.old.region }
+    ensures marks { store.new.marks ≡ store.old.marks }
+    ensures states { store.new.states ≡ changed_at (λ (s : KeyState). moved_all (end_marks (spot_seen spot.now) (pending_of s)) s) i store.old.states }
+{
+    for k in 0..pending_count(store, i) {
+        mark_end(spot, store, i, k);
+    }
+}
+
+/// How many updates of the slot with this number are pending.
+fn pending_count(store: &Store, i: usize) -> u32
+    ensures { result ≡ when_some (slice_get store.now.states i) 0 (λ (s : KeyState). length (pending_of s)) }
+{
+    match store.nth(i) {
+        Some(slot) => slot.pending_count(),
+        None => 0,
+    }
+}
+
+/// Of the slot with this number the pending update with a number is acknowledged, where its chain
+/// ends here.
+fn mark_end(spot: &Spot, store: &mut Store, i: usize, k: u32)
+    requires region { store.old.region ≡ spot.now.region }
+    requires number { i < length store.old.states }
+    ensures region { store.new.region ≡ store.old.region }
+    ensures marks { store.new.marks ≡ store.old.marks }
+    ensures states { store.new.states ≡ changed_at (marked_end (spot_seen spot.now) k) i store.old.states }
+{
+    if let Some(version) = end_at(spot, store, i, k) {
+        mark(store, i, version);
+    }
+}
+
+/// The version of the pending update with number k of the slot with number i, where its chain ends
+/// here.
+fn end_at(spot: &Spot, store: &Store, i: usize, k: u32) -> Option<Version>
+    requires { store.now.region ≡ spot.now.region }
+    ensures { list_of result ≡ when_some (slice_get store.now.states i) [] (λ (s : KeyState). when_some (slice_get (pending_of s) k) [] (end_of (spot_seen spot.now))) }
+{
+    end_of_slot(spot, store.nth(i)?, k)
+}
+
+fn end_of_slot(spot: &Spot, slot: &Slot, k: u32) -> Option<Version>
+    requires { slot.now.region ≡ spot.now.region }
+    ensures { list_of result ≡ when_some (slice_get (pending_of slot.now.state) k) [] (end_of (spot_seen spot.now)) }
+{
+    end_version(spot, slot.pending(k)?)
+}
+
+/// Of the slot with this number a pending version is acknowledged.
+fn mark(store: &mut Store, i: usize, version: Version)
+    requires number { i < length store.old.states }
+    requires pending { IsPendingAt i version store.old.states }
+    ensures region { store.new.region ≡ store.old.region }
+    ensures marks { store.new.marks ≡ store.old.marks }
+    ensures states { store.new.states ≡ changed_at (moved (Acknowledge version.0)) i store.old.states }
+{
+    let place = store.place_at(i);
+    store.mark(place, version);
+}
