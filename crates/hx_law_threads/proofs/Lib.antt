@@ -8,4 +8,6 @@ pub mod Retries
 pub mod Sessions
 pub mod Totals
 pub mod Weights
+pub mod Offers
+pub mod Growing
 mod Example

@@ -8,7 +8,9 @@ use Rattle.hx_types.specs.declared.traces.Input.{Input}
 use Rattle.hx_types.specs.declared.traces.Script.{Script}
 use Rattle.hx_types.specs.declared.ids.Actor.TheVariants.{Coordinator, Server, Session}
 use Rattle.hx_model.specs.Runs.{coordinator_of, entry_at, has_halted, made_of, server_of, session_of, IsRun}
+use Rattle.hx_types.specs.Words.{IsIn}
 use Rattle.hx_clock.specs.declared.parts.Stamped.{Stamped}
+use Rattle.hx_clock.specs.Parts.{all_of}
 use Rattle.hx_law_threads.specs.Own.{own_entries, past_of, IsOwn}
 use Rattle.hx_law_threads.specs.Cuts.{first_entries, is_retry, is_waiting, own_at, Cut}
 use Rattle.hx_law_threads.specs.Pacing.{retries_at}
@@ -40,6 +42,12 @@ MergedPartsAreRuns =
     (script : Script) (whole : List ActorPart) (merged : List Stamped)
     → AreOwnParts script whole → AreWholeParts (parts_in whole) → IsMerged (parts_in whole) merged
     → IsRunOfParts script whole merged
+
+-- each entry of the trace is one of a part
+abbrev pub EntriesAreOfParts : Type 0
+EntriesAreOfParts =
+    (parts : List (List Stamped)) (merged : List Stamped) → IsMerged parts merged
+    → (x : Entry) → IsIn x (past_of merged) → (z : Stamped) × IsIn z (all_of parts) × (x ≡ z.entry)
 
 -- the merge of whole parts has each entry at the place of its stamp
 abbrev pub MergedStampsArePlaces : Type 0

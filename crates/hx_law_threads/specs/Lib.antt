@@ -4,4 +4,5 @@ pub mod Cuts
 pub mod Pacing
 pub mod Calls
 pub mod Counting
+pub mod Offers
 pub mod Laws

@@ -4,7 +4,8 @@
 
 ghost use Rattle.hx_law_threads.specs.Calls.{CallsOfDoneSessionsEnd, CallsUnderWayAreOpen};
 ghost use Rattle.hx_law_threads.specs.Counting.{CutsAddUp, OpenAreCounted, PostsAreNamedOnce, PostsOfCutsWeigh};
-ghost use Rattle.hx_law_threads.specs.Laws.{EntriesOfRunsAreOwn, MergedPartsAreRuns, MergedStampsArePlaces, RetriersWaited, RetriesWait, StatesAreByOwnEntries};
+ghost use Rattle.hx_law_threads.specs.Offers.{OpenWereLost, RepeatsWerePut};
+ghost use Rattle.hx_law_threads.specs.Laws.{EntriesAreOfParts, EntriesOfRunsAreOwn, MergedPartsAreRuns, MergedStampsArePlaces, RetriersWaited, RetriesWait, StatesAreByOwnEntries};
 
 /// An actor's state, and what it makes of an input, are those after its own entries, whatever others
 /// do in between; and in every run its entries are its own steps.
@@ -15,10 +16,11 @@ pub fn actors_see_their_own_entries()
 
 /// Parts of different actors of a script, each the actor's own steps from its start, that are causal
 /// and leave no stamp out, merged by stamp make a run of the script, in which each actor's entries are
-/// its part and each entry's number is its stamp plus 1.
+/// its part and each entry's number is its stamp plus 1; and no entry is of no part.
 pub fn merged_parts_are_runs()
     ensures runs { MergedPartsAreRuns }
     ensures places { MergedStampsArePlaces }
+    ensures entries { EntriesAreOfParts }
 {}
 
 /// In every run a retry is of an actor that hasn't halted, is no idle session and has something to
@@ -44,4 +46,13 @@ pub fn cuts_add_up()
     ensures posts { PostsOfCutsWeigh }
     ensures few_open { OpenAreCounted }
     ensures names { PostsAreNamedOnce }
+{}
+
+/// Where each post was offered once and put as often as it was then delivered, those to halted
+/// servers aside, at most as many are open as were never put. Where no post was put more than twice,
+/// and none delivered more often than put, none is delivered thrice, and at most as many twice as
+/// were put twice.
+pub fn open_posts_were_lost()
+    ensures lost { OpenWereLost }
+    ensures repeats { RepeatsWerePut }
 {}
