@@ -10,4 +10,5 @@ pub mod Totals
 pub mod Weights
 pub mod Offers
 pub mod Growing
+pub mod Reading
 mod Example

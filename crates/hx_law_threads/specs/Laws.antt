@@ -1,5 +1,7 @@
 -- The laws on what threads make: the parts of all actors, merged, are a run, and who retries in it.
-use Rattle.std.specs.Prelude.{◌≡◌, ℕ, ◌+◌, true, List, Some}
+use Rattle.std.specs.Prelude.{◌≡◌, ℕ, ◌+◌, true, List, Option, Some, slice_get, take}
+use Rattle.std.specs.List.{AllByRecursion}
+use Rattle.std.specs.Option.{option_map}
 use Rattle.hx_types.specs.declared.ids.Actor.{Actor}
 use Rattle.hx_types.specs.declared.ids.ServerId.{ServerId}
 use Rattle.hx_types.specs.declared.ids.SessionId.{SessionId}
@@ -65,3 +67,15 @@ abbrev pub RetriersWaited : Type 0
 RetriersWaited =
     (script : Script) (trace : List Entry) → IsRun script trace
     → (cut : Cut) (a : Actor) → retries_at cut trace a ≡ true → is_waiting script (own_at cut trace a) a ≡ true
+
+-- the entry of this place in a part, from 0
+abbrev pub entry_in : List Stamped → ℕ → Option Entry
+entry_in part place = option_map (λ (x : Stamped). x.entry) (slice_get part place)
+
+-- what an actor has made by a cut, and what it makes next, is read in its part
+pub record IsReadInPart (trace : List Entry) (p : ActorPart) : Type 0 where
+  pub own : (n : ℕ) → first_entries n (own_entries p.actor trace) ≡ past_of (take n p.part)
+  pub next : (n : ℕ) → entry_at (n + 1) (own_entries p.actor trace) ≡ entry_in p.part n
+
+abbrev pub CutsAreReadInParts : Type 0
+CutsAreReadInParts = (whole : List ActorPart) (trace : List Entry) → HasOwnParts whole trace → AllByRecursion (IsReadInPart trace) whole

@@ -5,7 +5,7 @@
 ghost use Rattle.hx_law_threads.specs.Calls.{CallsOfDoneSessionsEnd, CallsUnderWayAreOpen};
 ghost use Rattle.hx_law_threads.specs.Counting.{CutsAddUp, OpenAreCounted, PostsAreNamedOnce, PostsOfCutsWeigh};
 ghost use Rattle.hx_law_threads.specs.Offers.{OpenWereLost, RepeatsWerePut};
-ghost use Rattle.hx_law_threads.specs.Laws.{EntriesAreOfParts, EntriesOfRunsAreOwn, MergedPartsAreRuns, MergedStampsArePlaces, RetriersWaited, RetriesWait, StatesAreByOwnEntries};
+ghost use Rattle.hx_law_threads.specs.Laws.{CutsAreReadInParts, EntriesAreOfParts, EntriesOfRunsAreOwn, MergedPartsAreRuns, MergedStampsArePlaces, RetriersWaited, RetriesWait, StatesAreByOwnEntries};
 
 /// An actor's state, and what it makes of an input, are those after its own entries, whatever others
 /// do in between; and in every run its entries are its own steps.
@@ -37,11 +37,13 @@ pub fn sessions_note_their_calls()
     ensures under_way { CallsUnderWayAreOpen }
 {}
 
-/// What the entries of a cut of merged parts add up to can be counted part by part: so too the posts
+/// What an actor has made by a cut, and what it makes next, is read in its part, and what the entries
+/// of a cut of merged parts add up to can be counted part by part: so too the posts
 /// that they made and delivered, each of which has a name of its own. Where whatever holds of no
 /// post that was delivered, and of none to a halted server, holds of at most so many, at most so
 /// many are open.
 pub fn cuts_add_up()
+    ensures parts { CutsAreReadInParts }
     ensures cuts { CutsAddUp }
     ensures posts { PostsOfCutsWeigh }
     ensures few_open { OpenAreCounted }
