@@ -11,4 +11,5 @@ pub mod Weights
 pub mod Offers
 pub mod Growing
 pub mod Reading
+pub mod PartPaces
 mod Example

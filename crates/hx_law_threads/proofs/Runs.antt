@@ -36,7 +36,7 @@ own-case : (b : Bool) (x : Stamped) (es : List Entry) (ms : List Stamped) → es
 own-case true x es ms e = ap (λ l. x.entry ∷ l) e
 own-case false x es ms e = e
 
-own_mine : (a : Actor) (ms : List Stamped) → own_entries a (entries ms) ≡ entries (mine a ms)
+pub own_mine : (a : Actor) (ms : List Stamped) → own_entries a (entries ms) ≡ entries (mine a ms)
 own_mine a [] = refl
 own_mine a (x ∷ ms) = own-case (same_actor x.entry.actor a) x (own_entries a (entries ms)) (mine a ms) (own_mine a ms)
 

@@ -6,3 +6,4 @@ pub mod Calls
 pub mod Counting
 pub mod Offers
 pub mod Laws
+pub mod PartPacing

@@ -4,6 +4,7 @@
 
 ghost use Rattle.hx_law_threads.specs.Calls.{CallsOfDoneSessionsEnd, CallsUnderWayAreOpen};
 ghost use Rattle.hx_law_threads.specs.Counting.{CutsAddUp, OpenAreCounted, PostsAreNamedOnce, PostsOfCutsWeigh};
+ghost use Rattle.hx_law_threads.specs.PartPacing.{PartsTellPace};
 ghost use Rattle.hx_law_threads.specs.Offers.{OpenWereLost, RepeatsWerePut};
 ghost use Rattle.hx_law_threads.specs.Laws.{CutsAreReadInParts, EntriesAreOfParts, EntriesOfRunsAreOwn, MergedPartsAreRuns, MergedStampsArePlaces, RetriersWaited, RetriesWait, StatesAreByOwnEntries};
 
@@ -57,4 +58,11 @@ pub fn cuts_add_up()
 pub fn open_posts_were_lost()
     ensures lost { OpenWereLost }
     ensures repeats { RepeatsWerePut }
+{}
+
+/// Whether each retry of a trace is its actor's first entry after a cut, whether after a cut exactly
+/// those retry who waited, and whether a call is under way there, is read in the parts of which the
+/// trace is merged.
+pub fn parts_tell_the_pace()
+    ensures { PartsTellPace }
 {}
