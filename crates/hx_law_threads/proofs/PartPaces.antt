@@ -12,19 +12,20 @@ use Rattle.hx_types.specs.Words.{same_actor, when_some, IsIn}
 use Rattle.hx_model.specs.Runs.{entry_at, session_of}
 use Rattle.hx_model.specs.Schedule.{entries_of}
 use Rattle.hx_clock.specs.declared.parts.Stamped.{Stamped}
-use Rattle.hx_clock.proofs.Lists.{each_in}
+use Rattle.hx_clock.proofs.Lists.{each_in, each_map}
 use Rattle.hx_law_threads.specs.Own.{own_entries, past_of, IsOwn}
 use Rattle.hx_law_threads.specs.Merged.{parts_in, ActorPart, AreOwnParts, AreWholeParts, HasOwnParts, IsMerged}
 use Rattle.hx_law_threads.specs.Calls.{last_call}
-use Rattle.hx_law_threads.specs.Cuts.{first_entries, is_retry, is_waiting, own_at, Cut, HasCallUnderWay}
+use Rattle.hx_law_threads.specs.Cuts.{first_entries, is_retry, is_waiting, open_at, own_at, Cut, HasCallUnderWay}
 use Rattle.hx_law_threads.specs.Laws.{entry_in, IsReadInPart}
-use Rattle.hx_law_threads.specs.Pacing.{retries_at, RetriesFollow, WaitersRetry}
-use Rattle.hx_law_threads.specs.PartPacing.{past_at, HasAllActors, HasSessionUnderWay, HaveCut, PartsFollow, PartsRetry, TellPace}
+use Rattle.hx_law_threads.specs.Pacing.{earlier, retries_at, IsPacedBy, RetriesFollow, WaitersRetry}
+use Rattle.hx_law_threads.specs.PartPacing.{past_at, HasAllActors, ArePacedParts, HasSessionUnderWay, HaveCut, IsSettled, PartsFollow, PartsRetry, TellPace}
 use Rattle.hx_law_threads.proofs.Actors.{same_actor_is, same_as_itself}
 use Rattle.hx_law_threads.proofs.Lists.{of_filter}
 use Rattle.hx_law_threads.proofs.Places.{entries}
 use Rattle.hx_law_threads.proofs.Reading.{read_in_parts}
 use Rattle.hx_law_threads.proofs.Runs.{all_steps, merged_run, mine, own_mine, past_is}
+use Rattle.hx_law_threads.proofs.Offers.{open_lost}
 use Rattle.hx_law_threads.proofs.Sessions.{under_way_open}
 use Rattle.hx_law_threads.proofs.States.{entries_own}
 
@@ -117,3 +118,17 @@ module _ (script : Script) (whole : List ActorPart) (merged : List Stamped) (o :
 
   pub parts_tell : TellPace script whole (past_of merged)
   parts_tell = record { within = within_read; retries = retries_read; waiters = waiters_read; calls = calls_read }
+
+pub paced_parts : (script : Script) (whole : List ActorPart) (merged : List Stamped) → AreOwnParts script whole → AreWholeParts (parts_in whole) → IsMerged (parts_in whole) merged → HasAllActors script whole
+    → (lost : ℕ) (cuts : List Cut) → ArePacedParts script whole (past_of merged) lost cuts → IsPacedBy script (past_of merged) lost cuts
+paced_parts script whole merged o w m all lost cuts p =
+    let tell = parts_tell script whole merged o w m in
+    record {
+      within = each_map (HaveCut whole) (λ (cut : Cut). (a : Actor) → cut a ≤ entries_of a (past_of merged)) cuts (λ cut i h. tell.within cut h) p.have;
+      rising = p.rising;
+      retries = tell.retries cuts p.follow;
+      waiters = each_map (PartsRetry script whole) (WaitersRetry script (past_of merged)) (earlier cuts) (λ cut i h. tell.waiters cut all h) p.retry;
+      calls = each_map (HasSessionUnderWay script whole) (HasCallUnderWay (past_of merged)) cuts (λ cut i h. tell.calls cut h) p.calls;
+      few_open = each_map (IsSettled script (past_of merged) lost) (λ (cut : Cut). length (open_at script cut (past_of merged)) ≤ lost) cuts
+          (λ cut i h. let lost_by = open_lost script cut (past_of merged) h.offers h.came in omega (arith, lost_by, h.never_put)) p.settled;
+    }

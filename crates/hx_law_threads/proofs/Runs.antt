@@ -188,3 +188,9 @@ pub of_parts : (parts : List (List Stamped)) (merged : List Stamped) → IsMerge
 of_parts parts merged m x i =
     let r = of_map (λ (z : Stamped). z.entry) merged x (of_reverse (map (λ (z : Stamped). z.entry) merged) x i) in
     (r.0, in_permuted merged (all_of parts) r.0 (IsPermutation-sym _ _ m.all) r.1, r.2)
+
+-- its posts are found by their names
+pub posts_found : (parts : List (List Stamped)) (merged : List Stamped) → AreWholeParts parts → IsMerged parts merged
+    → (z : Stamped) (id : PostId) (p : Post) → IsIn z (all_of parts) → Posted z id p → post_named id (past_of merged) ≡ Some p
+posts_found parts merged w m z id p i posted =
+    ap (post_named id) (past_is merged) ∙ post_found (reverse merged) z id p (are_counted parts merged w m) (in_reverse merged z (in_permuted _ _ z m.all i)) posted

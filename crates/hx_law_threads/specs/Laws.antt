@@ -5,14 +5,16 @@ use Rattle.std.specs.Option.{option_map}
 use Rattle.hx_types.specs.declared.ids.Actor.{Actor}
 use Rattle.hx_types.specs.declared.ids.ServerId.{ServerId}
 use Rattle.hx_types.specs.declared.ids.SessionId.{SessionId}
+use Rattle.hx_types.specs.declared.messages.Post.{Post}
+use Rattle.hx_types.specs.declared.messages.PostId.{PostId}
 use Rattle.hx_types.specs.declared.traces.Entry.{Entry}
 use Rattle.hx_types.specs.declared.traces.Input.{Input}
 use Rattle.hx_types.specs.declared.traces.Script.{Script}
 use Rattle.hx_types.specs.declared.ids.Actor.TheVariants.{Coordinator, Server, Session}
-use Rattle.hx_model.specs.Runs.{coordinator_of, entry_at, has_halted, made_of, server_of, session_of, IsRun}
+use Rattle.hx_model.specs.Runs.{coordinator_of, entry_at, has_halted, made_of, post_named, server_of, session_of, IsRun}
 use Rattle.hx_types.specs.Words.{IsIn}
 use Rattle.hx_clock.specs.declared.parts.Stamped.{Stamped}
-use Rattle.hx_clock.specs.Parts.{all_of}
+use Rattle.hx_clock.specs.Parts.{all_of, Posted}
 use Rattle.hx_law_threads.specs.Own.{own_entries, past_of, IsOwn}
 use Rattle.hx_law_threads.specs.Cuts.{first_entries, is_retry, is_waiting, own_at, Cut}
 use Rattle.hx_law_threads.specs.Pacing.{retries_at}
@@ -50,6 +52,12 @@ abbrev pub EntriesAreOfParts : Type 0
 EntriesAreOfParts =
     (parts : List (List Stamped)) (merged : List Stamped) → IsMerged parts merged
     → (x : Entry) → IsIn x (past_of merged) → (z : Stamped) × IsIn z (all_of parts) × (x ≡ z.entry)
+
+-- each post of an entry is found in the trace under its name
+abbrev pub PostsAreFound : Type 0
+PostsAreFound =
+    (parts : List (List Stamped)) (merged : List Stamped) → AreWholeParts parts → IsMerged parts merged
+    → (z : Stamped) (id : PostId) (p : Post) → IsIn z (all_of parts) → Posted z id p → post_named id (past_of merged) ≡ Some p
 
 -- the merge of whole parts has each entry at the place of its stamp
 abbrev pub MergedStampsArePlaces : Type 0

@@ -13,7 +13,8 @@ use Rattle.hx_clock.specs.declared.parts.Stamped.{Stamped}
 use Rattle.hx_law_threads.specs.Own.{past_of}
 use Rattle.hx_law_threads.specs.Merged.{parts_in, ActorPart, AreOwnParts, AreWholeParts, IsMerged}
 use Rattle.hx_law_threads.specs.Cuts.{is_retry, is_waiting, Cut, HasCallUnderWay}
-use Rattle.hx_law_threads.specs.Pacing.{RetriesFollow, WaitersRetry}
+use Rattle.hx_law_threads.specs.Pacing.{earlier, AreRising, IsPacedBy, RetriesFollow, WaitersRetry}
+use Rattle.hx_law_threads.specs.Offers.{put_times, AllCame, Offer}
 use Rattle.hx_law_threads.specs.Laws.{entry_in}
 
 -- what an actor had made at a cut
@@ -60,3 +61,25 @@ PartsTellPace =
     (script : Script) (whole : List ActorPart) (merged : List Stamped)
     → AreOwnParts script whole → AreWholeParts (parts_in whole) → IsMerged (parts_in whole) merged
     → TellPace script whole (past_of merged)
+
+-- at the cut posts had been delivered as often as they were put, and at most so many were never put
+pub record IsSettled (script : Script) (trace : List Entry) (lost : ℕ) (cut : Cut) : Type 0 where
+  pub offers : List Offer
+  pub came : AllCame script cut trace offers
+  pub never_put : put_times 0 offers ≤ lost
+
+-- the parts of a trace were made with retries at these cuts alone, the last cut first
+pub record ArePacedParts (script : Script) (whole : List ActorPart) (trace : List Entry) (lost : ℕ) (cuts : List Cut) : Type 0 where
+  pub have : AllByRecursion (HaveCut whole) cuts
+  pub rising : AreRising cuts
+  pub follow : PartsFollow whole cuts
+  pub retry : AllByRecursion (PartsRetry script whole) (earlier cuts)
+  pub calls : AllByRecursion (HasSessionUnderWay script whole) cuts
+  pub settled : AllByRecursion (IsSettled script trace lost) cuts
+
+-- then their trace is paced by these cuts
+abbrev pub PacedPartsPaceTraces : Type 0
+PacedPartsPaceTraces =
+    (script : Script) (whole : List ActorPart) (merged : List Stamped)
+    → AreOwnParts script whole → AreWholeParts (parts_in whole) → IsMerged (parts_in whole) merged → HasAllActors script whole
+    → (lost : ℕ) (cuts : List Cut) → ArePacedParts script whole (past_of merged) lost cuts → IsPacedBy script (past_of merged) lost cuts

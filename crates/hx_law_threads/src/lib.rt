@@ -4,9 +4,9 @@
 
 ghost use Rattle.hx_law_threads.specs.Calls.{CallsOfDoneSessionsEnd, CallsUnderWayAreOpen};
 ghost use Rattle.hx_law_threads.specs.Counting.{CutsAddUp, OpenAreCounted, PostsAreNamedOnce, PostsOfCutsWeigh};
-ghost use Rattle.hx_law_threads.specs.PartPacing.{PartsTellPace};
+ghost use Rattle.hx_law_threads.specs.PartPacing.{PacedPartsPaceTraces, PartsTellPace};
 ghost use Rattle.hx_law_threads.specs.Offers.{OpenWereLost, RepeatsWerePut};
-ghost use Rattle.hx_law_threads.specs.Laws.{CutsAreReadInParts, EntriesAreOfParts, EntriesOfRunsAreOwn, MergedPartsAreRuns, MergedStampsArePlaces, RetriersWaited, RetriesWait, StatesAreByOwnEntries};
+ghost use Rattle.hx_law_threads.specs.Laws.{CutsAreReadInParts, EntriesAreOfParts, EntriesOfRunsAreOwn, MergedPartsAreRuns, MergedStampsArePlaces, PostsAreFound, RetriersWaited, RetriesWait, StatesAreByOwnEntries};
 
 /// An actor's state, and what it makes of an input, are those after its own entries, whatever others
 /// do in between; and in every run its entries are its own steps.
@@ -17,11 +17,12 @@ pub fn actors_see_their_own_entries()
 
 /// Parts of different actors of a script, each the actor's own steps from its start, that are causal
 /// and leave no stamp out, merged by stamp make a run of the script, in which each actor's entries are
-/// its part and each entry's number is its stamp plus 1; and no entry is of no part.
+/// its part and each entry's number is its stamp plus 1; no entry is of no part, and each post is found by its name.
 pub fn merged_parts_are_runs()
     ensures runs { MergedPartsAreRuns }
     ensures places { MergedStampsArePlaces }
     ensures entries { EntriesAreOfParts }
+    ensures posts { PostsAreFound }
 {}
 
 /// In every run a retry is of an actor that hasn't halted, is no idle session and has something to
@@ -62,7 +63,9 @@ pub fn open_posts_were_lost()
 
 /// Whether each retry of a trace is its actor's first entry after a cut, whether after a cut exactly
 /// those retry who waited, and whether a call is under way there, is read in the parts of which the
-/// trace is merged.
+/// trace is merged: so parts that were made with retries at some cuts alone make a trace that is paced
+/// by these.
 pub fn parts_tell_the_pace()
-    ensures { PartsTellPace }
+    ensures parts { PartsTellPace }
+    ensures traces { PacedPartsPaceTraces }
 {}
