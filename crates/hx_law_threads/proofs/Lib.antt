@@ -12,4 +12,4 @@ pub mod Offers
 pub mod Growing
 pub mod Reading
 pub mod PartPaces
-mod Example
+pub mod Example
