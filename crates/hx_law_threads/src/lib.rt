@@ -17,7 +17,8 @@ pub fn actors_see_their_own_entries()
 
 /// Parts of different actors of a script, each the actor's own steps from its start, that are causal
 /// and leave no stamp out, merged by stamp make a run of the script, in which each actor's entries are
-/// its part and each entry's number is its stamp plus 1; no entry is of no part, and each post is found by its name.
+/// its part and each entry's number is its stamp plus 1; no entry is of no part, and each post is
+/// found by its name.
 pub fn merged_parts_are_runs()
     ensures runs { MergedPartsAreRuns }
     ensures places { MergedStampsArePlaces }
@@ -40,10 +41,9 @@ pub fn sessions_note_their_calls()
 {}
 
 /// What an actor has made by a cut, and what it makes next, is read in its part, and what the entries
-/// of a cut of merged parts add up to can be counted part by part: so too the posts
-/// that they made and delivered, each of which has a name of its own. Where whatever holds of no
-/// post that was delivered, and of none to a halted server, holds of at most so many, at most so
-/// many are open.
+/// of a cut of merged parts add up to can be counted part by part: so too the posts that they made
+/// and delivered, each of which has a name of its own. Where whatever holds of no post that was
+/// delivered, and of none to a halted server, holds of at most so many, at most so many are open.
 pub fn cuts_add_up()
     ensures parts { CutsAreReadInParts }
     ensures cuts { CutsAddUp }
