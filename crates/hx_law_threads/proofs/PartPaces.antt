@@ -1,5 +1,6 @@
 -- The pace of a trace is read in its parts.
-use Rattle.std.proofs.Common.{◌≡◌, ◌≢◌, ℕ, ◌+◌, ◌≤◌, ◌⊎◌, inl, inr, ⊎_elim, Bool, true, false, cond, nat_lt, List, [], ◌∷◌, length, Some, refl, ap, sym, ◌∙◌, subst, arith}
+use Rattle.std.proofs.Math.Seq.{take-length}
+use Rattle.std.proofs.Common.{take, ◌≡◌, ◌≢◌, ℕ, ◌+◌, ◌≤◌, ◌⊎◌, inl, inr, ⊎_elim, Bool, true, false, cond, nat_lt, List, [], ◌∷◌, length, Some, refl, ap, sym, ◌∙◌, subst, arith}
 use Rattle.std.specs.Prelude.{reverse}
 use Rattle.std.specs.List.{AllByRecursion}
 use Rattle.std.proofs.lemmas.Bool.{cond_both, true≢false}
@@ -16,7 +17,10 @@ use Rattle.hx_clock.proofs.Lists.{each_in, each_map}
 use Rattle.hx_law_threads.specs.Own.{own_entries, past_of, IsOwn}
 use Rattle.hx_law_threads.specs.Merged.{parts_in, ActorPart, AreOwnParts, AreWholeParts, HasOwnParts, IsMerged}
 use Rattle.hx_law_threads.specs.Calls.{last_call}
-use Rattle.hx_law_threads.specs.Cuts.{first_entries, is_retry, is_waiting, open_at, own_at, Cut, HasCallUnderWay}
+use Rattle.hx_clock.specs.Views.{total}
+use Rattle.hx_law_threads.specs.Counting.{total_at, total_over}
+use Rattle.hx_law_threads.proofs.Totals.{cuts_add_up, total_same}
+use Rattle.hx_law_threads.specs.Cuts.{whole_of, first_entries, is_retry, is_waiting, open_at, own_at, Cut, HasCallUnderWay}
 use Rattle.hx_law_threads.specs.Laws.{entry_in, IsReadInPart}
 use Rattle.hx_law_threads.specs.Pacing.{earlier, retries_at, IsPacedBy, RetriesFollow, WaitersRetry}
 use Rattle.hx_law_threads.specs.PartPacing.{past_at, HasAllActors, ArePacedParts, HasSessionUnderWay, HaveCut, IsSettled, PartsFollow, PartsRetry, TellPace}
@@ -104,15 +108,24 @@ module _ (script : Script) (whole : List ActorPart) (merged : List Stamped) (o :
       let c = under_way_open script u (own_at cut (past_of merged) (Session u)) own way in
       (last_call script u (own_at cut (past_of merged) (Session u)), c.0, c.1)
 
+  -- how many entries an actor has made is the length of its part
+  count_part : (p : ActorPart) → IsIn p whole → entries_of p.actor (past_of merged) ≡ length p.part
+  count_part p i =
+      count-own p.actor (past_of merged) ∙ ap length (each_in (λ (q : ActorPart). own_entries q.actor (past_of merged) ≡ past_of q.part) whole p own_are i) ∙ ap length (past_is p.part)
+      ∙ length-past (reverse p.part) ∙ length-reverse p.part
+
+  pub whole_adds_up : (f : ℕ → Entry → ℕ) → total_at f (whole_of (past_of merged)) (past_of merged) ≡ total (λ (p : ActorPart). total_over f p.part) whole
+  whole_adds_up f =
+      cuts_add_up script whole merged o w m f (whole_of (past_of merged))
+      ∙ total_same (λ (p : ActorPart). total_over f (take (entries_of p.actor (past_of merged)) p.part)) (λ (p : ActorPart). total_over f p.part) whole
+      (λ p i. ap (λ n. total_over f (take n p.part)) (count_part p i) ∙ ap (total_over f) (take-length p.part))
+
   within_read : (cut : Cut) → HaveCut whole cut → (a : Actor) → cut a ≤ entries_of a (past_of merged)
   within_read cut have a =
       ⊎_elim
       (λ (p : (q : ActorPart) × IsIn q whole × (q.actor ≡ a)).
       let few = each_in (λ (q : ActorPart). cut q.actor ≤ length q.part) whole p.0 have.within p.1 in
-      let own = each_in (λ (q : ActorPart). own_entries q.actor (past_of merged) ≡ past_of q.part) whole p.0 own_are p.1 in
-      let count : entries_of p.0.actor (past_of merged) ≡ length p.0.part =
-      count-own p.0.actor (past_of merged) ∙ ap length own ∙ ap length (past_is p.0.part) ∙ length-past (reverse p.0.part) ∙ length-reverse p.0.part in
-      subst (λ b. cut b ≤ entries_of b (past_of merged)) p.2 (omega (arith, few, count)))
+      subst (λ b. cut b ≤ entries_of b (past_of merged)) p.2 (omega (arith, few, count_part p.0 p.1)))
       (λ (none : AllByRecursion (λ (q : ActorPart). q.actor ≢ a) whole). let zero_here = have.others a none in omega (arith, zero_here))
       (part_or_none whole a)
 

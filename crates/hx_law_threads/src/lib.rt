@@ -3,7 +3,7 @@
 #![tactic(auto)]
 
 ghost use Rattle.hx_law_threads.specs.Calls.{CallsOfDoneSessionsEnd, CallsUnderWayAreOpen};
-ghost use Rattle.hx_law_threads.specs.Counting.{CutsAddUp, OpenAreCounted, PostsAreNamedOnce, PostsOfCutsWeigh};
+ghost use Rattle.hx_law_threads.specs.Counting.{CutsAddUp, OpenAreCounted, PostsAreNamedOnce, PostsOfCutsWeigh, TracesAddUp};
 ghost use Rattle.hx_law_threads.specs.PartPacing.{PacedPartsPaceTraces, PartsTellPace};
 ghost use Rattle.hx_law_threads.specs.Offers.{OpenWereLost, RepeatsWerePut};
 ghost use Rattle.hx_law_threads.specs.Laws.{CutsAreReadInParts, EntriesAreOfParts, EntriesOfRunsAreOwn, MergedPartsAreRuns, MergedStampsArePlaces, PostsAreFound, RetriersWaited, RetriesWait, StatesAreByOwnEntries};
@@ -47,6 +47,7 @@ pub fn sessions_note_their_calls()
 pub fn cuts_add_up()
     ensures parts { CutsAreReadInParts }
     ensures cuts { CutsAddUp }
+    ensures traces { TracesAddUp }
     ensures posts { PostsOfCutsWeigh }
     ensures few_open { OpenAreCounted }
     ensures names { PostsAreNamedOnce }
