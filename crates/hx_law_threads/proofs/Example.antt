@@ -1,5 +1,8 @@
 -- A run with a retry, by computing: a session's call is lost, and once nothing else is left the session sends it again.
-use Rattle.std.proofs.Common.{◌≡◌, ℕ, true, false, List, [], ◌∷◌, length, map, refl}
+use Rattle.std.proofs.Common.{◌≡◌, ◌≢◌, ℕ, ◌+◌, ◌≤◌, ⊎_elim, inl, inr, true, false, eqb, nat_lt, List, [], ◌∷◌, length, map, Some, refl, ap, sym, ◌∙◌, subst, arith}
+use Rattle.std.specs.Prelude.{◌&&◌, nat_le}
+use Rattle.std.proofs.lemmas.Bool.{and_parts, cond_both, eqb-true, false≢true, leb-true, ltb-true}
+use Rattle.std.proofs.lemmas.Bool.Decides.{eqb_tells}
 use Rattle.hx_types.specs.declared.ids.Actor.{Actor}
 use Rattle.hx_types.specs.declared.messages.PostId.{PostId}
 use Rattle.hx_types.specs.declared.spaces.Space.{Space}
@@ -8,9 +11,17 @@ use Rattle.hx_types.specs.declared.traces.Script.{Script}
 use Rattle.hx_types.specs.declared.calls.Op.TheVariants.{Get}
 use Rattle.hx_types.specs.declared.ids.Actor.TheVariants.{Coordinator, Server, Session}
 use Rattle.hx_types.specs.declared.traces.Step.TheVariants as a_step
-use Rattle.hx_model.specs.Schedule.{stepped}
+use Rattle.hx_types.specs.Words.{same_actor, IsIn}
+use Rattle.hx_model.specs.Runs.{entry_at, IsRun}
+use Rattle.hx_model.specs.Schedule.{entries_of, stepped}
+use Rattle.hx_clock.specs.Views.{one}
+use Rattle.hx_law_threads.specs.Own.{own_entries}
 use Rattle.hx_law_threads.specs.Cuts.{delivered_at, delivered_twice, is_retry, is_waiting, open_at, own_at, posted_at, whole_of, Cut, HasCallUnderWay}
-use Rattle.hx_law_threads.specs.Pacing.{retries_at}
+use Rattle.hx_law_threads.specs.Offers.{AllCame, NoMoreCame, Offer}
+use Rattle.hx_law_threads.specs.Pacing.{retries_at, IsPacedToEnd, RetriesFollow, WaitersRetry}
+use Rattle.hx_law_threads.proofs.Actors.{same_actor_is}
+use Rattle.hx_law_threads.proofs.Lists.{of_filter}
+use Rattle.hx_law_threads.proofs.Offers.{open_lost, repeats_put}
 
 abbrev space : Space
 space =
@@ -48,10 +59,29 @@ trace = stepped script [] (
 abbrev cut : Cut
 cut Coordinator = 0
 cut (Server s) = 0
-cut (Session u) = 1
+cut (Session u) = one (eqb u.0 1)
 
 its_length : length trace ≡ 6
 its_length = refl
+
+-- it is a run
+its_run : IsRun script trace
+its_run = (
+  record { actor = refl; running = refl; input = refl; made = refl; enough = refl },
+  (
+    record { actor = refl; running = refl; input = refl; made = refl; enough = refl },
+    (
+      record { actor = refl; running = refl; input = refl; made = refl; enough = refl },
+      (
+        record { actor = refl; running = refl; input = refl; made = refl; enough = refl },
+        (
+          record { actor = refl; running = refl; input = tt; made = refl; enough = refl },
+          (record { actor = refl; running = refl; input = tt; made = refl; enough = refl }, tt),
+        ),
+      ),
+    ),
+  ),
+)
 
 one_retry : map is_retry trace ≡ false ∷ false ∷ false ∷ false ∷ true ∷ false ∷ []
 one_retry = refl
@@ -101,3 +131,95 @@ twice = refl
 -- the call is under way at the cut
 under_way : HasCallUnderWay trace cut
 under_way = (record { session = record { 0 = 1 }; number = 1 }, refl, refl)
+
+-- an entry of a number stands in the list
+at_in : (n : ℕ) (l : List Entry) (x : Entry) → entry_at n l ≡ Some x → IsIn x l
+at_in n [] x = λ e. absurd (cc)
+at_in n (y ∷ l) x =
+    cond_both (eqb n (length l + 1)) (Some y) (entry_at n l) (λ o. o ≡ Some x → IsIn x (y ∷ l)) (λ t e. let same : x ≡ y = cc in inl same) (λ t e. inr (at_in n l x e))
+
+-- the one retry is the session's second entry
+retry_is : (x : Entry) → IsIn x trace → is_retry x ≡ true → x.actor ≡ session
+retry_is x (inl e) r = absurd (false≢true (sym (ap is_retry e) ∙ r))
+retry_is x (inr (inl e)) r = absurd (false≢true (sym (ap is_retry e) ∙ r))
+retry_is x (inr (inr (inl e))) r = absurd (false≢true (sym (ap is_retry e) ∙ r))
+retry_is x (inr (inr (inr (inl e)))) r = absurd (false≢true (sym (ap is_retry e) ∙ r))
+retry_is x (inr (inr (inr (inr (inl e))))) r = ap (λ (y : Entry). y.actor) e
+retry_is x (inr (inr (inr (inr (inr (inl e)))))) r = absurd (false≢true (sym (ap is_retry e) ∙ r))
+retry_is x (inr (inr (inr (inr (inr (inr i)))))) r = absurd i
+
+no_retry : (y x : Entry) → is_retry y ≡ false → Some y ≡ Some x → is_retry x ≡ true → ⊥
+no_retry y x n e r = let same : y ≡ x = cc in false≢true (sym n ∙ ap is_retry same ∙ r)
+
+second : (n : ℕ) (x : Entry) → entry_at (n + 1) (own_entries session trace) ≡ Some x → is_retry x ≡ true → n ≡ 1
+second n x =
+    cond_both (eqb (n + 1) 4) _ _ (λ o. o ≡ Some x → is_retry x ≡ true → n ≡ 1) (λ t e r. absurd (no_retry _ x refl e r))
+    (λ t.
+    cond_both (eqb (n + 1) 3) _ _ (λ o. o ≡ Some x → is_retry x ≡ true → n ≡ 1) (λ t e r. absurd (no_retry _ x refl e r))
+    (λ t.
+    cond_both (eqb (n + 1) 2) _ _ (λ o. o ≡ Some x → is_retry x ≡ true → n ≡ 1) (λ t e r. omega (arith, eqb-true (n + 1) 2 t))
+    (λ t.
+    cond_both (eqb (n + 1) 1) _ _ (λ o. o ≡ Some x → is_retry x ≡ true → n ≡ 1) (λ t e r. absurd (no_retry _ x refl e r)) (λ t e r. absurd (cc)))))
+
+retries_follow : RetriesFollow trace (cut ∷ [])
+retries_follow a n x e r =
+    let f = of_filter (λ (y : Entry). same_actor y.actor a) trace x (at_in (n + 1) (own_entries a trace) x e) in
+    let who : a ≡ session = sym (same_actor_is x.actor a f.1) ∙ retry_is x f.0 r in
+    let place = second n x (subst (λ b. entry_at (n + 1) (own_entries b trace) ≡ Some x) who e) r in
+    (cut, inl refl, ap cut who ∙ sym place)
+
+only_one : (n : ℕ) → (nat_lt 0 n && nat_le n 1) ≡ true → n ≡ 1
+only_one n e = let both = and_parts (nat_lt 0 n) (nat_le n 1) e in omega (arith, ltb-true 0 n both.0, leb-true n 1 both.1)
+
+waiters_retry : WaitersRetry script trace cut
+waiters_retry Coordinator known = refl
+waiters_retry (Server s) known =
+    subst (λ n. retries_at cut trace (Server (record { 0 = n })) ≡ is_waiting script (own_at cut trace (Server (record { 0 = n }))) (Server (record { 0 = n }))) (sym (only_one s.0 known)) refl
+waiters_retry (Session u) known =
+    subst (λ n. retries_at cut trace (Session (record { 0 = n })) ≡ is_waiting script (own_at cut trace (Session (record { 0 = n }))) (Session (record { 0 = n }))) (sym (only_one u.0 known)) refl
+
+within : (a : Actor) → cut a ≤ entries_of a trace
+within Coordinator = omega arith
+within (Server s) = omega arith
+within (Session u) =
+    ⊎_elim (λ (h : (eqb u.0 1 ≡ true) × (u.0 ≡ 1)). subst (λ n. one (eqb n 1) ≤ entries_of (Session (record { 0 = n })) trace) (sym h.1) one_of_four)
+    (λ (h : (eqb u.0 1 ≡ false) × (u.0 ≢ 1)). subst (λ b. one b ≤ entries_of (Session u) trace) (sym h.0) (omega arith)) (eqb_tells u.0 1)
+  where
+    one_of_four : 1 ≤ entries_of session trace
+    one_of_four = omega arith
+
+-- the first post was never put, the reply twice, and the others once
+abbrev offers : List Offer
+offers =
+    record { post = named 1 0; times = 0 }
+    ∷ record { post = named 2 0; times = 1 }
+    ∷ record { post = named 2 1; times = 1 }
+    ∷ record { post = named 3 0; times = 2 }
+    ∷ []
+
+no_more_came : NoMoreCame trace offers
+no_more_came = record { offered = λ h. refl; twice = (omega arith, (omega arith, (omega arith, (omega arith, tt)))); came = λ h. omega arith }
+
+-- by the cut nothing had come, of the first post alone
+none_came : AllCame script cut trace (record { post = named 1 0; times = 0 } ∷ [])
+none_came = record { offered = λ h. refl; came = λ h halted. omega arith }
+
+all_came : AllCame script (whole_of trace) trace offers
+all_came = record { offered = λ h. refl; came = λ h halted. omega arith }
+
+-- so the trace is paced, with one post lost and one repeated
+its_pace : IsPacedToEnd script trace 1 1
+its_pace = record {
+  cuts = cut ∷ [];
+  paced = record {
+    within = (within, tt);
+    rising = tt;
+    retries = retries_follow;
+    waiters = tt;
+    calls = (under_way, tt);
+    few_open = (open_lost script cut trace (record { post = named 1 0; times = 0 } ∷ []) none_came, tt);
+  };
+  waiters = (waiters_retry, tt);
+  few_open = open_lost script (whole_of trace) trace offers all_came;
+  repeated = repeats_put trace offers no_more_came;
+}

@@ -8,4 +8,8 @@ pub mod Retries
 pub mod Sessions
 pub mod Totals
 pub mod Weights
-mod Example
+pub mod Offers
+pub mod Growing
+pub mod Reading
+pub mod PartPaces
+pub mod Example

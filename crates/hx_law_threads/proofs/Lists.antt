@@ -32,7 +32,7 @@ of_reverse (x ∷ xs) z i =
     ⊎_elim (λ (j : IsIn z (reverse xs)). inr (of_reverse xs z j)) (λ (j : IsIn z (x ∷ [])). ⊎_elim (λ (e : z ≡ x). inl e) (λ (k : ⊥). absurd k) j)
     (in_append (reverse xs) (x ∷ []) z (subst (λ l. IsIn z l) (reverse_cons x xs) i))
 
-map_append : {A B : Type 0} (f : A → B) (xs ys : List A) → map f (xs ++ ys) ≡ map f xs ++ map f ys
+pub map_append : {A B : Type 0} (f : A → B) (xs ys : List A) → map f (xs ++ ys) ≡ map f xs ++ map f ys
 map_append f [] ys = refl
 map_append f (x ∷ xs) ys = ap (λ l. f x ∷ l) (map_append f xs ys)
 
@@ -45,6 +45,11 @@ pub in_map : {A B : Type 0} (f : A → B) (xs : List A) (z : A) → IsIn z xs �
 in_map f [] z i = absurd i
 in_map f (x ∷ xs) z (inl e) = inl (ap f e)
 in_map f (x ∷ xs) z (inr i) = inr (in_map f xs z i)
+
+pub of_map : {A B : Type 0} (f : A → B) (xs : List A) (y : B) → IsIn y (map f xs) → (x : A) × IsIn x xs × (y ≡ f x)
+of_map f [] y i = absurd i
+of_map f (x ∷ xs) y (inl e) = (x, inl refl, e)
+of_map f (x ∷ xs) y (inr i) = let r = of_map f xs y i in (r.0, inr r.1, r.2)
 
 pub of_filter : {A : Type 0} (test : A → Bool) (xs : List A) (z : A) → IsIn z (filter test xs) → IsIn z xs × (test z ≡ true)
 of_filter test [] z = λ i. absurd i

@@ -70,13 +70,13 @@ retry_waits script a older x s e =
     (and_from (not (has_halted script older a)) (not (is_idle_actor script older a)) (not_false _ s.running) (not_false _ idle))
     (ap (makes_enough Tick) made ∙ enough)
 
-first_all : (n : ℕ) (xs : List Entry) → length xs ≤ n → first_entries n xs ≡ xs
+pub first_all : (n : ℕ) (xs : List Entry) → length xs ≤ n → first_entries n xs ≡ xs
 first_all n [] le = refl
 first_all n (x ∷ xs) le =
     cond_both (nat_lt (length xs) n) (x ∷ xs) (first_entries n xs) (λ l. l ≡ x ∷ xs) (λ t. refl)
     (λ t. absurd (true≢false (sym (lt-ltb (length xs) n (omega arith)) ∙ t)))
 
-first_fewer : (n : ℕ) (x : Entry) (xs : List Entry) → n ≤ length xs → first_entries n (x ∷ xs) ≡ first_entries n xs
+pub first_fewer : (n : ℕ) (x : Entry) (xs : List Entry) → n ≤ length xs → first_entries n (x ∷ xs) ≡ first_entries n xs
 first_fewer n x xs le =
     cond_both (nat_lt (length xs) n) (x ∷ xs) (first_entries n xs) (λ l. l ≡ first_entries n xs)
     (λ t. absurd (true≢false (sym t ∙ le-ltb (length xs) n le))) (λ t. refl)

@@ -1,5 +1,5 @@
 -- The parts of all actors, merged, are a run.
-use Rattle.std.proofs.Common.{◌≡◌, ℕ, ◌<◌, ◌≤◌, inl, inr, ⊎_elim, Bool, true, false, cond, List, [], ◌∷◌, Some, refl, ap, sym, ◌∙◌, subst, arith}
+use Rattle.std.proofs.Common.{map, ◌≡◌, ℕ, ◌<◌, ◌≤◌, inl, inr, ⊎_elim, Bool, true, false, cond, List, [], ◌∷◌, Some, refl, ap, sym, ◌∙◌, subst, arith}
 use Rattle.std.specs.Prelude.{reverse}
 use Rattle.std.specs.List.{filter, AllByRecursion, IsDistinct}
 use Rattle.std.specs.List.Sorted.{IsStrictlyIncreasing}
@@ -24,7 +24,7 @@ use Rattle.hx_law_threads.specs.Merged.{actors_in, parts_in, ActorPart, AreOwnPa
 use Rattle.hx_law_threads.specs.Laws.{IsRunOfParts}
 use Rattle.hx_law_threads.proofs.Actors.{same_actor_is, same_as_itself}
 use Rattle.hx_law_threads.proofs.States.{halted_own, made_own}
-use Rattle.hx_law_threads.proofs.Lists.{falls, filter_falls, in_append, in_filter, in_map, in_permuted, in_reverse, map_reverse, of_filter, of_reverse, same_falling}
+use Rattle.hx_law_threads.proofs.Lists.{falls, filter_falls, in_append, in_filter, in_map, in_permuted, in_reverse, map_reverse, of_filter, of_map, of_reverse, same_falling}
 use Rattle.hx_law_threads.proofs.Sets.{posts_set}
 use Rattle.hx_law_threads.proofs.Places.{are_counted, counted_below, entries, post_found, AreCounted}
 
@@ -36,7 +36,7 @@ own-case : (b : Bool) (x : Stamped) (es : List Entry) (ms : List Stamped) → es
 own-case true x es ms e = ap (λ l. x.entry ∷ l) e
 own-case false x es ms e = e
 
-own_mine : (a : Actor) (ms : List Stamped) → own_entries a (entries ms) ≡ entries (mine a ms)
+pub own_mine : (a : Actor) (ms : List Stamped) → own_entries a (entries ms) ≡ entries (mine a ms)
 own_mine a [] = refl
 own_mine a (x ∷ ms) = own-case (same_actor x.entry.actor a) x (own_entries a (entries ms)) (mine a ms) (own_mine a ms)
 
@@ -181,3 +181,16 @@ module _ (script : Script) (whole : List ActorPart) (merged : List Stamped) (o :
     own = each_all (λ (p : ActorPart). own_entries p.actor (past_of merged) ≡ past_of p.part) whole
         (λ p i. ap (own_entries p.actor) (past_is merged) ∙ own_mine p.actor (reverse merged) ∙ ap entries (mine_is p i) ∙ sym (past_is p.part));
   }
+
+-- an entry of the trace is one of a part
+pub of_parts : (parts : List (List Stamped)) (merged : List Stamped) → IsMerged parts merged → (x : Entry) → IsIn x (past_of merged)
+    → (z : Stamped) × IsIn z (all_of parts) × (x ≡ z.entry)
+of_parts parts merged m x i =
+    let r = of_map (λ (z : Stamped). z.entry) merged x (of_reverse (map (λ (z : Stamped). z.entry) merged) x i) in
+    (r.0, in_permuted merged (all_of parts) r.0 (IsPermutation-sym _ _ m.all) r.1, r.2)
+
+-- its posts are found by their names
+pub posts_found : (parts : List (List Stamped)) (merged : List Stamped) → AreWholeParts parts → IsMerged parts merged
+    → (z : Stamped) (id : PostId) (p : Post) → IsIn z (all_of parts) → Posted z id p → post_named id (past_of merged) ≡ Some p
+posts_found parts merged w m z id p i posted =
+    ap (post_named id) (past_is merged) ∙ post_found (reverse merged) z id p (are_counted parts merged w m) (in_reverse merged z (in_permuted _ _ z m.all i)) posted

@@ -51,7 +51,7 @@ trace_total f cut (x ∷ ms) c =
     ∙ ap (λ n. total_at f cut (entries ms) + cond (nat_lt (length (mine x.entry.actor ms)) (cut x.entry.actor)) (f n x.entry) 0) number
     ∙ ap (λ t. t + cond (nat_lt (length (mine x.entry.actor ms)) (cut x.entry.actor)) (worth f x) 0) (trace_total f cut ms c.1)
 
-total_same : {A : Type 0} (g h : A → ℕ) (xs : List A) → ((x : A) → IsIn x xs → g x ≡ h x) → total g xs ≡ total h xs
+pub total_same : {A : Type 0} (g h : A → ℕ) (xs : List A) → ((x : A) → IsIn x xs → g x ≡ h x) → total g xs ≡ total h xs
 total_same g h [] e = refl
 total_same g h (x ∷ xs) e = omega (arith, e x (inl refl), total_same g h xs (λ y i. e y (inr i)))
 

@@ -35,7 +35,7 @@ delivered_weigh h cut (x ∷ older) =
 pub posts_weigh : (h : PostId → ℕ) (cut : Cut) (trace : List Entry) → PostsWeigh h cut trace
 posts_weigh h cut trace = record { made = made_weigh h cut trace; delivered = delivered_weigh h cut trace }
 
-length-filter : {A : Type 0} (test : A → Bool) (xs : List A) → length (filter test xs) ≡ total (λ (x : A). one (test x)) xs
+pub length-filter : {A : Type 0} (test : A → Bool) (xs : List A) → length (filter test xs) ≡ total (λ (x : A). one (test x)) xs
 length-filter test [] = refl
 length-filter test (x ∷ xs) = by (test x) (length-filter test xs)
   where
@@ -43,7 +43,7 @@ length-filter test (x ∷ xs) = by (test x) (length-filter test xs)
     by true e = omega (arith, e)
     by false e = omega (arith, e)
 
-same_self : (id : PostId) → same_name id id ≡ true
+pub same_self : (id : PostId) → same_name id id ≡ true
 same_self id = and_from (eqb id.entry id.entry) (eqb id.place id.place) (eq-eqb id.entry id.entry refl) (eq-eqb id.place id.place refl)
 
 named_in : (ids : List PostId) (id : PostId) → IsIn id ids → 1 ≤ times_named id ids

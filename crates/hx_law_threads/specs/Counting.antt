@@ -9,7 +9,7 @@ use Rattle.hx_clock.specs.declared.parts.Stamped.{Stamped}
 use Rattle.hx_clock.specs.Views.{one, total}
 use Rattle.hx_law_threads.specs.Own.{past_of}
 use Rattle.hx_law_threads.specs.Merged.{parts_in, ActorPart, AreOwnParts, AreWholeParts, IsMerged}
-use Rattle.hx_law_threads.specs.Cuts.{delivered_at, delivered_by, is_in_cut, is_to_halted, open_at, posted_at, times_named, Cut}
+use Rattle.hx_law_threads.specs.Cuts.{delivered_at, delivered_by, is_in_cut, is_to_halted, open_at, posted_at, times_named, whole_of, Cut}
 
 -- f of the number and of the entry, added up over the entries of a cut
 abbrev pub total_at : (ℕ → Entry → ℕ) → Cut → List Entry → ℕ
@@ -30,6 +30,13 @@ CutsAddUp =
     (script : Script) (whole : List ActorPart) (merged : List Stamped)
     → AreOwnParts script whole → AreWholeParts (parts_in whole) → IsMerged (parts_in whole) merged
     → (f : ℕ → Entry → ℕ) (cut : Cut) → total_at f cut (past_of merged) ≡ total_of_parts f cut whole
+
+-- and so what all entries of the trace add up to
+abbrev pub TracesAddUp : Type 0
+TracesAddUp =
+    (script : Script) (whole : List ActorPart) (merged : List Stamped)
+    → AreOwnParts script whole → AreWholeParts (parts_in whole) → IsMerged (parts_in whole) merged
+    → (f : ℕ → Entry → ℕ) → total_at f (whole_of (past_of merged)) (past_of merged) ≡ total (λ (p : ActorPart). total_over f p.part) whole
 
 -- what the posts that an entry made, or delivered, weigh
 abbrev pub weight_made : (PostId → ℕ) → ℕ → Entry → ℕ

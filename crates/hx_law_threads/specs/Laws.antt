@@ -1,14 +1,20 @@
 -- The laws on what threads make: the parts of all actors, merged, are a run, and who retries in it.
-use Rattle.std.specs.Prelude.{◌≡◌, ℕ, ◌+◌, true, List, Some}
+use Rattle.std.specs.Prelude.{◌≡◌, ℕ, ◌+◌, true, List, Option, Some, slice_get, take}
+use Rattle.std.specs.List.{AllByRecursion}
+use Rattle.std.specs.Option.{option_map}
 use Rattle.hx_types.specs.declared.ids.Actor.{Actor}
 use Rattle.hx_types.specs.declared.ids.ServerId.{ServerId}
 use Rattle.hx_types.specs.declared.ids.SessionId.{SessionId}
+use Rattle.hx_types.specs.declared.messages.Post.{Post}
+use Rattle.hx_types.specs.declared.messages.PostId.{PostId}
 use Rattle.hx_types.specs.declared.traces.Entry.{Entry}
 use Rattle.hx_types.specs.declared.traces.Input.{Input}
 use Rattle.hx_types.specs.declared.traces.Script.{Script}
 use Rattle.hx_types.specs.declared.ids.Actor.TheVariants.{Coordinator, Server, Session}
-use Rattle.hx_model.specs.Runs.{coordinator_of, entry_at, has_halted, made_of, server_of, session_of, IsRun}
+use Rattle.hx_model.specs.Runs.{coordinator_of, entry_at, has_halted, made_of, post_named, server_of, session_of, IsRun}
+use Rattle.hx_types.specs.Words.{IsIn}
 use Rattle.hx_clock.specs.declared.parts.Stamped.{Stamped}
+use Rattle.hx_clock.specs.Parts.{all_of, Posted}
 use Rattle.hx_law_threads.specs.Own.{own_entries, past_of, IsOwn}
 use Rattle.hx_law_threads.specs.Cuts.{first_entries, is_retry, is_waiting, own_at, Cut}
 use Rattle.hx_law_threads.specs.Pacing.{retries_at}
@@ -41,6 +47,18 @@ MergedPartsAreRuns =
     → AreOwnParts script whole → AreWholeParts (parts_in whole) → IsMerged (parts_in whole) merged
     → IsRunOfParts script whole merged
 
+-- each entry of the trace is one of a part
+abbrev pub EntriesAreOfParts : Type 0
+EntriesAreOfParts =
+    (parts : List (List Stamped)) (merged : List Stamped) → IsMerged parts merged
+    → (x : Entry) → IsIn x (past_of merged) → (z : Stamped) × IsIn z (all_of parts) × (x ≡ z.entry)
+
+-- each post of an entry is found in the trace under its name
+abbrev pub PostsAreFound : Type 0
+PostsAreFound =
+    (parts : List (List Stamped)) (merged : List Stamped) → AreWholeParts parts → IsMerged parts merged
+    → (z : Stamped) (id : PostId) (p : Post) → IsIn z (all_of parts) → Posted z id p → post_named id (past_of merged) ≡ Some p
+
 -- the merge of whole parts has each entry at the place of its stamp
 abbrev pub MergedStampsArePlaces : Type 0
 MergedStampsArePlaces = (parts : List (List Stamped)) (merged : List Stamped) → AreWholeParts parts → IsMerged parts merged → HasStampsAsPlaces merged
@@ -57,3 +75,15 @@ abbrev pub RetriersWaited : Type 0
 RetriersWaited =
     (script : Script) (trace : List Entry) → IsRun script trace
     → (cut : Cut) (a : Actor) → retries_at cut trace a ≡ true → is_waiting script (own_at cut trace a) a ≡ true
+
+-- the entry of this place in a part, from 0
+abbrev pub entry_in : List Stamped → ℕ → Option Entry
+entry_in part place = option_map (λ (x : Stamped). x.entry) (slice_get part place)
+
+-- what an actor has made by a cut, and what it makes next, is read in its part
+pub record IsReadInPart (trace : List Entry) (p : ActorPart) : Type 0 where
+  pub own : (n : ℕ) → first_entries n (own_entries p.actor trace) ≡ past_of (take n p.part)
+  pub next : (n : ℕ) → entry_at (n + 1) (own_entries p.actor trace) ≡ entry_in p.part n
+
+abbrev pub CutsAreReadInParts : Type 0
+CutsAreReadInParts = (whole : List ActorPart) (trace : List Entry) → HasOwnParts whole trace → AllByRecursion (IsReadInPart trace) whole

@@ -4,4 +4,6 @@ pub mod Cuts
 pub mod Pacing
 pub mod Calls
 pub mod Counting
+pub mod Offers
 pub mod Laws
+pub mod PartPacing
