@@ -30,6 +30,3 @@ mod updates;
 
 pub use line::RowRef;
 pub use slots::Slot;
-
-#[cfg(test)]
-mod tests;

@@ -29,6 +29,8 @@ mod report;
 #[cfg(test)]
 mod script;
 #[cfg(test)]
+mod slot;
+#[cfg(test)]
 mod types;
 #[cfg(test)]
 mod world;

@@ -5,7 +5,7 @@ ghost use Rattle.hx_slot.specs.States.{HasFewPlaces, IsPlacedIn};
 ghost use Rattle.hx_types.specs.declared.updates.Place.{Place as Placed};
 ghost use Rattle.hx_types.specs.declared.updates.Update.{Update};
 
-use super::*;
+use hx_slot::*;
 use hx_types::{
     Acked, Answer, Caller, Kept, Mark, Memory, Object, Offer, Place, Places, RegionId, SessionId,
     Shared, Text, Touch, Update, Value, Version,
