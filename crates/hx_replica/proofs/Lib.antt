@@ -22,3 +22,5 @@ pub mod Kept
 pub mod Installed
 pub mod Joined
 pub mod Snapped
+pub mod Roomy
+pub mod Sounding

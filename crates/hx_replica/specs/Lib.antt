@@ -8,3 +8,4 @@ pub mod Examples
 pub mod Ticking
 pub mod Adopting
 pub mod Installing
+pub mod Sound

@@ -1,5 +1,5 @@
 -- The replicas of a server, in ascending order of regions.
-use Rattle.std.specs.Prelude.{◌≡◌, true, false, List, [], map}
+use Rattle.std.specs.Prelude.{◌≡◌, true, false, ⊤, List, [], ◌∷◌, map}
 use Rattle.std.specs.List.{AllByRecursion}
 use Rattle.hx_types.specs.declared.ids.RegionId.{RegionId}
 use Rattle.hx_types.specs.declared.spaces.Space.{Space}
@@ -7,7 +7,7 @@ use Rattle.hx_types.specs.Spaces.{IsAscending}
 use Rattle.hx_types.specs.Subspaces.{is_key_region}
 use Rattle.hx_model.specs.ServerSteps.{Replica as ReplicaState}
 use Rattle.hx_model.specs.Slots.{KeyState}
-use Rattle.hx_store.specs.Stores.{Room}
+use Rattle.hx_store.specs.Stores.{KeepsRooms, Room}
 use Rattle.hx_replica.specs.declared.replicas.Replica.{Replica}
 
 -- a replica as the definitions say it
@@ -20,6 +20,13 @@ views_of rs = map view_of rs
 -- for how many more updates the slots of each replica have room
 abbrev pub rooms_of : List Replica → List (List Room)
 rooms_of rs = map (λ (r : Replica). r.store.rooms) rs
+
+-- in each replica every key keeps its place, and no room falls
+abbrev pub KeepAllRooms : List (List Room) → List (List Room) → Type 0
+KeepAllRooms [] [] = ⊤
+KeepAllRooms [] (y ∷ ys) = ⊥
+KeepAllRooms (x ∷ xs) [] = ⊥
+KeepAllRooms (x ∷ xs) (y ∷ ys) = KeepsRooms x y × KeepAllRooms xs ys
 
 abbrev pub AscendByRegion : List Replica → Type 0
 AscendByRegion rs = IsAscending (map (λ (r : Replica). r.region.0) rs)

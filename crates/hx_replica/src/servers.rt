@@ -1,6 +1,8 @@
-ghost use Rattle.std.specs.Prelude.{◌≡◌, ◌<◌, ◌≤◌, IfOk, IfNone, IfSome, IsSomeAnd, Some, None, length, map, slice_get};
+ghost use Rattle.std.specs.Prelude.{◌≡◌, ◌<◌, ◌≤◌, IfOk, IfNone, IfSome, IsSomeAnd, Some, None, false, is_some, length, map, slice_get, ℕ, ◌+◌};
+ghost use Rattle.std.specs.List.{All};
 ghost use Rattle.std.specs.Option.{option_map};
 ghost use Rattle.hx_types.specs.Effects.{key_of};
+ghost use Rattle.hx_types.specs.Posts.{IsSoundPost};
 ghost use Rattle.hx_types.specs.Spaces.{IsConfigOf, IsServerOf, IsSpace};
 ghost use Rattle.hx_types.specs.Subspaces.{is_key_region};
 ghost use Rattle.hx_types.specs.Words.{when_some};
@@ -11,7 +13,9 @@ ghost use Rattle.hx_replica.specs.Hearing.{IsOfOneSlot, heard, leading};
 ghost use Rattle.hx_replica.specs.Installing.{IsSnapshot};
 ghost use Rattle.hx_replica.specs.Adopting.{lean_with_config};
 ghost use Rattle.hx_replica.specs.Made.{key_in};
-ghost use Rattle.hx_replica.specs.Replicas.{new_replica};
+ghost use Rattle.hx_replica.specs.Replicas.{KeepAllRooms, new_replica};
+ghost use Rattle.hx_replica.specs.Sound.{IsSoundInput, IsSoundServer};
+ghost use Rattle.hx_store.specs.Stores.{has_slot};
 ghost use Rattle.hx_replica.specs.Plans.{CanStep, HasRoomAt, IsDelivery, IsMadeAt, IsPlanOn};
 ghost use Rattle.hx_replica.specs.Servers.{CanTake, server_entry};
 
@@ -91,11 +95,16 @@ impl Server {
     }
 
     /// Computes the step that this input makes, and takes all memory that it needs. Nothing but
-    /// the room for further updates changes.
+    /// the room for further updates changes, and none falls. Where all that the server holds and the
+    /// post that it gets are of the space, exist and have no epoch and no version above a bound, that
+    /// is so of what it posts, and no epoch and no version of it is above the bound by more than 1.
+    #[tactic(auto, using(crate::proofs::Roomy::all_same))]
     pub fn prepare(&mut self, alloc: Global, input: &Input) -> Result<Plan, Memory>
         requires { CanTake self.old.space self.old.state input.now }
         ensures plan { IfOk result (IsPlanOn self.new) }
         ensures input { IfOk result (λ plan. plan.entry.input ≡ input.now) }
+        ensures sound { IfOk result (λ plan. (sessions n : ℕ) → IsSoundServer self.old.space sessions n self.old.state → IsSoundInput self.old.space sessions n self.old.state.id input.now → All (IsSoundPost self.old.space sessions (n + 1)) plan.entry.outputs) }
+        ensures rooms { KeepAllRooms self.old.rooms self.new.rooms }
         ensures space { self.new.space ≡ self.old.space }
         ensures state { self.new.state ≡ self.old.state }
     {
@@ -158,11 +167,12 @@ impl Server {
         self.halted
     }
 
-    /// The slot of a key at the server's replica of a region. There is none where there is no such
-    /// replica, and there may be none where the slot is as an empty one.
+    /// The slot of a key at the server's replica of a region. There is none exactly where there is
+    /// no such replica, or where none of its slots is of the key: the slot is then as an empty one.
     pub fn slot(&self, region: RegionId, key: &Text) -> Option<&Slot>
         ensures state { IfSome result (λ slot. IsSomeAnd (replica_of region self.now.state.replicas) (λ (r : ReplicaState). slot.now.state ≡ state_in self.now.space r key.now)) }
         ensures region { IfSome result (λ slot. slot.now.region ≡ region) }
+        ensures found { is_some result ≡ when_some (replica_of region self.now.state.replicas) false (λ (r : ReplicaState). has_slot key.now r.states) }
         ensures none { IfNone result (IfSome (replica_of region self.now.state.replicas) (λ (r : ReplicaState). state_in self.now.space r key.now ≡ new_state (is_key_region self.now.space region) key.now)) }
     {
         let replica = place_of(self.replicas.as_slice(), region)?;
@@ -306,6 +316,7 @@ impl Server {
     }
 
     /// The step that a message makes.
+    #[tactic(auto, using(crate::proofs::Roomy::all_same))]
     fn deliver(
         &mut self,
         alloc: Global,
@@ -317,6 +328,7 @@ impl Server {
         requires delivery { IsDelivery input.now from message.now }
         ensures plan { IfOk result (IsPlanOn self.new) }
         ensures input { IfOk result (λ plan. plan.entry.input ≡ input.now) }
+        ensures rooms { KeepAllRooms self.old.rooms self.new.rooms }
         ensures space { self.new.space ≡ self.old.space }
         ensures state { self.new.state ≡ self.old.state }
     {
@@ -376,6 +388,7 @@ impl Server {
     }
 
     /// The step of the slot to which a message goes; where none hears it, nothing moves.
+    #[tactic(auto, using(crate::proofs::Roomy::all_same))]
     fn take(
         &mut self,
         alloc: Global,
@@ -388,6 +401,7 @@ impl Server {
         requires slot { IsOfOneSlot message.now }
         ensures plan { IfOk result (IsPlanOn self.new) }
         ensures input { IfOk result (λ plan. plan.entry.input ≡ input.now) }
+        ensures rooms { KeepAllRooms self.old.rooms self.new.rooms }
         ensures space { self.new.space ≡ self.old.space }
         ensures state { self.new.state ≡ self.old.state }
     {
@@ -475,6 +489,7 @@ impl Server {
     fn reserve(&mut self, alloc: Global, heard: &Heard) -> Result<usize, Memory>
         requires { heard.now.replica < length self.old.state.replicas }
         ensures room { IfOk result (HasRoomAt heard.now.replica heard.now.key.now 1 self.new) }
+        ensures rooms { KeepAllRooms self.old.rooms self.new.rooms }
         ensures space { self.new.space ≡ self.old.space }
         ensures state { self.new.state ≡ self.old.state }
     {

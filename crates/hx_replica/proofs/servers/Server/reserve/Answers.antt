@@ -1,7 +1,10 @@
-use Rattle.std.proofs.Common.{ap, ◌∙◌}
+use Rattle.std.proofs.Common.{List, ap, set, subst, ◌∙◌}
+use Rattle.hx_store.specs.Stores.{Room}
+use Rattle.hx_replica.specs.Replicas.{KeepAllRooms, rooms_of}
 use Rattle.hx_replica.specs.Servers.{ServerValue}
-use Rattle.hx_replica.proofs.Changing.{reserved, reserved_views}
+use Rattle.hx_replica.proofs.Changing.{put, reserved, reserved_views}
 use Rattle.hx_replica.proofs.Inside.{ok_both, room_there, with_views, within}
+use Rattle.hx_replica.proofs.Roomy.{set_rooms}
 use Rattle.hx_replica.proofs.servers.Server.reserve.Goals as goal
 
 pub invariant_of-self : goal.invariant_of-self
@@ -21,3 +24,9 @@ pub returns-clause-state : goal.returns-clause-state
 returns-clause-state c =
     ap (with_views c.self.inside) (reserved_views c.self.inside.space c.self.inside.replicas.items c.args.heard.now.replica c.index_mut-replica.result.now c.reserve.new.self c.self.invariant.replicas_are (within c.self.inside c.args.self.now c.args.heard.now.replica c.self.view_is c.requires) c.index_mut-replica.ensures.value c.reserve.ensures.states)
     ∙ ap (λ (v : ServerValue). v.state) c.self.view_is
+
+pub returns-clause-rooms : goal.returns-clause-rooms
+returns-clause-rooms c =
+    subst (λ (rooms : List (List Room)). KeepAllRooms rooms (rooms_of (set c.self.inside.replicas.items c.args.heard.now.replica (put c.self.inside.space c.self.inside.replicas.items c.args.heard.now.replica c.index_mut-replica.result.now c.reserve.new.self c.self.invariant.replicas_are (within c.self.inside c.args.self.now c.args.heard.now.replica c.self.view_is c.requires) c.index_mut-replica.ensures.value))))
+    (ap (λ (v : ServerValue). v.rooms) c.self.view_is)
+    (set_rooms c.self.inside.replicas.items c.args.heard.now.replica c.index_mut-replica.result.now _ (within c.self.inside c.args.self.now c.args.heard.now.replica c.self.view_is c.requires) c.index_mut-replica.ensures.value c.reserve.ensures.rooms)
