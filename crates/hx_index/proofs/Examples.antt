@@ -3,7 +3,6 @@ use Rattle.std.proofs.Common.{◌≡◌, ℕ, List, [], ◌∷◌, ℤ, pos, ref
 use Rattle.std.specs.declared.cmp.Ordering.TheVariants.{Less, Greater}
 use Rattle.hx_types.specs.declared.calls.Row.{Row}
 use Rattle.hx_types.specs.declared.values.Term.{Term}
-use Rattle.hx_types.specs.declared.values.Value.{Value}
 use Rattle.hx_types.specs.declared.values.Value.TheVariants as a_value
 use Rattle.hx_types.specs.declared.values.Term.TheVariants as a_term
 use Rattle.hx_types.specs.Words.{when_some}

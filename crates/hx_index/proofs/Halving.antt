@@ -1,5 +1,5 @@
 -- A binary search, and how many looks it takes.
-use Rattle.std.proofs.Common.{◌≡◌, ℕ, zero, suc, ◌+◌, ◌-◌, ◌*◌, ◌/◌, ◌<◌, ◌≤◌, Bool, true, false, cond, List, length, slice_index_or, refl, ap, sym, ◌∙◌, subst, arith, eqb}
+use Rattle.std.proofs.Common.{◌≡◌, ℕ, zero, suc, ◌+◌, ◌/◌, ◌<◌, ◌≤◌, Bool, true, false, cond, List, length, slice_index_or, refl, ap, sym, ◌∙◌, subst, arith, eqb}
 use Rattle.std.specs.List.Sorted.{IsPartitionedBy}
 use Rattle.std.proofs.lemmas.Bool.{cond_both, cond-false, cond-true, eq-eqb, eqb-true, false_from_ne_true, false≢true}
 use Rattle.hx_index.specs.Invariant.{IsEnd}
@@ -58,8 +58,8 @@ grows zero m n l = omega arith
 grows (suc f) m n l = cond_both (eqb m 0) 0 (suc (digits_within f (m / 2))) (λ x. x ≤ cond (eqb n 0) 0 (suc (digits_within f (n / 2))))
     (λ t. omega arith)
     (λ t. let z : m ≡ 0 → ⊥ = λ e. false≢true (sym t ∙ eq-eqb m 0 e) in
-      let r = grows f (m / 2) (n / 2) (omega (arith, l)) in
-      subst (λ x. suc (digits_within f (m / 2)) ≤ x) (sym (cond-false (eqb n 0) 0 (suc (digits_within f (n / 2))) (false_from_ne_true (eqb n 0) (λ u. z (let e = eqb-true n 0 u in omega (arith, e, l)))))) (omega (arith, r)))
+    let r = grows f (m / 2) (n / 2) (omega (arith, l)) in
+    subst (λ x. suc (digits_within f (m / 2)) ≤ x) (sym (cond-false (eqb n 0) 0 (suc (digits_within f (n / 2))) (false_from_ne_true (eqb n 0) (λ u. z (let e = eqb-true n 0 u in omega (arith, e, l)))))) (omega (arith, r)))
 
 -- a half has a digit less
 pub half-digits : (h n : ℕ) → 0 < n → h ≤ n / 2 → digits_of h + 1 ≤ digits_of n

@@ -1,14 +1,14 @@
 -- A number is put into a sorted list, or taken out, at the place found.
-use Rattle.std.proofs.Common.{◌≡◌, ℕ, zero, suc, ◌+◌, ◌<◌, ◌≤◌, Bool, true, false, not, ◌&&◌, ◌||◌, List, [], ◌∷◌, length, insert, remove, slice_get, Some, None, Option, refl, ap, sym, ◌∙◌, subst, arith, eqb, inl, inr, slice_index_or, cond}
-use Rattle.std.specs.List.{AllByRecursion, filter, list_any}
-use Rattle.std.specs.List.Sorted.{IsStrictlySortedBy, IsPartitionedBy, IsPartitionPoint}
+use Rattle.std.proofs.Common.{◌≡◌, ℕ, zero, suc, ◌<◌, ◌≤◌, Bool, true, false, not, ◌&&◌, ◌||◌, List, [], ◌∷◌, length, insert, remove, slice_get, Some, refl, ap, sym, ◌∙◌, subst, arith, eqb, inl, inr, slice_index_or, cond}
+use Rattle.std.specs.List.{AllByRecursion}
+use Rattle.std.specs.List.Sorted.{IsStrictlySortedBy, IsPartitionedBy}
 use Rattle.std.specs.Cmp.{IsTotalOrder}
 use Rattle.std.specs.Ordering.{is_lt, ordering_reverse}
 use Rattle.std.specs.declared.cmp.Ordering.{Ordering}
 use Rattle.std.specs.declared.cmp.Ordering.TheVariants.{Less, Equal, Greater}
-use Rattle.std.proofs.lemmas.Bool.{cond_both, cond-false, cond-true, eq-eqb, eqb-true, false_from_ne_true, false≢true, or_cases, or_left, or_right}
+use Rattle.std.proofs.lemmas.Bool.{cond_both, eq-eqb, eqb-true, false_from_ne_true, false≢true, or_cases, or_left, or_right}
 use Rattle.hx_index.specs.Invariant.{IsSplit}
-use Rattle.hx_index.specs.Orders.{is_number, stands_in, without}
+use Rattle.hx_index.specs.Orders.{stands_in, without}
 
 -- from places to the parts of the list
 pub split-at : (p : ℕ → Bool) (k : ℕ) (xs : List ℕ) → k ≤ length xs → ((i : ℕ) → i < k → p (slice_index_or xs i 0) ≡ true) → ((i : ℕ) → k ≤ i → i < length xs → p (slice_index_or xs i 0) ≡ false) → IsSplit p k xs
@@ -149,16 +149,21 @@ stands-without id i (x ∷ xs) =
     not-true : (b : Bool) → not b ≡ true → b ≡ false
     not-true true e = absurd (false≢true e)
     not-true false e = refl
+
     not-false : (b : Bool) → not b ≡ false → b ≡ true
     not-false true e = refl
     not-false false e = absurd (false≢true (sym e))
+
     other : not (eqb x id) ≡ true → x ≡ i → eqb i id ≡ false
     other t q = subst (λ z. eqb z id ≡ false) q (not-true _ t)
+
     same : not (eqb x id) ≡ false → x ≡ i → eqb i id ≡ true
     same f q = subst (λ z. eqb z id ≡ true) q (not-false _ f)
+
     one : (a b c : Bool) → (a ≡ true → b ≡ false) → (a || (not b && c)) ≡ (not b && (a || c))
     one true b c h = ap (λ d. not d && true) (sym (h refl))
     one false b c h = refl
+
     two : (a b c : Bool) → (a ≡ true → b ≡ true) → (not b && c) ≡ (not b && (a || c))
     two true b c h = ap (λ d. not d && c) (h refl) ∙ ap (λ d. not d && true) (sym (h refl))
     two false b c h = refl

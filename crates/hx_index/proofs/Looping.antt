@@ -1,6 +1,6 @@
 -- A loop over the orders changes one after another.
-use Rattle.std.proofs.Common.{◌≡◌, ℕ, zero, suc, ◌+◌, ◌<◌, ◌≤◌, List, [], ◌∷◌, length, slice_get, slice_set, slice_index_or, Some, None, Option, Vec, refl, ap, sym, ◌∙◌, subst, arith, inl, inr, eqb}
-use Rattle.std.proofs.lemmas.Bool.{cond_both, cases_order, eqb-true}
+use Rattle.std.proofs.Common.{◌≡◌, ℕ, zero, suc, ◌+◌, ◌<◌, ◌≤◌, List, [], ◌∷◌, length, slice_get, slice_set, slice_index_or, Some, Vec, refl, ap, sym, ◌∙◌, subst, arith, inl, inr}
+use Rattle.std.proofs.lemmas.Bool.{cases_order}
 use Rattle.std.proofs.lemmas.Option.{same_Some, slice_get-get_or, slice_get_within}
 use Rattle.hx_index.specs.Invariant.{EachMoves}
 
@@ -41,8 +41,8 @@ module _ {Z : Type 0} (P : ℕ → Vec ℕ Z → Vec ℕ Z → Type 0) (old : Li
       count = set-length now i w ∙ h.count;
       done = λ k before after m b a. elim (cases_order k i) [
         | inl q ↦ subst (λ (j : ℕ). P j before after) (sym q)
-          (subst (λ (x : Vec ℕ Z). P i x after) (same_Some v before (sym e ∙ ap (slice_get old) (sym q) ∙ b))
-          (subst (P i v) (same_Some w after (sym (set-here now i w l) ∙ ap (slice_get (slice_set now i w)) (sym q) ∙ a)) p))
+            (subst (λ (x : Vec ℕ Z). P i x after) (same_Some v before (sym e ∙ ap (slice_get old) (sym q) ∙ b))
+            (subst (P i v) (same_Some w after (sym (set-here now i w l) ∙ ap (slice_get (slice_set now i w)) (sym q) ∙ a)) p))
         | inr (inl less) ↦ h.done k before after less b (sym (set-elsewhere now i k w (λ q. omega (arith, less, q))) ∙ a)
         | inr (inr more) ↦ absurd (omega (arith, m, more))
       ];
@@ -55,11 +55,14 @@ module _ {Z : Type 0} (P : ℕ → Vec ℕ Z → Vec ℕ Z → Type 0) (old : Li
 
     -- or as good as all, where a move may change nothing
     pub ended-early : ((k : ℕ) (v : Vec ℕ Z) → P k v v) → EachMoves P old now
-    ended-early still = record { count = h.count; each = λ k before after b a. elim (cases_order k i) [
-      | inl q ↦ stays k before after b (sym (h.rest k (omega (arith, q))) ∙ a)
-      | inr (inl less) ↦ h.done k before after less b a
-      | inr (inr more) ↦ stays k before after b (sym (h.rest k (omega (arith, more))) ∙ a)
-    ] }
+    ended-early still = record {
+      count = h.count;
+      each = λ k before after b a. elim (cases_order k i) [
+        | inl q ↦ stays k before after b (sym (h.rest k (omega (arith, q))) ∙ a)
+        | inr (inl less) ↦ h.done k before after less b a
+        | inr (inr more) ↦ stays k before after b (sym (h.rest k (omega (arith, more))) ∙ a)
+      ];
+    }
       where
         stays : (k : ℕ) (before after : Vec ℕ Z) → slice_get old k ≡ Some before → slice_get old k ≡ Some after → P k before after
         stays k before after b a = subst (P k before) (same_Some before after (sym b ∙ a)) (still k before)

@@ -1,5 +1,5 @@
 -- What a search finds in an order.
-use Rattle.std.proofs.Common.{◌≡◌, ℕ, Bool, true, false, ◌&&◌, ◌||◌, cond, List, [], ◌∷◌, is_some, Option, Some, None, Result, Ok, Err, IfOk, refl, ap, sym, ◌∙◌, subst, eqb}
+use Rattle.std.proofs.Common.{◌≡◌, ℕ, Bool, true, false, ◌&&◌, ◌||◌, List, [], ◌∷◌, is_some, Option, Some, None, Result, Ok, Err, IfOk, refl, ap, sym, ◌∙◌, eqb}
 use Rattle.std.specs.List.{AllByRecursion, IsDistinct, filter}
 use Rattle.std.specs.List.Sorted.{IsStrictlySortedBy}
 use Rattle.std.specs.declared.cmp.Ordering.TheVariants.{Less}
@@ -31,6 +31,7 @@ stands-filter p i (x ∷ xs) = cond_both (p x) (x ∷ filter p xs) (filter p xs)
     there : (a b c : Bool) → (a ≡ true → b ≡ true) → (a || (b && c)) ≡ (b && (a || c))
     there true b c h = ap (λ d. d && true) (sym (h refl))
     there false b c h = refl
+
     gone : (a b c : Bool) → (a ≡ true → b ≡ false) → (b && c) ≡ (b && (a || c))
     gone true b c h = ap (λ d. d && c) (h refl) ∙ ap (λ d. d && true) (sym (h refl))
     gone false b c h = refl
@@ -56,6 +57,7 @@ module _ (rows : ℕ → Option Row) (attribute : ℕ) (terms : List Term) (orde
       apart : (x : ℕ) (ys : List ℕ) → AllByRecursion (λ y. compare_at rows attribute x y ≡ Less) ys → AllByRecursion (λ y. eqb x y ≡ false) ys
       apart x [] l = tt
       apart x (y ∷ ys) l = (false_from_ne_true (eqb x y) (λ t. less-differs (compare_at rows attribute) (slots-total rows attribute) (slots-exact rows attribute) x y l.0 (eqb-true x y t)), apart x ys l.1)
+
       distinct : (xs : List ℕ) → IsStrictlySortedBy (compare_at rows attribute) xs → IsDistinct eqb xs
       distinct [] s = tt
       distinct (x ∷ xs) s = (apart x xs s.0, distinct xs s.1)

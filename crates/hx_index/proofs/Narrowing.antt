@@ -1,7 +1,7 @@
 -- The shortest run of the terms.
-use Rattle.std.proofs.Common.{◌≡◌, ℕ, zero, suc, ◌+◌, ◌-◌, ◌*◌, ◌<◌, ◌≤◌, Bool, true, false, ◌&&◌, cond, List, [], ◌∷◌, length, take, drop, slice_range, slice_index_or, get_or, min, Option, refl, ap, sym, ◌∙◌, subst, arith, ltb}
+use Rattle.std.proofs.Common.{◌≡◌, ℕ, zero, suc, ◌+◌, ◌-◌, ◌<◌, Bool, true, false, cond, List, [], ◌∷◌, length, take, drop, slice_range, get_or, min, Option, refl, ap, sym, ◌∙◌, arith, ltb}
 use Rattle.std.specs.List.{filter}
-use Rattle.std.proofs.lemmas.Bool.{and_parts, cond_both, cond-false, cond-true, ltb-true, false≢true, lt-ltb, false_from_ne_true}
+use Rattle.std.proofs.lemmas.Bool.{and_parts, cond_both, cond-false, cond-true, ltb-true, false≢true, lt-ltb}
 use Rattle.hx_types.specs.declared.calls.Row.{Row}
 use Rattle.hx_types.specs.declared.values.Term.{Term}
 use Rattle.hx_types.specs.Spaces.{attribute_of}

@@ -1,5 +1,5 @@
 -- The order of an attribute with a slot more, and with one less.
-use Rattle.std.proofs.Common.{◌≡◌, ℕ, ◌≤◌, Bool, true, false, not, ◌&&◌, ◌||◌, List, [], ◌∷◌, length, insert, remove, slice_get, IsSome, is_some, Some, None, Option, refl, ap, sym, ◌∙◌, subst, arith, eqb, cond, ◌≢◌}
+use Rattle.std.proofs.Common.{◌≡◌, ℕ, true, false, not, ◌&&◌, ◌||◌, List, [], ◌∷◌, insert, remove, slice_get, IsSome, is_some, Some, None, Option, refl, ap, sym, ◌∙◌, eqb}
 use Rattle.std.specs.List.{AllByRecursion}
 use Rattle.std.specs.List.Sorted.{IsStrictlySortedBy}
 use Rattle.std.specs.Option.{option_cmp}
@@ -13,7 +13,6 @@ use Rattle.hx_index.specs.Invariant.{IsSplit, stands_before}
 use Rattle.hx_index.specs.Orders.{IsOrder, compare_at, compare_rows, rows_without, stands_in, without}
 use Rattle.hx_index.proofs.Inserting.{found-at, insert-sorted, insert-without, remove-without, split-within, stands-insert, stands-without}
 use Rattle.hx_index.proofs.Totals.{slots-exact, slots-total}
-
 
 agree : (R S : ℕ → ℕ → Ordering) (Q : ℕ → Type 0) → ((i j : ℕ) → Q i → Q j → R i j ≡ S i j) → (xs : List ℕ) → AllByRecursion Q xs → IsStrictlySortedBy R xs → IsStrictlySortedBy S xs
 unfolding IsStrictlySortedBy
@@ -60,6 +59,7 @@ module _ (rows : ℕ → Option Row) (attribute id : ℕ) where
       where
         as-id : (i : ℕ) → eqb id i ≡ true → (eqb id i || stands_in order i) ≡ is_some (rows i)
         as-id i t = ap (λ b. b || stands_in order i) t ∙ sym (ap (λ j. is_some (rows j)) (sym (eqb-true id i t)) ∙ kept)
+
         as-other : (i : ℕ) → eqb id i ≡ false → (eqb id i || stands_in order i) ≡ is_some (rows i)
         as-other i f = ap (λ b. b || stands_in order i) f ∙ h.each i ∙ ap is_some (same-row i (false_from_ne_true (eqb i id) (λ t. false≢true (sym f ∙ eq-eqb id i (sym (eqb-true i id t))))))
 

@@ -1,5 +1,5 @@
 -- The run of a term, and what is found in it.
-use Rattle.std.proofs.Common.{◌≡◌, ℕ, zero, suc, ◌+◌, ◌-◌, ◌<◌, ◌≤◌, Bool, true, false, ◌&&◌, cond, List, [], ◌∷◌, length, take, drop, slice_index_or, slice_range, get_or, ℤ, Option, Some, None, refl, ap, sym, ◌∙◌, subst, arith, leb, ltb}
+use Rattle.std.proofs.Common.{◌≡◌, ℕ, zero, suc, ◌+◌, ◌-◌, ◌<◌, ◌≤◌, Bool, true, false, ◌&&◌, cond, List, [], ◌∷◌, length, take, drop, slice_index_or, slice_range, get_or, ℤ, Option, Some, None, refl, ap, sym, ◌∙◌, arith, leb, ltb}
 use Rattle.std.specs.List.{filter, list_all}
 use Rattle.std.specs.Int.Signed.{le_z}
 use Rattle.std.specs.Cmp.Lexicographic.{nat_list_cmp_total, slice_cmp, texts_ties}
@@ -7,14 +7,14 @@ use Rattle.std.specs.Ordering.{int_cmp, is_eq, nat_cmp, ordering_reverse}
 use Rattle.std.specs.declared.cmp.Ordering.{Ordering}
 use Rattle.std.specs.declared.cmp.Ordering.TheVariants.{Less, Equal, Greater}
 use Rattle.std.proofs.lemmas.Int.{ints}
-use Rattle.std.proofs.lemmas.Bool.{and_from, and_parts, cond_both, cond-false, cond-true, false_from_ne_true, false≢true, le-leb, leb-true, lt-leb, lt-ltb, ltb-true}
+use Rattle.std.proofs.lemmas.Bool.{and_parts, cond_both, cond-false, cond-true, false_from_ne_true, false≢true, le-leb, leb-true, lt-leb, lt-ltb, ltb-true}
 use Rattle.hx_types.specs.declared.calls.Row.{Row}
 use Rattle.hx_types.specs.declared.values.Term.{Term}
 use Rattle.hx_types.specs.declared.values.Value.{Value}
 use Rattle.hx_types.specs.declared.values.Value.TheVariants as a_value
 use Rattle.hx_types.specs.declared.values.Term.TheVariants as a_term
 use Rattle.hx_types.specs.Spaces.{attribute_of}
-use Rattle.hx_types.specs.Words.{same_text, when_some}
+use Rattle.hx_types.specs.Words.{when_some}
 use Rattle.hx_types.specs.Effects.{same_value, value_at}
 use Rattle.hx_model.specs.Matching.{in_range, matches, term_holds}
 use Rattle.hx_index.specs.declared.looking.Side.{Side}
@@ -85,6 +85,7 @@ matches-meets rows terms k term l e i m = by (rows i) m
     each r [] k d l h = absurd (omega arith)
     each r (t ∷ ts) zero d l h = (and_parts (term_holds r.key r.object t) _ h).0
     each r (t ∷ ts) (suc k) d l h = each r ts k d (omega arith) (and_parts (term_holds r.key r.object t) _ h).1
+
     by : (o : Option Row) → when_some o false (λ (r : Row). matches terms r.key r.object) ≡ true → when_some o false (λ (r : Row). term_holds r.key r.object term) ≡ true
     by None h = h
     by (Some r) h = ap (term_holds r.key r.object) e ∙ each r terms k term l h
@@ -101,6 +102,7 @@ run-ends rows term order first end a b = record {
     below-both Below e = refl
     below-both Meets e = refl
     below-both Above e = e
+
     within : first ≤ end
     within = cond_both (leb first end) true false (λ b. b ≡ leb first end → first ≤ end) (λ t e. leb-true first end t) (λ f e. absurd (crossed (lt-of f))) refl-of
       where
@@ -110,14 +112,17 @@ run-ends rows term order first end a b = record {
             cases : (c : Bool) → ltb end first ≡ c → end < first
             cases true q = ltb-true end first q
             cases false q = absurd (let no : end < first → ⊥ = λ l. false≢true (sym q ∙ lt-ltb end first l) in let no2 : first ≤ end → ⊥ = λ l. false≢true (sym f ∙ le-leb first end l) in omega (arith, no, no2))
+
         crossed : end < first → ⊥
         crossed l = false≢true (sym (b.from end (omega arith) (let w = a.within in omega (arith, w, l))) ∙ below-both _ (a.before end l))
+
         refl-of : cond (leb first end) true false ≡ leb first end
         refl-of = by (leb first end)
           where
             by : (c : Bool) → cond c true false ≡ c
             by true = refl
             by false = refl
+
     at : (k : ℕ) → k < length order → (s : Side) → side_at rows term (slice_index_or order k 0) ≡ s → is_meets s ≡ (leb first k && ltb k end)
     at k l Below e =
         let no : first ≤ k → ⊥ = λ m. false≢true (sym (a.from k m l) ∙ ap (is_part false) e) in

@@ -1,12 +1,12 @@
 -- What an index keeps, and what contracts see of it.
-use Rattle.std.proofs.Common.{◌≡◌, ℕ, zero, suc, ◌+◌, ◌<◌, ◌≤◌, ◌^◌, List, [], ◌∷◌, ◌++◌, length, map, slice_get, slice_index_or, Some, None, Option, IsSome, Vec, vec_len, vec_capacity, refl, ap, sym, ◌∙◌, subst, arith}
+use Rattle.std.proofs.Common.{◌≡◌, ℕ, zero, suc, ◌+◌, ◌<◌, ◌≤◌, ◌^◌, List, [], ◌∷◌, ◌++◌, length, map, slice_get, Some, Option, Vec, vec_capacity, refl, ap, sym, ◌∙◌, subst, arith}
 use Rattle.std.specs.List.{repeat}
 use Rattle.std.specs.List.Sorted.{IsStrictlySortedBy}
-use Rattle.std.proofs.lemmas.Option.{same_Some, slice_get-get_or, slice_get_within}
+use Rattle.std.proofs.lemmas.Option.{same_Some, slice_get_within}
 use Rattle.hx_types.specs.Words.{when_some}
 use Rattle.hx_types.specs.declared.calls.Row.{Row}
-use Rattle.hx_index.specs.Invariant.{AreOrders, EachMoves, HasOrders, HasRoom, HaveRoom, HaveRoomFor, IsAdded, IsRemoved, IsWidened, items_of}
-use Rattle.hx_index.specs.Orders.{IndexState, IsIndexOf, IsOrder, IsWithout, count_of, no_rows, order_of, rows_without, without}
+use Rattle.hx_index.specs.Invariant.{AreOrders, EachMoves, HasOrders, HaveRoom, IsAdded, IsRemoved, IsWidened, items_of}
+use Rattle.hx_index.specs.Orders.{IndexState, IsIndexOf, IsOrder, no_rows, order_of, rows_without, without}
 
 -- an empty list more
 repeat-more : (n : ℕ) (xs : List (List ℕ)) → repeat n xs ++ xs ≡ xs ++ repeat n xs → repeat (suc n) xs ++ xs ≡ xs ++ repeat (suc n) xs
@@ -119,11 +119,11 @@ module _ {Z : Type 0} where
         some = (let s = h.some in let n = m.count in omega (arith, s, n));
         few = (let s = h.few in let n = m.count in omega (arith, s, n));
         each = λ k o e.
-          let b = moved-from (IsAdded rows id) os new m k o e in
-          let r = h.each k b.0 b.1 in
-          let c = added-count m in
-          let l = b.2.len in let p = b.2.capacity in let s = o.ok.0 in let t = b.0.ok.0 in let u = r.len in let v = r.room in
-          record { len = omega (arith, c, l, s, t, u); room = omega (arith, p, v) };
+            let b = moved-from (IsAdded rows id) os new m k o e in
+            let r = h.each k b.0 b.1 in
+            let c = added-count m in
+            let l = b.2.len in let p = b.2.capacity in let s = o.ok.0 in let t = b.0.ok.0 in let u = r.len in let v = r.room in
+            record { len = omega (arith, c, l, s, t, u); room = omega (arith, p, v) };
       }
 
       pub added-index : EachMoves (IsAdded rows id) os new → IsIndexOf rows (record { orders = items_of new; room = room })
@@ -149,11 +149,11 @@ module _ {Z : Type 0} where
         some = (let s = h.some in let n = m.count in omega (arith, s, n));
         few = (let s = h.few in let n = m.count in omega (arith, s, n));
         each = λ k o e.
-          let b = moved-from (IsRemoved rows id) os new m k o e in
-          let r = h.each k b.0 b.1 in
-          let c = removed-count m in
-          let l = b.2.len in let p = b.2.capacity in let s = o.ok.0 in let t = b.0.ok.0 in let u = r.len in let v = r.room in
-          record { len = omega (arith, c, l, s, t, u); room = omega (arith, p, v) };
+            let b = moved-from (IsRemoved rows id) os new m k o e in
+            let r = h.each k b.0 b.1 in
+            let c = removed-count m in
+            let l = b.2.len in let p = b.2.capacity in let s = o.ok.0 in let t = b.0.ok.0 in let u = r.len in let v = r.room in
+            record { len = omega (arith, c, l, s, t, u); room = omega (arith, p, v) };
       }
 
       pub removed-index : EachMoves (IsRemoved rows id) os new → IsIndexOf (rows_without id rows) (record { orders = items_of new; room = room })
@@ -176,12 +176,12 @@ module _ {Z : Type 0} where
       some = (let s = h.some in let n = m.count in omega (arith, s, n));
       few = (let s = h.few in let n = m.count in omega (arith, s, n));
       each = λ k o e.
-        let b = moved-from IsWidened os new m k o e in
-        let r = h.each k b.0 b.1 in
-        let same = widened-same new m in
-        let c = ap (λ (l : List (List ℕ)). length (when_some (slice_get l 0) [] (λ (numbers : List ℕ). numbers))) same in
-        let l = ap length b.2.items in let p = b.2.capacity in let u = r.len in let v = r.room in
-        record { len = omega (arith, c, l, u); room = more k o e (omega (arith, p, v)) };
+          let b = moved-from IsWidened os new m k o e in
+          let r = h.each k b.0 b.1 in
+          let same = widened-same new m in
+          let c = ap (λ (l : List (List ℕ)). length (when_some (slice_get l 0) [] (λ (numbers : List ℕ). numbers))) same in
+          let l = ap length b.2.items in let p = b.2.capacity in let u = r.len in let v = r.room in
+          record { len = omega (arith, c, l, u); room = more k o e (omega (arith, p, v)) };
     }
 
 pub empty-orders : {Z : Type 0} (os : List (Vec ℕ Z)) (n : ℕ) → items_of os ≡ repeat (n + 1) ([] ∷ []) → n + 1 ≤ 2 ^ 32 → HasOrders os 0
@@ -193,10 +193,10 @@ empty-orders os n e few =
       few = omega (arith, count, few);
       within = (let first : length (when_some (slice_get (items_of os) 0) [] (λ (numbers : List ℕ). numbers)) ≡ 0 = ap (λ (l : List (List ℕ)). length (when_some (slice_get l 0) [] (λ (numbers : List ℕ). numbers))) (e ∙ ap (λ m. repeat m ([] ∷ [])) (let s : n + 1 ≡ suc n = omega arith in s)) in omega (arith, first));
       each = λ k o at.
-        let none : o.items ≡ [] = repeat-at (n + 1) k o.items (sym (ap (λ (l : List (List ℕ)). slice_get l k) e) ∙ items-at os k o at) in
-        let first : length (when_some (slice_get (items_of os) 0) [] (λ (numbers : List ℕ). numbers)) ≡ 0 = ap (λ (l : List (List ℕ)). length (when_some (slice_get l 0) [] (λ (numbers : List ℕ). numbers))) (e ∙ ap (λ m. repeat m ([] ∷ [])) (let s : n + 1 ≡ suc n = omega arith in s)) in
-        let zero_len = ap length none in
-        record { len = omega (arith, zero_len, first); room = omega arith };
+          let none : o.items ≡ [] = repeat-at (n + 1) k o.items (sym (ap (λ (l : List (List ℕ)). slice_get l k) e) ∙ items-at os k o at) in
+          let first : length (when_some (slice_get (items_of os) 0) [] (λ (numbers : List ℕ). numbers)) ≡ 0 = ap (λ (l : List (List ℕ)). length (when_some (slice_get l 0) [] (λ (numbers : List ℕ). numbers))) (e ∙ ap (λ m. repeat m ([] ∷ [])) (let s : n + 1 ≡ suc n = omega arith in s)) in
+          let zero_len = ap length none in
+          record { len = omega (arith, zero_len, first); room = omega arith };
     }
 
 -- the index of no slots

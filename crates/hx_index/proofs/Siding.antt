@@ -1,11 +1,11 @@
 -- The sides of values ascend with the order of an attribute.
-use Rattle.std.proofs.Common.{◌≡◌, ℕ, ℤ, ◌<◌, ◌≤◌, Bool, true, false, cond, List, [], ◌∷◌, length, Option, Some, None, slice_index_or, refl, ap, sym, ◌∙◌, arith, zero, suc}
-use Rattle.std.specs.Int.Signed.{le_z, lt_z}
+use Rattle.std.proofs.Common.{◌≡◌, ℕ, ℤ, ◌<◌, Bool, true, false, cond, List, [], ◌∷◌, length, Option, Some, None, slice_index_or, refl, ap, sym, ◌∙◌, arith, zero, suc}
+use Rattle.std.specs.Int.Signed.{le_z}
 use Rattle.std.proofs.lemmas.Int.{ints}
 use Rattle.std.specs.List.{AllByRecursion}
 use Rattle.std.specs.List.Sorted.{IsStrictlySortedBy, IsPartitionedBy}
 use Rattle.std.specs.Option.{option_cmp}
-use Rattle.std.specs.Ordering.{int_cmp, is_gt, nat_cmp, ordering_reverse, ordering_then}
+use Rattle.std.specs.Ordering.{int_cmp, is_gt, ordering_reverse, ordering_then}
 use Rattle.std.specs.declared.cmp.Ordering.{Ordering}
 use Rattle.std.specs.declared.cmp.Ordering.TheVariants.{Less, Equal, Greater}
 use Rattle.std.proofs.lemmas.Bool.{cond_both, false_from_ne_true, false≢true}
@@ -19,7 +19,7 @@ use Rattle.hx_types.specs.Spaces.{attribute_of}
 use Rattle.hx_index.specs.declared.looking.Side.{Side}
 use Rattle.hx_index.specs.declared.looking.Side.TheVariants.{Below, Meets, Above}
 use Rattle.hx_index.specs.Invariant.{is_part}
-use Rattle.hx_index.specs.Orders.{IsOrder, compare_at, compare_rows, compare_values, value_of}
+use Rattle.hx_index.specs.Orders.{compare_at, compare_rows, compare_values, value_of}
 use Rattle.hx_index.specs.Sides.{side_at, side_by, side_in, side_of, side_of_value}
 use Rattle.hx_index.proofs.Totals.{values-total}
 
@@ -39,17 +39,18 @@ int-part past lo hi m n g p =
     cond_both (le_z lo m) (cond (le_z m hi) Meets Above) Below (λ s. is_part past s ≡ true)
     (
     λ low.
-      let n-low = le-chain lo m n low least in
-      let q : is_part past (cond (le_z n hi) Meets Above) ≡ true = ap (λ b. is_part past (cond b (cond (le_z n hi) Meets Above) Below)) (sym n-low) ∙ p in
-      cond_both (le_z m hi) Meets Above (λ s. is_part past s ≡ true)
-      (λ high. meets (le_z n hi) q)
-      (λ high. absurd (false≢true (sym (ap (λ b. is_part past (cond b Meets Above)) (not-high high least)) ∙ q)))
+    let n-low = le-chain lo m n low least in
+    let q : is_part past (cond (le_z n hi) Meets Above) ≡ true = ap (λ b. is_part past (cond b (cond (le_z n hi) Meets Above) Below)) (sym n-low) ∙ p in
+    cond_both (le_z m hi) Meets Above (λ s. is_part past s ≡ true)
+    (λ high. meets (le_z n hi) q)
+    (λ high. absurd (false≢true (sym (ap (λ b. is_part past (cond b Meets Above)) (not-high high least)) ∙ q)))
     )
     (λ low. refl)
   where
     meets : (b : Bool) → is_part past (cond b Meets Above) ≡ true → past ≡ true
     meets true e = e
     meets false e = absurd (false≢true e)
+
     not-high : le_z m hi ≡ false → le_z m n ≡ true → le_z n hi ≡ false
     not-high f l = false_from_ne_true (le_z n hi) (λ t. false≢true (sym f ∙ le-chain m n hi l t))
 
@@ -62,8 +63,8 @@ value-part past (a_term.Equal a v) x y g p = by (compare_values x y) (compare_va
     by Less Less Greater q r s g p = absurd (let t = values-total.trans x y v q r in cc)
     by Less Equal Equal q r s g p = p
     by Less Equal Greater q r s g p =
-      let e = values-total.congr y v x r in
-      absurd (let a = values-total.antisymm x v in let b = values-total.antisymm y x in let d = ap ordering_reverse q in cc)
+        let e = values-total.congr y v x r in
+        absurd (let a = values-total.antisymm x v in let b = values-total.antisymm y x in let d = ap ordering_reverse q in cc)
     by Less Greater c q r s g p = absurd (false≢true p)
     by Equal b Equal q r s g p = let e = values-total.congr x y v q in ap (λ o. is_part past (side_by o)) (sym s ∙ e ∙ r) ∙ p
     by Equal b Greater q r s g p = let e = values-total.congr x y v q in ap (λ o. is_part past (side_by o)) (sym s ∙ e ∙ r) ∙ p

@@ -1,10 +1,10 @@
 -- The order of an attribute: the numbers of the slots that keep an object, by its value of that attribute and then by its key.
-use Rattle.std.specs.Prelude.{◌≡◌, ℕ, ◌<◌, Bool, not, List, [], length, map, is_some, if◌then◌else◌, ◌==◌, Option, None, Some}
+use Rattle.std.specs.Prelude.{◌≡◌, ℕ, ◌<◌, Bool, not, List, [], length, map, is_some, if◌then◌else◌, ◌==◌, Option, None}
 use Rattle.std.specs.List.{filter, list_any, slice_get}
 use Rattle.std.specs.List.Sorted.{IsStrictlySortedBy}
 use Rattle.std.specs.Cmp.Lexicographic.{slice_cmp}
 use Rattle.std.specs.Option.{option_cmp}
-use Rattle.std.specs.Ordering.{int_cmp, nat_cmp, ordering_then, then_cmp, on}
+use Rattle.std.specs.Ordering.{int_cmp, nat_cmp, then_cmp, on}
 use Rattle.std.specs.declared.cmp.Ordering.{Ordering}
 use Rattle.std.specs.declared.cmp.Ordering.TheVariants.{Less, Greater}
 use Rattle.hx_types.specs.declared.calls.Row.{Row}

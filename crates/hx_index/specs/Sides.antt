@@ -1,5 +1,5 @@
 -- On which side of the values that meet a term a value lies.
-use Rattle.std.specs.Prelude.{ℕ, Bool, false, true, List, if◌then◌else◌, ℤ, int_le, Option, None, Some}
+use Rattle.std.specs.Prelude.{ℕ, Bool, false, List, if◌then◌else◌, ℤ, int_le, Option}
 use Rattle.std.specs.declared.cmp.Ordering.{Ordering}
 use Rattle.std.specs.declared.cmp.Ordering.TheVariants.{Less, Equal, Greater}
 use Rattle.hx_types.specs.declared.calls.Row.{Row}

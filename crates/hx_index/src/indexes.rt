@@ -158,7 +158,14 @@ impl Index {
         }
         let (first, end) = self.run(look, term);
         let attribute = term.attribute() as usize;
-        shorter(Span { attribute, first, end }, best)
+        shorter(
+            Span {
+                attribute,
+                first,
+                end,
+            },
+            best,
+        )
     }
 
     /// The order of an attribute.

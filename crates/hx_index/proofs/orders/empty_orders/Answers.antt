@@ -1,5 +1,4 @@
-use Rattle.std.proofs.Common.{◌≡◌, [], ◌∷◌, ◌++◌, List, ℕ, ap, sym, ◌∙◌}
-use Rattle.std.specs.List.{repeat}
+use Rattle.std.proofs.Common.{[], ◌∷◌, ◌++◌, ap, sym, ◌∙◌}
 use Rattle.hx_index.specs.Invariant.{items_of}
 use Rattle.hx_index.proofs.Showing.{items-append, repeat-next}
 use Rattle.hx_index.proofs.orders.empty_orders.Goals as goal

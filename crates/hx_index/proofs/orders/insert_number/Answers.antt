@@ -1,4 +1,4 @@
-use Rattle.std.proofs.Common.{ℕ, List, insert, sym, subst, ◌≡◌, ap, ◌∙◌, arith}
+use Rattle.std.proofs.Common.{sym, subst, ap, ◌∙◌, arith}
 use Rattle.std.specs.List.Sorted.{IsStrictlySortedBy}
 use Rattle.hx_index.specs.Invariant.{IsSplit, stands_before}
 use Rattle.hx_index.specs.Orders.{IsOrder, compare_at, rows_at, without}

@@ -1,4 +1,4 @@
-use Rattle.std.proofs.Common.{ℕ, rules, arith}
+use Rattle.std.proofs.Common.{rules, arith}
 use Rattle.std.proofs.lemmas.List.Sorted.{IsPartitionPoint-from_clause}
 use Rattle.hx_index.specs.Invariant.{stands_before}
 use Rattle.hx_index.specs.Orders.{compare_at, rows_at}

@@ -1,4 +1,4 @@
-use Rattle.std.proofs.Common.{◌≡◌, ◌<◌, ◌≤◌, ℕ, length, slice_get, Some, arith}
+use Rattle.std.proofs.Common.{◌<◌, length, arith}
 use Rattle.hx_index.specs.Invariant.{IsRemoved}
 use Rattle.hx_index.specs.Orders.{rows_at}
 use Rattle.hx_index.proofs.Looping.{begun, ended, moved-one, next-is}

@@ -1,7 +1,7 @@
-use Rattle.std.proofs.Common.{ℕ, List, remove, sym, subst, ◌≡◌, ◌<◌, length, ap, ◌∙◌, arith}
+use Rattle.std.proofs.Common.{sym, subst, ◌<◌, length, ap, ◌∙◌, arith}
 use Rattle.std.specs.List.Sorted.{IsStrictlySortedBy}
 use Rattle.hx_index.specs.Invariant.{IsSplit, stands_before}
-use Rattle.hx_index.specs.Orders.{IsOrder, compare_at, rows_at, rows_without, without}
+use Rattle.hx_index.specs.Orders.{IsOrder, compare_at, rows_at, rows_without}
 use Rattle.hx_index.proofs.Inserting.{within-at}
 use Rattle.hx_index.proofs.Placing.{found, removed, removed-is}
 use Rattle.hx_index.proofs.orders.remove_number.Goals as goal

@@ -1,7 +1,7 @@
-use Rattle.std.proofs.Common.{◌≡◌, ◌<◌, ◌≤◌, ℕ, length, slice_get, Some, Vec, Global, vec_capacity, refl, arith}
+use Rattle.std.proofs.Common.{◌<◌, ◌≤◌, ℕ, length, Vec, Global, vec_capacity, refl, arith}
 use Rattle.std.proofs.lemmas.Option.{slice_get_within}
 use Rattle.hx_index.specs.Invariant.{IsWidened}
-use Rattle.hx_index.proofs.Looping.{begun, ended, ended-early, held-more, moved-one, next-is}
+use Rattle.hx_index.proofs.Looping.{begun, ended-early, held-more, moved-one, next-is}
 use Rattle.hx_index.proofs.orders.widen_everywhere.Goals as goal
 
 pub loop-attribute-init : goal.loop-attribute-init

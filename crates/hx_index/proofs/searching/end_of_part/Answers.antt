@@ -1,8 +1,6 @@
-use Rattle.std.proofs.Common.{◌≡◌, ◌≤◌, ◌<◌, ◌+◌, ◌-◌, ◌/◌, Bool, ℕ, Option, length, slice_index_or, ap, sym, subst, ◌∙◌, true, false, arith}
+use Rattle.std.proofs.Common.{◌≡◌, ◌+◌, ◌-◌, ◌/◌, Bool, ℕ, Option, slice_index_or, ap, sym, ◌∙◌, true, false, arith}
 use Rattle.hx_types.specs.declared.calls.Row.{Row}
-use Rattle.hx_types.specs.Spaces.{attribute_of}
 use Rattle.hx_index.specs.Invariant.{is_part}
-use Rattle.hx_index.specs.Looks.{digits_of, raised}
 use Rattle.hx_index.specs.Sides.{side_at}
 use Rattle.hx_index.proofs.Halving.{between-above, between-below, half-digits, raised-least, raised-most}
 use Rattle.hx_index.proofs.Siding.{parted}

@@ -1,6 +1,5 @@
-use Rattle.std.proofs.Common.{◌≡◌, ◌<◌, ℕ, List, ap, sym, subst, ◌∙◌, ◌+◌, map, arith}
-use Rattle.hx_index.specs.Invariant.{items_of}
-use Rattle.hx_index.specs.Orders.{IndexState, IsIndexOf, count_of, rows_at, rows_without, without}
+use Rattle.std.proofs.Common.{ap, sym, subst, ◌∙◌, ◌+◌, arith}
+use Rattle.hx_index.specs.Orders.{IndexState, IsIndexOf, count_of, rows_at, rows_without}
 use Rattle.hx_index.proofs.Showing.{added-count, added-index, added-orders, added-without, are-orders, room-at}
 use Rattle.hx_index.proofs.indexes.Index.add.Goals as goal
 

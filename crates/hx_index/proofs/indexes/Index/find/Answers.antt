@@ -1,4 +1,4 @@
-use Rattle.std.proofs.Common.{◌≡◌, ℕ, List, Bool, Option, eqb, ap, sym, subst, ◌∙◌, slice_range}
+use Rattle.std.proofs.Common.{ℕ, List, Option, eqb, ap, sym, subst, ◌∙◌, slice_range}
 use Rattle.std.specs.List.{IsDistinct, filter}
 use Rattle.hx_types.specs.declared.calls.Row.{Row}
 use Rattle.hx_index.specs.Orders.{order_of, stands_in}
@@ -15,11 +15,11 @@ returns-clause-matching g c =
     if-ok c.matching.result
     (
     λ ids e i.
-      let all = e
-        ∙ ap (λ (l : List ℕ). filter (matches_at (g.L.Look.rows c.narrowest-span.new.look) terms) (slice_range l c.narrowest-span.result.first c.narrowest-span.result.end)) c.order.ensures.numbers
-        ∙ ap (λ (r : ℕ → Option Row). filter (matches_at r terms) (slice_range order c.narrowest-span.result.first c.narrowest-span.result.end)) c.narrowest-span.ensures.rows
-        ∙ sym span.all in
-      ap (λ (l : List ℕ). stands_in l i) all ∙ all-matching rows c.narrowest-span.result.attribute terms order (c.requires c.narrowest-span.result.attribute span.attribute_is) i
+    let all = e
+    ∙ ap (λ (l : List ℕ). filter (matches_at (g.L.Look.rows c.narrowest-span.new.look) terms) (slice_range l c.narrowest-span.result.first c.narrowest-span.result.end)) c.order.ensures.numbers
+    ∙ ap (λ (r : ℕ → Option Row). filter (matches_at r terms) (slice_range order c.narrowest-span.result.first c.narrowest-span.result.end)) c.narrowest-span.ensures.rows
+    ∙ sym span.all in
+    ap (λ (l : List ℕ). stands_in l i) all ∙ all-matching rows c.narrowest-span.result.attribute terms order (c.requires c.narrowest-span.result.attribute span.attribute_is) i
     )
     c.matching.ensures.found
 
@@ -32,10 +32,10 @@ returns-clause-once g c =
     if-ok c.matching.result
     (
     λ ids e.
-      let all = e
-        ∙ ap (λ (l : List ℕ). filter (matches_at (g.L.Look.rows c.narrowest-span.new.look) terms) (slice_range l c.narrowest-span.result.first c.narrowest-span.result.end)) c.order.ensures.numbers
-        ∙ ap (λ (r : ℕ → Option Row). filter (matches_at r terms) (slice_range order c.narrowest-span.result.first c.narrowest-span.result.end)) c.narrowest-span.ensures.rows
-        ∙ sym span.all in
-      subst (IsDistinct eqb) (sym all) (each-once rows c.narrowest-span.result.attribute terms order (c.requires c.narrowest-span.result.attribute span.attribute_is))
+    let all = e
+    ∙ ap (λ (l : List ℕ). filter (matches_at (g.L.Look.rows c.narrowest-span.new.look) terms) (slice_range l c.narrowest-span.result.first c.narrowest-span.result.end)) c.order.ensures.numbers
+    ∙ ap (λ (r : ℕ → Option Row). filter (matches_at r terms) (slice_range order c.narrowest-span.result.first c.narrowest-span.result.end)) c.narrowest-span.ensures.rows
+    ∙ sym span.all in
+    subst (IsDistinct eqb) (sym all) (each-once rows c.narrowest-span.result.attribute terms order (c.requires c.narrowest-span.result.attribute span.attribute_is))
     )
     c.matching.ensures.found

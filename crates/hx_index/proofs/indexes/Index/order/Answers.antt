@@ -1,6 +1,5 @@
-use Rattle.std.proofs.Common.{◌≡◌, ◌<◌, ◌≤◌, ◌^◌, ℕ, Some, Vec, Global, length, slice_get, ap, sym, ◌∙◌, arith}
+use Rattle.std.proofs.Common.{◌≡◌, ℕ, Some, Vec, Global, length, slice_get, ap, sym, ◌∙◌, arith}
 use Rattle.std.proofs.lemmas.Option.{slice_get-get_or}
-use Rattle.hx_index.specs.Invariant.{items_of}
 use Rattle.hx_index.specs.Orders.{IndexState, count_of, order_of}
 use Rattle.hx_index.proofs.Showing.{items-length, order-at}
 use Rattle.hx_index.proofs.indexes.Index.order.Goals as goal

@@ -1,4 +1,4 @@
-use Rattle.std.proofs.Common.{◌≡◌, ℕ, List, ap, sym, ◌∙◌, ◌≤◌, arith}
+use Rattle.std.proofs.Common.{ap, ◌∙◌, arith}
 use Rattle.hx_index.specs.Orders.{IndexState}
 use Rattle.hx_index.proofs.Showing.{widened-orders, widened-same}
 use Rattle.hx_index.proofs.indexes.Index.reserve.Goals as goal

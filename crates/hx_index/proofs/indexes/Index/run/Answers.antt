@@ -1,4 +1,4 @@
-use Rattle.std.proofs.Common.{true, false, ◌≡◌, ◌≤◌, ◌<◌, ◌+◌, ◌*◌, ℕ, List, Option, length, ap, sym, subst, ◌∙◌, arith}
+use Rattle.std.proofs.Common.{true, false, ℕ, List, Option, ap, sym, subst, ◌∙◌, arith}
 use Rattle.hx_types.specs.Spaces.{attribute_of}
 use Rattle.hx_types.specs.declared.calls.Row.{Row}
 use Rattle.hx_index.specs.Invariant.{IsEnd, is_part}

@@ -1,5 +1,4 @@
-use Rattle.std.proofs.Common.{◌≡◌, ℕ, List, ap, sym, subst, ◌∙◌, ◌+◌, map}
-use Rattle.hx_index.specs.Invariant.{items_of}
+use Rattle.std.proofs.Common.{ap, sym, subst, ◌∙◌, map}
 use Rattle.hx_index.specs.Orders.{IndexState, IsIndexOf, count_of, rows_at, without}
 use Rattle.hx_index.proofs.Showing.{are-orders, removed-count, removed-index, removed-orders, removed-without}
 use Rattle.hx_index.proofs.indexes.Index.take_out.Goals as goal
