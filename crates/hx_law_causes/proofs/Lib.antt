@@ -10,4 +10,5 @@ pub mod Told
 pub mod Present
 pub mod Headline
 pub mod Replaying
+mod SmallBooks
 mod Example

@@ -1,3 +1,2 @@
 pub mod Books
 pub mod OneServer
-pub mod SmallBooks
