@@ -1,6 +1,6 @@
 #!/usr/bin/env bash
 # Times `hx replay` of puts while a server of four is stopped and replicas are added in its place, and
-# of the same puts without that, 4,096 and 16,384 of them over 256 keys in 4 sessions. It prints seconds
+# of the same puts without that, 4,096 and 16,376 of them over 256 keys in 4 sessions. It prints seconds
 # (the best of three), microseconds for each entry, and the ratio of both runs, which stays below 1.5: an
 # epoch costs what it must.
 set -eu
@@ -27,7 +27,7 @@ each() {
   awk -v t="$2" '$1 == "call" && $6 > last { last = $6 } END { if (last > 0) printf "%.3f", 1000000 * t / last; else printf "-" }' "$1"
 }
 
-for puts in 4096 16384; do
+for puts in 4096 16376; do
   script "$puts" steady >"$work/script.hx"
   taken=$(seconds replay "$work/script.hx")
   steady=$(each "$work/written" "$taken")

@@ -77,20 +77,27 @@ loads = [
 def run(program, path, out):
     with open(path) as text:
         began = time.perf_counter()
-        done = subprocess.Popen([program, "replay"], stdin=text, stdout=out)
-        _, status, used = os.wait4(done.pid, 0)
-        return time.perf_counter() - began, used.ru_maxrss / 1024, status
+        subprocess.run([program, "replay"], stdin=text, stdout=out)
+        return time.perf_counter() - began
+
+
+def memory(program, path):
+    """Megabytes at most, told by a process that has few of its own: a child counts its parent's."""
+    with open(path) as text:
+        told = subprocess.run(["/usr/bin/time", "-f", "%M", program, "replay"], stdin=text, stdout=subprocess.DEVNULL,
+                              stderr=subprocess.PIPE, text=True)
+    return int(told.stderr.split()[-1]) / 1024
 
 
 for name, text in loads:
-    path, best, most = os.path.join(work, "script"), [9e9, 9e9], [0, 0]
+    path, best = os.path.join(work, "script"), [9e9, 9e9]
     with open(path, "w") as out:
         out.write(text)
     for _ in range(runs):
         for i, program in enumerate([mine, other]):
             with open(os.path.join(work, "out%d" % i), "wb") as out:
-                taken, memory, _ = run(program, path, out)
-            best[i], most[i] = min(best[i], taken), max(most[i], memory)
+                best[i] = min(best[i], run(program, path, out))
+    most = [memory(program, path) for program in (mine, other)]
     with open(os.path.join(work, "out0"), "rb") as a, open(os.path.join(work, "out1"), "rb") as b:
         same = "" if a.read() == b.read() else ", differs"
     print(f"{name}: {1000 * best[0]:.1f} and {1000 * best[1]:.1f} ms, {best[0] / best[1]:.2f} times; "
