@@ -38,7 +38,12 @@ fn each_read_may_fail(rt: HostRuntime) -> Result<(), Fail> {
 /// Whether a replay whose write behind so many bytes fails, a byte at each write, tells a fault of
 /// writing and has written these bytes.
 fn fails_to_write(alloc: Global, written: usize) -> Result<bool, Fail> {
-    let mut sink = MemorySink::new(alloc, 4096, 1, vec![in alloc; written as u64 + 1]?)?;
+    let mut sink = MemorySink::new(
+        alloc,
+        4096,
+        1,
+        vec![in alloc; (written as u64).saturating_add(1)]?,
+    )?;
     let done = run(alloc, "replay", FIRST.as_bytes(), &mut sink)?;
     let told = done.outcome == Outcome::WriteFault && done.status == 5;
     Ok(told && FIRST_REPORT.as_bytes().get(..written) == Some(sink.bytes()))
