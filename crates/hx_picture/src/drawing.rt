@@ -11,6 +11,9 @@ const LONGEST_CALL: usize = 58;
 /// The most characters of a message that are shown.
 const LONGEST_LABEL: usize = 24;
 
+/// How far a post of an actor to itself bows out, in pixels.
+const BOW: usize = 40;
+
 /// The diagram of a run.
 pub fn picture(alloc: Global, run: &Run) -> Result<String, PictureError> {
     let mut svg = String::new(alloc);
@@ -224,15 +227,29 @@ fn arrow(
     } else {
         ""
     };
-    let ((left, top), (right, bottom)) = (from, to);
+    svg.push_str("<path d=\"")?;
+    way(svg, from, to)?;
     write!(
         svg,
-        "<path d=\"M{left} {top}L{right} {bottom}\" stroke=\"{color}\" fill=\"none\"{dashes} marker-end=\"url(#{name})\"/>"
+        "\" stroke=\"{color}\" fill=\"none\"{dashes} marker-end=\"url(#{name})\"/>"
     )?;
     if again {
         return svg.push_str("\n");
     }
     told(svg, label, color, part_of_way(from, to))
+}
+
+/// A straight way from one point to another, or a bow where an actor posts to itself.
+fn way(svg: &mut String, from: (usize, usize), to: (usize, usize)) -> Result<(), AllocError> {
+    let ((left, top), (right, bottom)) = (from, to);
+    if left != right {
+        return write!(svg, "M{left} {top}L{right} {bottom}");
+    }
+    let bow = left.saturating_add(BOW);
+    write!(
+        svg,
+        "M{left} {top}C{bow} {top} {bow} {bottom} {right} {bottom}"
+    )
 }
 
 /// A post that nobody took.
@@ -253,9 +270,14 @@ fn stub(
     told(svg, label, color, (right, bottom))
 }
 
-/// A third of the way from one point to another.
+/// A third of the way from one point to another; beside the bow where an actor posts to itself.
 fn part_of_way(from: (usize, usize), to: (usize, usize)) -> (usize, usize) {
-    (third_from(from.0, to.0), third_from(from.1, to.1))
+    let x = if from.0 == to.0 {
+        from.0.saturating_add(BOW)
+    } else {
+        third_from(from.0, to.0)
+    };
+    (x, third_from(from.1, to.1))
 }
 
 fn third_from(from: usize, to: usize) -> usize {
