@@ -19,7 +19,8 @@ commands() {
 
 stale() {
   [ ! -x "$program" ] && return 0
-  [ -n "$(find "$top/crates" "$top/crates.txt" \( -name '*.rt' -o -name '*.antt' -o -name crates.txt \) -newer "$program" -not -path '*/out/*' -print -quit)" ]
+  [ -n "$(find "$top/crates" "$top/crates.txt" \( -name '*.rt' -o -name '*.antt' -o -name crates.txt \) -newer "$program" \
+    -not -path '*/out/*' -not -path '*/hx_picture/*' -not -path '*/hx_tests/*' -print -quit)" ]
 }
 
 # below: the crates that the program depends on, lowest first, a line each
@@ -71,8 +72,11 @@ draw() {
     (cd "${picture%/out/*}" && rt run -- --built </dev/null) >>"$log" 2>&1
     [ -x "$picture" ] || { printf 'hx: the picture was not built; the whole log is %s\n' "$log" >&2; return 1; }
   fi
-  set -o pipefail
-  "$program" replay --trace | "$picture"
+  trace=$(mktemp) || return 1
+  "$program" replay --trace >"$trace" && "$picture" <"$trace"
+  status=$?
+  rm -f "$trace"
+  return "$status"
 }
 
 if [ "${1-}" = --unproved ]; then
