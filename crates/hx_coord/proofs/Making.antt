@@ -28,7 +28,7 @@ use Rattle.hx_model.specs.CoordinatorSteps.{Answered, CoordinatorState, Coordina
 use Rattle.hx_law_lemmas.proofs.Lists.{all-of, in-append, in-filter, in-flat_map, in-map, in-provided, in-slice_get, when_some_both}
 use Rattle.hx_posts.proofs.Bounds.{answer-up}
 use Rattle.hx_coord.specs.Coordinators.{MaybeAnswerUpTo, servers_waited_for}
-use Rattle.hx_coord.specs.Posted.{MessageUpTo, actors_of_config, actors_of_message, actors_of_op, servers_among}
+use Rattle.hx_types.specs.Posted.{MessageUpTo, actors_of_config, actors_of_message, actors_of_op, servers_among}
 
 -- what stands in a list of which an item is set
 in-slice_set : {A : Type 0} (xs : List A) (i : ℕ) (y : A) (x : A) → IsIn x (slice_set xs i y) → (x ≡ y) ⊎ IsIn x xs

@@ -25,7 +25,7 @@ use Rattle.hx_posts.proofs.Bounds.{answer-up}
 use Rattle.hx_posts.proofs.Configs.{first-of_space}
 use Rattle.hx_posts.proofs.CoordinatorSteps.{DoesWell, IsMaybeSound, IsSoundCoordinator, WaitsFor, coordinator-good}
 use Rattle.hx_coord.specs.Coordinators.{CoordinatorUpTo, IsCoordinatorOf, IsInputOf, IsMaybeAnswerOf, IsTaskOf, MaybeAnswerUpTo, actors_of_coordinator, actors_of_task, known_to, servers_waited_for}
-use Rattle.hx_coord.specs.Posted.{ArePostsOf, IsPostOf, MessageUpTo, NameOnly, NamesOnly, PostsUpTo, actors_of_config, actors_of_input, actors_of_message, servers_among}
+use Rattle.hx_types.specs.Posted.{ArePostsOf, IsPostOf, MessageUpTo, NameOnly, NamesOnly, PostsUpTo, actors_of_config, actors_of_input, actors_of_message, servers_among}
 use Rattle.hx_coord.proofs.Making.{IsGood, Knows, KnowsInput, stepped}
 
 -- an item of a list maps to one of the mapped list

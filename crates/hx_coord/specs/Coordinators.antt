@@ -15,7 +15,7 @@ use Rattle.hx_types.specs.Spaces.{Fits, IsAnswerOf, IsConfigOf, IsServerOf}
 use Rattle.hx_types.specs.Words.{below, post}
 use Rattle.hx_model.specs.CoordinatorSteps.{CoordinatorState, Newest, Phase, Sealing, Steady, Task, coordinator_step}
 use Rattle.hx_model.specs.Runs.{entry_of}
-use Rattle.hx_coord.specs.Posted.{actors_of_config, actors_of_input, actors_of_op}
+use Rattle.hx_types.specs.Posted.{actors_of_config, actors_of_input, actors_of_op}
 
 -- the coordinator's entry for an input
 abbrev pub coordinator_entry : CoordinatorState → Input → Entry

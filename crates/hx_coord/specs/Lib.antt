@@ -1,4 +1,3 @@
-pub mod Posted
 pub mod Coordinators
 pub mod Changes
 pub mod Leaving

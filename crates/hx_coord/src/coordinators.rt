@@ -4,7 +4,7 @@ ghost use Rattle.hx_types.specs.Spaces.{IsSpace};
 ghost use Rattle.hx_model.specs.CoordinatorSteps.{coordinator_at_start, coordinator_step};
 ghost use Rattle.hx_coord.specs.Changes.{IsMade, IsPlanOn};
 ghost use Rattle.hx_coord.specs.Coordinators.{CanTake, CoordinatorUpTo, IsCoordinatorOf, IsInputOf, known_to};
-ghost use Rattle.hx_coord.specs.Posted.{ArePostsOf, NameOnly, PostsUpTo};
+ghost use Rattle.hx_types.specs.Posted.{ArePostsOf, NameOnly, PostsUpTo};
 
 use crate::agendas::Agenda;
 use crate::hearing::hear;

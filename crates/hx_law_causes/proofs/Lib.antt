@@ -10,5 +10,4 @@ pub mod Told
 pub mod Present
 pub mod Headline
 pub mod Replaying
-mod SmallBooks
 mod Example

@@ -5,7 +5,6 @@ pub mod Kept
 pub mod Finding
 pub mod Staying
 pub mod Order
-pub mod SmallBooks
 pub mod Examples
 pub mod Making
 pub mod Posted

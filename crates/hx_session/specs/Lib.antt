@@ -1,5 +1,4 @@
 pub mod Kinds
-pub mod Posted
 pub mod Sessions
 pub mod Changes
 pub mod Joined

@@ -13,7 +13,7 @@ use Rattle.hx_types.specs.Posts.{IsSoundPost}
 use Rattle.hx_types.specs.Words.{post}
 use Rattle.hx_model.specs.Runs.{entry_of}
 use Rattle.hx_model.specs.SessionSteps.{SessionState, session_step}
-use Rattle.hx_session.specs.Posted.{actors_of_config, actors_of_input, actors_of_op}
+use Rattle.hx_types.specs.Posted.{actors_of_config, actors_of_input, actors_of_op}
 
 -- a session of a space, and its state as the definitions fold it
 pub record SessionValue : Type 0 where

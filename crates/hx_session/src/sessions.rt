@@ -6,7 +6,7 @@ ghost use Rattle.hx_types.specs.Spaces.{Fits, IsSpace};
 ghost use Rattle.hx_model.specs.Schedule.{is_idle};
 ghost use Rattle.hx_model.specs.SessionSteps.{Part as PartSeen, awaits, begin, call_under_way, end_with_parts, ending, found_step, session_at_start, session_install, session_message, session_step, session_tick, staying};
 ghost use Rattle.hx_session.specs.Changes.{IsMade, IsPlanOn, in_config, sent_anew, with_parts};
-ghost use Rattle.hx_session.specs.Posted.{ArePostsOf, InputUpTo, NameOnly, PostsUpTo};
+ghost use Rattle.hx_types.specs.Posted.{ArePostsOf, InputUpTo, NameOnly, PostsUpTo};
 ghost use Rattle.hx_session.specs.Sessions.{CanTake, SessionUpTo, is_ended, known_to};
 ghost use Rattle.hx_session.specs.Kinds.{kind_test};
 

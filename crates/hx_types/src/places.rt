@@ -15,8 +15,8 @@ use std::slice;
 /// The places of an update in the order of its chain: at most [`MOST_PLACES`](crate::MOST_PLACES).
 /// Contracts see them as that list.
 ///
-/// Up to eight of them, as many as an update of three declared subspaces has, are kept in the value
-/// itself.
+/// Up to eight of them, one more than an update of three declared subspaces can have, are kept in
+/// the value itself.
 #[derive(Drop)]
 pub struct Places {
     items: SmallVec<Place, 8>,

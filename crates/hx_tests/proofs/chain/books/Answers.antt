@@ -1,5 +1,5 @@
 -- Its parts make a valid space.
-use Rattle.hx_session.proofs.SmallBooks.{small_books_are}
+use Rattle.hx_law_lemmas.proofs.SmallBooks.{small_books_are}
 use Rattle.hx_tests.proofs.chain.books.Goals as goal
 
 pub returns : goal.returns

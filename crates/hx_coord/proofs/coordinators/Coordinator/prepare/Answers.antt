@@ -1,6 +1,6 @@
 use Rattle.std.proofs.Common.{◌+◌, sym, subst}
 use Rattle.hx_coord.specs.Coordinators.{known_to}
-use Rattle.hx_coord.specs.Posted.{ArePostsOf, NameOnly, PostsUpTo}
+use Rattle.hx_types.specs.Posted.{ArePostsOf, NameOnly, PostsUpTo}
 use Rattle.hx_coord.proofs.Posted.{posts_named, posts_of_space, posts_small}
 use Rattle.hx_coord.proofs.coordinators.Coordinator.prepare.Goals as goal
 
