@@ -1,0 +1,15 @@
+use Rattle.std.proofs.Common.{ap, ◌∙◌, ◌∷◌, [], ◌++◌, ◌+◌, length-append}
+use Rattle.hx_clock.specs.Parts.{stamped}
+use Rattle.hx_gather.proofs.tests.act_often.Goals as goal
+
+pub loop-turn-preserved : goal.loop-turn-preserved
+loop-turn-preserved c =
+    let own = c.loop-turn.invariant.1 in (
+      c.act.ensures.clock,
+      (
+        own.0,
+        own.1 ++ stamped c.act.result.0 c.idle-entry.result ∷ [],
+        c.act.ensures.own own.0 own.1 own.2,
+        length-append own.1 (stamped c.act.result.0 c.idle-entry.result ∷ []) ∙ ap (λ n. n + 1) own.3,
+      ),
+    )

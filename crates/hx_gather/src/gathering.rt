@@ -1,0 +1,75 @@
+ghost use Rattle.std.specs.Prelude.{◌≡◌, [], List, map, reverse, IfOk};
+ghost use Rattle.std.specs.List.{AllByRecursion};
+ghost use Rattle.hx_types.specs.declared.traces.Script.{Script};
+ghost use Rattle.hx_model.specs.Runs.{IsRun};
+ghost use Rattle.hx_clock.specs.declared.parts.Stamped.{Stamped};
+ghost use Rattle.hx_law_threads.specs.Merged.{AreOwnParts, AreWholeParts, HasOwnParts, HasStampsAsPlaces, IsMerged};
+ghost use Rattle.hx_gather.specs.Gathered.{parts_by, parts_of, CountsAll, IsSeated};
+
+use crate::merging::merge_lists;
+use hx_clock::{Clock, Part, Seat, Stamped};
+use hx_types::{Actor, Memory, Trace};
+use std::alloc::Global;
+
+/// What one actor made, with the seat that carries it. It is all that is left of an actor that
+/// takes no more turns.
+#[derive(Drop)]
+pub struct SeatedPart {
+    pub actor: Actor,
+    pub part: Part,
+    pub seat: Seat,
+}
+
+/// The trace of all actors of a clock: the entries of their parts in the order of their stamps, so
+/// that an entry's number is its stamp plus 1. It closes the clock, whose counting seat it takes.
+///
+/// Where the parts are what different actors of a script made on their own, the trace is a run of
+/// that script, and each actor's entries in it are its part: so its state at the end is the one that
+/// it has. Whatever the threads did, the laws over all runs hold of it.
+///
+/// The entries are moved and not copied: beside the parts there is memory for the trace alone.
+pub fn gather(
+    alloc: Global,
+    clock: Clock,
+    seat: Seat,
+    actors: Vec<SeatedPart>,
+) -> Result<Trace, Memory>
+    requires clock { seat.clock ≡ clock }
+    requires counting { seat.view.carried ≡ [] }
+    requires seats { AllByRecursion (IsSeated clock) actors.items }
+    requires all { CountsAll seat actors.items }
+    ensures whole { IfOk result (λ trace. (merged : List Stamped) × IsMerged (parts_of actors.items) merged × HasStampsAsPlaces merged × (trace ≡ map (λ x. x.entry) merged)) }
+    ensures run { IfOk result (λ trace. (script : Script) → AreOwnParts script (parts_by actors.items) → IsRun script (reverse trace)) }
+    ensures own { IfOk result (λ trace. (script : Script) → AreOwnParts script (parts_by actors.items) → HasOwnParts (parts_by actors.items) (reverse trace)) }
+{
+    let lists = collect(alloc, clock, seat, actors)?;
+    merge_lists(alloc, lists)
+}
+
+/// The parts as vectors, once the counting seat has taken in the seats of all actors.
+fn collect(
+    alloc: Global,
+    clock: Clock,
+    mut seat: Seat,
+    actors: Vec<SeatedPart>,
+) -> Result<Vec<Vec<Stamped>>, Memory>
+    requires clock { seat.clock ≡ clock }
+    requires counting { seat.view.carried ≡ [] }
+    requires seats { AllByRecursion (IsSeated clock) actors.items }
+    requires all { CountsAll seat actors.items }
+    ensures parts { IfOk result (λ lists. map (λ list. list.items) lists.items ≡ parts_of actors.items) }
+    ensures whole { IfOk result (λ _. AreWholeParts (parts_of actors.items)) }
+{
+    let mut lists = Vec::new(alloc);
+    for actor in actors {
+        let SeatedPart {
+            actor: _,
+            part,
+            seat: other,
+        } = actor;
+        clock.learn(&mut seat, other);
+        lists.push(part.into_vec())?;
+    }
+    let _ = clock.close(seat);
+    Ok(lists)
+}
