@@ -1,0 +1,5 @@
+pub mod Lists
+pub mod Desks
+pub mod Courses
+pub mod Seen
+pub mod Opens
