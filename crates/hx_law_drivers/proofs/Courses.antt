@@ -1,23 +1,22 @@
 -- What a course tells: the crews at its cuts are earlier ones, and each retry comes first after a cut.
-use Rattle.std.proofs.Common.{◌≡◌, ℕ, ◌+◌, ◌<◌, ◌≤◌, ◌⊎◌, inl, inr, ⊎_elim, Bool, true, false, List, [], ◌∷◌, ◌++◌, map, length, Some, slice_get, refl, ap, sym, subst, ◌∙◌, arith, length-append, true≢false}
+use Rattle.std.proofs.Common.{◌≡◌, ℕ, ◌+◌, ◌<◌, ◌≤◌, inl, inr, ⊎_elim, true, false, List, [], ◌∷◌, map, length, Some, slice_get, refl, ap, sym, subst, ◌∙◌, arith, length-append, true≢false}
 use Rattle.std.specs.List.{AllByRecursion}
-use mathlib.Core.List.{IsPrefix}
 use Rattle.atomic_table.specs.Seated.{TableId}
 use Rattle.hx_types.specs.declared.traces.Script.{Script}
 use Rattle.hx_types.specs.Words.{IsIn}
 use Rattle.hx_clock.specs.declared.parts.Stamped.{Stamped}
 use Rattle.hx_clock.proofs.Lists.{each_map, get-below}
-use Rattle.hx_law_threads.specs.Cuts.{is_retry, is_waiting, Cut}
-use Rattle.hx_law_threads.specs.Pacing.{earlier, AreRising}
+use Rattle.hx_law_threads.specs.Cuts.{is_retry, is_waiting}
+use Rattle.hx_law_threads.specs.Pacing.{AreRising}
 use Rattle.hx_mail.specs.Boxes.{Boxed}
 use Rattle.hx_outbox.specs.Zipped.{Both}
 use Rattle.hx_desk.specs.declared.desks.Desk.{Desk}
-use Rattle.hx_desk.specs.Desks.{entries_before, HasNoRetry, HasOneRetry, HasRetried, IsLater}
+use Rattle.hx_desk.specs.Desks.{entries_before, HasNoRetry, HasRetried, IsLater}
 use Rattle.hx_driver.specs.declared.crews.Crew.{Crew}
 use Rattle.hx_driver.specs.Slices.{IsLaterCrew, MayHaveRetried}
-use Rattle.hx_law_drivers.specs.Courses.{AreSliced, IsCourse, IsCutAt, IsRetried, IsSliced}
+use Rattle.hx_law_drivers.specs.Courses.{AreSliced, IsCourse, IsCutAt, AreRetried, IsSliced}
 use Rattle.hx_law_drivers.specs.Crews.{cut_of, desks_of}
-use Rattle.hx_law_drivers.proofs.Lists.{both_and, both_append, both_back, both_in, both_map, both_then, bool_cases, lt_or_le, prefix_get, prefix_length, snoc_get}
+use Rattle.hx_law_drivers.proofs.Lists.{both_and, both_back, both_map, both_then, bool_cases, lt_or_le, prefix_get, snoc_get}
 use Rattle.hx_law_drivers.proofs.Desks.{calm_before, fewer_before, later_crews, later_desks, of_desks, AreCalm, AreLater}
 
 sliced_later : (xs ys : List Crew) → AreSliced xs ys → AreLater xs ys
@@ -27,18 +26,11 @@ sliced_desks : (xs ys : List Crew) → AreSliced xs ys → Both HasNoRetry (desk
 sliced_desks xs ys h = of_desks IsSliced HasNoRetry (λ x y k. k.retries) xs ys h
 
 module _ (script : Script) where
-  retried_later : (xs ys : List Crew) → Both (IsRetried script) xs ys → AreLater xs ys
-  retried_later xs ys h = both_map (IsRetried script) IsLaterCrew (λ x y k. k.later) xs ys h
+  retried_desks : (xs ys : List Crew) → AreRetried script xs ys → Both (MayHaveRetried script) (desks_of xs) (desks_of ys)
+  retried_desks xs ys h = of_desks (λ (c c' : Crew). Both (MayHaveRetried script) c.desks.items c'.desks.items) (MayHaveRetried script) (λ x y k. k) xs ys h.some
 
-  retried_desks : (xs ys : List Crew) → Both (IsRetried script) xs ys → Both (MayHaveRetried script) (desks_of xs) (desks_of ys)
-  retried_desks xs ys h = of_desks (IsRetried script) (MayHaveRetried script) (λ x y k. k.retried.some) xs ys h
-
-  calm_retried : (xs ys : List Crew) → Both (IsRetried script) xs ys → AreCalm ys → Both (HasRetried script) (desks_of xs) (desks_of ys)
-  calm_retried [] [] h calm = tt
-  calm_retried [] (y ∷ ys) h calm = absurd h
-  calm_retried (x ∷ xs) [] h calm = absurd h
-  calm_retried (x ∷ xs) (y ∷ ys) h calm =
-      both_append (HasRetried script) x.desks.items (desks_of xs) y.desks.items (desks_of ys) (h.0.retried.calm calm.0) (calm_retried xs ys h.1 calm.1)
+  calm_retried : (xs ys : List Crew) → AreRetried script xs ys → AreCalm ys → Both (HasRetried script) (desks_of xs) (desks_of ys)
+  calm_retried xs ys h calm = of_desks (λ (c c' : Crew). Both (HasRetried script) c.desks.items c'.desks.items) (HasRetried script) (λ x y k. k) xs ys (h.calm calm)
 
   -- the same desk before slices, and before a retry
   sliced_back : (xs ys : List Crew) (e : Desk) → AreSliced xs ys → IsIn e (desks_of ys) → (d : Desk) × IsIn d (desks_of xs) × (IsLater d e × HasNoRetry d e)
@@ -46,10 +38,10 @@ module _ (script : Script) where
       both_back (λ d e. IsLater d e × HasNoRetry d e) (desks_of xs) (desks_of ys) e
       (both_and IsLater HasNoRetry (desks_of xs) (desks_of ys) (later_desks xs ys (sliced_later xs ys h)) (sliced_desks xs ys h)) i
 
-  retried_back : (xs ys : List Crew) (e : Desk) → Both (IsRetried script) xs ys → IsIn e (desks_of ys) → (d : Desk) × IsIn d (desks_of xs) × (IsLater d e × MayHaveRetried script d e)
+  retried_back : (xs ys : List Crew) (e : Desk) → AreRetried script xs ys → IsIn e (desks_of ys) → (d : Desk) × IsIn d (desks_of xs) × (IsLater d e × MayHaveRetried script d e)
   retried_back xs ys e h i =
       both_back (λ d e. IsLater d e × MayHaveRetried script d e) (desks_of xs) (desks_of ys) e
-      (both_and IsLater (MayHaveRetried script) (desks_of xs) (desks_of ys) (later_desks xs ys (retried_later xs ys h)) (retried_desks xs ys h)) i
+      (both_and IsLater (MayHaveRetried script) (desks_of xs) (desks_of ys) (later_desks xs ys h.later) (retried_desks xs ys h)) i
 
   -- a retry adds at most one entry
   one_more : (d m : Desk) → MayHaveRetried script d m → length m.part.items ≤ length d.part.items + 1
@@ -78,7 +70,7 @@ module _ (script : Script) where
   module _ (clock : TableId) (boxes : List Boxed) (w : ℕ) where
     -- the crews at a cut are those before the next one
     pub cut_later : (start cut : List Crew) (older : List (List Crew)) (now : List Crew) → IsCourse script clock boxes w start (cut ∷ older) now → AreLater cut now
-    cut_later start cut older now h = later_crews cut h.2.0 now (retried_later cut h.2.0 h.2.1) (sliced_later h.2.0 now h.2.2)
+    cut_later start cut older now h = later_crews cut h.2.0 now h.2.1.later (sliced_later h.2.0 now h.2.2)
 
     pub start_later : (start : List Crew) (cuts : List (List Crew)) (now : List Crew) → IsCourse script clock boxes w start cuts now → AreLater start now
     start_later start [] now h = sliced_later start now h
@@ -114,11 +106,10 @@ module _ (script : Script) where
     waiters_retry start (cut ∷ older) now h calm =
         let mid = h.2.0 in
         let on = sliced_later mid now h.2.2 in
-        let here = both_then (HasRetried script) IsLater RetriesNext next_retried (desks_of cut) (desks_of mid) (desks_of now) (calm_retried cut mid h.2.1 (calm_before mid now on calm)) (later_desks mid now on) in
-        (
+        let here = both_then (HasRetried script) IsLater RetriesNext next_retried (desks_of cut) (desks_of mid) (desks_of now) (calm_retried cut mid h.2.1 (calm_before mid now on calm)) (later_desks mid now on) in (
           here,
           each_map (λ (k : List Crew). Both RetriesNext (desks_of k) (desks_of cut)) (λ (k : List Crew). Both RetriesNext (desks_of k) (desks_of now)) older
-          (λ k i b. next_on k cut now (cut_later start cut older now h) b) (waiters_retry start older cut h.1 h.0.rest.calm),
+              (λ k i b. next_on k cut now (cut_later start cut older now h) b) (waiters_retry start older cut h.1 h.0.rest.calm),
         )
 
     -- and after each cut but the last one in any case

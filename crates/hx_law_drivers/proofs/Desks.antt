@@ -1,21 +1,15 @@
 -- All desks of some crews, and the same desks later.
-use Rattle.std.proofs.Common.{◌≡◌, ◌≢◌, ℕ, ◌+◌, ◌≤◌, ⊎_elim, true, false, cond, List, [], ◌∷◌, map, length, None, refl, ap, sym, subst, ◌∙◌, arith}
+use Rattle.std.proofs.Common.{◌≡◌, ◌≢◌, ◌≤◌, inl, inr, false, cond, List, [], ◌∷◌, map, length, None, refl, ap, sym, subst, ◌∙◌, arith}
 use Rattle.std.specs.List.{AllByRecursion, IsDistinct}
 use Rattle.std.proofs.lemmas.Bool.{cond_both}
-use mathlib.Core.List.{IsPrefix}
 use Rattle.hx_types.specs.declared.ids.Actor.{Actor}
 use Rattle.hx_types.specs.declared.traces.Script.{Script}
 use Rattle.hx_types.specs.Words.{same_actor, IsIn}
-use Rattle.hx_model.specs.Runs.{is_actor}
-use Rattle.hx_clock.specs.declared.parts.Stamped.{Stamped}
-use Rattle.hx_clock.specs.Views.{total}
 use Rattle.hx_clock.proofs.Lists.{each_all, each_in}
-use Rattle.hx_law_threads.specs.Cuts.{Cut}
 use Rattle.hx_law_threads.specs.Merged.{actors_in, ActorPart}
 use Rattle.hx_law_threads.specs.PartPacing.{HasAllActors, HaveCut}
 use Rattle.hx_law_threads.proofs.Actors.{same_actor_is, same_as_itself}
 use Rattle.hx_law_threads.proofs.Lists.{in_map}
-use Rattle.hx_outbox.specs.Outboxes.{outs_of}
 use Rattle.hx_outbox.specs.Zipped.{Both}
 use Rattle.hx_outbox.proofs.Lists.{begins-refl, begins-trans}
 use Rattle.hx_outbox.proofs.Outs.{more-refl, more-trans}
@@ -24,7 +18,7 @@ use Rattle.hx_desk.specs.Inboxes.{ins_of}
 use Rattle.hx_desk.specs.Desks.{IsLater}
 use Rattle.hx_driver.specs.declared.crews.Crew.{Crew}
 use Rattle.hx_driver.specs.Slices.{IsLaterCrew}
-use Rattle.hx_law_drivers.specs.Crews.{cut_of, desks_of, doubled_by, entries_at, lost_by, part_of, parts_of, HaveAllActors}
+use Rattle.hx_law_drivers.specs.Crews.{cut_of, desks_of, entries_at, lost_by, part_of, parts_of, HaveAllActors}
 use Rattle.hx_law_drivers.proofs.Lists.{both_append, both_back, both_in, both_self, both_then, each_of_map, map_map, prefix_length}
 
 pub later_self : (d : Desk) → IsLater d d
@@ -107,9 +101,9 @@ actors_later script xs ys h k =
     let l = later_desks xs ys h in
     record {
       all = λ a known.
-      let d = k.all a known in
-      let e = both_in IsLater (desks_of xs) (desks_of ys) d.0 l d.1 in
-      (e.0, e.1, e.2.actor ∙ d.2);
+          let d = k.all a known in
+          let e = both_in IsLater (desks_of xs) (desks_of ys) d.0 l d.1 in
+          (e.0, e.1, e.2.actor ∙ d.2);
       apart = subst (IsDistinct same_actor) (sym (same_actors (desks_of xs) (desks_of ys) l)) k.apart;
     }
 
@@ -149,10 +143,10 @@ have_cut xs ys h apart =
     let l = later_desks xs ys h in
     record {
       within = each_of_map part_of (λ (p : ActorPart). cut_of xs p.actor ≤ length p.part) (desks_of ys) (each_all (λ (e : Desk). cut_of xs e.actor ≤ length e.part.items) (desks_of ys)
-      (λ e i.
-      let d = both_back IsLater (desks_of xs) (desks_of ys) e l i in
-      let n : cut_of xs e.actor ≡ length d.0.part.items = ap (cut_of xs) d.2.actor ∙ entries_of_desk (desks_of xs) d.0 apart d.1 in
-      omega (arith, n, prefix_length d.0.part.items e.part.items d.2.part)));
+          (λ e i.
+          let d = both_back IsLater (desks_of xs) (desks_of ys) e l i in
+          let n : cut_of xs e.actor ≡ length d.0.part.items = ap (cut_of xs) d.2.actor ∙ entries_of_desk (desks_of xs) d.0 apart d.1 in
+          omega (arith, n, prefix_length d.0.part.items e.part.items d.2.part)));
       others = λ a none. no_entries (desks_of xs) (desks_of ys) l a none;
     }
 

@@ -1,5 +1,5 @@
 -- Lists place by place, prefixes, and sums.
-use Rattle.std.proofs.Common.{◌≡◌, ℕ, zero, suc, ◌+◌, ◌<◌, ◌≤◌, ◌⊎◌, inl, inr, ⊎_elim, Bool, true, false, List, [], ◌∷◌, ◌++◌, map, take, length, flat_map, Some, slice_get, refl, ap, sym, subst, ◌∙◌, arith, length-append}
+use Rattle.std.proofs.Common.{◌≡◌, ℕ, zero, suc, ◌<◌, ◌≤◌, ◌⊎◌, inl, inr, ⊎_elim, Bool, true, false, List, [], ◌∷◌, ◌++◌, map, take, length, flat_map, Some, slice_get, refl, ap, sym, subst, ◌∙◌, arith, length-append}
 use Rattle.std.specs.List.{AllByRecursion}
 use mathlib.Core.List.{IsPrefix}
 use Rattle.hx_types.specs.Words.{IsIn}
@@ -41,17 +41,16 @@ module _ {A : Type 0} where
   snoc_get [] x = refl
   snoc_get (y ∷ xs) x = snoc_get xs x
 
-  head_or : A → List A → A
+  abbrev head_or : A → List A → A
   head_or d [] = d
   head_or d (x ∷ xs) = x
 
-  tail_of : List A → List A
+  abbrev tail_of : List A → List A
   tail_of [] = []
   tail_of (x ∷ xs) = xs
 
   -- two prefixes of one list that are as long are the same
   pub prefix_same : (xs ys zs : List A) → IsPrefix xs zs → IsPrefix ys zs → length xs ≡ length ys → xs ≡ ys
-  unfolding head_or, tail_of
   prefix_same [] [] zs h k e = refl
   prefix_same [] (y ∷ ys) zs h k e = absurd (omega (arith, e))
   prefix_same (x ∷ xs) [] zs h k e = absurd (omega (arith, e))
@@ -115,6 +114,10 @@ map_map f g (x ∷ xs) = ap (λ l. g (f x) ∷ l) (map_map f g xs)
 pub each_of_map : {A B : Type 0} (f : A → B) (P : B → Type 0) (xs : List A) → AllByRecursion (λ x. P (f x)) xs → AllByRecursion P (map f xs)
 each_of_map f P [] h = tt
 each_of_map f P (x ∷ xs) h = (h.0, each_of_map f P xs h.1)
+
+pub each_two : {A : Type 0} (P Q R : A → Type 0) → ((x : A) → P x → Q x → R x) → (xs : List A) → AllByRecursion P xs → AllByRecursion Q xs → AllByRecursion R xs
+each_two P Q R f [] h k = tt
+each_two P Q R f (x ∷ xs) h k = (f x h.0 k.0, each_two P Q R f xs h.1 k.1)
 
 pub of_flat : {A B : Type 0} (f : A → List B) (xs : List A) (y : B) → IsIn y (flat_map f xs) → (x : A) × IsIn x xs × IsIn y (f x)
 of_flat f [] y i = absurd i

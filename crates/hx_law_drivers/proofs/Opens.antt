@@ -1,7 +1,7 @@
 -- Where drivers are at rest, what was put was delivered, or came to a halted server: so what is open was lost.
-use Rattle.std.proofs.Common.{◌≡◌, ℕ, zero, suc, ◌+◌, ◌-◌, ◌*◌, ◌<◌, ◌≤◌, inl, inr, ⊎_elim, Bool, true, false, cond, eqb, List, [], ◌∷◌, ◌++◌, map, length, Some, None, slice_get, slice_index_or, refl, ap, sym, subst, ◌∙◌, arith, true≢false, append-nil}
-use Rattle.std.specs.Prelude.{◌&&◌}
-use Rattle.std.specs.List.{AllByRecursion, IsDistinct}
+use Rattle.std.proofs.Common.{◌≡◌, ℕ, zero, suc, ◌+◌, ◌-◌, ◌*◌, ◌<◌, ◌≤◌, inl, inr, ⊎_elim, Bool, true, false, cond, eqb, List, [], ◌∷◌, map, length, Some, None, slice_get, slice_index_or, refl, ap, sym, subst, ◌∙◌, arith}
+use Rattle.std.specs.Prelude.{◌&&◌, nat_le, nat_lt}
+use Rattle.std.specs.List.{AllByRecursion}
 use Rattle.std.proofs.lemmas.Bool.{and_from, and_parts, eqb-true, le-leb, leb-true, lt-ltb, ltb-true}
 use mathlib.Core.List.{IsPrefix}
 use Rattle.atomic_table.specs.Seated.{TableId}
@@ -27,23 +27,23 @@ use Rattle.hx_mail.specs.Boxes.{Boxed, Ported}
 use Rattle.hx_mail.specs.Ports.{put_by}
 use Rattle.hx_mail.proofs.Lists.{put_by-append}
 use Rattle.hx_outbox.specs.Zipped.{Both}
-use Rattle.hx_outbox.specs.Places.{names_for, place_of, AreBoxes, Exists}
-use Rattle.hx_outbox.specs.Outboxes.{counts_of, kept_weight, out_weight, outs_of, IsOutbox, IsOutPort, MorePut}
+use Rattle.hx_outbox.specs.Places.{place_of, AreBoxes, Exists}
+use Rattle.hx_outbox.specs.Outboxes.{counts_of, kept_weight, out_weight, outs_of, IsOutPort, MorePut}
 use Rattle.hx_outbox.specs.Offers.{count_of, put_weight, IsFair, Offer}
-use Rattle.hx_outbox.proofs.Lists.{begins-refl, begins-trans}
+use Rattle.hx_outbox.proofs.Lists.{begins-trans}
 use Rattle.hx_outbox.proofs.Outs.{both-long}
 use Rattle.hx_desk.specs.declared.desks.Desk.{Desk}
 use Rattle.hx_desk.specs.Inboxes.{ins_of, IsHeardFrom}
 use Rattle.hx_desk.specs.Desks.{entries_before, made_by, told, IsLater, IsWholeDesk}
 use Rattle.hx_driver.specs.declared.crews.Crew.{Crew}
-use Rattle.hx_driver.specs.Crews.{made_weight, weight_in, IsBooked, IsCrew, IsDeskOf}
+use Rattle.hx_driver.specs.Crews.{made_weight, IsBooked, IsCrew, IsDeskOf}
 use Rattle.hx_driver.specs.Slices.{IsLaterCrew}
 use Rattle.hx_law_drivers.specs.Crews.{desks_of, lost_by, HaveAllActors}
 use Rattle.hx_law_drivers.specs.Joined.{outs_at, AreInOrder, IsInOrderOf}
 use Rattle.hx_law_drivers.specs.Rests.{AreAtRest, HasHeard, IsRested}
 use Rattle.hx_law_drivers.proofs.Lists.{both_in, bool_cases, in_flat, lt_or_le, of_flat, prefix_same, total_least, total_nothing, total_of_flat, total_of_map, total_some, total_under}
 use Rattle.hx_law_drivers.proofs.Desks.{later_desks, AreLater}
-use Rattle.hx_law_drivers.proofs.Seen.{by_name, past_is_before, seen_delivered, seen_posted, IsSeen}
+use Rattle.hx_law_drivers.proofs.Seen.{past_is_before, seen_delivered, seen_posted, IsSeen}
 
 -- the counts of what was heard, and of what was put
 heard_at : (k : ℕ) (ns : List ℕ) (ins : List Sent) (i n : ℕ) → IsHeardFrom k ns ins → slice_get ns i ≡ Some n → n ≡ length (put_by (k + i) ins)
@@ -102,27 +102,28 @@ outs_owned j (suc n) (b ∷ boxes) (p ∷ ps) m h i = outs_owned j n boxes ps m 
 -- an actor of the script exists, and each place is that of one
 pub actor_exists : (script : Script) (a : Actor) → is_actor script a ≡ true → Exists script a
 actor_exists script Coordinator h = tt
-actor_exists script (Server s) h = let p = and_parts _ _ h in (ltb-true 0 s.0 p.0, leb-true s.0 script.space.servers p.1)
-actor_exists script (Session u) h = let p = and_parts _ _ h in (ltb-true 0 u.0 p.0, leb-true u.0 (length script.sessions) p.1)
+actor_exists script (Server s) h = let p = and_parts (nat_lt 0 s.0) (nat_le s.0 script.space.servers) h in (ltb-true 0 s.0 p.0, leb-true s.0 script.space.servers p.1)
+actor_exists script (Session u) h = let p = and_parts (nat_lt 0 u.0) (nat_le u.0 (length script.sessions)) h in (ltb-true 0 u.0 p.0, leb-true u.0 (length script.sessions) p.1)
 
 actor_at : (script : Script) (n : ℕ) → n < 1 + script.space.servers + length script.sessions → (a : Actor) × (is_actor script a ≡ true) × (place_of script.space a ≡ n)
 actor_at script zero lt = (Coordinator, refl, refl)
 actor_at script (suc n) lt =
     ⊎_elim
-    (λ (h : n < script.space.servers). (Server (record { 0 = suc n }), and_from _ _ (lt-ltb 0 (suc n) (omega arith)) (le-leb (suc n) script.space.servers (omega (arith, h))), refl))
+    (λ (h : n < script.space.servers). (Server (record { 0 = suc n }), and_from (nat_lt 0 (suc n)) (nat_le (suc n) script.space.servers) (lt-ltb 0 (suc n) (omega arith)) (le-leb (suc n) script.space.servers (omega (arith, h))), refl))
     (λ (h : script.space.servers ≤ n).
     let k : ℕ = suc n - script.space.servers in
     let sum : script.space.servers + k ≡ suc n = omega (arith, h) in
-    (Session (record { 0 = k }), and_from _ _ (lt-ltb 0 k (omega (arith, sum, h))) (le-leb k (length script.sessions) (omega (arith, sum, lt))), sum)) (lt_or_le n script.space.servers)
+    (Session (record { 0 = k }), and_from (nat_lt 0 k) (nat_le k (length script.sessions)) (lt-ltb 0 k (omega (arith, sum, h))) (le-leb k (length script.sessions) (omega (arith, sum, lt))), sum)) (lt_or_le n script.space.servers)
 
 -- offers: what was put at all was offered, and of what wasn't put all was lost
 offered_some : (h : Mailed → ℕ) (os : List Offer) → AllByRecursion IsFair os → 1 ≤ put_weight h os → 1 ≤ total (λ (o : Offer). h o.mailed) os
 offered_some h [] f le = absurd (omega (arith, le))
-offered_some h (o ∷ os) f le = by (h o.mailed) refl
-  where
-    by : (n : ℕ) → h o.mailed ≡ n → 1 ≤ total (λ (p : Offer). h p.mailed) (o ∷ os)
-    by zero e = let here : o.times * h o.mailed ≡ 0 = ap (λ k. o.times * k) e ∙ omega arith in omega (arith, e, offered_some h os f.1 (omega (arith, le, here)))
-    by (suc n) e = omega (arith, e)
+offered_some h (o ∷ os) f le =
+    ⊎_elim (λ (e : 0 < h o.mailed). omega (arith, e))
+    (λ (e : h o.mailed ≤ 0).
+    let none : h o.mailed ≡ 0 = omega (arith, e) in
+    let here : o.times * h o.mailed ≡ 0 = ap (λ k. o.times * k) none ∙ omega arith in
+    omega (arith, offered_some h os f.1 (omega (arith, le, here)))) (lt_or_le 0 (h o.mailed))
 
 lost_one : (times : ℕ) (b : Bool) → times * one b ≡ 0 → one b ≤ one (eqb 0 times)
 lost_one zero true e = omega arith

@@ -1,8 +1,6 @@
 -- What the trace of merged parts shows of the crews at a moment.
-use Rattle.std.proofs.Common.{◌≡◌, ℕ, zero, suc, ◌+◌, ◌≤◌, inl, inr, ⊎_elim, Bool, true, false, cond, List, [], ◌∷◌, ◌++◌, map, take, length, flat_map, Some, slice_get, refl, ap, sym, subst, ◌∙◌, arith}
-use Rattle.std.specs.Prelude.{reverse}
-use Rattle.std.specs.List.{AllByRecursion, IsDistinct}
-use mathlib.Core.List.{IsPrefix}
+use Rattle.std.proofs.Common.{◌≡◌, ℕ, suc, ◌+◌, inl, inr, ⊎_elim, Bool, true, false, cond, List, [], ◌∷◌, map, take, length, Some, slice_get, refl, ap, sym, ◌∙◌, arith}
+use Rattle.std.specs.List.{IsDistinct}
 use Rattle.hx_types.specs.declared.ids.Actor.{Actor}
 use Rattle.hx_types.specs.declared.messages.Post.{Post}
 use Rattle.hx_types.specs.declared.messages.PostId.{PostId}
@@ -14,13 +12,13 @@ use Rattle.hx_types.specs.Words.{same_actor, IsIn}
 use Rattle.hx_model.specs.Runs.{post_named}
 use Rattle.hx_model.specs.Schedule.{entries_of, names_from}
 use Rattle.hx_clock.specs.declared.parts.Stamped.{Stamped}
-use Rattle.hx_clock.specs.Parts.{all_of, Posted}
+use Rattle.hx_clock.specs.Parts.{Posted}
 use Rattle.hx_clock.specs.Views.{total}
 use Rattle.hx_clock.proofs.Lists.{each_in, prefix_in, total-append}
 use Rattle.hx_law_threads.specs.Own.{own_entries, past_of}
 use Rattle.hx_law_threads.specs.Merged.{parts_in, ActorPart, AreOwnParts, AreWholeParts, HasOwnParts, IsMerged}
 use Rattle.hx_law_threads.specs.Cuts.{delivered_at, delivered_by, own_at, posted_at, whole_of, Cut}
-use Rattle.hx_law_threads.specs.Counting.{total_at, total_of_parts, total_over, weight_delivered, weight_made}
+use Rattle.hx_law_threads.specs.Counting.{total_at, total_over, weight_delivered, weight_made}
 use Rattle.hx_law_threads.specs.Laws.{IsReadInPart}
 use Rattle.hx_law_threads.proofs.Lists.{in_append, in_map, map_reverse}
 use Rattle.hx_law_threads.proofs.PartPaces.{whole_adds_up}
@@ -30,7 +28,6 @@ use Rattle.hx_law_threads.proofs.Runs.{merged_run, posts_found}
 use Rattle.hx_law_threads.proofs.Totals.{cuts_add_up}
 use Rattle.hx_law_threads.proofs.Weights.{posts_weigh}
 use Rattle.hx_mail.specs.declared.views.Mailed.{Mailed}
-use Rattle.hx_mail.specs.Ports.{mailed}
 use Rattle.hx_outbox.specs.Offers.{named}
 use Rattle.hx_outbox.specs.Zipped.{Both}
 use Rattle.hx_desk.specs.declared.desks.Desk.{Desk}
@@ -138,10 +135,10 @@ module _ (script : Script) (now : List Crew) (merged : List Stamped) (o : AreOwn
       record {
         sums = λ f. cuts_add_up script (parts_of now) merged o w m f (cut_of cut) ∙ parts_before f (cut_of cut) (desks_of cut) (desks_of now) l count;
         own = λ d i.
-        let e = both_in IsLater (desks_of cut) (desks_of now) d l i in
-        let read = each_in (IsReadInPart (past_of merged)) (parts_of now) (part_of e.0) (read_in_parts (parts_of now) (past_of merged) own_are) (in_map part_of (desks_of now) e.0 e.1) in
-        ap (own_at (cut_of cut) (past_of merged)) (sym e.2.actor) ∙ read.own (cut_of cut e.0.actor)
-        ∙ ap past_of (prefix_take d.part.items e.0.part.items (cut_of cut e.0.actor) e.2.part (ap (cut_of cut) e.2.actor ∙ count d i));
+            let e = both_in IsLater (desks_of cut) (desks_of now) d l i in
+            let read = each_in (IsReadInPart (past_of merged)) (parts_of now) (part_of e.0) (read_in_parts (parts_of now) (past_of merged) own_are) (in_map part_of (desks_of now) e.0 e.1) in
+            ap (own_at (cut_of cut) (past_of merged)) (sym e.2.actor) ∙ read.own (cut_of cut e.0.actor)
+            ∙ ap past_of (prefix_take d.part.items e.0.part.items (cut_of cut e.0.actor) e.2.part (ap (cut_of cut) e.2.actor ∙ count d i));
       }
 
   -- and those at the end are seen in the whole trace
@@ -149,8 +146,8 @@ module _ (script : Script) (now : List Crew) (merged : List Stamped) (o : AreOwn
   seen_now = record {
     sums = λ f. whole_adds_up script (parts_of now) merged o w m f ∙ total_of_map part_of (λ (p : ActorPart). total_over f p.part) (desks_of now);
     own = λ d i.
-    first_all (entries_of d.actor (past_of merged)) (own_entries d.actor (past_of merged)) (omega (arith, count_own d.actor (past_of merged)))
-    ∙ each_in (λ (p : ActorPart). own_entries p.actor (past_of merged) ≡ past_of p.part) (parts_of now) (part_of d) own_are (in_map part_of (desks_of now) d i);
+        first_all (entries_of d.actor (past_of merged)) (own_entries d.actor (past_of merged)) (omega (arith, count_own d.actor (past_of merged)))
+        ∙ each_in (λ (p : ActorPart). own_entries p.actor (past_of merged) ≡ past_of p.part) (parts_of now) (part_of d) own_are (in_map part_of (desks_of now) d i);
   }
 
   -- each post that a desk made by then is found by its name
