@@ -8,3 +8,4 @@ pub mod Given
 pub mod Histories
 pub mod Tallies
 pub mod Headline
+mod Example
