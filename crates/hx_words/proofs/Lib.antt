@@ -1,3 +1,4 @@
 pub mod Decimals
 pub mod Words
 pub mod Sayings
+pub mod Runs

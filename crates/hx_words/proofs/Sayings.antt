@@ -83,10 +83,6 @@ refused option words front rest before after told within spelled taken s = taken
 pub taken : (answer : Option Chosen) (option : CommandOption) (before : Chosen) → ((after : Chosen) → (answer ≡ Some after) ↔ (IsFree before option × (after ≡ choosing before option))) → answer ≡ None → IsFree before option → ⊥
 taken answer option before h e free = none-some (choosing before option) (sym e ∙ (h (choosing before option)).1 (free, refl))
 
--- where nothing is said there is no answer
-pub neither : (answer : Option Chosen) (words : List (List ℕ)) (before after : Chosen) → answer ≡ None → (AreSaid words before after → ⊥) → (answer ≡ Some after) ↔ AreSaid words before after
-neither answer words before after e never = (λ some. absurd (none-some after (sym e ∙ some)), λ s. absurd (never s))
-
 -- the first word and the others
 pub first_word : (words : List (String Global)) (name : String Global) → 1 ≤ length words → name ≡ get_or words 0 name → map string_bytes words ≡ string_bytes name ∷ map string_bytes (take (length words - 1) (drop 1 words))
 first_word [] name h e = absurd (omega (arith, h))
@@ -102,3 +98,10 @@ one_left words (w ∷ others) name first e h same = absurd (omega (arith, h))
 
 pub two_left : (words others rest : List (List ℕ)) (name text first second : List ℕ) → words ≡ first ∷ others → others ≡ second ∷ rest → name ≡ first → text ≡ second → words ≡ name ∷ text ∷ rest
 two_left words others rest name text first second e f same also = e ∙ ap (λ ws. first ∷ ws) f ∙ ap (λ w. w ∷ second ∷ rest) (sym same) ∙ ap (λ w. name ∷ w ∷ rest) (sym also)
+
+pub headed : {words rest : List (List ℕ)} {word name : List ℕ} → words ≡ word ∷ rest → word ≡ name → words ≡ name ∷ rest
+headed {rest = rest} e named = e ∙ ap (λ w. w ∷ rest) named
+
+-- an answer that is given to no words
+pub unanswered : {A : Type 0} (answer : Option A) (x : A) (P : Type 0) → answer ≡ None → (P → ⊥) → (answer ≡ Some x) ↔ P
+unanswered answer x P e never = (λ some. absurd (none-some x (sym e ∙ some)), λ p. absurd (never p))

@@ -15,18 +15,15 @@ pub struct Chosen {
     pub with_trace: bool,
 }
 
-impl Chosen {
-    fn nothing() -> Chosen
-        ensures { result ≡ nothing_chosen }
-    {
-        Chosen {
-            workers: None,
-            lose: None,
-            repeat: None,
-            with_trace: false,
-        }
-    }
+/// Before any option is said.
+const NOTHING: Chosen = Chosen {
+    workers: None,
+    lose: None,
+    repeat: None,
+    with_trace: false,
+};
 
+impl Chosen {
     /// What is chosen once the option is, unless it was chosen before.
     fn with(self, option: CommandOption) -> Option<Chosen>
         ensures { (after : Chosen) → (result ≡ Some after) ↔ (IsFree self option × (after ≡ choosing self option)) }
@@ -74,5 +71,5 @@ fn chosen_after(chosen: Chosen, words: &[String]) -> Option<Chosen>
 pub(crate) fn chosen_by(words: &[String]) -> Option<Chosen>
     ensures { (chosen : Chosen) → (result ≡ Some chosen) ↔ AreSaid (map string_bytes words.now) nothing_chosen chosen }
 {
-    chosen_after(Chosen::nothing(), words)
+    chosen_after(NOTHING, words)
 }
