@@ -2,3 +2,4 @@ pub mod Decimals
 pub mod Words
 pub mod Sayings
 pub mod Runs
+pub mod Soaks
