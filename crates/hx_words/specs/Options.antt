@@ -33,7 +33,7 @@ choosing chosen (Lose n) = record chosen { lose = Some n }
 choosing chosen (Repeat n) = record chosen { repeat = Some n }
 choosing chosen Trace = record chosen { with_trace = true }
 
--- options choose this one after the other: each is within its limits, and wasn't chosen before
+-- options choose this one after the other: each is within its limits, and wasn't chosen before it
 abbrev pub Choose : Chosen → List CommandOption → Chosen → Type 0
 Choose before [] after = before ≡ after
 Choose before (option ∷ options) after = IsWithin option × IsFree before option × Choose (choosing before option) options after
