@@ -5,7 +5,7 @@ use Rattle.hx_words.specs.declared.options.CommandOption.{CommandOption}
 use Rattle.hx_words.specs.declared.options.CommandOption.TheVariants.{Workers, Lose, Repeat, Trace}
 use Rattle.hx_words.specs.declared.choosing.Chosen.{Chosen}
 
--- the words of an option: its name, and its value in a word of its own
+-- the words of an option: its name, and its value in a word of its own, in decimal with no sign and no leading zero
 abbrev pub words_of : CommandOption → List (List ℕ)
 words_of (Workers n) = codes "--workers" ∷ decimal n ∷ []
 words_of (Lose n) = codes "--lose" ∷ decimal n ∷ []

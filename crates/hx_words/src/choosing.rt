@@ -50,7 +50,8 @@ impl Chosen {
     }
 }
 
-/// What the words of options choose after what was chosen before.
+/// What the words of options choose after what was chosen before. No option is chosen twice, so it
+/// calls itself four times at most.
 fn chosen_after(chosen: Chosen, words: &[String]) -> Option<Chosen>
     ensures { (after : Chosen) → (result ≡ Some after) ↔ AreSaid (map string_bytes words.now) chosen after }
 {
