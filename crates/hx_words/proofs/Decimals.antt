@@ -1,5 +1,5 @@
 -- What is parsed of a text that begins as a number in decimal does.
-use Rattle.std.proofs.Common.{ℕ, zero, suc, ◌≡◌, ◌≢◌, ◌<◌, ◌≤◌, ◌^◌, List, length, get_or, Option, Some, None, Result, Ok, Err, refl, ap, sym, subst, arith, rules, ◌∙◌}
+use Rattle.std.proofs.Common.{ℕ, zero, suc, ◌≡◌, ◌<◌, ◌≤◌, ◌^◌, List, length, get_or, Some, Result, Ok, Err, ap, sym, subst, arith, ◌∙◌}
 use Rattle.std.specs.Prelude.{◌↔◌}
 use Rattle.std.specs.Fmt.{decimal}
 use Rattle.std.specs.Result.{OkIff, result_ok}

@@ -1,7 +1,6 @@
 -- The run that words say, and its limits.
-use Rattle.std.proofs.Common.{ℕ, ◌≡◌, ◌≤◌, List, [], ◌∷◌, map, drop, Option, Some, None, refl, ap, sym, subst, ◌∙◌, arith}
+use Rattle.std.proofs.Common.{ℕ, ◌≡◌, ◌≤◌, List, [], ◌∷◌, map, drop, Option, Some, None, ap, sym, subst, ◌∙◌, arith}
 use Rattle.std.specs.Prelude.{◌↔◌, codes, string_bytes, unwrap_or, IfSome}
-use Rattle.std.specs.List.{flat_map}
 use Rattle.std.specs.declared.string.String.{String}
 use Rattle.std.specs.declared.alloc.Global.{Global}
 use Rattle.std.proofs.lemmas.Option.{none-some, same_Some}
@@ -10,7 +9,7 @@ use Rattle.hx_words.specs.declared.options.CommandOption.TheVariants.{Workers, L
 use Rattle.hx_words.specs.declared.choosing.Chosen.{Chosen}
 use Rattle.hx_words.specs.declared.commands.Run.{Run}
 use Rattle.hx_words.specs.Limits.{IsRun}
-use Rattle.hx_words.specs.Options.{words_of, IsWithin, choosing, Choose}
+use Rattle.hx_words.specs.Options.{IsWithin, choosing, Choose}
 use Rattle.hx_words.specs.Saying.{AreSaid, nothing_chosen, run_by, SaysRun}
 
 -- what is chosen is within the limits of its options
@@ -64,5 +63,6 @@ a_run words rest answer chosen told run spelled h some built = (to, from)
   where
     to : Some told ≡ Some run → SaysRun words run
     to e = let s = (h chosen).0 some in record { options = s.options; chosen = chosen; choose = s.choose; run_is = sym (same_Some told run e) ∙ built; said = spelled ∙ ap (λ ws. codes "run" ∷ ws) s.said }
+
     from : SaysRun words run → Some told ≡ Some run
     from s = ap Some (built ∙ ap run_by (same_Some chosen s.chosen (sym some ∙ (h s.chosen).1 (options_of_run words rest run spelled s))) ∙ sym s.run_is)

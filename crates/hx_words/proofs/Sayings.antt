@@ -23,7 +23,7 @@ spoken option rest e = absurd (at option (ap length e))
     at (Repeat n) e = omega (arith, e)
     at Trace e = omega (arith, e)
 
-pub none_said : (before after : Chosen) → AreSaid [] before after ↔ (before ≡ after)
+none_said : (before after : Chosen) → AreSaid [] before after ↔ (before ≡ after)
 none_said before after = (λ s. to s.options s.choose s.said, λ e. record { options = []; choose = e; said = refl })
   where
     to : (options : List CommandOption) → Choose before options after → [] ≡ flat_map words_of options → before ≡ after
@@ -31,11 +31,12 @@ none_said before after = (λ s. to s.options s.choose s.said, λ e. record { opt
     to (o ∷ os) h e = spoken o (flat_map words_of os) e
 
 -- the words of an option, and more: it was free, and the others are said after it
-pub first_said : (option : CommandOption) (rest : List (List ℕ)) (before after : Chosen) → IsWithin option → AreSaid (words_of option ++ rest) before after ↔ (IsFree before option × AreSaid rest (choosing before option) after)
+first_said : (option : CommandOption) (rest : List (List ℕ)) (before after : Chosen) → IsWithin option → AreSaid (words_of option ++ rest) before after ↔ (IsFree before option × AreSaid rest (choosing before option) after)
 first_said option rest before after within = (λ s. to s.options s.choose s.said, λ h. record { options = option ∷ h.1.options; choose = (within, h.0, h.1.choose); said = ap (λ words. words_of option ++ words) h.1.said })
   where
     matched : (o : CommandOption) (os : List CommandOption) → IsFree before o → Choose (choosing before o) os after → option ≡ o → rest ≡ flat_map words_of os → IsFree before option × AreSaid rest (choosing before option) after
     matched o os free h e said = subst (λ p. IsFree before p × AreSaid rest (choosing before p) after) (sym e) (free, record { options = os; choose = h; said = said })
+
     to : (options : List CommandOption) → Choose before options after → words_of option ++ rest ≡ flat_map words_of options → IsFree before option × AreSaid rest (choosing before option) after
     to [] h e = spoken option rest (sym e)
     to (o ∷ os) h e = let same = told option o rest (flat_map words_of os) within h.0 e in matched o os h.1 h.2 same.0 same.1
@@ -49,6 +50,7 @@ never_said words rest name text before after spelled other none s = to s.options
     first (Lose n) os h e = none (Lose n) (sym (ap (take 2) e)) h
     first (Repeat n) os h e = none (Repeat n) (sym (ap (take 2) e)) h
     first Trace os h e = other (ap (λ ws. get_or ws 0 []) e)
+
     to : (options : List CommandOption) → Choose before options after → name ∷ text ∷ rest ≡ flat_map words_of options → ⊥
     to [] h e = absurd (omega (arith, ap length e))
     to (o ∷ os) h e = first o (flat_map words_of os) h.0 e
@@ -62,6 +64,7 @@ alone_never_said words name before after spelled other s = to s.options (sym spe
     first (Lose n) os e = omega (arith, ap length e)
     first (Repeat n) os e = omega (arith, ap length e)
     first Trace os e = other (ap (λ ws. get_or ws 0 []) e)
+
     to : (options : List CommandOption) → name ∷ [] ≡ flat_map words_of options → ⊥
     to [] e = absurd (omega (arith, ap length e))
     to (o ∷ os) e = first o (flat_map words_of os) e
@@ -72,6 +75,7 @@ goes_on option words front rest before chosen after P told within spelled free m
   where
     e : words ≡ words_of option ++ rest
     e = spelled ∙ ap (λ ws. ws ++ rest) (sym told)
+
     said : AreSaid (words_of option ++ rest) before after ↔ (IsFree before option × AreSaid rest (choosing before option) after)
     said = first_said option rest before after within
 

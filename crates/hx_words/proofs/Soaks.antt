@@ -46,6 +46,7 @@ a_soak {words} {rest} {seed} {calls} {answer} told soak chosen b some only small
   where
     said : AreSaid rest nothing_chosen chosen
     said = (b.answers chosen).0 some
+
     says : SaysSoak words told
     says = record {
       options = said.options;
@@ -57,6 +58,7 @@ a_soak {words} {rest} {seed} {calls} {answer} told soak chosen b some only small
       calls = (is_calls.1, is_calls.2);
       said = b.spelled ∙ ap (λ w. codes "soak" ∷ w ∷ calls ∷ rest) is_seed ∙ ap (λ w. codes "soak" ∷ decimal told.seed ∷ w ∷ rest) is_calls.0 ∙ ap (λ ws. codes "soak" ∷ decimal told.seed ∷ decimal told.calls ∷ ws) said.said;
     }
+
     same : SaysSoak words soak → told ≡ soak
     same s =
         let spelled = sym b.spelled ∙ s.said in

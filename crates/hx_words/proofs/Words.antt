@@ -1,5 +1,5 @@
 -- The words of an option tell it.
-use Rattle.std.proofs.Common.{ℕ, ◌≡◌, ◌<◌, ◌≤◌, ◌^◌, List, [], ◌∷◌, ◌++◌, get_or, drop, Option, Some, refl, ap, sym, subst, ◌∙◌, arith}
+use Rattle.std.proofs.Common.{ℕ, ◌≡◌, ◌≤◌, List, [], ◌∷◌, ◌++◌, get_or, drop, Some, refl, ap, sym, subst, ◌∙◌, arith}
 use Rattle.std.specs.Prelude.{◌↔◌}
 use Rattle.std.specs.Fmt.{decimal}
 use Rattle.std.proofs.lemmas.Fmt.{decimal_injective}
@@ -39,5 +39,6 @@ only a name text e h b = (to, from)
   where
     to : Some a ≡ Some b → (words_of b ≡ name ∷ text ∷ []) × IsWithin b
     to same = subst (λ o. (words_of o ≡ name ∷ text ∷ []) × IsWithin o) (same_Some a b same) (e, h)
+
     from : (words_of b ≡ name ∷ text ∷ []) × IsWithin b → Some a ≡ Some b
     from g = ap Some ((told a b [] [] h g.1 (ap (λ words. words ++ []) (e ∙ sym g.0))).0)

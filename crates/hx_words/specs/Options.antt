@@ -5,7 +5,7 @@ use Rattle.hx_words.specs.declared.options.CommandOption.{CommandOption}
 use Rattle.hx_words.specs.declared.options.CommandOption.TheVariants.{Workers, Lose, Repeat, Trace}
 use Rattle.hx_words.specs.declared.choosing.Chosen.{Chosen}
 
--- the words of an option: its name, and its value in a word of its own
+-- the words of an option: its name, and its value in a word of its own, in decimal with no sign and no leading zero
 abbrev pub words_of : CommandOption → List (List ℕ)
 words_of (Workers n) = codes "--workers" ∷ decimal n ∷ []
 words_of (Lose n) = codes "--lose" ∷ decimal n ∷ []
@@ -33,7 +33,7 @@ choosing chosen (Lose n) = record chosen { lose = Some n }
 choosing chosen (Repeat n) = record chosen { repeat = Some n }
 choosing chosen Trace = record chosen { with_trace = true }
 
--- options choose this one after the other: each is within its limits, and wasn't chosen before
+-- options choose this one after the other: each is within its limits, and wasn't chosen before it
 abbrev pub Choose : Chosen → List CommandOption → Chosen → Type 0
 Choose before [] after = before ≡ after
 Choose before (option ∷ options) after = IsWithin option × IsFree before option × Choose (choosing before option) options after

@@ -1,13 +1,13 @@
 //! What the options of a command choose.
 
-ghost use Rattle.std.specs.Prelude.{◌≡◌, ◌↔◌, None, false, map, string_bytes};
+ghost use Rattle.std.specs.Prelude.{◌≡◌, ◌↔◌, map, string_bytes};
 ghost use Rattle.hx_words.specs.Options.{IsFree, choosing};
 ghost use Rattle.hx_words.specs.Saying.{AreSaid, nothing_chosen};
 
 use crate::options::{CommandOption, option_of};
 
-/// What is chosen so far: the value of each option, where it was said.
-#[derive(Clone, Copy, PartialEq, Eq)]
+/// What was chosen so far: the value of each option that was said.
+#[derive(Clone, Copy)]
 pub struct Chosen {
     pub workers: Option<u32>,
     pub lose: Option<u32>,
@@ -50,7 +50,8 @@ impl Chosen {
     }
 }
 
-/// What the words of options choose after what was chosen before.
+/// What the words of options choose after what was chosen before. No option is chosen twice, so it
+/// calls itself four times at most.
 fn chosen_after(chosen: Chosen, words: &[String]) -> Option<Chosen>
     ensures { (after : Chosen) → (result ≡ Some after) ↔ AreSaid (map string_bytes words.now) chosen after }
 {

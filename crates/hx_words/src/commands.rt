@@ -8,34 +8,34 @@ use crate::choosing::{Chosen, chosen_by};
 use crate::numbers::{number_of, number_within};
 use hx_types::MOST_CALLS;
 
-/// The threads that drive the actors where no number of them is said.
-const WORKERS: u32 = 2;
+/// How many threads drive the actors where no number is said.
+const DEFAULT_WORKERS: u32 = 2;
 
-/// How a script is to be run by threads.
+/// How threads are to run a script.
 #[derive(Clone, Copy, PartialEq, Eq)]
 pub struct Run {
     /// How many threads drive the actors, from 1 to 16.
     pub workers: u32,
-    /// Of so many posts between actors one is lost, from 1 to 1,000,000; 0 stands for never.
+    /// One post in so many is lost, and none where this is 0. At most 1,000,000.
     pub lose: u32,
-    /// Of so many posts between actors one is repeated, from 1 to 1,000,000; 0 stands for never.
+    /// One post in so many is repeated, and none where this is 0. At most 1,000,000.
     pub repeat: u32,
-    /// Whether the trace is written too.
+    /// Whether the trace is written too, with every entry and its posts.
     pub with_trace: bool,
 }
 
-/// How the store is to be soaked in a workload drawn from a number.
+/// How threads are to run a workload that is drawn from a number.
 #[derive(Clone, Copy, PartialEq, Eq)]
 pub struct Soak {
     /// The number that the workload is drawn from.
     pub seed: u64,
-    /// How many calls each session makes, from 1 to 16,384.
+    /// How many calls are drawn, of all sessions, from 1 to 16,384.
     pub calls: u32,
     /// How many threads drive the actors, from 1 to 16.
     pub workers: u32,
 }
 
-/// The run that the words say: `run` and its options, and no other beside them.
+/// The run that the words say: `run` and its options, and no other words beside them.
 pub fn run_of(words: &[String]) -> Option<Run>
     ensures said { (run : Run) → (result ≡ Some run) ↔ SaysRun words.now run }
     ensures limits { IfSome result IsRun }
@@ -54,14 +54,15 @@ fn run_by(chosen: Chosen) -> Run
     ensures { result ≡ run_by chosen }
 {
     Run {
-        workers: chosen.workers.unwrap_or(WORKERS),
+        workers: chosen.workers.unwrap_or(DEFAULT_WORKERS),
         lose: chosen.lose.unwrap_or(0),
         repeat: chosen.repeat.unwrap_or(0),
         with_trace: chosen.with_trace,
     }
 }
 
-/// The soak that the words say: `soak`, its seed and calls, and its option, and no other beside them.
+/// The soak that the words say: `soak`, its seed and calls, and its option, and no other words beside
+/// them.
 pub fn soak_of(words: &[String]) -> Option<Soak>
     ensures said { (soak : Soak) → (result ≡ Some soak) ↔ SaysSoak words.now soak }
     ensures limits { IfSome result IsSoak }
@@ -87,5 +88,5 @@ fn workers_alone(chosen: Chosen) -> Option<u32>
     if chosen.lose.is_some() || chosen.repeat.is_some() || chosen.with_trace {
         return None;
     }
-    Some(chosen.workers.unwrap_or(WORKERS))
+    Some(chosen.workers.unwrap_or(DEFAULT_WORKERS))
 }

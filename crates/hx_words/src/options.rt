@@ -6,25 +6,25 @@ ghost use Rattle.hx_words.specs.Options.{words_of, IsWithin};
 use crate::numbers::number_within;
 
 /// The most threads that drive the actors.
-pub(crate) const MOST_WORKERS: u32 = 16;
+const MOST_WORKERS: u32 = 16;
 
 /// The longest period at which posts can be lost or repeated.
-pub(crate) const LONGEST_PERIOD: u32 = 1_000_000;
+const LONGEST_PERIOD: u32 = 1_000_000;
 
 /// An option of a command.
-#[derive(Clone, Copy, PartialEq, Eq)]
+#[derive(Clone, Copy)]
 pub enum CommandOption {
-    /// So many threads drive the actors.
+    /// So many threads drive the actors, from 1 to 16.
     Workers(u32),
-    /// Of so many posts one is lost.
+    /// One post in so many is lost, from 0, which stands for never, to 1,000,000.
     Lose(u32),
-    /// Of so many posts one is repeated.
+    /// One post in so many is repeated, from 0, which stands for never, to 1,000,000.
     Repeat(u32),
     /// The trace is written too.
     Trace,
 }
 
-/// The option of that name and value.
+/// The option of this name and value.
 pub(crate) fn option_of(name: &str, value: &str) -> Option<CommandOption>
     ensures { (option : CommandOption) → (result ≡ Some option) ↔ ((words_of option ≡ name.now ∷ value.now ∷ []) × IsWithin option) }
 {

@@ -1,5 +1,5 @@
 -- The run that words say.
-use Rattle.std.proofs.Common.{rules, ap, ◌≡◌, ◌∷◌, ◌∙◌}
+use Rattle.std.proofs.Common.{rules, ◌≡◌}
 use Rattle.std.specs.Prelude.{codes, string_bytes}
 use Rattle.hx_words.proofs.Sayings.{first_word, headed, unanswered}
 use Rattle.hx_words.proofs.Runs.{no_run, a_run, run_limits}

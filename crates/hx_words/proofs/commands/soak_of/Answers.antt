@@ -1,5 +1,5 @@
 -- The soak that words say.
-use Rattle.std.proofs.Common.{rules, refl, ap, sym, ◌≡◌, ◌≤◌, ◌<◌, ◌^◌, ◌∷◌, ◌∙◌, arith}
+use Rattle.std.proofs.Common.{rules, refl, sym, ◌≡◌, ◌<◌, ◌^◌}
 use Rattle.std.specs.Prelude.{codes, string_bytes}
 use Rattle.hx_words.proofs.Sayings.{unanswered}
 use Rattle.hx_words.proofs.Soaks.{three_words, no_soak, no_workers, a_soak, soak_limits}
