@@ -1,6 +1,5 @@
 -- In a run in which no server is halted and no call asks for another configuration no call is refused or in doubt, and each search ends with rows.
-use Rattle.std.proofs.Common.{◌≡◌, ℕ, ◌+◌, ◌-◌, inl, inr, true, false, List, [], ◌∷◌, ◌++◌, length, Some, None, arith, refl, sym, ap, ◌∙◌, subst}
-use Rattle.std.specs.Prelude.{⊤}
+use Rattle.std.proofs.Common.{◌≡◌, ℕ, inl, inr, true, false, List, [], ◌∷◌, ◌++◌, Some, None, refl, sym, ap, ◌∙◌, subst}
 use Rattle.std.proofs.lemmas.Bool.{false≢true}
 use Rattle.hx_types.specs.declared.calls.Answer.{Answer}
 use Rattle.hx_types.specs.declared.calls.Caller.{Caller}
@@ -10,34 +9,27 @@ use Rattle.hx_types.specs.declared.ids.Epoch.{Epoch}
 use Rattle.hx_types.specs.declared.ids.RegionId.{RegionId}
 use Rattle.hx_types.specs.declared.ids.ServerId.{ServerId}
 use Rattle.hx_types.specs.declared.ids.Version.{Version}
-use Rattle.hx_types.specs.declared.messages.Post.{Post}
 use Rattle.hx_types.specs.declared.traces.Entry.{Entry}
 use Rattle.hx_types.specs.declared.traces.Script.{Script}
-use Rattle.hx_types.specs.declared.updates.Update.{Update}
 use Rattle.hx_types.specs.declared.calls.Answer.TheVariants as an_answer
 use Rattle.hx_types.specs.declared.calls.Op.TheVariants.{Put, Get, Del, Cput, Search, Stop, Add}
 use Rattle.hx_types.specs.declared.ids.Actor.TheVariants.{Session}
 use Rattle.hx_types.specs.declared.traces.Note.TheVariants as a_note
 use Rattle.hx_types.specs.Words.{IsIn}
-use Rattle.hx_types.specs.Configs.{first_config, is_lost}
-use Rattle.hx_types.specs.Effects.{effect_of, key_of}
+use Rattle.hx_types.specs.Configs.{is_lost}
+use Rattle.hx_types.specs.Effects.{key_of}
 use Rattle.hx_types.specs.Fitting.{IsScript, call_of, is_doubt, is_refused, is_rows}
-use Rattle.hx_types.specs.Posts.{IsSoundPost}
-use Rattle.hx_model.specs.Causes.{AnsweredCall, HasCause, IsDoubted, IsLostIn, IsRefusedFor, IsRefusedWrite, is_fulfilled, refused_place, server_named}
-use Rattle.hx_model.specs.Histories.{begin_of, line_of}
-use Rattle.hx_model.specs.Lines.{line_object, upto}
-use Rattle.hx_model.specs.Regions.{key_region}
+use Rattle.hx_model.specs.Causes.{AnsweredCall, HasCause, IsLostIn, is_fulfilled, server_named}
+use Rattle.hx_model.specs.Histories.{begin_of}
 use Rattle.hx_model.specs.Runs.{IsRun}
 use Rattle.hx_model.specs.SessionSteps.{is_administrative}
-use Rattle.hx_model.specs.Slots.{top_above, touches_after}
-use Rattle.hx_plan.proofs.Planned.{lowest}
-use Rattle.hx_region.proofs.Subspaces.{within}
-use Rattle.hx_posts.proofs.Runs.{kept-run}
-use Rattle.hx_law_lemmas.proofs.Regions.{key-not-lost, not-lost, places-not-lost}
+use Rattle.hx_law_lemmas.proofs.Regions.{not-lost}
 use Rattle.hx_law_lemmas.proofs.Traces.{EndedAt}
 use Rattle.hx_law_causes.proofs.Answered.{run-part}
 use Rattle.hx_law_causes.proofs.Headline.{runs_have_causes}
 use Rattle.hx_law_soak.specs.Soaks.{NoHalts}
+use Rattle.hx_types.specs.Spaces.{IsRegionOf}
+use Rattle.hx_law_soak.proofs.Named.{doubted-real, refused-real}
 use Rattle.hx_law_soak.proofs.Quiet.{NoneAdministers, only-first}
 
 -- an end, with the entries after and before it
@@ -61,15 +53,6 @@ halts-fewer : (newer older : List Entry) → NoHalts (newer ++ older) → NoHalt
 halts-fewer [] older unhalted = unhalted
 halts-fewer (x ∷ newer) older unhalted = halts-fewer newer older (λ y i. unhalted y (inr i))
 
--- each post of the entries is sound
-abbrev Sound : Script → List Entry → Type 0
-Sound script [] = ⊤
-Sound script (x ∷ older) = ((p : Post) → IsIn p x.outputs → IsSoundPost script.space (length script.sessions) (length older + 1) p) × Sound script older
-
-sound-at : (script : Script) (newer : List Entry) (x : Entry) (older : List Entry) → Sound script (newer ++ x ∷ older) → (p : Post) → IsIn p x.outputs → IsSoundPost script.space (length script.sessions) (length older + 1) p
-sound-at script [] x older h p i = h.0 p i
-sound-at script (y ∷ newer) x older h p i = sound-at script newer x older h.1 p i
-
 module _ (script : Script) (valid : IsScript script) (none : NoneAdministers script) (trace : List Entry) (run : IsRun script trace) (unhalted : NoHalts trace) where
   -- what is asked of an answer: it is neither refused nor in doubt, and a search's has rows
   pub record IsPlain (op : Op) (a : Answer) : Type 0 where
@@ -87,48 +70,15 @@ module _ (script : Script) (valid : IsScript script) (none : NoneAdministers scr
     unhalted-older : NoHalts older
     unhalted-older = λ y i. halts-fewer newer (x ∷ older) (subst NoHalts stands unhalted) y (inr i)
 
-    -- a region of the space is lost in no known configuration
-    lost-first : (config : Config) (g : RegionId) (epoch : Epoch) → IsLostIn call config g epoch → (config ≡ first_config script.space) × (is_lost (first_config script.space) g ≡ true)
-    lost-first config g epoch h =
+    -- no region of the space is lost in a known configuration
+    none-lost : (config : Config) (g : RegionId) (epoch : Epoch) → IsLostIn call config g epoch → IsRegionOf script.space g → ⊥
+    none-lost config g epoch h real =
         let e = only-first script valid none older run-older unhalted-older epoch config h.of_epoch in
-        (e, subst (λ (w : Config). is_lost w g ≡ true) e h.lost)
-
-    key-there : (key : List ℕ) (g : RegionId) → key_region script.space key ≡ g → is_lost (first_config script.space) g ≡ true → ⊥
-    key-there key g e l = false≢true (sym (key-not-lost script.space valid.space key) ∙ ap (is_lost (first_config script.space)) e ∙ l)
-
-    no-place : (key : List ℕ) (w : Op) (us : List Update) (g : RegionId) → refused_place script.space (first_config script.space) key w us ≡ Some g → ⊥
-    no-place key w us g e =
-        let f = effect_of script.space (line_object us) w in
-        let q : None ≡ Some g = sym (places-not-lost script.space valid.space key (line_object us) f.object f.changes (top_above 0 us) (touches_after [] us)) ∙ e in
-        cc
-
-    write-there : (config : Config) (g : RegionId) (key : List ℕ) → config ≡ first_config script.space → is_lost (first_config script.space) g ≡ true → IsRefusedWrite call config g key → ⊥
-    write-there config g key e l (inl h) = key-there key g h.1 l
-    write-there config g key e l (inr h) = no-place key op (upto (v.0 - 1) (line_of key older)) g (subst (λ (w : Config). refused_place script.space w key op (upto (v.0 - 1) (line_of key older)) ≡ Some g) e h.1)
-
-    refused-there : (config : Config) (g : RegionId) → config ≡ first_config script.space → is_lost (first_config script.space) g ≡ true → (w : Op) → IsRefusedFor call config g w → ⊥
-    refused-there config g e l (Put key sets) h = write-there config g key e l h
-    refused-there config g e l (Get key) h = key-there key g h l
-    refused-there config g e l (Del key) h = write-there config g key e l h
-    refused-there config g e l (Cput key tests sets) h = write-there config g key e l h
-    refused-there config g e l (Search terms) h =
-        let r = (lowest script.space config terms g h).asked.belongs in
-        false≢true (sym (not-lost script.space g (within script.space 0 g (omega arith) r)) ∙ l)
-    refused-there config g e l (Stop s) h = h
-    refused-there config g e l (Add s r) h = h
-
-    doubted-there : (g : RegionId) (epoch : Epoch) → IsDoubted call g epoch → ⊥
-    doubted-there g epoch h =
-        let l = (lost-first h.config g epoch h.lost).1 in
-        elim h.doubted [
-          | inl k ↦ key-there h.key g k.0 l
-          | inr t ↦ (let sound = sound-at script t.newer t.entry t.before (subst (Sound script) t.stands (kept-run script valid older run-older).posts) _ t.told in
-              false≢true (sym (not-lost script.space g sound.message.1.0) ∙ l))
-        ]
+        false≢true (sym (not-lost script.space g real) ∙ subst (λ (w : Config). is_lost w g ≡ true) e h.lost)
 
     plain : (a : Answer) → HasCause call a → IsPlain op a
-    plain (an_answer.Refused g epoch) h = absurd (let l = lost-first h.config g epoch h.lost in refused-there h.config g l.0 l.1 op h.refused)
-    plain (an_answer.Doubt g epoch) h = absurd (doubted-there g epoch h)
+    plain (an_answer.Refused g epoch) h = absurd (none-lost h.config g epoch h.lost (refused-real script valid trace older run-older c op n v h.config g op h.refused))
+    plain (an_answer.Doubt g epoch) h = absurd (none-lost h.config g epoch h.lost (doubted-real script valid trace older run-older c op n v g epoch h))
     plain an_answer.Done h = record { not_refused = refl; not_doubt = refl; rows = λ e. absurd (no-key op h.key h.on_key e) }
       where
         no-key : (w : Op) (key : List ℕ) → key_of w ≡ Some key → key_of w ≡ None → ⊥

@@ -4,6 +4,7 @@ pub mod Cutting
 pub mod Maps
 pub mod Times
 pub mod Quiet
+pub mod Named
 pub mod Given
 pub mod Histories
 pub mod Tallies
