@@ -6,3 +6,4 @@ pub mod Opens
 pub mod Repeats
 pub mod Paced
 pub mod Ended
+pub mod Shown

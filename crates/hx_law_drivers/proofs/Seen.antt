@@ -115,7 +115,7 @@ made_in_part (x ∷ part) m i =
     (x, inl refl, (sym r.1, ap (slice_get x.entry.outputs) at ∙ r.3)))
     (λ (j : IsIn m (made_by part)). let r = made_in_part part m j in (r.0, inr r.1, r.2)) (in_append (named (x.stamp.0 + 1) 0 x.entry.outputs) (made_by part) m i)
 
-count_own : (a : Actor) (trace : List Entry) → entries_of a trace ≡ length (own_entries a trace)
+pub count_own : (a : Actor) (trace : List Entry) → entries_of a trace ≡ length (own_entries a trace)
 count_own a [] = refl
 count_own a (x ∷ trace) = by (same_actor x.actor a) (count_own a trace)
   where
