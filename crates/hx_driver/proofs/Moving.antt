@@ -33,7 +33,7 @@ desk-at script clock boxes w c at d h calm within is = (each-at (IsDeskOf script
 
 -- the crew after the turn: without a fault, or with one
 module _ (script : Script) (clock : TableId) (boxes : List Boxed) (w : ℕ) (c c' : Crew) (at : ℕ) (d d' : Desk) (f f' : FateCounts) (xs : List Stamped)
-  (k : IsTurnIn boxes c c' at d d' f f' xs) (calm : c.fault ≡ None) (h : IsCrew script clock boxes w c) where
+    (k : IsTurnIn boxes c c' at d d' f f' xs) (calm : c.fault ≡ None) (h : IsCrew script clock boxes w c) where
   same-desk : (e : Desk) → IsDeskOf script clock boxes w c e → IsDeskOf script clock boxes w c' e
   same-desk e g = record { broken = g.broken; whole = λ n. g.whole calm }
 
