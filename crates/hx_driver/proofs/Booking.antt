@@ -1,9 +1,8 @@
 -- The books of a crew: what its actors' entries posted was offered, and is put or kept.
-use Rattle.std.proofs.Common.{◌≡◌, ℕ, ◌+◌, ◌*◌, ◌<◌, ◌≤◌, List, [], ◌∷◌, ◌++◌, length, slice_index_or, slice_set, refl, ap, sym, ◌∙◌, subst, arith, append_assoc, length-append, Option}
+use Rattle.std.proofs.Common.{◌≡◌, ℕ, ◌+◌, ◌*◌, ◌<◌, ◌≤◌, List, [], ◌∷◌, ◌++◌, length, slice_index_or, slice_set, refl, ap, sym, ◌∙◌, arith, append_assoc, length-append, Option}
 use Rattle.std.specs.List.{AllByRecursion}
 use Rattle.std.specs.Vec.{with_item}
 use Rattle.atomic_table.specs.Seated.{TableId}
-use Rattle.hx_types.specs.declared.limits.TheConstants.{MOST_ACTORS, MOST_ENTRIES}
 use Rattle.hx_types.specs.declared.totals.Totals.{Totals}
 use Rattle.hx_types.specs.declared.traces.Script.{Script}
 use Rattle.hx_clock.specs.declared.parts.Stamped.{Stamped}
@@ -14,7 +13,7 @@ use Rattle.hx_mail.specs.Boxes.{Boxed}
 use Rattle.hx_outbox.specs.declared.outboxes.Outbox.{Outbox}
 use Rattle.hx_outbox.specs.Outboxes.{kept_weight}
 use Rattle.hx_outbox.specs.Offers.{asked_of, count_of, raised_by, FateCounts, IsOffered, Offer}
-use Rattle.hx_outbox.proofs.Lists.{at-total, map-length, set-total, total-one}
+use Rattle.hx_outbox.proofs.Lists.{at-total, set-total, total-one}
 use Rattle.hx_outbox.proofs.Offering.{offered-both, offered-few, offered-long, offered-none}
 use Rattle.hx_desk.specs.declared.desks.Desk.{Desk}
 use Rattle.hx_desk.specs.declared.faults.Fault.{Fault}
