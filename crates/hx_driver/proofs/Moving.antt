@@ -1,14 +1,12 @@
 -- A crew before and after one of its actors had a turn.
-use Rattle.std.proofs.Common.{◌≡◌, ℕ, zero, suc, ◌+◌, ◌<◌, ◌≤◌, ◌⊎◌, ⊎_elim, inl, inr, false, List, [], ◌∷◌, ◌++◌, length, slice_get, slice_index_or, slice_set, Option, Some, None, refl, ap, sym, subst, ◌∙◌, arith}
+use Rattle.std.proofs.Common.{◌≡◌, ℕ, zero, suc, ◌+◌, ◌<◌, ◌≤◌, ◌⊎◌, ⊎_elim, inl, inr, List, [], ◌∷◌, ◌++◌, length, slice_get, slice_index_or, slice_set, Some, None, refl, ap, sym, subst, ◌∙◌, arith}
 use Rattle.std.specs.List.{AllByRecursion}
 use Rattle.std.proofs.lemmas.Option.{none-some, slice_get_within}
-use mathlib.Core.List.{IsPrefix}
 use Rattle.atomic_table.specs.Seated.{TableId}
 use Rattle.hx_types.specs.declared.traces.Script.{Script}
 use Rattle.hx_types.specs.Words.{IsIn}
 use Rattle.hx_clock.specs.declared.parts.Stamped.{Stamped}
 use Rattle.hx_clock.proofs.Lists.{each_map}
-use Rattle.hx_law_threads.specs.Cuts.{is_retry}
 use Rattle.hx_mail.specs.Boxes.{Boxed}
 use Rattle.hx_outbox.specs.Offers.{FateCounts}
 use Rattle.hx_outbox.specs.Zipped.{Both}
@@ -17,7 +15,7 @@ use Rattle.hx_outbox.proofs.Outs.{more-refl, more-trans}
 use Rattle.hx_desk.specs.declared.desks.Desk.{Desk}
 use Rattle.hx_desk.specs.declared.faults.Fault.{Fault}
 use Rattle.hx_desk.specs.declared.faults.Fault.TheVariants as a_fault
-use Rattle.hx_desk.specs.Desks.{HasNoRetry, HasRetried, IsBrokenDesk, IsLater, IsWholeDesk}
+use Rattle.hx_desk.specs.Desks.{HasNoRetry, IsBrokenDesk, IsLater, IsWholeDesk}
 use Rattle.hx_desk.specs.Inboxes.{ins_of}
 use Rattle.hx_desk.specs.Turns.{IsFaultOf}
 use Rattle.hx_driver.specs.declared.crews.Crew.{Crew}
@@ -33,7 +31,7 @@ desk-at script clock boxes w c at d h calm within is = (each-at (IsDeskOf script
 
 -- the crew after the turn: without a fault, or with one
 module _ (script : Script) (clock : TableId) (boxes : List Boxed) (w : ℕ) (c c' : Crew) (at : ℕ) (d d' : Desk) (f f' : FateCounts) (xs : List Stamped)
-  (k : IsTurnIn boxes c c' at d d' f f' xs) (calm : c.fault ≡ None) (h : IsCrew script clock boxes w c) where
+    (k : IsTurnIn boxes c c' at d d' f f' xs) (calm : c.fault ≡ None) (h : IsCrew script clock boxes w c) where
   same-desk : (e : Desk) → IsDeskOf script clock boxes w c e → IsDeskOf script clock boxes w c' e
   same-desk e g = record { broken = g.broken; whole = λ n. g.whole calm }
 
