@@ -29,7 +29,7 @@ use Rattle.hx_mail.proofs.Lists.{put_by-append}
 use Rattle.hx_outbox.specs.Zipped.{Both}
 use Rattle.hx_outbox.specs.Places.{place_of, AreBoxes, Exists}
 use Rattle.hx_outbox.specs.Outboxes.{counts_of, kept_weight, out_weight, outs_of, IsOutPort, MorePut}
-use Rattle.hx_outbox.specs.Offers.{count_of, put_weight, IsFair, Offer}
+use Rattle.hx_outbox.specs.Offers.{count_of, put_weight, Offer}
 use Rattle.hx_outbox.proofs.Lists.{begins-trans}
 use Rattle.hx_outbox.proofs.Outs.{both-long}
 use Rattle.hx_desk.specs.declared.desks.Desk.{Desk}
@@ -100,7 +100,7 @@ outs_owned j zero (b ∷ boxes) (p ∷ ps) m h i = (b, refl, each_in (λ (x : Ma
 outs_owned j (suc n) (b ∷ boxes) (p ∷ ps) m h i = outs_owned j n boxes ps m h.1 i
 
 -- an actor of the script exists, and each place is that of one
-pub actor_exists : (script : Script) (a : Actor) → is_actor script a ≡ true → Exists script a
+actor_exists : (script : Script) (a : Actor) → is_actor script a ≡ true → Exists script a
 actor_exists script Coordinator h = tt
 actor_exists script (Server s) h = let p = and_parts (nat_lt 0 s.0) (nat_le s.0 script.space.servers) h in (ltb-true 0 s.0 p.0, leb-true s.0 script.space.servers p.1)
 actor_exists script (Session u) h = let p = and_parts (nat_lt 0 u.0) (nat_le u.0 (length script.sessions)) h in (ltb-true 0 u.0 p.0, leb-true u.0 (length script.sessions) p.1)
@@ -116,14 +116,14 @@ actor_at script (suc n) lt =
     (Session (record { 0 = k }), and_from (nat_lt 0 k) (nat_le k (length script.sessions)) (lt-ltb 0 k (omega (arith, sum, h))) (le-leb k (length script.sessions) (omega (arith, sum, lt))), sum)) (lt_or_le n script.space.servers)
 
 -- offers: what was put at all was offered, and of what wasn't put all was lost
-offered_some : (h : Mailed → ℕ) (os : List Offer) → AllByRecursion IsFair os → 1 ≤ put_weight h os → 1 ≤ total (λ (o : Offer). h o.mailed) os
-offered_some h [] f le = absurd (omega (arith, le))
-offered_some h (o ∷ os) f le =
+offered_some : (h : Mailed → ℕ) (os : List Offer) → 1 ≤ put_weight h os → 1 ≤ total (λ (o : Offer). h o.mailed) os
+offered_some h [] le = absurd (omega (arith, le))
+offered_some h (o ∷ os) le =
     ⊎_elim (λ (e : 0 < h o.mailed). omega (arith, e))
     (λ (e : h o.mailed ≤ 0).
     let none : h o.mailed ≡ 0 = omega (arith, e) in
     let here : o.times * h o.mailed ≡ 0 = ap (λ k. o.times * k) none ∙ omega arith in
-    omega (arith, offered_some h os f.1 (omega (arith, le, here)))) (lt_or_le 0 (h o.mailed))
+    omega (arith, offered_some h os (omega (arith, le, here)))) (lt_or_le 0 (h o.mailed))
 
 lost_one : (times : ℕ) (b : Bool) → times * one b ≡ 0 → one b ≤ one (eqb 0 times)
 lost_one zero true e = omega arith
@@ -168,7 +168,7 @@ put_was_made c booked m n i =
     let one_put : 1 ≤ out_weight h c.out.ports.items = omega (arith, self, total_least h (outs_at n c.out.ports.items) m i, outs_least h n c.out.ports.items) in
     let put : 1 ≤ put_weight h b.offers = omega (arith, one_put, b.put h) in
     let posts : total h booked.posts ≡ total (λ (o : Offer). h o.mailed) b.offers = ap (total h) (sym b.are) ∙ total_of_map (λ (o : Offer). o.mailed) h b.offers in
-    let made : 1 ≤ made_weight h c.desks.items = omega (arith, offered_some h b.offers b.fair put, posts, booked.made h) in
+    let made : 1 ≤ made_weight h c.desks.items = omega (arith, offered_some h b.offers put, posts, booked.made h) in
     let d = total_some (λ (d : Desk). total h (made_by d.part.items)) c.desks.items made in
     let x = total_some h (made_by d.0.part.items) d.2 in
     let both = and_parts (same_name x.0.id m.id) (same_actor x.0.post.to m.post.to) (one_true (same_name x.0.id m.id && same_actor x.0.post.to m.post.to) x.2) in
