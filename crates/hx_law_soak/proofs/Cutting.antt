@@ -15,16 +15,11 @@ abbrev pub Descends : List Item → Type 0
 Descends [] = ⊤
 Descends (x ∷ older) = ((y : Item) → IsIn y older → rank y.caller < rank x.caller) × Descends older
 
--- who stands before another stands there
+-- who stands after another stands there
 before-last : (xs : List Item) (y x : Item) → IsBefore y x xs → IsIn x xs
 before-last [] y x b = absurd b
 before-last (z ∷ xs) y x (inl h) = inr h.1
 before-last (z ∷ xs) y x (inr h) = inr (before-last xs y x h)
-
-before-first : (xs : List Item) (y x : Item) → IsBefore y x xs → IsIn y xs
-before-first [] y x b = absurd b
-before-first (z ∷ xs) y x (inl h) = inl h.0
-before-first (z ∷ xs) y x (inr h) = inr (before-first xs y x h)
 
 -- items of which each stands once, one of two always after the other by their turns
 pub descending : (xs : List Item) → EachOnce xs

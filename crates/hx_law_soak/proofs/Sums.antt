@@ -29,11 +29,6 @@ sum-mapped : {A B : Type 0} (w : B → ℕ) (f : A → B) (xs : List A) → sum_
 sum-mapped w f [] = refl
 sum-mapped w f (x ∷ xs) = sum_by-cons w (f x) (map f xs) ∙ ap (λ k. w (f x) + k) (sum-mapped w f xs) ∙ sym (sum_by-cons (λ y. w (f y)) x xs)
 
--- equal terms have equal sums
-pub sum-equal : (v w : ℕ → ℕ) (n : ℕ) → ((k : ℕ) → k < n → v k ≡ w k) → sum_by v (below n) ≡ sum_by w (below n)
-sum-equal v w zero f = refl
-sum-equal v w (suc n) f = sum_by_push v (below n) n ∙ ap (λ k. k + v n) (sum-equal v w n (λ k l. f k (omega (arith, l)))) ∙ ap (λ k. sum_by w (below n) + k) (f n (omega arith)) ∙ sym (sum_by_push w (below n) n)
-
 module _ (w : Caller → ℕ) where
   abbrev term : ℕ → ℕ → ℕ
   term u n = w (record { session = record { 0 = u + 1 }; number = n + 1 })
