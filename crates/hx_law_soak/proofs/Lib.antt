@@ -4,7 +4,6 @@ pub mod Cutting
 pub mod Maps
 pub mod Times
 pub mod Quiet
-pub mod Named
 pub mod Given
 pub mod Histories
 pub mod Tallies
