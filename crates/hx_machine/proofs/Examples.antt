@@ -4,6 +4,7 @@ use Rattle.std.specs.Prelude.{◌≢◌}
 use Rattle.std.specs.List.{All}
 use Rattle.std.proofs.lemmas.List.Elements.{All-from_recursion}
 use Rattle.hx_types.specs.declared.calls.Op.{Op}
+use Rattle.hx_types.specs.declared.calls.Op.TheVariants.{Get}
 use Rattle.hx_types.specs.declared.ids.Actor.{Actor}
 use Rattle.hx_types.specs.declared.spaces.Attribute.{Attribute}
 use Rattle.hx_types.specs.declared.traces.Script.{Script}
@@ -39,11 +40,14 @@ small_is_space =
       tolerate = (omega arith, omega arith);
     }
 
+get_fits : All (Fits small) (Get (97 ∷ []) ∷ [])
+get_fits = All-from_recursion (Fits small) (Get (97 ∷ []) ∷ []) (omega arith, tt)
+
 one_get_is_script : IsScript one_get
 one_get_is_script = record {
   space = small_is_space;
   sessions = omega arith;
-  calls = All-from_recursion (λ (calls : List Op). All (Fits small) calls) one_get.sessions (All-from_recursion (Fits small) _ (omega arith, tt), tt);
+  calls = All-from_recursion (λ (calls : List Op). All (Fits small) calls) one_get.sessions (get_fits, tt);
   few_calls = omega arith;
   few_steps = omega arith;
 }
