@@ -9,8 +9,9 @@ use Rattle.hx_types.specs.Words.{same_text, text_below, when_some}
 use Rattle.indexmap.specs.IndexMap.{set_value_at}
 use Rattle.hx_model.proofs.States.{eq_of_same_text}
 use Rattle.hx_folds.proofs.Texts.{below-trans}
-use Rattle.hx_store.specs.declared.store_slot.StoreSlot.{StoreSlot}
-use Rattle.hx_store.specs.Invariant.{AscendAt, Entry, IsSplit, key_in, stored_at}
+use Rattle.hx_store.specs.Slots.{StoreSlot}
+use Rattle.hx_store.specs.Invariant.{AscendAt, IsSplit, key_in, stored_at}
+use Rattle.hx_store.specs.Slots.{Entry}
 use Rattle.hx_store.proofs.Lists.{at-map, at-within, length-of-map}
 use Rattle.hx_store.proofs.Order.{differ-back}
 

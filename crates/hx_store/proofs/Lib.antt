@@ -1,6 +1,9 @@
 pub mod Moves
 pub mod Acknowledging
 pub mod Texts
+pub mod Objects
+pub mod Indexed
+pub mod Entries
 pub mod Lists
 pub mod Setting
 pub mod Order

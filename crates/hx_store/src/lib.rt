@@ -10,14 +10,15 @@
 #![tactic(auto)]
 
 mod copying;
+mod following;
 mod laws;
-mod places;
 mod searching;
-mod store_slot;
+mod slots;
+mod stepping;
 mod stores;
 
 pub use laws::snapshots_come_back;
-pub use store_slot::settle_all;
+pub use stepping::settle_all;
 pub use stores::Store;
 
 #[cfg(test)]
