@@ -1,8 +1,9 @@
 -- Keys and their slots as entries.
-use Rattle.std.proofs.Common.{◌≡◌, ℕ, zero, suc, ◌+◌, ◌<◌, Bool, true, false, List, [], ◌∷◌, ◌++◌, length, is_some, Option, None, Some, IfNone, refl, ap, sym, ◌∙◌, subst, arith, cond}
-use Rattle.std.specs.List.{slice_get, slice_set}
+use Rattle.std.proofs.Common.{◌≡◌, ℕ, zero, suc, ◌+◌, ◌^◌, ◌<◌, ◌≤◌, Bool, true, false, List, [], ◌∷◌, ◌++◌, length, is_some, Option, None, Some, IfNone, refl, ap, sym, ◌∙◌, subst, arith, cond}
+use Rattle.std.specs.List.{list_any, slice_get, slice_set}
 use Rattle.std.specs.Map.{keys_of, lookup, values_of}
 use Rattle.std.specs.Option.{IsSomeAnd}
+use Rattle.std.proofs.lemmas.Bool.{false≢true}
 use Rattle.std.proofs.lemmas.Option.{same_Some}
 use Rattle.indexmap.specs.IndexMap.{set_value_at}
 use Rattle.hx_types.specs.declared.calls.Row.{Row}
@@ -10,10 +11,11 @@ use Rattle.hx_types.specs.declared.ids.RegionId.{RegionId}
 use Rattle.hx_types.specs.Words.{same_text, when_some}
 use Rattle.hx_model.specs.Slots.{KeyState, object_of}
 use Rattle.hx_slot.specs.States.{SlotState}
-use Rattle.hx_index.specs.Orders.{IndexState, rows_at}
+use Rattle.hx_index.specs.Orders.{IndexState, IsIndexOf, rows_at}
 use Rattle.hx_index.proofs.Looping.{set-here, set-length}
 use Rattle.hx_store.specs.Invariant.{HasMoved, is_listed, key_in, stored_at}
-use Rattle.hx_store.specs.Slots.{AreSlots, Entry, IsStepped, StoreSlot, entries_of, rows_in}
+use Rattle.hx_store.specs.Slots.{AreSlots, Entry, IsKept, IsStepped, StoreSlot, entries_of, kept_count, one_kept, rows_in}
+use Rattle.hx_store.proofs.Finding.{none-lookup}
 use Rattle.hx_store.proofs.Indexed.{row, same-set}
 
 abbrev Key : Type 0
@@ -167,3 +169,49 @@ value-there (k ∷ ks) (suc i) l e = value-there ks i (omega arith) e
 -- what is stored after a slot was set
 pub stored-set-is : (ks : List Key) (ss : List SlotState) (i : ℕ) (w : SlotState) → length ks ≡ length ss → i < length ss → stored_at (entries_of ks (slice_set ss i w)) i ≡ Some (record { slot = w; listed = is_listed (entries_of ks (slice_set ss i w)) i })
 stored-set-is ks ss i w e l = stored-is ks (slice_set ss i w) i w (e ∙ sym (set-length ss i w)) (set-here ss i w l)
+
+none-there : {A : Type 0} (o : Option A) → is_some o ≡ false → o ≡ None
+none-there None e = refl
+none-there (Some x) e = absurd (false≢true (sym e))
+
+pub no-key : (ks : List Key) (ss : List SlotState) (es : List Entry) (e : length ks ≡ length ss) (view : entries_of ks ss ≡ es) (key : List ℕ) → list_any (λ (x : Entry). same_text x.0 key) es ≡ false → lookup (same_text key) ks ≡ None
+no-key ks ss es e view key n = none-there (lookup (same_text key) ks) (looked-seen ks ss es e view (same_text key) ∙ ap is_some (none-lookup key es n))
+
+-- a slot without an object comes last
+module _ (ss : List SlotState) (s : SlotState) (none : row s ≡ None) where
+  rows-added : (xs : List SlotState) (i : ℕ) → rows_at (xs ++ s ∷ []) i ≡ rows_at xs i
+  rows-added [] zero = none
+  rows-added [] (suc i) = refl
+  rows-added (x ∷ xs) zero = refl
+  rows-added (x ∷ xs) (suc i) = rows-added xs i
+
+  count-added : (xs : List SlotState) → kept_count (xs ++ s ∷ []) ≡ kept_count xs
+  count-added [] = let z = ap one_kept none in omega (arith, z)
+  count-added (x ∷ xs) = let more = count-added xs in omega (arith, more)
+
+  length-added : (xs : List SlotState) → length (xs ++ s ∷ []) ≡ length xs + 1
+  length-added [] = refl
+  length-added (x ∷ xs) = let more = length-added xs in omega (arith, more)
+
+  pub kept-added : (old new : IndexState) → IsKept ss old → new.orders ≡ old.orders → length ss + 1 ≤ new.room → length ss + 1 < 2 ^ 32 → IsKept (ss ++ s ∷ []) new
+  kept-added old new h same room few = record {
+    index_is =
+        subst (λ (rows : ℕ → Option Row). IsIndexOf rows new) (λ k i. sym (rows-added ss i) k)
+        (subst (λ (os : List (List ℕ)). IsIndexOf (rows_at ss) (record { orders = os; room = new.room })) (sym same) (seen-room h.index_is));
+    count = (let c = h.count in let q = ap (λ (os : List (List ℕ)). length (when_some (slice_get os 0) [] (λ (o : List ℕ). o))) same in let r = count-added ss in omega (arith, c, q, r));
+    room = (let l = length-added ss in omega (arith, l, room));
+    few = (let l = length-added ss in omega (arith, l, few));
+  }
+    where
+      seen-room : IsIndexOf (rows_at ss) old → IsIndexOf (rows_at ss) (record { orders = old.orders; room = new.room })
+      seen-room is = is
+
+  pub slots-added : (ks : List Key) (key : List ℕ) (old new : IndexState) → AreSlots ks ss old → new.orders ≡ old.orders → length ss + 1 ≤ new.room → length ss + 1 < 2 ^ 32 → AreSlots (ks ++ (key, false) ∷ []) (ss ++ s ∷ []) new
+  slots-added ks key old new h same room few = record {
+    count = (let a = keys-added ks in let b = length-added ss in let c = h.count in omega (arith, a, b, c));
+    kept = kept-added old new h.kept same room few;
+  }
+    where
+      keys-added : (ks : List Key) → length (ks ++ (key, false) ∷ []) ≡ length ks + 1
+      keys-added [] = refl
+      keys-added (k ∷ ks) = let more = keys-added ks in omega (arith, more)

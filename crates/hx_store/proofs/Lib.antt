@@ -4,6 +4,8 @@ pub mod Texts
 pub mod Objects
 pub mod Indexed
 pub mod Entries
+pub mod Sorting
+pub mod Matching
 pub mod Lists
 pub mod Setting
 pub mod Order

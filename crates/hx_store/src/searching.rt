@@ -14,11 +14,24 @@ pub fn rows_at(alloc: Global, slots: &[Slot], places: &[u32]) -> Result<Rows, Me
 {
     let mut rows = Rows::new(alloc);
     for place in places {
-        if let Some(slot) = slots.get(*place as usize) {
-            add_row(alloc, slot, &mut rows)?;
-        }
+        add_row_at(alloc, slots, *place, &mut rows)?;
     }
     Ok(rows)
+}
+
+/// Adds a copy of the committed object of the slot at a place.
+fn add_row_at(
+    alloc: Global,
+    slots: &[Slot],
+    place: u32,
+    rows: &mut Rows,
+) -> Result<(), Memory>
+    ensures { OnOk result (rows.new ≡ rows.old ++ list_of (rows_at slots.now place)) }
+{
+    match slots.get(place as usize) {
+        Some(slot) => add_row(alloc, slot, rows),
+        None => Ok(()),
+    }
 }
 
 /// Adds a copy of the committed object of a slot.

@@ -1,13 +1,13 @@
 ghost use Rattle.std.specs.Prelude.{◌≡◌, ℕ, ◌<◌, ◌≤◌, ◌+◌, [], IfNone, IfOk, IfSome, IsSomeAnd, OnErr, OnOk, Some, false, insert, length, nat_eq, true, vec_capacity, vec_len};
 ghost use Rattle.std.specs.Cmp.Lexicographic.{slice_cmp};
-ghost use Rattle.std.specs.List.{All, IsDistinct, flat_map, list_any};
+ghost use Rattle.std.specs.List.{IsDistinct, flat_map, list_any};
 ghost use Rattle.std.specs.Ordering.{nat_cmp};
 ghost use Rattle.hx_model.specs.Slots.{is_pending, moved_all, offered};
 ghost use Rattle.hx_types.specs.Words.{list_of, same_text, text_below};
 ghost use Rattle.hx_index.specs.Orders.{IsIndexOf, stands_in};
 ghost use Rattle.hx_index.specs.Searches.{most_looks};
 ghost use Rattle.hx_index.specs.Sides.{matches_at};
-ghost use Rattle.hx_store.specs.Invariant.{AscendAt, HasMoved, IsAdded, IsListedAt, IsReplacedAt, IsSplit, is_listed, key_in, stored_at};
+ghost use Rattle.hx_store.specs.Invariant.{AscendAt, HasMoved, IsAdded, IsListedAt, IsReplacedAt, IsSplit, KeysApart, is_listed, key_in, stored_at};
 ghost use Rattle.hx_store.specs.Slots.{Entry, StoreSlot, rows_in};
 ghost use Rattle.hx_store.specs.Stores.{ArePending, CanBeOffered, accepted_at, acknowledged_at, forgotten_at, marked_at, no_moves, settled_at};
 
@@ -229,6 +229,7 @@ impl Slots {
 
     /// The places of the slots at whose objects every term holds, in byte order of their keys.
     pub fn find(&self, alloc: Global, terms: &Terms, looks: &mut u64) -> Result<Ids, Memory>
+        requires { KeysApart self.now.entries }
         ensures matching { IfOk result (λ ids. (i : ℕ) → stands_in ids.items i ≡ matches_at (rows_in self.now.entries) terms.now i) }
         ensures ascend { IfOk result (λ ids. AscendAt self.now.entries ids.items) }
         ensures index { IsIndexOf (rows_in self.now.entries) self.now.index }
@@ -263,7 +264,8 @@ impl Slots {
 
     /// Puts places of slots into byte order of their keys. Each stands there once.
     fn sort_by_keys(&self, ids: &mut Ids)
-        requires within { All (λ i. i < length self.now.entries) ids.old.items }
+        requires apart { KeysApart self.now.entries }
+        requires within { (i : ℕ) → stands_in ids.old.items i ≡ true → i < length self.now.entries }
         requires once { IsDistinct nat_eq ids.old.items }
         ensures same { (i : ℕ) → stands_in ids.new.items i ≡ stands_in ids.old.items i }
         ensures ascend { AscendAt self.now.entries ids.new.items }

@@ -13,7 +13,7 @@ returns-in-Some-clause-place c = place-is c.self.inside.region c.self.inside.mar
 pub overflow_sub-place : goal.overflow_sub-place
 overflow_sub-place c =
     let most = order-most c.self.inside.region c.self.inside.marks c.self.inside.slots.entries c.self.inside.order.items (vec_capacity c.self.inside.order) c.args.self.now c.self.view_is c.self.invariant in
-    let place = c.len-place.ensures.len in
+    let place = c.len-place.ensures in
     let len = c.len.ensures in
     let ok = c.self.inside.order.ok.0 in
     omega (arith, most, place, len, ok)
@@ -27,7 +27,7 @@ returns-in_err-add-clause-rooms c = keeps-same c.args.self.now.rooms (rooms_in c
 pub invariant_of-self-2 : goal.invariant_of-self-2
 invariant_of-self-2 c =
     let most = order-most c.self.inside.region c.self.inside.marks c.self.inside.slots.entries c.self.inside.order.items (vec_capacity c.self.inside.order) c.args.self.now c.self.view_is c.self.invariant in
-    let place = c.len-place.ensures.len in
+    let place = c.len-place.ensures in
     let len = c.len.ensures in
     let ok = c.self.inside.order.ok.0 in
     let more = c.in_ok-reserve.ensures.ok in
@@ -38,7 +38,7 @@ invariant_of-self-2 c =
 pub returns-clause-states : goal.returns-clause-states
 returns-clause-states c =
     let most = order-most c.self.inside.region c.self.inside.marks c.self.inside.slots.entries c.self.inside.order.items (vec_capacity c.self.inside.order) c.args.self.now c.self.view_is c.self.invariant in
-    let place = c.len-place.ensures.len in
+    let place = c.len-place.ensures in
     let len = c.len.ensures in
     let ok = c.self.inside.order.ok.0 in
     let more = c.in_ok-reserve.ensures.ok in
@@ -49,7 +49,7 @@ returns-clause-states c =
 pub returns-clause-rooms : goal.returns-clause-rooms
 returns-clause-rooms c =
     let most = order-most c.self.inside.region c.self.inside.marks c.self.inside.slots.entries c.self.inside.order.items (vec_capacity c.self.inside.order) c.args.self.now c.self.view_is c.self.invariant in
-    let place = c.len-place.ensures.len in
+    let place = c.len-place.ensures in
     let len = c.len.ensures in
     let ok = c.self.inside.order.ok.0 in
     let more = c.in_ok-reserve.ensures.ok in
@@ -58,4 +58,4 @@ returns-clause-rooms c =
     (added c.self.inside.region c.self.inside.marks c.self.inside.slots.entries c.self.inside.order.items (vec_capacity c.self.inside.order) c.args.self.now c.self.view_is c.self.invariant c.args.key.now c.add.new.self.entries c.reserve.new.self.items (vec_capacity c.reserve.new.self) c.in_default.ensures.none c.in_ok-add.ensures.ok c.in_ok-reserve.ensures.items room).2
 
 pub returns-clause-place : goal.returns-clause-place
-returns-clause-place c = added-place c.self.inside.region c.self.inside.marks c.self.inside.slots.entries c.self.inside.order.items (vec_capacity c.self.inside.order) c.args.self.now c.self.view_is c.self.invariant c.args.key.now c.add.new.self.entries c.len-place.result _ c.in_ok-add.ensures.ok c.len-place.ensures.len refl
+returns-clause-place c = added-place c.self.inside.region c.self.inside.marks c.self.inside.slots.entries c.self.inside.order.items (vec_capacity c.self.inside.order) c.args.self.now c.self.view_is c.self.invariant c.args.key.now c.add.new.self.entries c.len-place.result _ c.in_ok-add.ensures.ok c.len-place.ensures refl
