@@ -181,3 +181,9 @@ then-stepped i fall f g old mid now one two =
 
 pub within-stepped : (i fall : ℕ) (f : RegionId → KeyState → KeyState) (old now : List SlotState) → IsStepped i f fall old now → i < length now
 within-stepped i fall f old now m = subst (λ (xs : List SlotState). i < length xs) (sym m.set) (within-set old i m.after (within-of old i m.before m.found))
+
+-- beyond the slots there is no object
+pub rows-past : (slots : List SlotState) (i : ℕ) → length slots ≤ i → rows_at slots i ≡ None
+rows-past [] i l = refl
+rows-past (s ∷ slots) zero l = absurd (omega (arith, l))
+rows-past (s ∷ slots) (suc i) l = rows-past slots i (omega (arith, l))

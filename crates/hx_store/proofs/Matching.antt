@@ -6,7 +6,7 @@ use Rattle.std.specs.declared.cmp.Ordering.TheVariants.{Less}
 use Rattle.std.proofs.lemmas.List.Kept.{IsStrictlySortedBy-filter}
 use Rattle.hx_index.proofs.Inserting.{less-differs}
 use Rattle.hx_index.proofs.Totals.{slots-exact, slots-total}
-use Rattle.std.proofs.lemmas.Bool.{cond-true, cond_both, eq-eqb, eqb-true, false≢true, false_from_ne_true, ltb-true, or_left, or_right}
+use Rattle.std.proofs.lemmas.Bool.{and_right, cond-false, cond-true, cond_both, eq-eqb, eqb-true, false≢true, false_from_ne_true, ltb-true, or_left, or_right}
 use Rattle.std.proofs.lemmas.List.Elements.{filter-append}
 use Rattle.std.proofs.lemmas.List.{length-append}
 use Rattle.hx_types.specs.declared.calls.Row.{Row}
@@ -179,6 +179,33 @@ module _ (g : RegionId) (marks : Bool) (es : List Entry) (each : AllByRecursion 
       -- the bound of the index is that of the store
       pub looks-same : (terms : List Term) → 0 < length index_state.orders → index.most_looks index_state (rows_in es) terms ≡ most_looks_at (length index_state.orders) rows terms
       looks-same terms l = λ k. least-same terms (count_of index_state) (length rows) (count-same l) k + 2 * indexed_count (length index_state.orders) terms * digits_of (count-same l k)
+
+      none-indexed : length index_state.orders ≡ 0 → (term : Term) → index.is_indexed index_state term ≡ false
+      none-indexed e term = and_right (nat_lt 0 (attribute_of term)) _ (false_from_ne_true (nat_lt (attribute_of term) (length index_state.orders)) (λ t. (let l = ltb-true (attribute_of term) (length index_state.orders) t in omega (arith, l, e))))
+
+      least-none : length index_state.orders ≡ 0 → (terms : List Term) (m : ℕ) → index.least_run index_state (rows_in es) m terms ≡ m
+      least-none e [] m = refl
+      least-none e (term ∷ terms) m = least-none e terms _ ∙ cond-false (index.is_indexed index_state term) (min (index.run_length index_state (rows_in es) term) m) m (none-indexed e term)
+
+      counted-none : length index_state.orders ≡ 0 → (terms : List Term) → index.indexed_count index_state terms ≡ 0
+      counted-none e [] = refl
+      counted-none e (term ∷ terms) = ap (λ (l : List Term). length l) (cond-false (index.is_indexed index_state term) (term ∷ filter (index.is_indexed index_state) terms) (filter (index.is_indexed index_state) terms) (none-indexed e term)) ∙ counted-none e terms
+
+      no-orders : (os : List (List ℕ)) → length os ≡ 0 → length (when_some (slice_get os 0) [] (λ (o : List ℕ). o)) ≡ 0
+      no-orders [] e = refl
+      no-orders (o ∷ os) e = absurd (omega (arith, e))
+
+      -- so a search takes no more looks than that
+      pub looks-most : (terms : List Term) → index.most_looks index_state (rows_in es) terms ≤ most_looks_at (length index_state.orders) rows terms
+      looks-most terms = by (length index_state.orders) refl
+        where
+          by : (n : ℕ) → length index_state.orders ≡ n → index.most_looks index_state (rows_in es) terms ≤ most_looks_at (length index_state.orders) rows terms
+          by zero e =
+              let least = least-none e terms (count_of index_state) in
+              let count = no-orders index_state.orders e in
+              let more = ap (λ n. 2 * n * digits_of (count_of index_state)) (counted-none e terms) in
+              omega (arith, least, count, more)
+          by (suc n) e = (let same = looks-same terms (omega (arith, e)) in omega (arith, same))
 
 -- what matches is there
 pub match-within : (es : List Entry) (terms : List Term) (i : ℕ) → matches_at (rows_in es) terms i ≡ true → i < length es
