@@ -64,13 +64,6 @@ pub all-among : (Q : ℕ → Type 0) (order : List ℕ) → ((i : ℕ) → list_
 all-among Q [] f = tt
 all-among Q (j ∷ rest) f = (f j (or_left (eqb j j) _ (eq-eqb j j refl)), all-among Q rest (λ i e. f i (or_right (eqb j i) _ e)))
 
-pub among-all : (Q : ℕ → Type 0) (order : List ℕ) (i : ℕ) → AllByRecursion Q order → list_any (λ j. eqb j i) order ≡ true → Q i
-among-all Q [] i h e = absurd (false≢true e)
-among-all Q (j ∷ rest) i h e = elim (or_cases (eqb j i) (list_any (λ k. eqb k i) rest) e) [
-  | inl s ↦ subst Q (eqb-true j i s) h.0
-  | inr s ↦ among-all Q rest i h.1 s
-]
-
 -- one item more of a list, and of those that stand behind others
 take_one : {A : Type 0} (xs : List A) (i : ℕ) (x : A) → slice_get xs i ≡ Some x → take (suc i) xs ≡ take i xs ++ x ∷ []
 take_one [] i x e = absurd cc

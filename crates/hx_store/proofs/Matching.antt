@@ -101,7 +101,7 @@ module _ (g : RegionId) (marks : Bool) (es : List Entry) (each : AllByRecursion 
       one-each [] = refl
       one-each (j ∷ rest) = cond_both (test-at p (rows_in es j)) (j ∷ filter (λ i. test-at p (rows_in es i)) rest) (filter (λ i. test-at p (rows_in es i)) rest) (λ (l : List ℕ). length (flat_map row-of l) ≡ length l)
           (λ t. (let z : 1 + length (filter (λ i. test-at p (rows_in es i)) rest) ≡ suc (length (filter (λ i. test-at p (rows_in es i)) rest)) = omega arith in
-              length-append (row-of j) (flat_map row-of (filter (λ i. test-at p (rows_in es i)) rest)) ∙ (λ k. one (rows_in es j) t k + one-each rest k) ∙ z))
+          length-append (row-of j) (flat_map row-of (filter (λ i. test-at p (rows_in es i)) rest)) ∙ (λ k. one (rows_in es j) t k + one-each rest k) ∙ z))
           (λ f. one-each rest)
         where
           one : (o : Option Row) → test-at p o ≡ true → length (list_of o) ≡ 1

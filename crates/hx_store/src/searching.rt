@@ -20,12 +20,7 @@ pub fn rows_at(alloc: Global, slots: &[Slot], places: &[u32]) -> Result<Rows, Me
 }
 
 /// Adds a copy of the committed object of the slot at a place.
-fn add_row_at(
-    alloc: Global,
-    slots: &[Slot],
-    place: u32,
-    rows: &mut Rows,
-) -> Result<(), Memory>
+fn add_row_at(alloc: Global, slots: &[Slot], place: u32, rows: &mut Rows) -> Result<(), Memory>
     ensures { OnOk result (rows.new ≡ rows.old ++ list_of (rows_at slots.now place)) }
 {
     match slots.get(place as usize) {

@@ -46,12 +46,7 @@ impl Model for Store {
 impl Store {
     /// The store of a region of a space, of which nothing was heard. Its slots keep marks and touches
     /// where `marks` says so, as those of key regions do.
-    pub fn new(
-        alloc: Global,
-        space: &Space,
-        region: RegionId,
-        marks: bool,
-    ) -> Result<Store, Memory>
+    pub fn new(alloc: Global, space: &Space, region: RegionId, marks: bool) -> Result<Store, Memory>
         requires { length space.now.attributes ≤ MOST_ATTRIBUTES }
         ensures { IfOk result (λ store. store ≡ record { region = region; marks = marks; attributes = length space.now.attributes + 1; states = []; rooms = [] }) }
     {

@@ -65,7 +65,11 @@ fn keys_stand_in_byte_order(rt: HostRuntime) -> Result<(), Memory> {
     let mut looks = 0;
     assert_eq!(rt; first, Some("a"));
     assert!(rt; store.len() == 2);
-    assert!(rt; store.find(alloc, &Terms::new(alloc), &mut looks)?.is_empty());
+    assert!(rt;
+        store
+            .find(alloc, &Terms::new(alloc), &mut looks)?
+            .is_empty()
+    );
     assert!(rt; looks == 0);
     assert!(rt; store.pending(alloc)?.is_empty());
     Ok(())
@@ -160,7 +164,11 @@ fn an_object_that_is_replaced_is_found_no_more(rt: HostRuntime) -> Result<(), Me
     let key = Text::from_str(alloc, "k7")?;
     store.put(alloc, Slot::new(alloc, RegionId(3), key, false))?;
     let mut looks = 0;
-    assert!(rt; store.find(alloc, &Terms::new(alloc), &mut looks)?.is_empty());
+    assert!(rt;
+        store
+            .find(alloc, &Terms::new(alloc), &mut looks)?
+            .is_empty()
+    );
     assert!(rt; looks == 0);
     Ok(())
 }
