@@ -421,7 +421,10 @@ load_kept s kept id v n at is = record {
 
 pub loads : (slots id : ℕ) (v : View) (c : List (ℕ × ⊤)) → Allows IsKept slots id (v, c) 0 (λ n. n) (Loads (v, c))
 loads slots id v c s kept len at small =
-    let is : slice_index s.words 0 ≡ length kept.history = ap (λ ws. slice_index ws 0) kept.words in (
+    let is : slice_index s.words 0 ≡ length kept.history = ap (λ ws. slice_index ws 0) kept.words in
+    let most = history-most kept.actors MOST_ENTRIES kept.history kept.by_actors kept.few_entries in
+    let times_most : kept.actors * MOST_ENTRIES ≤ MOST_ENROLLED * MOST_ENTRIES = mul-le-mul_right MOST_ENTRIES kept.few_actors in
+    let few : length kept.history ≤ MOST_ENROLLED * MOST_ENTRIES = omega arith in (
       v,
       keeps,
       tt,
@@ -433,5 +436,7 @@ loads slots id v c s kept len at small =
               whole-causal kept.history kept.actors v.carried all kept.causal,
               subst (λ n. HasStampsBelow n (parts_of v)) (sym is) (whole-stamps kept.history kept.actors v.carried all),
             ),
+        subst (λ n. IsAfter n v) (sym is) (fresh kept.history kept.actors v (kept.fits id v at)),
+        subst (λ n. n ≤ MOST_ENROLLED * MOST_ENTRIES) (sym is) few,
       ),
     )

@@ -81,6 +81,10 @@ Acts entry m found m' =
 abbrev pub Enrols : Me ⊤ View → ℕ → Me ⊤ View → Type 0
 Enrols m found m' = (m' ≡ (enrolling found m.0, m.1)) × (m.0.count ≡ Some found)
 
--- load: what a whole view carries is causal, and its stamps are the numbers below the one found
+-- load: the number found is above each stamp that the seat has; what a whole view carries is causal, and its stamps are the numbers below it
 abbrev pub Loads : Me ⊤ View → ℕ → Me ⊤ View → Type 0
-Loads m found m' = (m' ≡ m) × (IsWhole m.0 → IsCausal (parts_of m.0) × HasStampsBelow found (parts_of m.0))
+Loads m found m' =
+    (m' ≡ m)
+    × (IsWhole m.0 → IsCausal (parts_of m.0) × HasStampsBelow found (parts_of m.0))
+    × IsAfter found m.0
+    × (found ≤ MOST_ENROLLED * MOST_ENTRIES)

@@ -1,4 +1,4 @@
-ghost use Rattle.std.specs.Prelude.{ℕ, ◌≡◌, ◌+◌, ◌*◌, ◌<◌, ◌∷◌, ◌++◌, [], length, IfOk, None, Some, List};
+ghost use Rattle.std.specs.Prelude.{ℕ, ◌≡◌, ◌+◌, ◌*◌, ◌<◌, ◌≤◌, ◌∷◌, ◌++◌, [], length, IfOk, None, Some, List};
 ghost use Rattle.hx_types.specs.declared.messages.Post.{Post};
 ghost use Rattle.hx_types.specs.declared.messages.PostId.{PostId};
 ghost use Rattle.hx_types.specs.declared.limits.TheConstants.{MOST_ENTRIES};
@@ -118,6 +118,18 @@ impl Clock {
     {
         let Seat { token } = pass;
         self.table.shared.join_seat::<Learn>(&mut seat.token, token);
+    }
+
+    /// How many stamps were drawn by now: more than any stamp of an entry that the seat has. It waits
+    /// for nobody.
+    pub fn now(&self, seat: &mut Seat) -> u64
+        requires clock { seat.old.clock ≡ self.now }
+        ensures clock { seat.new.clock ≡ self.now }
+        ensures seat { seat.new.view ≡ seat.old.view }
+        ensures later { (x : Stamped) → Has seat.old.view x → x.stamp.0 < result }
+        ensures bound { result ≤ MOST_ENROLLED * MOST_ENTRIES }
+    {
+        self.table.shared.load::<Load>(&mut seat.token, 0)
     }
 
     /// The number of stamps that were drawn. Where the seat has taken in every actor's seat, they are
