@@ -39,6 +39,7 @@ pub fn gather(
     requires seats { AllByRecursion (IsSeated clock) actors.items }
     requires all { CountsAll seat actors.items }
     ensures whole { IfOk result (λ trace. (merged : List Stamped) × IsMerged (parts_of actors.items) merged × HasStampsAsPlaces merged × (trace ≡ map (λ x. x.entry) merged)) }
+    ensures parts { IfOk result (λ _. AreWholeParts (parts_of actors.items)) }
     ensures run { IfOk result (λ trace. (script : Script) → AreOwnParts script (parts_by actors.items) → IsRun script (reverse trace)) }
     ensures own { IfOk result (λ trace. (script : Script) → AreOwnParts script (parts_by actors.items) → HasOwnParts (parts_by actors.items) (reverse trace)) }
 {
