@@ -1,0 +1,4 @@
+pub mod Zipped
+pub mod Courses
+pub mod Joins
+pub mod Onces

@@ -1,0 +1,13 @@
+use Rattle.std.proofs.Common.{ℕ, List, map}
+use Rattle.std.specs.List.{AllByRecursion}
+use Rattle.hx_driver.specs.declared.crews.Crew.{Crew}
+use Rattle.hx_driver.specs.Crews.{IsCrew}
+use Rattle.hx_law_drivers.specs.Courses.{IsCourse}
+use Rattle.hx_run.specs.Rounds.{StayCrews}
+use Rattle.hx_run.proofs.rounds.run_rounds.Given as goal
+
+abbrev pub invariant-loop-round : goal.invariant-loop-round
+invariant-loop-round g l =
+    StayCrews l.script l.clock l.boxes (map (λ d. d.crew) l.initial.drivers) (map (λ d. d.crew) l.drivers)
+    × ((w : ℕ) → AllByRecursion (IsCrew l.script l.clock l.boxes w) (map (λ d. d.crew) l.initial.drivers)
+        → (cuts : List (List Crew)) × IsCourse l.script l.clock l.boxes w (map (λ d. d.crew) l.initial.drivers) cuts (map (λ d. d.crew) l.drivers))

@@ -1,0 +1,10 @@
+//! Drivers run to their end.
+#![tactic(auto)]
+
+mod joining;
+mod resting;
+mod rounds;
+
+pub use joining::{join_all, sort_by_place};
+pub use resting::{all_ended, at_rest};
+pub use rounds::run_rounds;
