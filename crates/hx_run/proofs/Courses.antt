@@ -66,7 +66,7 @@ get-some [] n lt = absurd (omega (arith, lt))
 get-some (x ∷ xs) zero lt = (x, refl)
 get-some (x ∷ xs) (suc n) lt = get-some xs n (omega (arith, lt))
 
-below-or-not : (n m : ℕ) → (n < m) ⊎ (m ≤ n)
+pub below-or-not : (n m : ℕ) → (n < m) ⊎ (m ≤ n)
 below-or-not zero zero = inr (omega arith)
 below-or-not zero (suc m) = inl (omega arith)
 below-or-not (suc n) zero = inr (omega arith)

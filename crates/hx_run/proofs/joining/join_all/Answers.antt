@@ -1,19 +1,19 @@
 use Rattle.std.proofs.Common.{arith, ◌≡◌, ◌+◌, ◌≤◌, ◌∙◌, refl, subst, [], ◌∷◌, length, append-nil}
 use Rattle.std.specs.List.{AllByRecursion}
 use Rattle.hx_outbox.proofs.Outs.{both-long}
-use Rattle.hx_run.specs.Joined.{IsKeptDesk, IsJoined}
+use Rattle.hx_run.specs.Joined.{IsKeptTaker, IsJoined}
 use Rattle.hx_run.proofs.Zipped.{both-refl, both-trans}
 use Rattle.hx_run.proofs.Joins.{kept-refl, kept-trans, places-kept, order-each, none-left, seam}
 use Rattle.hx_run.proofs.Onces.{took-once}
 use Rattle.hx_run.proofs.joining.join_all.Goals as goal
 
 pub loop-round-init : goal.loop-round-init
-loop-round-init c = (c.requires.outs.0, omega arith, both-refl IsKeptDesk kept-refl c.args.desks.now.items, ([], append-nil _, c.requires.joined))
+loop-round-init c = (c.requires.outs.0, omega arith, both-refl IsKeptTaker kept-refl c.args.takers.now.items, ([], append-nil _, c.requires.joined))
 
-pub join_next-requires-clause-desks : goal.join_next-requires-clause-desks
-join_next-requires-clause-desks c =
+pub join_next-requires-clause-takers : goal.join_next-requires-clause-takers
+join_next-requires-clause-takers c =
     let i = c.loop-round.invariant in
-    (places-kept c.args.script.now 0 c.args.desks.now.items c.loop-round.desks.items i.2 c.requires.desks.0, both-long IsKeptDesk c.args.desks.now.items c.loop-round.desks.items i.2 ∙ c.requires.desks.1)
+    (places-kept c.args.script.now 0 c.args.takers.now.items c.loop-round.takers.items i.2 c.requires.takers.0, both-long IsKeptTaker c.args.takers.now.items c.loop-round.takers.items i.2 ∙ c.requires.takers.1)
 
 pub loop-round-preserved : goal.loop-round-preserved
 loop-round-preserved c =
@@ -22,23 +22,23 @@ loop-round-preserved c =
     (
       n.outs.0,
       omega (arith, n.outs.1, i.1),
-      both-trans IsKeptDesk kept-trans c.args.desks.now.items c.loop-round.desks.items c.join_next.new.desks.items i.2 n.kept,
+      both-trans IsKeptTaker kept-trans c.args.takers.now.items c.loop-round.takers.items c.join_next.new.takers.items i.2 n.kept,
       (n.joined.0 ∷ i.3.0, seam c.loop-round.outs.items c.join_next.new.outs.items i.3.0 c.args.outs.items n.joined.0 n.joined.1 i.3.1, n.joined.2 (length c.args.outs.items) i.3.0 i.3.2),
     )
 
-all : (c : goal.After-loop-round) → AllByRecursion (IsJoined c.args.script.now (length c.args.outs.items) c.args.boxes.now c.args.outs.items) c.loop-round.desks.items
+all : (c : goal.After-loop-round) → AllByRecursion (IsJoined c.args.script.now (length c.args.outs.items) c.args.boxes.now c.args.outs.items) c.loop-round.takers.items
 all c =
     let i = c.loop-round.invariant in
     let none : length c.loop-round.outs.items ≡ 0 = grind (arith, i.1, c.loop-round-test.false, c.len-round-end.ensures) in
-    subst (λ l. AllByRecursion (IsJoined c.args.script.now (length c.args.outs.items) c.args.boxes.now l) c.loop-round.desks.items) (none-left c.loop-round.outs.items i.3.0 c.args.outs.items none i.3.1) i.3.2
+    subst (λ l. AllByRecursion (IsJoined c.args.script.now (length c.args.outs.items) c.args.boxes.now l) c.loop-round.takers.items) (none-left c.loop-round.outs.items i.3.0 c.args.outs.items none i.3.1) i.3.2
 
 pub returns-clause-joined : goal.returns-clause-joined
 returns-clause-joined c = all c
 
 pub returns-clause-order : goal.returns-clause-order
 returns-clause-order c =
-    order-each c.args.script.now (length c.args.outs.items) c.args.boxes.now c.args.outs.items c.requires.outs.2 c.requires.outs.1 c.args.desks.now.items c.loop-round.desks.items c.loop-round.invariant.2 (all c)
+    order-each c.args.script.now (length c.args.outs.items) c.args.boxes.now c.args.outs.items c.requires.outs.2 c.requires.outs.1 c.args.takers.now.items c.loop-round.takers.items c.loop-round.invariant.2 (all c)
 
 pub returns-clause-once : goal.returns-clause-once
 returns-clause-once c =
-    took-once c.args.script.now (length c.args.outs.items) c.args.boxes.now c.args.outs.items c.requires.outs.2 c.requires.outs.1 c.args.desks.now.items c.loop-round.desks.items c.requires.desks.0 c.loop-round.invariant.2 (all c)
+    took-once c.args.script.now (length c.args.outs.items) c.args.boxes.now c.args.outs.items c.requires.outs.2 c.requires.outs.1 c.args.takers.now.items c.loop-round.takers.items c.requires.takers.0 c.loop-round.invariant.2 (all c)
