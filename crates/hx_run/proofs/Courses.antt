@@ -1,6 +1,8 @@
 -- What the rounds keep: the course so far, and what each driver posted.
 use Rattle.std.proofs.Common.{◌≡◌, ℕ, zero, suc, ◌+◌, ◌<◌, ◌≤◌, ◌⊎◌, ⊎_elim, inl, inr, true, false, Bool, List, [], ◌∷◌, ◌++◌, map, length, slice_get, slice_index_or, slice_set, Option, Some, None, refl, ap, sym, subst, ◌∙◌, arith, append_assoc}
 use Rattle.std.specs.List.{AllByRecursion}
+use Rattle.std.specs.Option.{is_some}
+use Rattle.std.proofs.lemmas.Bool.{true≢false}
 use mathlib.Core.List.{IsPrefix}
 use Rattle.atomic_table.specs.Seated.{TableId}
 use Rattle.hx_types.specs.declared.traces.Script.{Script}
@@ -24,7 +26,7 @@ use Rattle.hx_driver.specs.Slices.{HaveNoRetry, HaveRetried, IsLaterCrew, MayHav
 use Rattle.hx_law_drivers.specs.Courses.{AreRetried, AreSliced, IsCourse, IsCutAt, IsSliced}
 use Rattle.hx_law_drivers.specs.Rests.{AreAtRest, SomeGoesOn}
 use Rattle.hx_run.specs.Rounds.{Advance, HasMachine, HaveMachines, StayCrews, StaysCrew}
-use Rattle.hx_run.proofs.Zipped.{both-each, both-map, both-refl, both-trans}
+use Rattle.hx_run.proofs.Zipped.{both-each, both-map, both-put-map, both-refl, both-trans}
 
 pub later-refl : (d : Desk) → IsLater d d
 later-refl d = record { actor = refl; part = begins-refl d.part.items; ins = begins-refl _ }
@@ -178,14 +180,20 @@ retried-none script [] = 0
 retried-none script (c ∷ cs) = (refl, retried-none script cs)
 
 -- one more driver retried
-pub retried-next : (script : Script) (k : ℕ) (cs ds : List Crew) (c d : Crew) → RetriedTo script k cs ds → k < length ds → c ≡ slice_index_or ds k c
-    → IsLaterCrew c d → HaveRetried script c d → d.fault ≡ None → RetriedTo script (suc k) cs (slice_set ds k d)
-retried-next script k [] [] c d h lt e l r f = absurd (omega (arith, lt))
-retried-next script k [] (x ∷ ds) c d h lt e l r f = absurd h
-retried-next script k (x ∷ cs) [] c d h lt e l r f = absurd h
-retried-next script zero (x ∷ cs) (y ∷ ds) c d h lt e l r f =
-    let same : c ≡ x = e ∙ h.0 in (record { later = subst (λ u. IsLaterCrew u d) same l; retried = subst (λ u. HaveRetried script u d) same r; calm = f }, h.1)
-retried-next script (suc k) (x ∷ cs) (y ∷ ds) c d h lt e l r f = (h.0, retried-next script k cs ds c d h.1 (omega (arith, lt)) e l r f)
+retried-suc : {D : Type 0} (f : D → Crew) (script : Script) (k : ℕ) (cs : List Crew) (ds : List D) (d y : D) → RetriedTo script k cs (map f ds) → k < length ds
+    → IsLaterCrew (f (slice_index_or ds k d)) (f y) → HaveRetried script (f (slice_index_or ds k d)) (f y) → (f y).fault ≡ None → RetriedTo script (suc k) cs (map f (slice_set ds k y))
+retried-suc f script k [] [] d y h lt l r g = absurd (omega (arith, lt))
+retried-suc f script k [] (x ∷ ds) d y h lt l r g = absurd h
+retried-suc f script k (x ∷ cs) [] d y h lt l r g = absurd h
+retried-suc f script zero (x ∷ cs) (u ∷ ds) d y h lt l r g =
+    (record { later = subst (λ v. IsLaterCrew v (f y)) h.0 l; retried = subst (λ v. HaveRetried script v (f y)) h.0 r; calm = g }, h.1)
+retried-suc f script (suc k) (x ∷ cs) (u ∷ ds) d y h lt l r g = (h.0, retried-suc f script k cs ds d y h.1 (omega (arith, lt)) l r g)
+
+pub retried-next : {D : Type 0} (f : D → Crew) (script : Script) (k : ℕ) (cs : List Crew) (ds : List D) (d y : D) → RetriedTo script k cs (map f ds) → k < length ds
+    → IsLaterCrew (f (slice_index_or ds k d)) (f y) → HaveRetried script (f (slice_index_or ds k d)) (f y) → (f y).fault ≡ None → RetriedTo script (k + 1) cs (map f (slice_set ds k y))
+retried-next f script k cs ds d y h lt l r g =
+    let e : suc k ≡ k + 1 = omega arith in
+    subst (λ n. RetriedTo script n cs (map f (slice_set ds k y))) e (retried-suc f script k cs ds d y h lt l r g)
 
 may-retry : (script : Script) (d : Desk) → MayHaveRetried script d d
 may-retry script d = inr refl
@@ -214,36 +222,55 @@ all-retried script k cs ds le h = record { later = later k cs ds le h; calm = λ
     some (suc k) (c ∷ cs) (d ∷ ds) le h = (h.0.retried.some, some k cs ds (omega (arith, le)) h.1)
 
 -- the driver of number k met a fault
-pub retried-part : (script : Script) (k : ℕ) (cs ds : List Crew) (c d : Crew) (f : Fault) → RetriedTo script k cs ds → k < length ds → c ≡ slice_index_or ds k c
-    → IsLaterCrew c d → HaveRetried script c d → d.fault ≡ Some f → AreRetried script cs (slice_set ds k d)
-retried-part script k cs ds c d f h lt e l r g = record { later = later k cs ds h lt e; calm = λ a. absurd (faulty k ds lt a); some = some k cs ds h lt e }
+pub retried-part : {D : Type 0} (f : D → Crew) (script : Script) (k : ℕ) (cs : List Crew) (ds : List D) (d y : D) → RetriedTo script k cs (map f ds) → k < length ds
+    → IsLaterCrew (f (slice_index_or ds k d)) (f y) → HaveRetried script (f (slice_index_or ds k d)) (f y) → ((f y).fault ≡ None → ⊥) → AreRetried script cs (map f (slice_set ds k y))
+retried-part {D} f script k cs ds d y h lt l r g = record { later = later k cs ds h lt l; calm = λ a. absurd (faulty k ds lt a); some = some k cs ds h lt r.some }
   where
-    none-some : (o : Option Fault) → o ≡ Some f → o ≡ None → ⊥
-    none-some o p q = cc
-    faulty : (k : ℕ) (ds : List Crew) → k < length ds → AllByRecursion (λ (x : Crew). x.fault ≡ None) (slice_set ds k d) → ⊥
+    faulty : (k : ℕ) (ds : List D) → k < length ds → AllByRecursion (λ (x : Crew). x.fault ≡ None) (map f (slice_set ds k y)) → ⊥
     faulty k [] lt a = omega (arith, lt)
-    faulty zero (y ∷ ds) lt a = none-some d.fault g a.0
-    faulty (suc k) (y ∷ ds) lt a = faulty k ds (omega (arith, lt)) a.1
-    same-later : (cs ds : List Crew) → RetriedTo script 0 cs ds → Both IsLaterCrew cs ds
+    faulty zero (u ∷ ds) lt a = g a.0
+    faulty (suc k) (u ∷ ds) lt a = faulty k ds (omega (arith, lt)) a.1
+    same-later : (cs : List Crew) (ds : List D) → RetriedTo script 0 cs (map f ds) → Both IsLaterCrew cs (map f ds)
     same-later [] [] h = tt
-    same-later [] (y ∷ ds) h = absurd h
+    same-later [] (u ∷ ds) h = absurd h
     same-later (x ∷ cs) [] h = absurd h
-    same-later (x ∷ cs) (y ∷ ds) h = (subst (λ u. IsLaterCrew x u) (sym h.0) (crew-refl x), same-later cs ds h.1)
-    later : (k : ℕ) (cs ds : List Crew) → RetriedTo script k cs ds → k < length ds → c ≡ slice_index_or ds k c → Both IsLaterCrew cs (slice_set ds k d)
-    later k [] [] h lt e = absurd (omega (arith, lt))
-    later k [] (y ∷ ds) h lt e = absurd h
-    later k (x ∷ cs) [] h lt e = absurd h
-    later zero (x ∷ cs) (y ∷ ds) h lt e = (subst (λ u. IsLaterCrew u d) (e ∙ h.0) l, same-later cs ds h.1)
-    later (suc k) (x ∷ cs) (y ∷ ds) h lt e = (h.0.later, later k cs ds h.1 (omega (arith, lt)) e)
-    same-some : (cs ds : List Crew) → RetriedTo script 0 cs ds → Both (λ (u v : Crew). Both (MayHaveRetried script) u.desks.items v.desks.items) cs ds
+    same-later (x ∷ cs) (u ∷ ds) h = (subst (λ v. IsLaterCrew x v) (sym h.0) (crew-refl x), same-later cs ds h.1)
+    later : (k : ℕ) (cs : List Crew) (ds : List D) → RetriedTo script k cs (map f ds) → k < length ds → IsLaterCrew (f (slice_index_or ds k d)) (f y) → Both IsLaterCrew cs (map f (slice_set ds k y))
+    later k [] [] h lt l = absurd (omega (arith, lt))
+    later k [] (u ∷ ds) h lt l = absurd h
+    later k (x ∷ cs) [] h lt l = absurd h
+    later zero (x ∷ cs) (u ∷ ds) h lt l = (subst (λ v. IsLaterCrew v (f y)) h.0 l, same-later cs ds h.1)
+    later (suc k) (x ∷ cs) (u ∷ ds) h lt l = (h.0.later, later k cs ds h.1 (omega (arith, lt)) l)
+    same-some : (cs : List Crew) (ds : List D) → RetriedTo script 0 cs (map f ds) → Both (λ (u v : Crew). Both (MayHaveRetried script) u.desks.items v.desks.items) cs (map f ds)
     same-some [] [] h = tt
-    same-some [] (y ∷ ds) h = absurd h
+    same-some [] (u ∷ ds) h = absurd h
     same-some (x ∷ cs) [] h = absurd h
-    same-some (x ∷ cs) (y ∷ ds) h =
-        (subst (λ (u : Crew). Both (MayHaveRetried script) x.desks.items u.desks.items) (sym h.0) (both-refl (MayHaveRetried script) (may-retry script) x.desks.items), same-some cs ds h.1)
-    some : (k : ℕ) (cs ds : List Crew) → RetriedTo script k cs ds → k < length ds → c ≡ slice_index_or ds k c → Both (λ (u v : Crew). Both (MayHaveRetried script) u.desks.items v.desks.items) cs (slice_set ds k d)
-    some k [] [] h lt e = absurd (omega (arith, lt))
-    some k [] (y ∷ ds) h lt e = absurd h
-    some k (x ∷ cs) [] h lt e = absurd h
-    some zero (x ∷ cs) (y ∷ ds) h lt e = (subst (λ (u : Crew). Both (MayHaveRetried script) u.desks.items d.desks.items) (e ∙ h.0) r.some, same-some cs ds h.1)
-    some (suc k) (x ∷ cs) (y ∷ ds) h lt e = (h.0.retried.some, some k cs ds h.1 (omega (arith, lt)) e)
+    same-some (x ∷ cs) (u ∷ ds) h =
+        (subst (λ (v : Crew). Both (MayHaveRetried script) x.desks.items v.desks.items) (sym h.0) (both-refl (MayHaveRetried script) (may-retry script) x.desks.items), same-some cs ds h.1)
+    some : (k : ℕ) (cs : List Crew) (ds : List D) → RetriedTo script k cs (map f ds) → k < length ds → Both (MayHaveRetried script) (f (slice_index_or ds k d)).desks.items (f y).desks.items
+        → Both (λ (u v : Crew). Both (MayHaveRetried script) u.desks.items v.desks.items) cs (map f (slice_set ds k y))
+    some k [] [] h lt m = absurd (omega (arith, lt))
+    some k [] (u ∷ ds) h lt m = absurd h
+    some k (x ∷ cs) [] h lt m = absurd h
+    some zero (x ∷ cs) (u ∷ ds) h lt m = (subst (λ (v : Crew). Both (MayHaveRetried script) v.desks.items (f y).desks.items) h.0 m, same-some cs ds h.1)
+    some (suc k) (x ∷ cs) (u ∷ ds) h lt m = (h.0.retried.some, some k cs ds h.1 (omega (arith, lt)) m)
+
+-- the crews after a retry of one of them stay crews
+pub stay-next : {D : Type 0} (f : D → Crew) (script : Script) (clock : TableId) (boxes : List Boxed) (cs : List Crew) (ds : List D) (k : ℕ) (d y : D) → StayCrews script clock boxes cs (map f ds)
+    → StaysCrew script clock boxes (f (slice_index_or ds k d)) (f y) → StayCrews script clock boxes cs (map f (slice_set ds k y))
+stay-next f script clock boxes cs ds k d y h s =
+    stay-trans script clock boxes cs (map f ds) (map f (slice_set ds k y)) h (both-put-map f (StaysCrew script clock boxes) (λ c w i. i) ds k d y s)
+
+-- whether a fault was met
+pub no-fault : (o : Option Fault) → is_some o ≡ false → o ≡ None
+no-fault None e = refl
+no-fault (Some f) e = absurd (true≢false e)
+
+pub some-fault : (o : Option Fault) → is_some o ≡ true → o ≡ None → ⊥
+some-fault None e n = true≢false (sym e)
+some-fault (Some f) e n = cc
+
+-- drivers that didn't change kept their course
+pub course-same : {D : Type 0} (f : D → Crew) (script : Script) (clock : TableId) (boxes : List Boxed) (w : ℕ) (start : List Crew) (xs ys : List D) → ys ≡ xs
+    → ((cuts : List (List Crew)) × IsCourse script clock boxes w start cuts (map f xs)) → (cuts : List (List Crew)) × IsCourse script clock boxes w start cuts (map f ys)
+course-same f script clock boxes w start xs ys e k = subst (λ l. (cuts : List (List Crew)) × IsCourse script clock boxes w start cuts (map f l)) (sym e) k

@@ -23,6 +23,7 @@ use Rattle.hx_outbox.proofs.Outs.{both-at, both-long}
 use Rattle.hx_run.specs.declared.joining.Taker.{Taker}
 use Rattle.hx_desk.specs.Inboxes.{ins_of}
 use Rattle.hx_law_drivers.specs.Joined.{outs_at}
+use Rattle.hx_run.proofs.Zipped.{no-eq}
 use Rattle.hx_run.specs.Joined.{joined_lists, place_at, AreInPlaces, AreJoinedFrom, HaveIndexes, IsJoined, IsKeptTaker, IsRestOf, TookInOrder}
 
 -- the first port's view after a join
@@ -37,7 +38,7 @@ join-view w n names ins outs o us j p q a b e f =
 pub no-first : (j : ℕ) (names : Option BoxNames) (us : List Mailed) (v : PortView) → v ≡ port (j + 1) names (lists_of (j + 1) us [] ∷ []) None → CarriesName 0 v → ⊥
 no-first j names us v e h =
     let c : CarriesName 0 (port (j + 1) names (lists_of (j + 1) us [] ∷ []) None) = subst (CarriesName 0) e h in
-    let n : one (eqb 0 (j + 1)) ≡ 0 = ap (λ k. one (eqb 0 k)) (let z : j + 1 ≡ suc j = omega arith in z) in
+    let n : one (eqb 0 (j + 1)) ≡ 0 = ap one (no-eq 0 (j + 1) (λ e. omega (arith, e))) in
     omega (arith, c, n)
 
 list-in : (n : ℕ) (outs : List Outbox) (o : Outbox) → IsIn o outs → IsIn (lists_of (o.index + 1) (outs_at n o.ports.items) []) (joined_lists n outs)
@@ -187,3 +188,8 @@ module _ (script : Script) where
           (subst (λ l. AllByRecursion (λ (x : Outbox). IsPrefix (put_by (x.index + 1) l) (outs_at (place_at script e) x.ports.items)) outs) h.0.ins t),
           order-each some index ds es h.1 j.1,
         )
+
+-- no driver is left
+pub joined-all : (script : Script) (w : ℕ) (boxes : List Boxed) (all outs : List Outbox) (ts : List Taker) → length outs ≡ 0 → ((done : List Outbox) × (outs ++ done ≡ all) × AllByRecursion (IsJoined script w boxes done) ts)
+    → AllByRecursion (IsJoined script w boxes all) ts
+joined-all script w boxes all outs ts none h = subst (λ l. AllByRecursion (IsJoined script w boxes l) ts) (none-left outs h.0 all none h.1) h.2

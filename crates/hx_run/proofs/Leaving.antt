@@ -51,7 +51,7 @@ use Rattle.hx_run.proofs.Arranged.{actor-at, actor-exists, filled, is-actor, pla
 use Rattle.hx_run.proofs.Courses.{below-or-not}
 use Rattle.hx_run.proofs.Joins.{joined-alone, joined-has, list-took, some-at}
 use Rattle.hx_run.proofs.Onces.{total-perm}
-use Rattle.hx_run.proofs.Zipped.{map-each, each-map}
+use Rattle.hx_run.proofs.Zipped.{each-map, map-each, no-eq}
 
 pub map-map : {A B C : Type 0} (g : B → C) (f : A → B) (xs : List A) → map g (map f xs) ≡ map (λ x. g (f x)) xs
 map-map g f [] = refl
@@ -81,9 +81,6 @@ have-indexes w crews e = (
       (i.0.out, in_map (λ (c : Crew). c.out) crews i.0 i.1, sym i.2),
 )
 
-no-eq : (a b : ℕ) → (a ≡ b → ⊥) → eqb a b ≡ false
-no-eq a b n = ⊎_elim (λ (h : (eqb a b ≡ true) × (a ≡ b)). absurd (n h.1)) (λ (h : (eqb a b ≡ false) × (a ≢ b)). h.0) (eqb_tells a b)
-
 eq-flips : (a b : ℕ) → eqb a b ≡ eqb b a
 eq-flips a b =
     ⊎_elim (λ (h : (eqb a b ≡ true) × (a ≡ b)). h.0 ∙ sym (eq-eqb b a (sym h.1))) (λ (h : (eqb a b ≡ false) × (a ≢ b)). h.0 ∙ sym (no-eq b a (λ e. h.1 (sym e)))) (eqb_tells a b)
@@ -102,11 +99,11 @@ flips (Session u) (Session v) = eq-flips u.0 v.0
 -- ---- the actors in order
 abbrev PlacesFrom : Script → ℕ → List Actor → Type 0
 PlacesFrom script n [] = ⊤
-PlacesFrom script n (a ∷ as) = (place_of script.space a ≡ n) × PlacesFrom script (suc n) as
+PlacesFrom script n (a ∷ xs) = (place_of script.space a ≡ n) × PlacesFrom script (suc n) xs
 
-places-append : (script : Script) (n m : ℕ) (as bs : List Actor) → PlacesFrom script n as → m ≡ n + length as → PlacesFrom script m bs → PlacesFrom script n (as ++ bs)
-places-append script n m [] bs h e k = subst (λ j. PlacesFrom script j bs) (let z : m ≡ n = omega (arith, e) in z) k
-places-append script n m (a ∷ as) bs h e k = (h.0, places-append script (suc n) m as bs h.1 (omega (arith, e)) k)
+places-append : (script : Script) (n m : ℕ) (xs ys : List Actor) → PlacesFrom script n xs → m ≡ n + length xs → PlacesFrom script m ys → PlacesFrom script n (xs ++ ys)
+places-append script n m [] ys h e k = subst (λ j. PlacesFrom script j ys) (let z : m ≡ n = omega (arith, e) in z) k
+places-append script n m (a ∷ xs) ys h e k = (h.0, places-append script (suc n) m xs ys h.1 (omega (arith, e)) k)
 
 map-snoc : {A B : Type 0} (f : A → B) (xs : List A) (x : A) → map f (xs ++ x ∷ []) ≡ map f xs ++ f x ∷ []
 map-snoc f [] x = refl
@@ -292,14 +289,14 @@ module _ (script : Script) (clock : TableId) (boxes : List Boxed) (w : ℕ) wher
       let exists : Exists script u.actor = subst (Exists script) (sym actor) (actor-exists script d.0.actor (each_in IsSome (desks_of crews) d.0 all d.1).1.exists) in
       ((exists, first-one are crews outs index u d.0 d.1 actor ins exists j.0), done-each are crews outs index all sorted joined (λ x i. from x (inr i)) k.1 j.1)
 
-  in-order : (crews : List Crew) (n : ℕ) (as : List Actor) (ts : List Taker) → PlacesFrom script n as → AllByRecursion (Exists script) as → AreInPlaces script n ts → AllByRecursion (IsDone crews) ts → length as ≡ length ts
-      → Both (IsFirstPort crews) as (map (λ (t : Taker). t.inbox) ts)
+  in-order : (crews : List Crew) (n : ℕ) (xs : List Actor) (ts : List Taker) → PlacesFrom script n xs → AllByRecursion (Exists script) xs → AreInPlaces script n ts → AllByRecursion (IsDone crews) ts → length xs ≡ length ts
+      → Both (IsFirstPort crews) xs (map (λ (t : Taker). t.inbox) ts)
   in-order crews n [] [] pa ea pt dt e = tt
   in-order crews n [] (t ∷ ts) pa ea pt dt e = absurd (omega (arith, e))
-  in-order crews n (a ∷ as) [] pa ea pt dt e = absurd (omega (arith, e))
-  in-order crews n (a ∷ as) (t ∷ ts) pa ea pt dt e =
+  in-order crews n (a ∷ xs) [] pa ea pt dt e = absurd (omega (arith, e))
+  in-order crews n (a ∷ xs) (t ∷ ts) pa ea pt dt e =
       let same : t.actor ≡ a = place-apart script t.actor a dt.0.0 ea.0 (pt.0 ∙ sym pa.0) in
-      (subst (λ x. IsFirstPort crews x t.inbox) same dt.0.1, in-order crews (suc n) as ts pa.1 ea.1 pt.1 dt.1 (omega (arith, e)))
+      (subst (λ x. IsFirstPort crews x t.inbox) same dt.0.1, in-order crews (suc n) xs ts pa.1 ea.1 pt.1 dt.1 (omega (arith, e)))
 
   places-stay : (n : ℕ) (ds es : List Taker) → Both IsKeptTaker ds es → AreInPlaces script n ds → AreInPlaces script n es
   places-stay n [] [] h k = tt

@@ -5,3 +5,7 @@ pub mod Onces
 pub mod Arranged
 pub mod Leaving
 pub mod Apart
+pub mod Counted
+pub mod Traces
+pub mod Starts
+pub mod Closes

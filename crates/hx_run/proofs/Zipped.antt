@@ -1,10 +1,17 @@
 -- Lists place by place.
-use Rattle.std.proofs.Common.{◌≡◌, ℕ, zero, suc, ◌<◌, ◌≤◌, List, [], ◌∷◌, ◌++◌, map, take, drop, length, inl, inr, slice_index_or, slice_set, refl, ap, sym, subst, ◌∙◌, arith}
+use Rattle.std.proofs.Common.{◌≡◌, ◌≢◌, ⊎_elim, true, false, eqb, ℕ, zero, suc, ◌<◌, ◌≤◌, List, [], ◌∷◌, ◌++◌, map, take, drop, length, inl, inr, Option, Some, slice_index_or, slice_set, refl, ap, sym, subst, ◌∙◌, arith}
 use Rattle.std.specs.Prelude.{flat_map}
+use Rattle.std.proofs.lemmas.Bool.Decides.{eqb_tells}
 use Rattle.std.specs.List.{AllByRecursion}
 use Rattle.hx_types.specs.Words.{IsIn}
 use Rattle.hx_clock.proofs.Lists.{each_append}
 use Rattle.hx_outbox.specs.Zipped.{Both}
+
+pub some-same : {A : Type 0} (u v : A) → Some u ≡ Some v → u ≡ v
+some-same u v e = cc
+
+pub no-eq : (a b : ℕ) → (a ≡ b → ⊥) → eqb a b ≡ false
+no-eq a b n = ⊎_elim (λ (h : (eqb a b ≡ true) × (a ≡ b)). absurd (n h.1)) (λ (h : (eqb a b ≡ false) × (a ≢ b)). h.0) (eqb_tells a b)
 
 module _ {D : Type 0} where
   pub take-all : (n : ℕ) (xs : List D) → length xs ≤ n → take n xs ≡ xs
@@ -113,3 +120,25 @@ module _ {D C : Type 0} where
       parts : (us vs : List C) → AllByRecursion P (us ++ vs) → AllByRecursion P us × AllByRecursion P vs
       parts [] vs k = (tt, k)
       parts (u ∷ us) vs k = let r = parts us vs k.1 in ((k.0, r.0), r.1)
+
+  -- after a change at one place
+  pub both-put-map : (f : D → C) (R : C → C → Type 0) → ((x : C) → R x x) → (xs : List D) (i : ℕ) (d y : D) → R (f (slice_index_or xs i d)) (f y) → Both R (map f xs) (map f (slice_set xs i y))
+  both-put-map f R same [] i d y r = tt
+  both-put-map f R same (a ∷ xs) zero d y r = (r, both-refl R same (map f xs))
+  both-put-map f R same (a ∷ xs) (suc i) d y r = (same (f a), both-put-map f R same xs i d y r)
+
+module _ {D : Type 0} where
+  pub both-put-at : (R : D → D → Type 0) → ((x : D) → R x x) → (xs : List D) (i : ℕ) (d y : D) → R (slice_index_or xs i d) y → Both R xs (slice_set xs i y)
+  both-put-at R same [] i d y r = tt
+  both-put-at R same (a ∷ xs) zero d y r = (r, both-refl R same xs)
+  both-put-at R same (a ∷ xs) (suc i) d y r = (same a, both-put-at R same xs i d y r)
+
+  pub get-set : (xs : List D) (i : ℕ) (d y : D) → i < length xs → slice_index_or (slice_set xs i y) i d ≡ y
+  get-set [] i d y lt = absurd (omega (arith, lt))
+  get-set (a ∷ xs) zero d y lt = refl
+  get-set (a ∷ xs) (suc i) d y lt = get-set xs i d y (omega (arith, lt))
+
+  pub long-set : (xs : List D) (i : ℕ) (y : D) → length (slice_set xs i y) ≡ length xs
+  long-set [] i y = refl
+  long-set (a ∷ xs) zero y = refl
+  long-set (a ∷ xs) (suc i) y = ap suc (long-set xs i y)

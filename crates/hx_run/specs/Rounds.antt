@@ -45,6 +45,6 @@ Advance script crews crews' = AreSliced crews crews' ⊎ (AreAtRest script crews
 
 -- the rounds end with the fault of the lowest driver that has one, or, where none has, with all calls ended and nothing left to do
 pub record AreOver (script : Script) (crews : List Crew) (fault : Option Fault) : Type 0 where
-  pub fault : fault ≡ first_fault crews
+  pub first : fault ≡ first_fault crews
   pub rest : fault ≡ None → AreAtRest script crews
   pub ended : fault ≡ None → HaveAllEnded script crews

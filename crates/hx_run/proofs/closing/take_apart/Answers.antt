@@ -13,5 +13,5 @@ loop-driver-preserved g c =
       n.takers ∙ ap (λ l. l ++ map taker_of c.in-Some.driver.crew.desks.items) i.1 ∙ more-desks (λ d. d.crew) taker_of c.loop-driver.yielded c.in-Some.driver,
       n.outs ∙ ap (λ l. l ++ c.in-Some.driver.crew.out ∷ []) i.2 ∙ more-crews (λ d. d.crew) (λ (k : Crew). k.out) c.loop-driver.yielded c.in-Some.driver,
       n.totals ∙ ap (λ l. l ++ c.in-Some.driver.crew.totals ∷ []) i.3 ∙ more-crews (λ d. d.crew) (λ (k : Crew). k.totals) c.loop-driver.yielded c.in-Some.driver,
-      c.in_ok-push-2.ensures.items ∙ ap (λ l. l ++ c.in-Some.driver.fate ∷ []) i.4 ∙ more-items (λ d. d.fate) c.loop-driver.yielded c.in-Some.driver,
+      c.in_ok-push.ensures.items ∙ ap (λ l. l ++ c.in-Some.driver.fate ∷ []) i.4 ∙ more-items (λ d. d.fate) c.loop-driver.yielded c.in-Some.driver,
     )

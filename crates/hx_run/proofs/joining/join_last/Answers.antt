@@ -7,14 +7,14 @@ use Rattle.hx_run.proofs.Joins.{place-lt, number-at, joined-at, joined-set, kept
 use Rattle.hx_run.proofs.joining.join_last.Goals as goal
 
 pub index_mut-requires : goal.index_mut-requires
-index_mut-requires c =
+index_mut-requires g c =
     let r = c.requires.rest in
     let at : c.len-at.result ≡ length c.pop.new.self.items = grind (arith, c.len-at.ensures) in
     let p = place-lt _ r.0 c.args.out.now.ports.items c.pop.new.self.items r.1.rest c.in-Some.port c.len-at.result (length c.args.takers.now.items) r.1.whole c.in-Some.ensures.items r.1.all at c.requires.takers.1 in
     grind (arith, p.0)
 
 pub join_one-requires-clause-taker : goal.join_one-requires-clause-taker
-join_one-requires-clause-taker c =
+join_one-requires-clause-taker g c =
     let r = c.requires.rest in
     let j = c.requires.joined in
     let at : c.len-at.result ≡ length c.pop.new.self.items = grind (arith, c.len-at.ensures) in
@@ -22,7 +22,7 @@ join_one-requires-clause-taker c =
     (j.0, j.1, joined-at c.args.script.now j.0 c.args.boxes.now j.1 j.2 c.len-at.result c.args.takers.now.items c.index_mut.result.now (subst (λ k. AreJoinedFrom c.args.script.now j.0 c.args.boxes.now j.1 j.2 k c.args.takers.now.items) (sym p.1) j.3) p.0 c.index_mut.ensures.value)
 
 pub join_one-requires-clause-port : goal.join_one-requires-clause-port
-join_one-requires-clause-port c =
+join_one-requires-clause-port g c =
     let r = c.requires.rest in
     let at : c.len-at.result ≡ length c.pop.new.self.items = grind (arith, c.len-at.ensures) in
     let p = place-lt _ r.0 c.args.out.now.ports.items c.pop.new.self.items r.1.rest c.in-Some.port c.len-at.result (length c.args.takers.now.items) r.1.whole c.in-Some.ensures.items r.1.all at c.requires.takers.1 in
@@ -30,10 +30,10 @@ join_one-requires-clause-port c =
     (r.0.index, seam-port c.args.boxes.now r.0 c.pop.new.self.items r.1.rest c.in-Some.port _ r.1.whole (seam _ _ _ _ _ c.in-Some.ensures.items r.1.all) (omega (arith, n, at)) (omega (arith, n, p.0, c.requires.takers.1)))
 
 pub returns-in-Some-clause-kept : goal.returns-in-Some-clause-kept
-returns-in-Some-clause-kept c = both-put IsKeptTaker kept-refl c.args.takers.now.items c.len-at.result c.index_mut.result.now c.join_one.new.taker c.index_mut.ensures.value c.join_one.ensures.kept
+returns-in-Some-clause-kept g c = both-put IsKeptTaker kept-refl c.args.takers.now.items c.len-at.result c.index_mut.result.now c.join_one.new.taker c.index_mut.ensures.value c.join_one.ensures.kept
 
 pub returns-in-Some-clause-joined : goal.returns-in-Some-clause-joined
-returns-in-Some-clause-joined c w outs o r j =
+returns-in-Some-clause-joined g c w outs o r j =
     let script = c.args.script.now in
     let at : c.len-at.result ≡ length c.pop.new.self.items = grind (arith, c.len-at.ensures) in
     let p = place-lt _ o c.args.out.now.ports.items c.pop.new.self.items r.rest c.in-Some.port c.len-at.result (length c.args.takers.now.items) r.whole c.in-Some.ensures.items r.all at c.requires.takers.1 in

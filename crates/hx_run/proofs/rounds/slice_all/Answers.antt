@@ -7,9 +7,9 @@ pub returns-clause-crews : goal.returns-clause-crews
 returns-clause-crews g c =
     let R = StaysCrew c.args.script.now c.args.clock.now c.args.boxes.now in
     both-by (λ d. d.crew) R c.args.drivers.now c.for_each_mut.new.s c.for_each_mut.auto.s
-    (λ i d lt. let k = (c.for_each_mut.ensures i d lt).1 in moved-at (λ d. d.crew) R k.argument.now k.after_call.now _ _ k.argument_is k.left k.call.crew)
+    (λ i d lt. let k = (c.for_each_mut.ensures i d lt).1 in moved-at (λ d. d.crew) R k.argument.now k.after_call.now _ _ k.argument_is k.left k.call.0)
 
 pub returns-clause-sliced : goal.returns-clause-sliced
 returns-clause-sliced g c =
     both-by (λ d. d.crew) IsSliced c.args.drivers.now c.for_each_mut.new.s c.for_each_mut.auto.s
-    (λ i d lt. let k = (c.for_each_mut.ensures i d lt).1 in moved-at (λ d. d.crew) IsSliced k.argument.now k.after_call.now _ _ k.argument_is k.left k.call.sliced)
+    (λ i d lt. let k = (c.for_each_mut.ensures i d lt).1 in moved-at (λ d. d.crew) IsSliced k.argument.now k.after_call.now _ _ k.argument_is k.left k.call.1.0)
