@@ -9,3 +9,4 @@ pub mod Counted
 pub mod Traces
 pub mod Starts
 pub mod Closes
+pub mod Ends

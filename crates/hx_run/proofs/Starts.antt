@@ -24,7 +24,7 @@ use Rattle.hx_driver.specs.Slices.{IsLaterCrew}
 use Rattle.hx_law_drivers.specs.Crews.{desks_of, AreNumbered, HaveAllActors}
 use Rattle.hx_law_drivers.specs.Courses.{IsCourse, IsSliced}
 use Rattle.hx_law_drivers.specs.Joined.{AreInOrder, AreOnce}
-use Rattle.hx_cluster.specs.Clusters.{actors_dealt, AreNewCrews, IsNewCrew}
+use Rattle.hx_cluster.specs.Clusters.{actors_dealt, actors_of, AreNewCrews, IsNewCrew}
 use Rattle.hx_run.specs.Closed.{AreClosed, HasPosted}
 use Rattle.hx_run.specs.Rounds.{counted, AreOver, StayCrews}
 use Rattle.hx_run.proofs.Counted.{AreDealtFrom}
@@ -79,7 +79,7 @@ later-numbered w xs ys h k = index-same xs ys h ∙ k
 dealt-desks : (script : Script) (w n : ℕ) (ds : List Desk) → map (λ (d : Desk). d.actor) ds ≡ actors_dealt script w n → AllByRecursion (λ (d : Desk). place_of script.space d.actor % w ≡ n) ds
 dealt-desks script w n ds e =
     each_all (λ (d : Desk). place_of script.space d.actor % w ≡ n) ds
-    (λ d i. eqb-true (place_of script.space d.actor % w) n (of_filter (λ (a : Actor). eqb (place_of script.space a % w) n) _ d.actor (subst (IsIn d.actor) e (in_map (λ (d : Desk). d.actor) ds d i))).1)
+    (λ d i. eqb-true (place_of script.space d.actor % w) n (of_filter (λ (a : Actor). eqb (place_of script.space a % w) n) (actors_of script) d.actor (subst (IsIn d.actor) e (in_map (λ (d : Desk). d.actor) ds d i))).1)
 
 pub later-dealt : (script : Script) (w n : ℕ) (xs ys : List Crew) → Both IsLaterCrew xs ys → ((i : ℕ) (c : Crew) → slice_get xs i ≡ Some c → map (λ (d : Desk). d.actor) c.desks.items ≡ actors_dealt script w (n + i)) → AreDealtFrom script w n ys
 later-dealt script w n [] [] h k = 0

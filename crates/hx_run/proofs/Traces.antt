@@ -74,11 +74,11 @@ in-parts (d ∷ ds) z i =
 -- ---- an actor's entries in a trace and in its reverse
 filter-append : {A : Type 0} (test : A → Bool) (xs ys : List A) → filter test (xs ++ ys) ≡ filter test xs ++ filter test ys
 filter-append test [] ys = refl
-filter-append test (x ∷ xs) ys = by (test x)
+filter-append test (x ∷ xs) ys = by (test x) (filter-append test xs ys)
   where
-    by : (b : Bool) → cond b (x ∷ filter test (xs ++ ys)) (filter test (xs ++ ys)) ≡ cond b (x ∷ filter test xs) (filter test xs) ++ filter test ys
-    by true = ap (λ l. x ∷ l) (filter-append test xs ys)
-    by false = filter-append test xs ys
+    by : (b : Bool) → filter test (xs ++ ys) ≡ filter test xs ++ filter test ys → cond b (x ∷ filter test (xs ++ ys)) (filter test (xs ++ ys)) ≡ cond b (x ∷ filter test xs) (filter test xs) ++ filter test ys
+    by true e = ap (λ l. x ∷ l) e
+    by false e = e
 
 filter-reverse : {A : Type 0} (test : A → Bool) (xs : List A) → filter test (reverse xs) ≡ reverse (filter test xs)
 filter-reverse test [] = refl
@@ -94,11 +94,11 @@ reverse-twice (x ∷ xs) = ap reverse (reverse_cons x xs) ∙ reverse_snoc x (re
 
 flat-filter : {A B : Type 0} (test : A → Bool) (f : A → List B) (xs : List A) → flat_map (λ x. cond (test x) (f x) []) xs ≡ flat_map f (filter test xs)
 flat-filter test f [] = refl
-flat-filter test f (x ∷ xs) = by (test x)
+flat-filter test f (x ∷ xs) = by (test x) (flat-filter test f xs)
   where
-    by : (b : Bool) → cond b (f x) [] ++ flat_map (λ x. cond (test x) (f x) []) xs ≡ flat_map f (cond b (x ∷ filter test xs) (filter test xs))
-    by true = ap (λ l. f x ++ l) (flat-filter test f xs)
-    by false = flat-filter test f xs
+    by : (b : Bool) → flat_map (λ x. cond (test x) (f x) []) xs ≡ flat_map f (filter test xs) → cond b (f x) [] ++ flat_map (λ x. cond (test x) (f x) []) xs ≡ flat_map f (cond b (x ∷ filter test xs) (filter test xs))
+    by true e = ap (λ l. f x ++ l) e
+    by false e = e
 
 told-flat : (a : Actor) (part : List Stamped) → ((z : Stamped) → IsIn z part → z.entry.actor ≡ a) → flat_map (λ (x : Entry). told_by a x.input) (map (λ (x : Stamped). x.entry) part) ≡ told part
 told-flat a [] h = refl
@@ -130,11 +130,11 @@ get-in (y ∷ xs) (suc i) x e = inr (get-in xs i x e)
 -- ---- faults
 first-in : (crews : List Crew) (f : Fault) → first_fault crews ≡ Some f → (c : Crew) × IsIn c crews × (c.fault ≡ Some f)
 first-in [] f e = absurd cc
-first-in (c ∷ crews) f e = by c.fault refl e
+first-in (c ∷ crews) f e = by c.fault refl e (λ q. first-in crews f q)
   where
-    by : (o : Option Fault) → o ≡ c.fault → first_some o (first_fault crews) ≡ Some f → (d : Crew) × IsIn d (c ∷ crews) × (d.fault ≡ Some f)
-    by None p q = let r = first-in crews f q in (r.0, inr r.1, r.2)
-    by (Some g) p q = (c, inl refl, sym p ∙ q)
+    by : (o : Option Fault) → o ≡ c.fault → first_some o (first_fault crews) ≡ Some f → (first_fault crews ≡ Some f → (d : Crew) × IsIn d crews × (d.fault ≡ Some f)) → (d : Crew) × IsIn d (c ∷ crews) × (d.fault ≡ Some f)
+    by None p q k = let r = k q in (r.0, inr r.1, r.2)
+    by (Some g) p q k = (c, inl refl, sym p ∙ q)
 
 desk-in : (crews : List Crew) (c : Crew) (d : Desk) → IsIn c crews → IsIn d c.desks.items → IsIn d (desks_of crews)
 desk-in crews c d i j = in-flat (λ (k : Crew). k.desks.items) crews c d i j

@@ -142,3 +142,12 @@ module _ {D : Type 0} where
   long-set [] i y = refl
   long-set (a ∷ xs) zero y = refl
   long-set (a ∷ xs) (suc i) y = ap suc (long-set xs i y)
+
+  pub both-each-at : (R : D → D → Type 0) (xs ys : List D) → length ys ≡ length xs → ((i : ℕ) (d : D) → i < length xs → R (slice_index_or xs i d) (slice_index_or ys i d)) → Both R xs ys
+  both-each-at R [] [] e h = tt
+  both-each-at R [] (y ∷ ys) e h = absurd (omega (arith, e))
+  both-each-at R (x ∷ xs) [] e h = absurd (omega (arith, e))
+  both-each-at R (x ∷ xs) (y ∷ ys) e h = (h 0 x (omega arith), both-each-at R xs ys (omega (arith, e)) (λ i d lt. h (suc i) d (omega (arith, lt))))
+
+  pub moved : (R : D → D → Type 0) (a b x y : D) → a ≡ x → b ≡ y → R a b → R x y
+  moved R a b x y e k h = subst (λ z. R z y) e (subst (R a) k h)

@@ -161,13 +161,14 @@ pub fn close<R: Wait>(
 {
     // The contract alone reads the clock.
     let _ = clock;
+    let apart = take_apart(alloc, drivers)?;
     let Apart {
         actors,
         mut takers,
         outs,
         totals,
         fates,
-    } = take_apart(alloc, drivers)?;
+    } = apart;
     sort_by_place(script, &mut takers)?;
     join_all(rt, script, boxes, &mut takers, outs);
     let ports = ports_of(alloc, takers)?;

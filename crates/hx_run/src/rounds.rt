@@ -1,4 +1,4 @@
-ghost use Rattle.std.specs.Prelude.{ℕ, ◌≡◌, ◌⊎◌, List, length, map, MatchOption};
+ghost use Rattle.std.specs.Prelude.{ℕ, All, ◌≡◌, ◌⊎◌, List, length, map, MatchOption};
 ghost use Rattle.std.specs.List.{AllByRecursion};
 ghost use Rattle.hx_types.specs.Fitting.{IsScript};
 ghost use Rattle.hx_outbox.specs.Places.{AreBoxes};
@@ -17,6 +17,9 @@ use std::alloc::Global;
 use std::sync::Wait;
 use std::thread;
 use std::thread::Threads;
+
+/// How many drivers are moved side by side at most.
+const MOST_DRIVERS: usize = 16;
 
 /// How many turns an actor has in a slice.
 const TURNS: u32 = 256;
@@ -53,16 +56,15 @@ fn slice_all<R: Threads + Wait + Sync, G: Gate + Sync>(
 )
     requires script { IsScript script.now }
     requires boxes { AreBoxes script.now clock.now boxes.now }
-    requires crews { (w : ℕ) × AllByRecursion (IsCrew script.now clock.now boxes.now w) (map (λ d. d.crew) drivers.old) }
+    requires crews { All (λ d. (w : ℕ) × IsCrew script.now clock.now boxes.now w d.crew) drivers.old }
     ensures crews { StayCrews script.now clock.now boxes.now (map (λ d. d.crew) drivers.old) (map (λ d. d.crew) drivers.new) }
     ensures sliced { AreSliced (map (λ d. d.crew) drivers.old) (map (λ d. d.crew) drivers.new) }
     ensures posted { Both (λ d d'. IsPosted d.crew d'.crew (counted (choices (d.fate.vtable, d.fate.value)) (losses (d.fate.vtable, d.fate.value)) (repeats (d.fate.vtable, d.fate.value))) (counted (choices (d'.fate.vtable, d'.fate.value)) (losses (d'.fate.vtable, d'.fate.value)) (repeats (d'.fate.vtable, d'.fate.value)))) drivers.old drivers.new }
 {
-    let threads = drivers.len();
     thread::for_each_mut(
         rt,
         drivers,
-        threads,
+        MOST_DRIVERS,
         &|_place: usize, driver: &mut Driver|
             requires script { IsScript script.now }
             requires boxes { AreBoxes script.now clock.now boxes.now }

@@ -53,11 +53,12 @@ fn run_drivers<R: Threads + Wait + Sync, G: Gate + Sync>(
     ensures left { IfOk result (λ made. (start : List Crew) × (now : List Crew) × AreClosed script.now clock.now workers start now made.0 × IsLeft script.now clock.now now made.1.actors.items made.1.totals.items made.1.ports.items × (length made.1.fates.items ≡ workers) × ((i : ℕ) (f : _) (g : _) (c : Crew) → slice_get fates.items i ≡ Some f → slice_get made.1.fates.items i ≡ Some g → slice_get now i ≡ Some c → HasPosted c (record { chosen = choices f; lost = losses f; doubled = repeats f }) (record { chosen = choices g; lost = losses g; doubled = repeats g }))) }
 {
     let (boxes, ports) = open_boxes(rt, alloc, script, clock, workers, capacity)?;
+    let held = boxes.as_slice();
     let mut drivers = deal(
         alloc,
         script,
         clock,
-        boxes.as_slice(),
+        held,
         seats,
         ports,
         workers,
@@ -68,11 +69,11 @@ fn run_drivers<R: Threads + Wait + Sync, G: Gate + Sync>(
         alloc,
         script,
         clock,
-        boxes.as_slice(),
+        held,
         gate,
         drivers.as_mut_slice(),
     );
-    let left = close(rt, alloc, script, clock, boxes.as_slice(), drivers)?;
+    let left = close(rt, alloc, script, clock, held, drivers)?;
     Ok((fault, left))
 }
 
