@@ -76,12 +76,12 @@ module _ (script : Script) where
       let p = lt t (inl refl) in
       let h = has k (omega arith) (omega (arith, p, r.0)) in
       let here : place_at script t ≡ k =
-        ⊎_elim (λ (e : h.0 ≡ t). ap (place_at script) (sym e) ∙ h.2) (λ (i : IsIn h.0 ts). absurd (omega (arith, above (suc (place_at script t)) ts h.0 r.1 i, r.0, h.2))) h.1 in
+      ⊎_elim (λ (e : h.0 ≡ t). ap (place_at script) (sym e) ∙ h.2) (λ (i : IsIn h.0 ts). absurd (omega (arith, above (suc (place_at script t)) ts h.0 r.1 i, r.0, h.2))) h.1 in
       let rest =
-        filled n (suc k) ts (omega (arith, p, here)) (subst (λ j. AreRising (suc j) ts) here r.1) (λ u i. lt u (inr i))
-        (λ j kj jn.
-            let u = has j (omega (arith, kj)) jn in
-            ⊎_elim (λ (e : u.0 ≡ t). absurd (omega (arith, ap (place_at script) e, u.2, here, kj))) (λ (i : IsIn u.0 ts). (u.0, i, u.2)) u.1) in
+      filled n (suc k) ts (omega (arith, p, here)) (subst (λ j. AreRising (suc j) ts) here r.1) (λ u i. lt u (inr i))
+      (λ j kj jn.
+      let u = has j (omega (arith, kj)) jn in
+      ⊎_elim (λ (e : u.0 ≡ t). absurd (omega (arith, ap (place_at script) e, u.2, here, kj))) (λ (i : IsIn u.0 ts). (u.0, i, u.2)) u.1) in
       ((here, rest.0), omega (arith, rest.1))
 
   -- places that don't fall, of actors that differ, rise
@@ -91,15 +91,14 @@ module _ (script : Script) where
   rises k (t ∷ []) low up real apart = (low t (omega arith), tt)
   rises k (t ∷ u ∷ ts) low up real apart =
       let le : place_at script t ≤ place_at script u = up 0 1 t (omega arith) (omega arith) in
-      let differ : same_actor t.actor u.actor ≡ false = (IsDistinct-head same_actor t.actor (u.actor ∷ map (λ (x : Taker). x.actor) ts) apart).0 in
-      (
+      let differ : same_actor t.actor u.actor ≡ false = (IsDistinct-head same_actor t.actor (u.actor ∷ map (λ (x : Taker). x.actor) ts) apart).0 in (
         low t (omega arith),
         rises (suc (place_at script t)) (u ∷ ts)
-        (λ d some.
+            (λ d some.
             ⊎_elim (λ (h : place_at script t < place_at script u). omega (arith, h))
             (λ (h : place_at script u ≤ place_at script t).
-                let same : t.actor ≡ u.actor = place-apart script t.actor u.actor real.0 real.1.0 (omega (arith, le, h)) in
-                absurd (true≢false (sym (same_as_itself t.actor) ∙ ap (same_actor t.actor) same ∙ differ)))
+            let same : t.actor ≡ u.actor = place-apart script t.actor u.actor real.0 real.1.0 (omega (arith, le, h)) in
+            absurd (true≢false (sym (same_as_itself t.actor) ∙ ap (same_actor t.actor) same ∙ differ)))
             (below-or-not (place_at script t) (place_at script u)))
-        (λ i j d ij lt. up (suc i) (suc j) d (omega (arith, ij)) (omega (arith, lt))) real.1 (IsDistinct-tail same_actor t.actor (u.actor ∷ map (λ (x : Taker). x.actor) ts) apart),
+            (λ i j d ij lt. up (suc i) (suc j) d (omega (arith, ij)) (omega (arith, lt))) real.1 (IsDistinct-tail same_actor t.actor (u.actor ∷ map (λ (x : Taker). x.actor) ts) apart),
       )

@@ -26,8 +26,7 @@ module _ (script : Script) (clock : TableId) (boxes : List Boxed) (w : ℕ) wher
       → AllByRecursion (IsOutbox boxes) outs × HaveIndexes (length outs) outs × (0 < length outs)
   joins-need crews some numbered h outs e =
       let i = have-indexes w crews numbered in
-      let n : length outs ≡ w = ap length e ∙ i.0 in
-      (
+      let n : length outs ≡ w = ap length e ∙ i.0 in (
         subst (AllByRecursion (IsOutbox boxes)) (sym e) (outboxes script clock boxes w crews h),
         subst (λ k. HaveIndexes k outs) (sym n) (subst (HaveIndexes w) (sym e) i.1),
         omega (arith, n, some),
@@ -55,7 +54,7 @@ module _ (script : Script) (clock : TableId) (boxes : List Boxed) (w : ℕ) wher
       let pl = sorted-places script clock boxes w are crews h all sorted q up in
       let n : length outs ≡ w = ap length eo ∙ (have-indexes w crews numbered).0 in
       let j : AllByRecursion (IsJoined script w boxes (map (λ (c : Crew). c.out) crews)) joined =
-        subst (λ l. AllByRecursion (IsJoined script w boxes l) joined) eo (subst (λ k. AllByRecursion (IsJoined script k boxes outs) joined) n joins) in
+      subst (λ l. AllByRecursion (IsJoined script w boxes l) joined) eo (subst (λ k. AllByRecursion (IsJoined script k boxes outs) joined) n joins) in
       is-left script clock boxes w are crews h all numbered actors ea totals et sorted joined q pl.0 pl.1 kept j ports ep
 
   pub order-of : (crews : List Crew) (takers sorted : List Taker) → takers ≡ map taker_of (desks_of crews) → IsPermutation takers sorted → (outs : List Outbox) → outs ≡ map (λ (c : Crew). c.out) crews → AllByRecursion (TookInOrder script outs) sorted

@@ -161,7 +161,7 @@ module _ (script : Script) (w : ℕ) where
       let twice : c.totals.twice ≡ count_of 2 o.offers = o.twice ∙ ap (λ (t : Totals). t.twice + count_of 2 o.offers) h.new.totals ∙ zeros (count_of 2 o.offers) in
       let g = λ (m : Mailed). one (is_asked m.post) in
       let asked : asked_of o.offers ≡ posts_by is_asked script w i trace =
-        omega (arith, asked-total o.offers, ap (total g) o.are, k.made g, new-made g h.start.desks.items h.new.desks, made-worth is_asked c.desks.items, e) in
+      omega (arith, asked-total o.offers, ap (total g) o.are, k.made g, new-made g h.start.desks.items h.new.desks, made-worth is_asked c.desks.items, e) in
       record {
         chosen = o.chosen ∙ ap (λ n. raised_by n f.chosen) asked;
         lost = o.lost ∙ ap (λ n. raised_by n f.lost) (sym lose);

@@ -86,10 +86,10 @@ no-retry-trans : (d e f : Desk) → HasNoRetry d e → IsLater e f → HasNoRetr
 no-retry-trans d e f a l b n x le g =
     ⊎_elim
     (λ (lt : n < length e.part.items).
-        let z = get-some e.part.items n lt in
-        let k : slice_get f.part.items n ≡ Some z.0 = subst (λ w. slice_get w n ≡ Some z.0) l.part.1 (get-front e.part.items l.part.0 n z.0 z.1) in
-        let same : z.0 ≡ x = some-same z.0 x (sym k ∙ g) in
-        subst (λ w. is_retry w.entry ≡ false) same (a n z.0 le z.1))
+    let z = get-some e.part.items n lt in
+    let k : slice_get f.part.items n ≡ Some z.0 = subst (λ w. slice_get w n ≡ Some z.0) l.part.1 (get-front e.part.items l.part.0 n z.0 z.1) in
+    let same : z.0 ≡ x = some-same z.0 x (sym k ∙ g) in
+    subst (λ w. is_retry w.entry ≡ false) same (a n z.0 le z.1))
     (λ (ge : length e.part.items ≤ n). b n x ge g) (below-or-not n (length e.part.items))
   where
     some-same : (u v : Stamped) → Some u ≡ Some v → u ≡ v
@@ -160,7 +160,7 @@ module _ (script : Script) (clock : TableId) (boxes : List Boxed) (w : ℕ) wher
   course-on start now later crews h k =
       ⊎_elim (λ (a : AreSliced now later). (h.0, course-slice start h.0 now later h.1 a))
       (λ (b : AreAtRest script now × SomeGoesOn script now × AreRetried script now later).
-          (now ∷ h.0, (record { crews_are = crews; rest = b.0; goes_on = b.1 }, h.1, (later, b.2, are-sliced-refl later)))) k
+      (now ∷ h.0, (record { crews_are = crews; rest = b.0; goes_on = b.1 }, h.1, (later, b.2, are-sliced-refl later)))) k
 
 -- a round of retries, of which the first k drivers had theirs without a fault
 pub record HasRetriedWell (script : Script) (c c' : Crew) : Type 0 where
@@ -208,12 +208,14 @@ all-retried script k cs ds le h = record { later = later k cs ds le h; calm = λ
     later k (c ∷ cs) [] le h = absurd h
     later zero (c ∷ cs) (d ∷ ds) le h = absurd (omega (arith, le))
     later (suc k) (c ∷ cs) (d ∷ ds) le h = (h.0.later, later k cs ds (omega (arith, le)) h.1)
+
     calm : (k : ℕ) (cs ds : List Crew) → length ds ≤ k → RetriedTo script k cs ds → Both (λ (c c' : Crew). Both (HasRetried script) c.desks.items c'.desks.items) cs ds
     calm k [] [] le h = tt
     calm k [] (d ∷ ds) le h = absurd h
     calm k (c ∷ cs) [] le h = absurd h
     calm zero (c ∷ cs) (d ∷ ds) le h = absurd (omega (arith, le))
     calm (suc k) (c ∷ cs) (d ∷ ds) le h = (h.0.retried.calm h.0.calm, calm k cs ds (omega (arith, le)) h.1)
+
     some : (k : ℕ) (cs ds : List Crew) → length ds ≤ k → RetriedTo script k cs ds → Both (λ (c c' : Crew). Both (MayHaveRetried script) c.desks.items c'.desks.items) cs ds
     some k [] [] le h = tt
     some k [] (d ∷ ds) le h = absurd h
@@ -230,23 +232,27 @@ retried-part {D} f script k cs ds d y h lt l r g = record { later = later k cs d
     faulty k [] lt a = omega (arith, lt)
     faulty zero (u ∷ ds) lt a = g a.0
     faulty (suc k) (u ∷ ds) lt a = faulty k ds (omega (arith, lt)) a.1
+
     same-later : (cs : List Crew) (ds : List D) → RetriedTo script 0 cs (map f ds) → Both IsLaterCrew cs (map f ds)
     same-later [] [] h = tt
     same-later [] (u ∷ ds) h = absurd h
     same-later (x ∷ cs) [] h = absurd h
     same-later (x ∷ cs) (u ∷ ds) h = (subst (λ v. IsLaterCrew x v) (sym h.0) (crew-refl x), same-later cs ds h.1)
+
     later : (k : ℕ) (cs : List Crew) (ds : List D) → RetriedTo script k cs (map f ds) → k < length ds → IsLaterCrew (f (slice_index_or ds k d)) (f y) → Both IsLaterCrew cs (map f (slice_set ds k y))
     later k [] [] h lt l = absurd (omega (arith, lt))
     later k [] (u ∷ ds) h lt l = absurd h
     later k (x ∷ cs) [] h lt l = absurd h
     later zero (x ∷ cs) (u ∷ ds) h lt l = (subst (λ v. IsLaterCrew v (f y)) h.0 l, same-later cs ds h.1)
     later (suc k) (x ∷ cs) (u ∷ ds) h lt l = (h.0.later, later k cs ds h.1 (omega (arith, lt)) l)
+
     same-some : (cs : List Crew) (ds : List D) → RetriedTo script 0 cs (map f ds) → Both (λ (u v : Crew). Both (MayHaveRetried script) u.desks.items v.desks.items) cs (map f ds)
     same-some [] [] h = tt
     same-some [] (u ∷ ds) h = absurd h
     same-some (x ∷ cs) [] h = absurd h
     same-some (x ∷ cs) (u ∷ ds) h =
         (subst (λ (v : Crew). Both (MayHaveRetried script) x.desks.items v.desks.items) (sym h.0) (both-refl (MayHaveRetried script) (may-retry script) x.desks.items), same-some cs ds h.1)
+
     some : (k : ℕ) (cs : List Crew) (ds : List D) → RetriedTo script k cs (map f ds) → k < length ds → Both (MayHaveRetried script) (f (slice_index_or ds k d)).desks.items (f y).desks.items
         → Both (λ (u v : Crew). Both (MayHaveRetried script) u.desks.items v.desks.items) cs (map f (slice_set ds k y))
     some k [] [] h lt m = absurd (omega (arith, lt))

@@ -40,7 +40,6 @@ use Rattle.hx_run.proofs.Traces.{has-risen, is-ran}
 module _ {D : Type 0} (f : D → Crew) (script : Script) (clock : TableId) (boxes : List Boxed) (w : ℕ) (xs lent news after : List D) (lends : lent ≡ xs) (stays : after ≡ news)
     (new : AreNewCrews script clock boxes w (map f xs)) (stay : StayCrews script clock boxes (map f lent) (map f news))
     (course : (w : ℕ) → AllByRecursion (IsCrew script clock boxes w) (map f lent) → (cuts : List (List Crew)) × IsCourse script clock boxes w (map f lent) cuts (map f news)) where
-
   from-lent : StayCrews script clock boxes (map f xs) (map f news)
   from-lent = subst (λ l. StayCrews script clock boxes (map f l) (map f news)) lends stay
 
@@ -92,7 +91,6 @@ module _ (script : Script) (clock : TableId) (w : ℕ) (start now : List Crew) (
     (actors : List SeatedPart) (totals : List Totals) (ports : List Ported) (left : IsLeft script clock now actors totals ports)
     (trace : List Entry) (made : (merged : List Stamped) × IsMerged (gathered.parts_of actors) merged × HasStampsAsPlaces merged × (trace ≡ map (λ (x : Stamped). x.entry) merged))
     (whole : AreWholeParts (gathered.parts_of actors)) where
-
   the-parts : gathered.parts_of actors ≡ parts_in (parts_of now)
   the-parts = sym (same-parts actors) ∙ ap parts_in left.parts
 

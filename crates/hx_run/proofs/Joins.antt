@@ -51,7 +51,7 @@ list-took n [] b i = absurd i
 list-took n (o ∷ outs) b i =
     ⊎_elim (λ (j : IsIn b (joined_lists n outs)). list-took n outs b j)
     (λ (j : IsIn b (lists_of (o.index + 1) (outs_at n o.ports.items) [] ∷ [])).
-        ⊎_elim (λ (e : b ≡ lists_of (o.index + 1) (outs_at n o.ports.items) []). ap (λ (v : PortLists). v.taken) e) (λ (k : IsIn b []). absurd k) j)
+    ⊎_elim (λ (e : b ≡ lists_of (o.index + 1) (outs_at n o.ports.items) []). ap (λ (v : PortLists). v.taken) e) (λ (k : IsIn b []). absurd k) j)
     (in_append (joined_lists n outs) (lists_of (o.index + 1) (outs_at n o.ports.items) [] ∷ []) b i)
 
 times-in : (k : ℕ) (lists : List PortLists) (b : PortLists) → IsIn b lists → b.name ≡ k → 1 ≤ times k lists
@@ -182,10 +182,9 @@ module _ (script : Script) where
         let b = some-at boxes (place_at script e) j.0.place in
         let v = j.0.inbox b.0 b.1 in
         let o : IsInOrder e.inbox.view = ⊎_elim (λ (n : outs ≡ []). absurd (omega (arith, some, ap length n))) (λ (k : IsInOrder e.inbox.view). k) j.0.order in
-        let t = took-in-order w (Some (b.0.names)) (place_at script e) (ins_of e.inbox) outs e.inbox.view v.1 o index in
-        (
+        let t = took-in-order w (Some (b.0.names)) (place_at script e) (ins_of e.inbox) outs e.inbox.view v.1 o index in (
           subst (λ n. AllByRecursion (λ (x : Outbox). IsPrefix (put_by (x.index + 1) (ins_of d.inbox)) (outs_at n x.ports.items)) outs) (place-kept d e h.0)
-          (subst (λ l. AllByRecursion (λ (x : Outbox). IsPrefix (put_by (x.index + 1) l) (outs_at (place_at script e) x.ports.items)) outs) h.0.ins t),
+              (subst (λ l. AllByRecursion (λ (x : Outbox). IsPrefix (put_by (x.index + 1) l) (outs_at (place_at script e) x.ports.items)) outs) h.0.ins t),
           order-each some index ds es h.1 j.1,
         )
 

@@ -119,25 +119,23 @@ places-below script f (suc n) base h =
 places-of : (script : Script) → PlacesFrom script 0 (actors_of script)
 places-of script =
     let servers = map (λ (n : ℕ). Server (record { 0 = n + 1 })) (below script.space.servers) in
-    let e : length servers ≡ script.space.servers = map-length (λ (n : ℕ). Server (record { 0 = n + 1 })) (below script.space.servers) ∙ length-below script.space.servers in
-    (
+    let e : length servers ≡ script.space.servers = map-length (λ (n : ℕ). Server (record { 0 = n + 1 })) (below script.space.servers) ∙ length-below script.space.servers in (
       refl,
       places-append script 1 (1 + script.space.servers) servers (map (λ (n : ℕ). Session (record { 0 = n + 1 })) (below (length script.sessions)))
-      (places-below script (λ (n : ℕ). Server (record { 0 = n + 1 })) script.space.servers 1 (λ k lt. omega arith)) (omega (arith, e))
-      (places-below script (λ (n : ℕ). Session (record { 0 = n + 1 })) (length script.sessions) (1 + script.space.servers) (λ k lt. omega arith)),
+          (places-below script (λ (n : ℕ). Server (record { 0 = n + 1 })) script.space.servers 1 (λ k lt. omega arith)) (omega (arith, e))
+          (places-below script (λ (n : ℕ). Session (record { 0 = n + 1 })) (length script.sessions) (1 + script.space.servers) (λ k lt. omega arith)),
     )
 
 exist-below : (script : Script) (f : ℕ → Actor) (n : ℕ) → ((k : ℕ) → k < n → Exists script (f k)) → AllByRecursion (Exists script) (map f (below n))
 exist-below script f n h = each_all (Exists script) (map f (below n)) (λ a i. let r = of_map f (below n) a i in subst (Exists script) (sym r.2) (h r.0 (of_below n r.0 r.1)))
 
 exist-all : (script : Script) → AllByRecursion (Exists script) (actors_of script)
-exist-all script =
-    (
-      tt,
-      each_append (Exists script) (map (λ (n : ℕ). Server (record { 0 = n + 1 })) (below script.space.servers)) (map (λ (n : ℕ). Session (record { 0 = n + 1 })) (below (length script.sessions)))
+exist-all script = (
+  tt,
+  each_append (Exists script) (map (λ (n : ℕ). Server (record { 0 = n + 1 })) (below script.space.servers)) (map (λ (n : ℕ). Session (record { 0 = n + 1 })) (below (length script.sessions)))
       (exist-below script (λ (n : ℕ). Server (record { 0 = n + 1 })) script.space.servers (λ k lt. (omega arith, omega (arith, lt))))
       (exist-below script (λ (n : ℕ). Session (record { 0 = n + 1 })) (length script.sessions) (λ k lt. (omega arith, omega (arith, lt)))),
-    )
+)
 
 pub how-many : (script : Script) → length (actors_of script) ≡ 1 + script.space.servers + length script.sessions
 how-many script =
@@ -169,8 +167,7 @@ module _ (script : Script) (clock : TableId) (boxes : List Boxed) (w : ℕ) wher
   ready-one are d h =
       let e = actor-exists script d.actor h.1.exists in
       let b = place-below script d.actor e in
-      let n = are.count in
-      (
+      let n = are.count in (
         e,
         record {
           place = omega (arith, b, n);
@@ -211,12 +208,12 @@ module _ (script : Script) (clock : TableId) (boxes : List Boxed) (w : ℕ) wher
       let exist : AllByRecursion (λ (t : Taker). Exists script t.actor) sorted = each_map IsReady (λ (t : Taker). Exists script t.actor) sorted (λ t i k. k.0) real in
       let n = 1 + script.space.servers + length script.sessions in
       let r =
-        filled script n 0 sorted (omega arith) (rises script 0 sorted (λ d some. omega arith) up exist (places-apart crews all sorted p))
-        (λ t i. place-below script t.actor (each_in (λ (t : Taker). Exists script t.actor) sorted t exist i))
-        (λ j low lt.
-            let a = actor-at script j lt in
-            let d = all.all a.0 (is-actor script a.0 a.1) in
-            (taker_of d.0, in_permuted takers sorted (taker_of d.0) p (in_map taker_of (desks_of crews) d.0 d.1), ap (place_of script.space) d.2 ∙ a.2)) in
+      filled script n 0 sorted (omega arith) (rises script 0 sorted (λ d some. omega arith) up exist (places-apart crews all sorted p))
+      (λ t i. place-below script t.actor (each_in (λ (t : Taker). Exists script t.actor) sorted t exist i))
+      (λ j low lt.
+      let a = actor-at script j lt in
+      let d = all.all a.0 (is-actor script a.0 a.1) in
+      (taker_of d.0, in_permuted takers sorted (taker_of d.0) p (in_map taker_of (desks_of crews) d.0 d.1), ap (place_of script.space) d.2 ∙ a.2)) in
       let b = are.count in
       (r.0, omega (arith, r.1, b))
 
@@ -246,6 +243,7 @@ module _ (script : Script) (clock : TableId) (boxes : List Boxed) (w : ℕ) wher
       both : (x : _) (l : List Sent) → l ≡ [] → cond x l [] ≡ []
       both true l e = e
       both false l e = refl
+
       all : (bs : List PortLists) → ((b : PortLists) → IsIn b bs → b.taken ≡ []) → taken_under 0 bs ≡ []
       all [] h = refl
       all (b ∷ bs) h = ap (λ l. l ++ taken_under 0 bs) (both (eqb 0 b.name) b.taken (h b (inl refl))) ∙ all bs (λ x i. h x (inr i))

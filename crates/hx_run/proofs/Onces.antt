@@ -44,7 +44,7 @@ put-lists h n [] = refl
 put-lists h n (o ∷ outs) =
     let b = lists_of (o.index + 1) (outs_at n o.ports.items) [] in
     let e : total (by_post h) (all_put (joined_lists n outs ++ b ∷ [])) ≡ total (by_post h) (all_put (joined_lists n outs)) + total (by_post h) (map (sent (o.index + 1)) (outs_at n o.ports.items) ++ []) =
-      ap (total (by_post h)) (put-append (joined_lists n outs) (b ∷ [])) ∙ total-append (by_post h) (all_put (joined_lists n outs)) (map (sent (o.index + 1)) (outs_at n o.ports.items) ++ []) in
+    ap (total (by_post h)) (put-append (joined_lists n outs) (b ∷ [])) ∙ total-append (by_post h) (all_put (joined_lists n outs)) (map (sent (o.index + 1)) (outs_at n o.ports.items) ++ []) in
     omega (arith, e, ap (total (by_post h)) (append-nil (map (sent (o.index + 1)) (outs_at n o.ports.items))), total-sent h (o.index + 1) (outs_at n o.ports.items), put-lists h n outs)
 
 pub total-sum : {A : Type 0} (f : A → ℕ) (xs : List A) → total f xs ≡ sum_by f xs
@@ -63,8 +63,13 @@ once-one w names n ins outs v e once index h =
     let r = o (joined-has w names n ins outs index) in
     let rest = all_taken (joined_lists n outs) in
     omega (
-        arith, total-post h ins, put-lists h n outs, total-perm (by_post h) (all_put (lists_of 0 [] ins ∷ joined_lists n outs)) (all_taken (lists_of 0 [] ins ∷ joined_lists n outs) ++ r.0) r.1,
-        total-append (by_post h) (ins ++ rest) r.0, total-append (by_post h) ins rest)
+      arith,
+      total-post h ins,
+      put-lists h n outs,
+      total-perm (by_post h) (all_put (lists_of 0 [] ins ∷ joined_lists n outs)) (all_taken (lists_of 0 [] ins ∷ joined_lists n outs) ++ r.0) r.1,
+      total-append (by_post h) (ins ++ rest) r.0,
+      total-append (by_post h) ins rest,
+    )
 
 take-more : (h : Mailed → ℕ) (n : ℕ) (ports : List Ported) → out_weight h (take (suc n) ports) ≡ out_weight h (take n ports) + total h (outs_at n ports)
 take-more h zero [] = refl
@@ -113,8 +118,12 @@ module _ (script : Script) where
       let o : IsOnce e.inbox.view = ⊎_elim (λ (n : outs ≡ []). absurd (omega (arith, some, ap length n))) (λ (x : IsOnce e.inbox.view). x) j.0.once in
       let t = once-one w (Some (b.0.names)) (place_at script e) (ins_of e.inbox) outs e.inbox.view v.1 o index h in
       omega (
-          arith, t, ap (λ l. total h (map (λ (s : Sent). s.mailed) l)) k.0.ins, ap (λ n. total (λ (o : Outbox). total h (outs_at n o.ports.items)) outs) (place-kept script d e k.0),
-          once-desks w boxes outs some index h ds es k.1 j.1)
+        arith,
+        t,
+        ap (λ l. total h (map (λ (s : Sent). s.mailed) l)) k.0.ins,
+        ap (λ n. total (λ (o : Outbox). total h (outs_at n o.ports.items)) outs) (place-kept script d e k.0),
+        once-desks w boxes outs some index h ds es k.1 j.1,
+      )
 
   pub took-once : (w : ℕ) (boxes : List Boxed) (outs : List Outbox) → 0 < length outs → HaveIndexes w outs → (ds es : List Taker) → AreInPlaces script 0 ds → Both IsKeptTaker ds es → AllByRecursion (IsJoined script w boxes outs) es → TookOnce outs ds
   took-once w boxes outs some index ds es placed k j h = omega (arith, once-desks w boxes outs some index h ds es k j, exchange h ds outs, all-sums h ds outs placed)

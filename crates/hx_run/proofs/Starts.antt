@@ -86,8 +86,7 @@ later-dealt script w n [] [] h k = 0
 later-dealt script w n [] (y ∷ ys) h k = absurd h
 later-dealt script w n (x ∷ xs) [] h k = absurd h
 later-dealt script w n (x ∷ xs) (y ∷ ys) h k =
-    let zero-n : n + 0 ≡ n = omega arith in
-    (
+    let zero-n : n + 0 ≡ n = omega arith in (
       dealt-desks script w n y.desks.items (desk-actors x.desks.items y.desks.items h.0.desks ∙ k 0 x refl ∙ ap (actors_dealt script w) zero-n),
       later-dealt script w (suc n) xs ys h.1 (λ i c g. k (suc i) c g ∙ ap (actors_dealt script w) (let e : n + suc i ≡ suc n + i = omega arith in e)),
     )
@@ -100,7 +99,6 @@ new-parts (c ∷ crews) h d i =
 
 module _ (script : Script) (clock : TableId) (boxes : List Boxed) (w : ℕ) (start now : List Crew) (new : AreNewCrews script clock boxes w start)
     (course : (w : ℕ) → AllByRecursion (IsCrew script clock boxes w) start → (cuts : List (List Crew)) × IsCourse script clock boxes w start cuts now) where
-
   pub ran-later : Both IsLaterCrew start now
   ran-later = let k = course w new.crews_are in course-later script clock boxes w start k.0 now k.1
 

@@ -143,12 +143,14 @@ worn-desk : (c : Crew) (a : Actor) → HasFault c → c.fault ≡ Some (Worn a) 
 worn-desk c a h e =
     ⊎_elim (λ (n : c.fault ≡ None). absurd (some-none c.fault e n))
     (λ (r : _).
-        ⊎_elim (λ (m : c.fault ≡ Some Memory). absurd (not-memory c.fault e m)) (λ (d : (d : Desk) × IsIn d c.desks.items × (c.fault ≡ Some (Worn d.actor)) × (length d.part.items ≡ MOST_ENTRIES)). (d.0, d.1, same d.0.actor c.fault d.2 e, d.3)) r) h
+    ⊎_elim (λ (m : c.fault ≡ Some Memory). absurd (not-memory c.fault e m)) (λ (d : (d : Desk) × IsIn d c.desks.items × (c.fault ≡ Some (Worn d.actor)) × (length d.part.items ≡ MOST_ENTRIES)). (d.0, d.1, same d.0.actor c.fault d.2 e, d.3)) r) h
   where
     some-none : (o : Option Fault) → o ≡ Some (Worn a) → o ≡ None → ⊥
     some-none o p q = cc
+
     not-memory : (o : Option Fault) → o ≡ Some (Worn a) → o ≡ Some Memory → ⊥
     not-memory o p q = cc
+
     same : (b : Actor) (o : Option Fault) → o ≡ Some (Worn b) → o ≡ Some (Worn a) → b ≡ a
     same b o p q = cc
 
@@ -156,7 +158,6 @@ module _ (script : Script) (clock : TableId) (w : ℕ) (start now : List Crew) (
     (own : PartsAreOwn) (paced : RunsArePaced) (rested : RestedRunsArePacedToEnd) (ended : EndedRunsEndCalls)
     (trace : List Entry) (merged : List Stamped) (whole : AreWholeParts (parts_in (parts_of now))) (is : IsMerged (parts_in (parts_of now)) merged) (made : trace ≡ map (λ (x : Stamped). x.entry) merged)
     (totals : List Totals) (totals-are : totals ≡ map (λ (c : Crew). c.totals) now) where
-
   abbrev boxes : List Boxed
   boxes = closed.boxes
 
@@ -237,11 +238,11 @@ module _ (script : Script) (clock : TableId) (w : ℕ) (start now : List Crew) (
     port-one a p h =
         let d = desk-of h.desk h.is in
         let mine : own_entries a trace ≡ map (λ (x : Stamped). x.entry) h.desk.part.items =
-          sym (reverse-twice (own_entries a trace)) ∙ ap reverse (sym (filter-reverse (λ (x : Entry). same_actor x.actor a) trace))
-          ∙ ap reverse (subst (λ b. own_entries b (reverse trace) ≡ past_of h.desk.part.items) h.actor (own-of h.desk h.is)) ∙ reverse-twice (map (λ (x : Stamped). x.entry) h.desk.part.items) in
+        sym (reverse-twice (own_entries a trace)) ∙ ap reverse (sym (filter-reverse (λ (x : Entry). same_actor x.actor a) trace))
+        ∙ ap reverse (subst (λ b. own_entries b (reverse trace) ≡ past_of h.desk.part.items) h.actor (own-of h.desk h.is)) ∙ reverse-twice (map (λ (x : Stamped). x.entry) h.desk.part.items) in
         let came : delivered_to a trace ≡ told h.desk.part.items =
-          flat-filter (λ (x : Entry). same_actor x.actor a) (λ (x : Entry). told_by a x.input) trace ∙ ap (flat_map (λ (x : Entry). told_by a x.input)) mine
-          ∙ told-flat a h.desk.part.items (λ z i. part-actor script h.desk.actor h.desk.part.items z d.1.own i ∙ h.actor) in
+        flat-filter (λ (x : Entry). same_actor x.actor a) (λ (x : Entry). told_by a x.input) trace ∙ ap (flat_map (λ (x : Entry). told_by a x.input)) mine
+        ∙ told-flat a h.desk.part.items (λ z i. part-actor script h.desk.actor h.desk.part.items z d.1.own i ∙ h.actor) in
         record {
           names = h.names;
           of_box = h.of_box;

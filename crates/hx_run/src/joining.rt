@@ -30,13 +30,7 @@ pub fn sort_by_place(script: &Script, takers: &mut Vec<Taker>) -> Result<(), Mem
 }
 
 /// Joins a driver's port into the first port of its box.
-fn join_one<R: Wait>(
-    rt: &R,
-    script: &Script,
-    boxes: &[Mailbox<'_>],
-    taker: &mut Taker,
-    port: Port,
-)
+fn join_one<R: Wait>(rt: &R, script: &Script, boxes: &[Mailbox<'_>], taker: &mut Taker, port: Port)
     requires taker { (w : ℕ) × (outs : List OutboxSeen) × IsJoined script.now w boxes.now outs taker.old }
     requires port { (j : ℕ) × ((box : Boxed) → box ≡ slice_index_or boxes.now (place_at script.now taker.old) box → IsOutPort j box port) }
     ensures kept { IsKeptTaker taker.old taker.new }

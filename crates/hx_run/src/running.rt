@@ -54,25 +54,8 @@ fn run_drivers<R: Threads + Wait + Sync, G: Gate + Sync>(
 {
     let (boxes, ports) = open_boxes(rt, alloc, script, clock, workers, capacity)?;
     let held = boxes.as_slice();
-    let mut drivers = deal(
-        alloc,
-        script,
-        clock,
-        held,
-        seats,
-        ports,
-        workers,
-        fates,
-    )?;
-    let fault = run_rounds(
-        rt,
-        alloc,
-        script,
-        clock,
-        held,
-        gate,
-        drivers.as_mut_slice(),
-    );
+    let mut drivers = deal(alloc, script, clock, held, seats, ports, workers, fates)?;
+    let fault = run_rounds(rt, alloc, script, clock, held, gate, drivers.as_mut_slice());
     let left = close(rt, alloc, script, clock, held, drivers)?;
     Ok((fault, left))
 }
@@ -125,7 +108,7 @@ pub fn run<R: Threads + Wait + Sync, G: Gate + Sync>(
         ports,
     } = left;
     let trace = gather(alloc, clock, seat, actors)?;
-    runs_of_drivers_are_paced(rt);
+    runs_of_drivers_are_paced();
     Ok(Ran {
         trace,
         totals,

@@ -7,8 +7,7 @@ use Rattle.hx_run.proofs.closing.take_apart.Goals as goal
 pub loop-driver-preserved : goal.loop-driver-preserved
 loop-driver-preserved g c =
     let i = c.loop-driver.invariant in
-    let n = c.in_ok-take_crew.ensures in
-    (
+    let n = c.in_ok-take_crew.ensures in (
       n.actors ∙ ap (λ l. l ++ map seated_of c.in-Some.driver.crew.desks.items) i.0 ∙ more-desks (λ d. d.crew) seated_of c.loop-driver.yielded c.in-Some.driver,
       n.takers ∙ ap (λ l. l ++ map taker_of c.in-Some.driver.crew.desks.items) i.1 ∙ more-desks (λ d. d.crew) taker_of c.loop-driver.yielded c.in-Some.driver,
       n.outs ∙ ap (λ l. l ++ c.in-Some.driver.crew.out ∷ []) i.2 ∙ more-crews (λ d. d.crew) (λ (k : Crew). k.out) c.loop-driver.yielded c.in-Some.driver,

@@ -18,8 +18,7 @@ join_next-requires-clause-takers g c =
 pub loop-round-preserved : goal.loop-round-preserved
 loop-round-preserved g c =
     let i = c.loop-round.invariant in
-    let n = c.join_next.ensures in
-    (
+    let n = c.join_next.ensures in (
       n.outs.0,
       omega (arith, n.outs.1, i.1),
       both-trans IsKeptTaker kept-trans c.args.takers.now.items c.loop-round.takers.items c.join_next.new.takers.items i.2 n.kept,

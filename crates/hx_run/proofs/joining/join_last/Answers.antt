@@ -42,6 +42,6 @@ returns-in-Some-clause-joined g c w outs o r j =
     let one = seam _ _ _ _ _ c.in-Some.ensures.items r.all in
     let k = subst (λ m. AreJoinedFrom script w c.args.boxes.now outs o m c.args.takers.now.items) (sym p.1) j in
     let e = c.join_one.ensures.joined w outs o (joined-at script w c.args.boxes.now outs o c.len-at.result c.args.takers.now.items c.index_mut.result.now k p.0 c.index_mut.ensures.value)
-      (ap (λ m. outs_at m o.ports.items) is ∙ seam-outs c.pop.new.self.items r.rest o.ports.items c.in-Some.port one)
-      (seam-port c.args.boxes.now o c.pop.new.self.items r.rest c.in-Some.port _ r.whole one is (omega (arith, n, p.0, c.requires.takers.1))) in
+    (ap (λ m. outs_at m o.ports.items) is ∙ seam-outs c.pop.new.self.items r.rest o.ports.items c.in-Some.port one)
+    (seam-port c.args.boxes.now o c.pop.new.self.items r.rest c.in-Some.port _ r.whole one is (omega (arith, n, p.0, c.requires.takers.1))) in
     subst (λ m. AreJoinedFrom script w c.args.boxes.now outs o m (slice_set c.args.takers.now.items c.len-at.result c.join_one.new.taker)) at (joined-set script w c.args.boxes.now outs o c.len-at.result c.args.takers.now.items c.join_one.new.taker k p.0 e)

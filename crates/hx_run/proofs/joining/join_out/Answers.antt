@@ -8,8 +8,7 @@ use Rattle.hx_run.proofs.joining.join_out.Goals as goal
 
 pub loop-round-init : goal.loop-round-init
 loop-round-init g c =
-    let le : length c.args.takers.now.items ≤ length c.args.out.ports.items = omega (arith, both-long (IsOutPort c.args.out.index) _ c.args.out.ports.items c.requires.out.ports, c.requires.takers.1) in
-    (
+    let le : length c.args.takers.now.items ≤ length c.args.out.ports.items = omega (arith, both-long (IsOutPort c.args.out.index) _ c.args.out.ports.items c.requires.out.ports, c.requires.takers.1) in (
       record { rest = []; all = append-nil _; whole = c.requires.out; index = refl },
       omega arith,
       both-refl IsKeptTaker kept-refl c.args.takers.now.items,
@@ -29,8 +28,7 @@ join_last-requires-clause-joined g c =
 pub loop-round-preserved : goal.loop-round-preserved
 loop-round-preserved g c =
     let i = c.loop-round.invariant in
-    let n = c.join_last.ensures in
-    (
+    let n = c.join_last.ensures in (
       n.rest c.args.out i.0,
       omega (arith, n.fewer, i.1),
       both-trans IsKeptTaker kept-trans c.args.takers.now.items c.loop-round.takers.items c.join_last.new.takers.items i.2 n.kept,

@@ -11,6 +11,6 @@ returns g c e =
     record {
       calm = each-all-map (λ d. d.crew) (λ k. k.fault ≡ None) c.args.drivers.now c.loop-at.at le c.loop-at.invariant.0;
       rested =
-        each-flat (λ (k : Crew). k.desks.items) (IsRested c.args.script.now (map (λ d. d.crew) c.args.drivers.now)) (map (λ d. d.crew) c.args.drivers.now)
-        (each-all-map (λ d. d.crew) (λ k. AllByRecursion (IsRested c.args.script.now (map (λ d. d.crew) c.args.drivers.now)) k.desks.items) c.args.drivers.now c.loop-at.at le c.loop-at.invariant.1);
+          each-flat (λ (k : Crew). k.desks.items) (IsRested c.args.script.now (map (λ d. d.crew) c.args.drivers.now)) (map (λ d. d.crew) c.args.drivers.now)
+          (each-all-map (λ d. d.crew) (λ k. AllByRecursion (IsRested c.args.script.now (map (λ d. d.crew) c.args.drivers.now)) k.desks.items) c.args.drivers.now c.loop-at.at le c.loop-at.invariant.1);
     }

@@ -18,8 +18,7 @@ advance-requires-clause-crews g c κs within = (
 
 pub loop-round-preserved : goal.loop-round-preserved
 loop-round-preserved g c =
-    let i = c.loop-round.invariant in
-    (
+    let i = c.loop-round.invariant in (
       stay-trans c.args.script.now c.args.clock.now c.args.boxes.now (map (λ d. d.crew) c.args.drivers.now) (map (λ d. d.crew) c.loop-round.drivers) (map (λ d. d.crew) c.advance.new.drivers) i.0 c.advance.ensures.crews,
       λ w h.
           course-on c.args.script.now c.args.clock.now c.args.boxes.now w (map (λ d. d.crew) c.args.drivers.now) (map (λ d. d.crew) c.loop-round.drivers) (map (λ d. d.crew) c.advance.new.drivers)

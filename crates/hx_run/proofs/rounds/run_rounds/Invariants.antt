@@ -11,7 +11,7 @@ abbrev pub invariant-loop-round : goal.invariant-loop-round
 invariant-loop-round g l =
     StayCrews l.script l.clock l.boxes (map (λ d. d.crew) l.initial.drivers) (map (λ d. d.crew) l.drivers)
     × ((w : ℕ) → AllByRecursion (IsCrew l.script l.clock l.boxes w) (map (λ d. d.crew) l.initial.drivers)
-        → (cuts : List (List Crew)) × IsCourse l.script l.clock l.boxes w (map (λ d. d.crew) l.initial.drivers) cuts (map (λ d. d.crew) l.drivers))
+    → (cuts : List (List Crew)) × IsCourse l.script l.clock l.boxes w (map (λ d. d.crew) l.initial.drivers) cuts (map (λ d. d.crew) l.drivers))
     × Both (λ d d'. IsPosted d.crew d'.crew
-        (counted ((goal.Fate-dyn g (d.fate.vtable, d.fate.value)).choices d.fate.value) ((goal.Fate-dyn g (d.fate.vtable, d.fate.value)).losses d.fate.value) ((goal.Fate-dyn g (d.fate.vtable, d.fate.value)).repeats d.fate.value))
-        (counted ((goal.Fate-dyn g (d'.fate.vtable, d'.fate.value)).choices d'.fate.value) ((goal.Fate-dyn g (d'.fate.vtable, d'.fate.value)).losses d'.fate.value) ((goal.Fate-dyn g (d'.fate.vtable, d'.fate.value)).repeats d'.fate.value))) l.initial.drivers l.drivers
+    (counted ((goal.Fate-dyn g (d.fate.vtable, d.fate.value)).choices d.fate.value) ((goal.Fate-dyn g (d.fate.vtable, d.fate.value)).losses d.fate.value) ((goal.Fate-dyn g (d.fate.vtable, d.fate.value)).repeats d.fate.value))
+    (counted ((goal.Fate-dyn g (d'.fate.vtable, d'.fate.value)).choices d'.fate.value) ((goal.Fate-dyn g (d'.fate.vtable, d'.fate.value)).losses d'.fate.value) ((goal.Fate-dyn g (d'.fate.vtable, d'.fate.value)).repeats d'.fate.value))) l.initial.drivers l.drivers
