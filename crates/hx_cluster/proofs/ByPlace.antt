@@ -11,7 +11,7 @@ use Rattle.hx_types.specs.declared.traces.Script.{Script}
 use Rattle.hx_types.specs.Words.{below}
 use Rattle.hx_model.specs.Runs.{is_actor}
 use Rattle.hx_outbox.specs.Places.{place_of, Exists}
-use Rattle.hx_cluster.specs.Clusters.{actors_of}
+use Rattle.hx_cluster.specs.Everyone.{actors_of}
 use Rattle.hx_cluster.specs.Actors.{actor_at, first_actors}
 
 not-le : (m n : ℕ) → nat_le m n ≡ false → n < m

@@ -34,7 +34,8 @@ use Rattle.hx_desk.specs.Desks.{entries_before, made_by, past_of, told}
 use Rattle.hx_desk.specs.Inboxes.{HasInPort, IsHeardFrom, ins_of}
 use Rattle.hx_driver.specs.declared.crews.Crew.{Crew}
 use Rattle.hx_driver.specs.Crews.{made_weight, no_totals, weight_in, IsBooked, IsCrew, IsDeskOf}
-use Rattle.hx_cluster.specs.Clusters.{actors_dealt, actors_of, AreNewCrews, IsNewCrew, IsNewSeat}
+use Rattle.hx_cluster.specs.Clusters.{actors_dealt, AreNewCrews, IsNewCrew, IsNewSeat}
+use Rattle.hx_cluster.specs.Everyone.{actors_of}
 use Rattle.hx_cluster.specs.Actors.{actor_at, first_actors, first_dealt}
 use Rattle.hx_cluster.specs.Dealt.{AreNewDesks, AtEach, IsNewDesk, IsNewOutbox}
 use Rattle.hx_cluster.specs.Opened.{AreOutPortsFrom}

@@ -18,7 +18,8 @@ use Rattle.hx_outbox.proofs.Places.{place-below}
 use Rattle.hx_desk.specs.declared.desks.Desk.{Desk}
 use Rattle.hx_driver.specs.declared.crews.Crew.{Crew}
 use Rattle.hx_law_drivers.specs.Crews.{desks_of, HaveAllActors}
-use Rattle.hx_cluster.specs.Clusters.{actors_dealt, actors_of}
+use Rattle.hx_cluster.specs.Clusters.{actors_dealt}
+use Rattle.hx_cluster.specs.Everyone.{actors_of}
 use Rattle.hx_cluster.specs.Actors.{actor_at, first_actors}
 use Rattle.hx_cluster.specs.Dealt.{AtEach}
 use Rattle.hx_cluster.proofs.ByPlace.{all-first, at-place, exists-is, place-at}

@@ -1,11 +1,9 @@
 -- The boxes and the drivers of a script before the first turn.
-use Rattle.std.specs.Prelude.{ℕ, ◌≡◌, ◌+◌, ◌%◌, List, [], ◌∷◌, ◌++◌, length, map, slice_get, None, Some, eqb}
+use Rattle.std.specs.Prelude.{ℕ, ◌≡◌, ◌%◌, List, [], ◌∷◌, map, slice_get, None, Some, eqb}
 use Rattle.std.specs.List.{AllByRecursion, filter}
 use Rattle.atomic_table.specs.Seated.{TableId}
 use Rattle.hx_types.specs.declared.ids.Actor.{Actor}
 use Rattle.hx_types.specs.declared.traces.Script.{Script}
-use Rattle.hx_types.specs.declared.ids.Actor.TheVariants.{Coordinator, Server, Session}
-use Rattle.hx_types.specs.Words.{below}
 use Rattle.hx_clock.specs.Seats.{Seated}
 use Rattle.hx_clock.specs.Views.{Owns}
 use Rattle.hx_mail.specs.Boxes.{Boxed}
@@ -14,13 +12,7 @@ use Rattle.hx_desk.specs.declared.desks.Desk.{Desk}
 use Rattle.hx_driver.specs.declared.crews.Crew.{Crew}
 use Rattle.hx_driver.specs.Crews.{IsCrew, no_totals}
 use Rattle.hx_law_drivers.specs.Crews.{AreNumbered, HaveAllActors}
-
--- all actors of a script in order: the coordinator, the servers, the sessions
-abbrev pub actors_of : Script → List Actor
-actors_of script =
-    Coordinator
-    ∷ map (λ n. Server (record { 0 = n + 1 })) (below script.space.servers)
-    ++ map (λ n. Session (record { 0 = n + 1 })) (below (length script.sessions))
+use Rattle.hx_cluster.specs.Everyone.{actors_of}
 
 -- those that belong to driver i of w: each whose place among all, divided by w, leaves i
 abbrev pub actors_dealt : Script → ℕ → ℕ → List Actor

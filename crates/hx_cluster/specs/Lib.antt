@@ -1,4 +1,5 @@
 pub mod Opened
+pub mod Everyone
 pub mod Clusters
 pub mod Actors
 pub mod Dealt

@@ -1,7 +1,8 @@
 ghost use Rattle.std.specs.Prelude.{ℕ, ◌≡◌, ◌≤◌, length, map, slice_get, IfOk, Some};
 ghost use Rattle.hx_types.specs.Fitting.{IsScript};
 ghost use Rattle.hx_outbox.specs.Places.{AreBoxes};
-ghost use Rattle.hx_cluster.specs.Clusters.{AreNewCrews, AreNewSeats, actors_of};
+ghost use Rattle.hx_cluster.specs.Clusters.{AreNewCrews, AreNewSeats};
+ghost use Rattle.hx_cluster.specs.Everyone.{actors_of};
 ghost use Rattle.hx_cluster.specs.Dealt.{AtEach, AreNewDesks, IsNewOutbox};
 ghost use Rattle.hx_cluster.specs.Opened.{ArePortsOf};
 

@@ -23,7 +23,8 @@ use Rattle.hx_law_drivers.specs.Crews.{parts_of, AreNumbered, HaveAllActors}
 use Rattle.hx_law_drivers.specs.Courses.{IsCourse}
 use Rattle.hx_law_drivers.specs.Joined.{AreInOrder, AreOnce}
 use Rattle.hx_law_drivers.specs.Laws.{EndedRunsEndCalls, PartsAreOwn, RestedRunsArePacedToEnd, RunsArePaced}
-use Rattle.hx_cluster.specs.Clusters.{actors_dealt, actors_of, AreNewCrews}
+use Rattle.hx_cluster.specs.Clusters.{actors_dealt, AreNewCrews}
+use Rattle.hx_cluster.specs.Everyone.{actors_of}
 use Rattle.hx_gather.specs.declared.gathering.SeatedPart.{SeatedPart}
 use Rattle.hx_gather.specs.Gathered as gathered
 use Rattle.hx_gather.specs.Gathered.{part_by, parts_by, CountsAll}

@@ -40,7 +40,7 @@ use Rattle.hx_driver.specs.declared.crews.Crew.{Crew}
 use Rattle.hx_driver.specs.Crews.{IsCrew, IsDeskOf}
 use Rattle.hx_law_drivers.specs.Crews.{desks_of, part_of, parts_of, AreNumbered, HaveAllActors}
 use Rattle.hx_law_drivers.specs.Joined.{outs_at, put_total, taken_weight, AreInOrder, AreOnce, IsInOrderOf}
-use Rattle.hx_cluster.specs.Clusters.{actors_of}
+use Rattle.hx_cluster.specs.Everyone.{actors_of}
 use Rattle.hx_gather.specs.declared.gathering.SeatedPart.{SeatedPart}
 use Rattle.hx_gather.specs.Gathered.{part_by, parts_by, HasNumber, IsSeated}
 use Rattle.hx_run.specs.declared.joining.Taker.{Taker}

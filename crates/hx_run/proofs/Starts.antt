@@ -24,7 +24,8 @@ use Rattle.hx_driver.specs.Slices.{IsLaterCrew}
 use Rattle.hx_law_drivers.specs.Crews.{desks_of, AreNumbered, HaveAllActors}
 use Rattle.hx_law_drivers.specs.Courses.{IsCourse, IsSliced}
 use Rattle.hx_law_drivers.specs.Joined.{AreInOrder, AreOnce}
-use Rattle.hx_cluster.specs.Clusters.{actors_dealt, actors_of, AreNewCrews, IsNewCrew}
+use Rattle.hx_cluster.specs.Clusters.{actors_dealt, AreNewCrews, IsNewCrew}
+use Rattle.hx_cluster.specs.Everyone.{actors_of}
 use Rattle.hx_run.specs.Closed.{AreClosed, HasPosted}
 use Rattle.hx_run.specs.Rounds.{counted, AreOver, StayCrews}
 use Rattle.hx_run.proofs.Counted.{AreDealtFrom}

@@ -47,7 +47,7 @@ use Rattle.hx_driver.specs.declared.crews.Crew.{Crew}
 use Rattle.hx_driver.specs.Crews.{HasFault, IsCrew}
 use Rattle.hx_law_drivers.specs.Crews.{desks_of, doubled_by, lost_by, part_of, parts_of}
 use Rattle.hx_law_drivers.specs.Laws.{EndedRunsEndCalls, HaveRun, IsTraceOf, PartsAreOwn, RestedRunsArePacedToEnd, RunsArePaced}
-use Rattle.hx_cluster.specs.Clusters.{actors_of}
+use Rattle.hx_cluster.specs.Everyone.{actors_of}
 use Rattle.hx_run.specs.Closed.{fault_of, AreClosed, HasPosted, IsFirstPort, IsLeft}
 use Rattle.hx_run.specs.Ran.{delivered_to, doubled_in, is_any, is_asked, is_halt, lost_in, posts_by, taken_under, ArePortsOfActors, AreTotalsOf, HasEnd, HasNoHalts, HasRisen, HaveCallsEnded, IsPortOfActor, IsRan, IsTotalOf}
 use Rattle.hx_run.specs.Rounds.{first_fault, AreOver}

@@ -19,7 +19,8 @@ use Rattle.hx_driver.specs.declared.crews.Crew.{Crew}
 use Rattle.hx_driver.specs.Crews.{IsPosted}
 use Rattle.hx_law_drivers.specs.Crews.{desks_of, parts_of}
 use Rattle.hx_law_drivers.specs.Laws.{HaveRun}
-use Rattle.hx_cluster.specs.Clusters.{actors_of, AreNewCrews, IsNewCrew}
+use Rattle.hx_cluster.specs.Clusters.{AreNewCrews, IsNewCrew}
+use Rattle.hx_cluster.specs.Everyone.{actors_of}
 use Rattle.hx_gather.specs.declared.gathering.SeatedPart.{SeatedPart}
 use Rattle.hx_gather.specs.Gathered.{parts_by, HasNumber, IsSeated}
 use Rattle.hx_run.specs.declared.joining.Taker.{Taker}

@@ -2,7 +2,8 @@ ghost use Rattle.std.specs.Prelude.{ℕ, ◌≡◌, ◌≤◌, ◌<◌, List, le
 ghost use Rattle.hx_types.specs.declared.totals.Totals.{Totals as TotalsSeen};
 ghost use Rattle.hx_types.specs.Fitting.{IsScript};
 ghost use Rattle.hx_driver.specs.declared.crews.Crew.{Crew};
-ghost use Rattle.hx_cluster.specs.Clusters.{actors_of, AreNewSeats};
+ghost use Rattle.hx_cluster.specs.Clusters.{AreNewSeats};
+ghost use Rattle.hx_cluster.specs.Everyone.{actors_of};
 ghost use Rattle.hx_run.specs.Closed.{fault_of, AreClosed, HasPosted, IsLeft};
 ghost use Rattle.hx_run.specs.Ran.{HasRisen, IsRan};
 

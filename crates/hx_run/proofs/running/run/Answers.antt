@@ -1,5 +1,6 @@
 use Rattle.std.proofs.Common.{◌≡◌, ◌∙◌, ℕ, ◌+◌, List, length, ap, sym, subst, arith, slice_get, Some}
-use Rattle.hx_cluster.specs.Clusters.{actors_of, AreNewSeats}
+use Rattle.hx_cluster.specs.Clusters.{AreNewSeats}
+use Rattle.hx_cluster.specs.Everyone.{actors_of}
 use Rattle.hx_run.proofs.Leaving.{how-many}
 use Rattle.hx_run.proofs.Ends.{left-counts, ran-of, risen-of}
 use Rattle.hx_run.proofs.running.run.Goals as goal
