@@ -1,21 +1,19 @@
 -- The boxes and the drivers of a script before the first turn.
-use Rattle.std.specs.Prelude.{ℕ, ◌≡◌, ◌+◌, ◌≤◌, ◌<◌, ◌%◌, List, [], ◌∷◌, ◌++◌, length, map, slice_get, Option, None, Some, eqb}
+use Rattle.std.specs.Prelude.{ℕ, ◌≡◌, ◌+◌, ◌%◌, List, [], ◌∷◌, ◌++◌, length, map, slice_get, None, Some, eqb}
 use Rattle.std.specs.List.{AllByRecursion, filter}
 use Rattle.atomic_table.specs.Seated.{TableId}
 use Rattle.hx_types.specs.declared.ids.Actor.{Actor}
-use Rattle.hx_types.specs.declared.ids.ServerId.{ServerId}
-use Rattle.hx_types.specs.declared.ids.SessionId.{SessionId}
 use Rattle.hx_types.specs.declared.traces.Script.{Script}
 use Rattle.hx_types.specs.declared.ids.Actor.TheVariants.{Coordinator, Server, Session}
-use Rattle.hx_types.specs.Words.{below, IsIn}
+use Rattle.hx_types.specs.Words.{below}
 use Rattle.hx_clock.specs.Seats.{Seated}
 use Rattle.hx_clock.specs.Views.{Owns}
 use Rattle.hx_mail.specs.Boxes.{Boxed}
-use Rattle.hx_outbox.specs.Places.{place_of, AreBoxes}
+use Rattle.hx_outbox.specs.Places.{place_of}
 use Rattle.hx_desk.specs.declared.desks.Desk.{Desk}
 use Rattle.hx_driver.specs.declared.crews.Crew.{Crew}
 use Rattle.hx_driver.specs.Crews.{IsCrew, no_totals}
-use Rattle.hx_law_drivers.specs.Crews.{AreNumbered, HaveAllActors, desks_of}
+use Rattle.hx_law_drivers.specs.Crews.{AreNumbered, HaveAllActors}
 
 -- all actors of a script in order: the coordinator, the servers, the sessions
 abbrev pub actors_of : Script → List Actor

@@ -1,2 +1,4 @@
 pub mod Opened
 pub mod Clusters
+pub mod Actors
+pub mod Dealt

@@ -1,5 +1,5 @@
 -- The ports of boxes that were just made: each has a first port, which was split once for each driver.
-use Rattle.std.specs.Prelude.{ℕ, zero, suc, ◌≡◌, ◌+◌, List, [], ◌∷◌, length}
+use Rattle.std.specs.Prelude.{ℕ, zero, suc, ◌≡◌, List, [], ◌∷◌, length}
 use Rattle.hx_mail.specs.Boxes.{Boxed, Ported}
 use Rattle.hx_outbox.specs.Zipped.{Both}
 use Rattle.hx_outbox.specs.Outboxes.{IsOutPort, outs_of}

@@ -4,10 +4,13 @@
 //! modulo the number of drivers is this project's choice.
 #![tactic(auto)]
 
+mod actors;
 mod dealing;
 mod enrolling;
 mod opening;
+mod outboxes;
+mod seating;
 
 pub use dealing::deal;
 pub use enrolling::enrol_all;
-pub use opening::open_boxes;
+pub use opening::{BoxPorts, open_boxes};

@@ -16,6 +16,7 @@ use Rattle.hx_gather.specs.Gathered.{parts_by, parts_of}
 -- what a clause of `gather` says of a trace
 pub record IsGathered (seated : List SeatedPart) (trace : List Entry) : Type 0 where
   pub whole : (merged : List Stamped) × IsMerged (parts_of seated) merged × HasStampsAsPlaces merged × (trace ≡ map (λ (x : Stamped). x.entry) merged)
+  pub parts : AreWholeParts (parts_of seated)
   pub run : (script : Script) → AreOwnParts script (parts_by seated) → IsRun script (reverse trace)
   pub own : (script : Script) → AreOwnParts script (parts_by seated) → HasOwnParts (parts_by seated) (reverse trace)
 
@@ -32,6 +33,7 @@ gathered seated lists trace same whole m =
     merged_run script (parts_by seated) m.0 own (subst AreWholeParts (sym (same_parts seated)) whole) (subst (λ l. IsMerged l m.0) (sym (same_parts seated)) merged) in
     record {
       whole = (m.0, merged, stamps_are_places (parts_of seated) m.0 whole merged, m.2);
+      parts = whole;
       run = λ script own. subst (λ t. IsRun script (reverse t)) (sym m.2) (run script own).run;
       own = λ script own. subst (λ t. HasOwnParts (parts_by seated) (reverse t)) (sym m.2) (run script own).own;
     }

@@ -29,7 +29,7 @@ use Rattle.hx_law_causes.proofs.Headline.{runs_have_causes}
 use Rattle.hx_law_causes.proofs.Replaying.{scheduled-run}
 
 -- a space of books with names of one letter: two regions of keys, four of genres, two of years, on four servers, two to a region
-abbrev space : Space
+abbrev pub space : Space
 space =
     record {
       name = 98 ∷ [];
@@ -42,7 +42,7 @@ space =
     }
 
 -- what is put
-abbrev sets : List Assign
+abbrev pub sets : List Assign
 sets = record { attribute = 1; value = a_value.Text (98 ∷ []) } ∷ record { attribute = 2; value = a_value.Int (pos 1999) } ∷ []
 
 -- two writes of keys of the second region, and a replica to be added to it
@@ -90,7 +90,7 @@ its_end : next_entry script trace ≡ None
 its_end = refl
 
 -- what is put fits the space
-sets_fit : AssignsFit space sets
+pub sets_fit : AssignsFit space sets
 sets_fit = record {
   each = All-from_recursion (AssignFits space) sets ((omega arith, omega arith), ((omega arith, tt), tt));
   once = (All-from_recursion (λ m. m ≢ 1) (2 ∷ []) ((λ q. omega arith), tt), (All-from_recursion (λ m. m ≢ 2) [] tt, tt));

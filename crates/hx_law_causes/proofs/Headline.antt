@@ -8,6 +8,6 @@ use Rattle.hx_law_causes.proofs.Told.{doubts-are-told, refusals-are-named}
 pub runs_have_causes : RunsHaveCauses
 runs_have_causes script valid trace run = has-causes script valid (doubts-are-told script valid) (refusals-are-named script valid) trace run
 
--- and where no region is lost, none is refused or in doubt
+-- and where no region of the space is lost, none is refused or in doubt
 pub runs_answer_all : RunsAnswerAll
 runs_answer_all script valid trace run present = answers-all script valid trace run (runs_have_causes script valid trace run) present

@@ -1,4 +1,4 @@
--- Where no configuration of a run has lost a region, no call is refused or in doubt.
+-- Where no configuration of a run has lost a region of the space, no call is refused or in doubt.
 use Rattle.std.proofs.Common.{◌≡◌, ℕ, ◌+◌, inl, inr, false, List, [], ◌∷◌, ◌++◌, length, IsSome, Option, Some, None, refl, sym, ap, ◌∙◌, subst}
 use Rattle.std.proofs.lemmas.Bool.{false≢true}
 use Rattle.hx_types.specs.declared.calls.Answer.{Answer}
@@ -15,6 +15,7 @@ use Rattle.hx_types.specs.declared.calls.Answer.TheVariants as an_answer
 use Rattle.hx_types.specs.declared.calls.Op.TheVariants.{Search}
 use Rattle.hx_types.specs.declared.ids.Actor.TheVariants.{Session}
 use Rattle.hx_types.specs.declared.traces.Note.TheVariants as a_note
+use Rattle.hx_types.specs.Spaces.{IsRegionOf}
 use Rattle.hx_types.specs.Words.{IsIn}
 use Rattle.hx_types.specs.Fitting.{IsScript, call_of, is_doubt, is_refused, numbered}
 use Rattle.hx_model.specs.Causes.{AnsweredCall, HasCause, HasCauses, IsLostIn, config_of}
@@ -29,6 +30,7 @@ use Rattle.hx_law_searches.proofs.CallsKept.{step_is, turn_is}
 use Rattle.hx_law_causes.specs.Causes.{AnswersAll, LosesNothing}
 use Rattle.hx_law_causes.proofs.Administered.{administers-run}
 use Rattle.hx_law_causes.proofs.Answered.{run-part}
+use Rattle.hx_law_causes.proofs.Named.{doubted-real, refused-real}
 use Rattle.hx_law_causes.proofs.Sessions.{EndsBy, SessionDoes, Starts, session-does}
 
 -- an entry of a trace stands between the newer and the older ones
@@ -96,9 +98,9 @@ module _ (script : Script) (valid : IsScript script) where
               no q = absurd (cc)
 
   module _ (trace : List Entry) (run : IsRun script trace) (causes : HasCauses script trace) (present : LosesNothing script trace) where
-    -- a cause by a lost region is none
-    none-lost : (newer : List Entry) (x : Entry) (older : List Entry) → trace ≡ newer ++ x ∷ older → (call : AnsweredCall) → call.script ≡ script → call.older ≡ older → (config : Config) (g : RegionId) (epoch : Epoch) → IsLostIn call config g epoch → ⊥
-    none-lost newer x older stands call s o config g epoch h =
+    -- a cause by a lost region of the space is none
+    none-lost : (newer : List Entry) (x : Entry) (older : List Entry) → trace ≡ newer ++ x ∷ older → (call : AnsweredCall) → call.script ≡ script → call.older ≡ older → (config : Config) (g : RegionId) (epoch : Epoch) → IsLostIn call config g epoch → IsRegionOf script.space g → ⊥
+    none-lost newer x older stands call s o config g epoch h real =
         let r : IsRun script (newer ++ x ∷ older) = subst (IsRun script) stands run in
         let part = run-part script newer x older r in
         let known : config_of script epoch older ≡ Some config = subst (λ (t : List Entry). config_of script epoch t ≡ Some config) o (subst (λ (z : Script). config_of z epoch call.older ≡ Some config) s h.of_epoch) in
@@ -106,7 +108,7 @@ module _ (script : Script) (valid : IsScript script) where
         let k : IsKnown script older config = subst (λ (y : Epoch). config_of script y older ≡ Some config) (sym e) known in
         let here : IsKnown script (x ∷ older) config = known-still script valid older (epochs-run script valid older part.1) x part.0 config k in
         let there : IsKnown script trace config = subst (λ (t : List Entry). IsKnown script t config) (sym stands) (known-later script valid newer (x ∷ older) r config here) in
-        false≢true (sym (present config.epoch config there g) ∙ h.lost)
+        false≢true (sym (present config.epoch config there g real) ∙ h.lost)
 
     pub answers-all : AnswersAll script trace
     answers-all x i c v a acts ended =
@@ -115,18 +117,22 @@ module _ (script : Script) (valid : IsScript script) where
         let part = run-part script st.newer x st.older r in
         let call = ended-call x st.older part c v a acts ended in
         let began = found-entry (begin_of c trace) (begin_is c trace call.1.0 (subst (λ (t : List Entry). BeganAt t c call.1.0) (sym st.stands) (began-later st.newer (x ∷ st.older) c call.1.0 call.1.1))) in
-        by st call.0.0 began.0 a (causes st.newer st.older x c call.0.0 began.0 v a st.stands acts ended call.0.1 began.1)
+        by st part.1 call.0.0 began.0 a (causes st.newer st.older x c call.0.0 began.0 v a st.stands acts ended call.0.1 began.1)
       where
-        by : (st : Stands trace x) (op : Op) (n : ℕ) (a : Answer) → HasCause (record { script = script; trace = trace; older = st.older; caller = c; op = op; begin = n; version = v }) a → (is_refused a ≡ false) × (is_doubt a ≡ false)
-        by st op n (an_answer.Refused g epoch) h = absurd (none-lost st.newer x st.older st.stands (record { script = script; trace = trace; older = st.older; caller = c; op = op; begin = n; version = v }) refl refl h.config g epoch h.lost)
-        by st op n (an_answer.Doubt g epoch) h = absurd (none-lost st.newer x st.older st.stands (record { script = script; trace = trace; older = st.older; caller = c; op = op; begin = n; version = v }) refl refl h.config g epoch h.lost)
-        by st op n an_answer.Done h = (refl, refl)
-        by st op n an_answer.NotFound h = (refl, refl)
-        by st op n an_answer.CmpFail h = (refl, refl)
-        by st op n (an_answer.Found object) h = (refl, refl)
-        by st op n (an_answer.Rows rows) h = (refl, refl)
-        by st op n (an_answer.Issued epoch) h = (refl, refl)
-        by st op n (an_answer.Stopped epoch) h = (refl, refl)
-        by st op n (an_answer.Member epoch) h = (refl, refl)
-        by st op n (an_answer.Joining epoch) h = (refl, refl)
-        by st op n (an_answer.Lost epoch) h = (refl, refl)
+        by : (st : Stands trace x) → IsRun script st.older → (op : Op) (n : ℕ) (a : Answer) → HasCause (record { script = script; trace = trace; older = st.older; caller = c; op = op; begin = n; version = v }) a → (is_refused a ≡ false) × (is_doubt a ≡ false)
+        by st earlier op n (an_answer.Refused g epoch) h =
+            absurd (none-lost st.newer x st.older st.stands (record { script = script; trace = trace; older = st.older; caller = c; op = op; begin = n; version = v }) refl refl h.config g epoch h.lost
+            (refused-real script valid trace st.older earlier c op n v h.config g op h.refused))
+        by st earlier op n (an_answer.Doubt g epoch) h =
+            absurd (none-lost st.newer x st.older st.stands (record { script = script; trace = trace; older = st.older; caller = c; op = op; begin = n; version = v }) refl refl h.config g epoch h.lost
+            (doubted-real script valid trace st.older earlier c op n v g epoch h))
+        by st earlier op n an_answer.Done h = (refl, refl)
+        by st earlier op n an_answer.NotFound h = (refl, refl)
+        by st earlier op n an_answer.CmpFail h = (refl, refl)
+        by st earlier op n (an_answer.Found object) h = (refl, refl)
+        by st earlier op n (an_answer.Rows rows) h = (refl, refl)
+        by st earlier op n (an_answer.Issued epoch) h = (refl, refl)
+        by st earlier op n (an_answer.Stopped epoch) h = (refl, refl)
+        by st earlier op n (an_answer.Member epoch) h = (refl, refl)
+        by st earlier op n (an_answer.Joining epoch) h = (refl, refl)
+        by st earlier op n (an_answer.Lost epoch) h = (refl, refl)

@@ -8,7 +8,7 @@ pub fn answers_have_causes()
     ensures { RunsHaveCauses }
 {}
 
-/// In every run of every valid script in whose configurations no region is lost no call is refused or in doubt.
+/// In every run of every valid script in whose configurations no region of the space is lost no call is refused or in doubt.
 pub fn present_regions_answer_all()
     ensures { RunsAnswerAll }
 {}

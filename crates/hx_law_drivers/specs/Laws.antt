@@ -1,5 +1,5 @@
 -- The laws on a run of drivers: its trace is paced.
-use Rattle.std.specs.Prelude.{ℕ, ◌≡◌, List, [], ◌∷◌, reverse, length}
+use Rattle.std.specs.Prelude.{ℕ, ◌≡◌, ◌≢◌, List, [], length}
 use Rattle.std.specs.List.{AllByRecursion}
 use Rattle.atomic_table.specs.Seated.{TableId}
 use Rattle.hx_types.specs.declared.calls.Caller.{Caller}
@@ -8,9 +8,12 @@ use Rattle.hx_types.specs.declared.traces.Script.{Script}
 use Rattle.hx_types.specs.Fitting.{IsScript, call_of}
 use Rattle.hx_types.specs.Words.{IsIn}
 use Rattle.std.specs.Prelude.{IsSome}
+use Rattle.hx_types.specs.declared.traces.Input.TheVariants.{Halt}
 use Rattle.hx_model.specs.Histories.{note_of_end}
+use Rattle.hx_model.specs.Runs.{IsRun}
+use Rattle.hx_model.specs.Schedule.{entries_of}
 use Rattle.hx_clock.specs.declared.parts.Stamped.{Stamped}
-use Rattle.hx_law_threads.specs.Own.{past_of}
+use Rattle.hx_law_threads.specs.Own.{own_entries, past_of}
 use Rattle.hx_law_threads.specs.Merged.{parts_in, AreOwnParts, AreWholeParts, IsMerged}
 use Rattle.hx_law_threads.specs.Pacing.{IsPaced, IsPacedToEnd}
 use Rattle.hx_mail.specs.Boxes.{Boxed}
@@ -48,6 +51,19 @@ abbrev pub PartsAreOwn : Type 0
 PartsAreOwn =
     (script : Script) (clock : TableId) (boxes : List Boxed) (w : ℕ) (start now : List Crew) → HaveRun script clock boxes w start now
     → AreOwnParts script (parts_of now)
+
+-- the trace is a run of the script without halts, in which each actor's entries are those of its desk
+pub record ShowsDesks (script : Script) (crews : List Crew) (trace : List Entry) : Type 0 where
+  pub run : IsRun script trace
+  pub no_halts : AllByRecursion (λ (x : Entry). x.input ≢ Halt) trace
+  pub own : (d : Desk) → IsIn d (desks_of crews) → own_entries d.actor trace ≡ past_of d.part.items
+  pub counts : (d : Desk) → IsIn d (desks_of crews) → entries_of d.actor trace ≡ length d.part.items
+
+abbrev pub TracesShowDesks : Type 0
+TracesShowDesks =
+    (script : Script) (clock : TableId) (boxes : List Boxed) (w : ℕ) (start now : List Crew) → HaveRun script clock boxes w start now
+    → (trace : List Entry) → IsTraceOf now trace
+    → ShowsDesks script now trace
 
 -- the trace of drivers that met a fault, or none, is paced: no more is open at a cut than was lost, and no more came twice than was doubled
 abbrev pub RunsArePaced : Type 0

@@ -2,7 +2,13 @@
 //! an actor retries only where nothing else can go on but for what was lost.
 #![tactic(auto)]
 
-ghost use Rattle.hx_law_drivers.specs.Laws.{EndedRunsEndCalls, PartsAreOwn, RestedRunsArePacedToEnd, RunsArePaced};
+ghost use Rattle.hx_law_drivers.specs.Laws.{EndedRunsEndCalls, PartsAreOwn, RestedRunsArePacedToEnd, RunsArePaced, TracesShowDesks};
+
+/// The parts of all desks of drivers, merged by their stamps, are a run of the script in which no entry
+/// is a halt, and each actor's entries in it are those of its desk.
+pub fn traces_show_desks()
+    ensures shown { TracesShowDesks }
+{}
 
 /// What drivers made between retries that came all together, each where the drivers were at rest, is a
 /// trace that is paced by these moments: each retry is its actor's first entry after one of them; after

@@ -1,0 +1,4 @@
+mod Examples
+mod Moving
+mod Starting
+mod Taking

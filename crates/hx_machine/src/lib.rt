@@ -13,3 +13,6 @@ mod plans;
 
 pub use machines::Machine;
 pub use plans::Plan;
+
+#[cfg(test)]
+mod tests;

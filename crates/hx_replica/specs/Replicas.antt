@@ -1,5 +1,5 @@
 -- The replicas of a server, in ascending order of regions.
-use Rattle.std.specs.Prelude.{◌≡◌, true, false, ⊤, List, [], ◌∷◌, map}
+use Rattle.std.specs.Prelude.{◌≡◌, ◌+◌, true, false, ⊤, List, [], ◌∷◌, length, map}
 use Rattle.std.specs.List.{AllByRecursion}
 use Rattle.hx_types.specs.declared.ids.RegionId.{RegionId}
 use Rattle.hx_types.specs.declared.spaces.Space.{Space}
@@ -43,8 +43,8 @@ pub record AreReplicas (space : Space) (rs : List Replica) : Type 0 where
 
 -- a replica at the start
 abbrev pub first_replica : Space → RegionId → Replica
-first_replica space g = record { region = g; installed = true; store = record { region = g; marks = is_key_region space g; states = []; rooms = [] } }
+first_replica space g = record { region = g; installed = true; store = record { region = g; marks = is_key_region space g; attributes = length space.attributes + 1; states = []; rooms = [] } }
 
 -- a new replica: empty, and not installed
 abbrev pub new_replica : Space → RegionId → Replica
-new_replica space g = record { region = g; installed = false; store = record { region = g; marks = is_key_region space g; states = []; rooms = [] } }
+new_replica space g = record { region = g; installed = false; store = record { region = g; marks = is_key_region space g; attributes = length space.attributes + 1; states = []; rooms = [] } }

@@ -1,5 +1,6 @@
-ghost use Rattle.std.specs.Prelude.{◌≡◌, ◌++◌, [], IfOk, OnOk, map};
+ghost use Rattle.std.specs.Prelude.{◌≡◌, ◌≤◌, ◌++◌, [], IfOk, OnOk, length, map};
 ghost use Rattle.std.specs.List.{All, AllByRecursion, flat_map};
+ghost use Rattle.hx_types.specs.declared.limits.TheConstants.{MOST_ATTRIBUTES};
 ghost use Rattle.hx_types.specs.Subspaces.{is_key_region};
 ghost use Rattle.hx_folds.specs.Folding.{KeptsAscend, folded};
 ghost use Rattle.hx_model.specs.ServerSteps.{installed_slots, move_posts, offered_all};
@@ -27,6 +28,7 @@ pub fn installed(
     pending: &Updates,
     posts: &mut Posts,
 ) -> Result<Store, Memory>
+    requires attributes { length spot.now.space.now.attributes ≤ MOST_ATTRIBUTES }
     requires ascend { KeptsAscend snapshot.now }
     requires orderly { All IsOrderly snapshot.now }
     requires pending { All (CanCome spot.now.region) pending.now }
@@ -36,7 +38,7 @@ pub fn installed(
     ensures posts { OnOk result (posts.new ≡ posts.old ++ (installed_slots (spot_seen spot.now) snapshot.now pending.now).posts) }
 {
     let marks = spot.region.0 < spot.space.key_parts;
-    let mut store = Store::new(alloc, spot.region, marks);
+    let mut store = Store::new(alloc, spot.space, spot.region, marks)?;
     store.install(alloc, snapshot)?;
     let keys = keys_of(alloc, pending)?;
     join_all(alloc, spot, keys.as_slice(), pending, &mut store, posts)?;

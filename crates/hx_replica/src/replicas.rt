@@ -1,5 +1,6 @@
 ghost use Rattle.std.specs.Prelude.{◌≡◌, ◌<◌, ◌≤◌, IfOk, OnOk, Some, length, map, slice_get, slice_set};
 ghost use Rattle.std.specs.Option.{option_map};
+ghost use Rattle.hx_types.specs.declared.limits.TheConstants.{MOST_ATTRIBUTES};
 ghost use Rattle.hx_types.specs.Subspaces.{region_count};
 ghost use Rattle.hx_model.specs.ServerSteps.{listed_regions, replica_of};
 ghost use Rattle.hx_store.specs.Stores.{after_step, key_at, state_at};
@@ -27,14 +28,15 @@ pub fn first_replicas(
     regions: u32,
     server: ServerId,
 ) -> Result<Vec<Replica>, Memory>
-    requires { regions ≡ length config.now.regions }
+    requires regions { regions ≡ length config.now.regions }
+    requires attributes { length space.now.attributes ≤ MOST_ATTRIBUTES }
     ensures { IfOk result (λ replicas. replicas.items ≡ map (first_replica space.now) (listed_regions config.now server)) }
 {
     let mut replicas = Vec::new(alloc);
     for number in 0..regions {
         let region = RegionId(number);
         if config.lists(region, server) {
-            let store = Store::new(alloc, region, number < space.key_parts);
+            let store = Store::new(alloc, space, region, number < space.key_parts)?;
             replicas.push(Replica {
                 region,
                 installed: true,
@@ -54,14 +56,15 @@ pub fn new_replicas(
     regions: u32,
     server: ServerId,
 ) -> Result<Vec<Replica>, Memory>
-    requires { regions ≡ length config.now.regions }
+    requires regions { regions ≡ length config.now.regions }
+    requires attributes { length space.now.attributes ≤ MOST_ATTRIBUTES }
     ensures { IfOk result (λ replicas. replicas.items ≡ map (new_replica space.now) (listed_regions config.now server)) }
 {
     let mut replicas = Vec::new(alloc);
     for number in 0..regions {
         let region = RegionId(number);
         if config.lists(region, server) {
-            let store = Store::new(alloc, region, number < space.key_parts);
+            let store = Store::new(alloc, space, region, number < space.key_parts)?;
             replicas.push(Replica {
                 region,
                 installed: false,

@@ -372,7 +372,8 @@ impl Server {
             return Ok(posts);
         };
         if self.config.lists_ready(region, self.id) {
-            let rows = self.replicas[place].store.find(alloc, terms)?;
+            let mut looks = 0;
+            let rows = self.replicas[place].store.find(alloc, terms, &mut looks)?;
             posts.push(Post {
                 from: Actor::Server(self.id),
                 to: from,

@@ -9,8 +9,9 @@ use Rattle.hx_types.specs.Words.{same_text, text_below, when_some}
 use Rattle.indexmap.specs.IndexMap.{set_value_at}
 use Rattle.hx_model.proofs.States.{eq_of_same_text}
 use Rattle.hx_folds.proofs.Texts.{below-trans}
-use Rattle.hx_store.specs.declared.store_slot.StoreSlot.{StoreSlot}
-use Rattle.hx_store.specs.Invariant.{AscendAt, Entry, IsSplit, key_in, stored_at}
+use Rattle.hx_store.specs.Slots.{StoreSlot}
+use Rattle.hx_store.specs.Invariant.{AscendAt, IsSplit, key_in, stored_at}
+use Rattle.hx_store.specs.Slots.{Entry}
 use Rattle.hx_store.proofs.Lists.{at-map, at-within, length-of-map}
 use Rattle.hx_store.proofs.Order.{differ-back}
 
@@ -47,17 +48,6 @@ none-lookup key [] e = refl
 none-lookup key (x ∷ es) e =
     cond-false (same_text key x.0) (Some x.1) (lookup (same_text key) es) (differ-back x.0 key (false_from_ne_true (same_text x.0 key) (λ t. false≢true (sym e ∙ or_left (same_text x.0 key) _ t))))
     ∙ none-lookup key es (false_from_ne_true (list_any (λ (y : Entry). same_text y.0 key) es) (λ t. false≢true (sym e ∙ or_right (same_text x.0 key) _ t)))
-
--- a value at a place is what is stored there
-pub value-stored : (es : List Entry) (i : ℕ) → slice_get (values_of es) i ≡ stored_at es i
-value-stored [] i = refl
-value-stored (x ∷ es) zero = refl
-value-stored (x ∷ es) (suc i) = value-stored es i
-
-pub stored-set : (es : List Entry) (i : ℕ) (h w : StoreSlot) → stored_at es i ≡ Some h → stored_at (set_value_at es i w) i ≡ Some w
-stored-set [] i h w e = absurd cc
-stored-set (x ∷ es) zero h w e = refl
-stored-set (x ∷ es) (suc i) h w e = stored-set es i h w e
 
 -- the places of lower keys come first
 module _ (es : List Entry) (key : List ℕ) where

@@ -1,6 +1,11 @@
 pub mod Moves
 pub mod Acknowledging
 pub mod Texts
+pub mod Objects
+pub mod Indexed
+pub mod Entries
+pub mod Sorting
+pub mod Matching
 pub mod Lists
 pub mod Setting
 pub mod Order

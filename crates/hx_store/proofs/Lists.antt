@@ -1,6 +1,6 @@
 -- Items of lists by their places.
-use Rattle.std.proofs.Common.{◌≡◌, ℕ, zero, suc, ◌<◌, ◌+◌, true, List, [], ◌∷◌, ◌++◌, map, length, take, inl, inr, Some, refl, ap, sym, ◌∙◌, subst, arith, eqb, add-one, append_assoc}
-use Rattle.std.specs.List.{AllByRecursion, list_any, slice_get}
+use Rattle.std.proofs.Common.{◌≡◌, ℕ, zero, suc, ◌<◌, ◌+◌, true, List, [], ◌∷◌, ◌++◌, map, length, take, inl, inr, Some, refl, ap, sym, ◌∙◌, subst, arith, eqb, add-one, append-nil, append_assoc}
+use Rattle.std.specs.List.{AllByRecursion, flat_map, list_any, slice_get}
 use Rattle.std.proofs.lemmas.Bool.{eq-eqb, eqb-true, false≢true, or_cases, or_left, or_right}
 use Rattle.std.proofs.lemmas.Option.{same_Some}
 use Rattle.indexmap.specs.IndexMap.{set_value_at}
@@ -64,13 +64,6 @@ pub all-among : (Q : ℕ → Type 0) (order : List ℕ) → ((i : ℕ) → list_
 all-among Q [] f = tt
 all-among Q (j ∷ rest) f = (f j (or_left (eqb j j) _ (eq-eqb j j refl)), all-among Q rest (λ i e. f i (or_right (eqb j i) _ e)))
 
-pub among-all : (Q : ℕ → Type 0) (order : List ℕ) (i : ℕ) → AllByRecursion Q order → list_any (λ j. eqb j i) order ≡ true → Q i
-among-all Q [] i h e = absurd (false≢true e)
-among-all Q (j ∷ rest) i h e = elim (or_cases (eqb j i) (list_any (λ k. eqb k i) rest) e) [
-  | inl s ↦ subst Q (eqb-true j i s) h.0
-  | inr s ↦ among-all Q rest i h.1 s
-]
-
 -- one item more of a list, and of those that stand behind others
 take_one : {A : Type 0} (xs : List A) (i : ℕ) (x : A) → slice_get xs i ≡ Some x → take (suc i) xs ≡ take i xs ++ x ∷ []
 take_one [] i x e = absurd cc
@@ -82,3 +75,10 @@ take_next xs i x e = ap (λ n. take n xs) (add-one i) ∙ take_one xs i x e
 
 pub more_of : {A : Type 0} (before new now xs : List A) (i : ℕ) (x : A) → now ≡ before ++ take i xs → slice_get xs i ≡ Some x → new ≡ now ++ x ∷ [] → new ≡ before ++ take (i + 1) xs
 more_of before new now xs i x e at is = is ∙ ap (λ l. l ++ x ∷ []) e ∙ append_assoc before (take i xs) (x ∷ []) ∙ sym (ap (λ l. before ++ l) (take_next xs i x at))
+
+flat-more : {A B : Type 0} (f : A → List B) (xs : List A) (x : A) → flat_map f (xs ++ x ∷ []) ≡ flat_map f xs ++ f x
+flat-more f [] x = append-nil (f x)
+flat-more f (y ∷ ys) x = ap (λ l. f y ++ l) (flat-more f ys x) ∙ sym (append_assoc (f y) (flat_map f ys) (f x))
+
+pub flat-next : {A B : Type 0} (f : A → List B) (xs : List A) (i : ℕ) (x : A) → slice_get xs i ≡ Some x → flat_map f (take i xs) ++ f x ≡ flat_map f (take (i + 1) xs)
+flat-next f xs i x e = sym (ap (flat_map f) (take_next xs i x e) ∙ flat-more f (take i xs) x)

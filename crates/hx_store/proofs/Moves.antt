@@ -25,10 +25,6 @@ pub moved_all_append : (ms ns : List Move) (s : KeyState) → moved_all (ms ++ n
 moved_all_append [] ns s = refl
 moved_all_append (m ∷ ms) ns s = moved_all_append ms ns (moved m s)
 
--- the steps of a slot leave its key and kind
-pub keeps_nothing : (g : RegionId) (s : KeyState) → (s.base.key ≡ s.base.key) × (s.marks ≡ s.marks)
-keeps_nothing g s = (refl, refl)
-
 pub keeps_folded : (moves : RegionId → KeyState → List Move) (g : RegionId) (s : KeyState) → ((folded g (moved_all (moves g s) s)).base.key ≡ s.base.key) × ((folded g (moved_all (moves g s) s)).marks ≡ s.marks)
 keeps_folded moves g s = let parts = moved_all_parts (moves g s) s in (ap (λ (k : Kept). k.key) parts.0, parts.1)
 
@@ -37,9 +33,6 @@ keeps_forgotten g s = (refl, refl)
 
 pub keeps_marked : (v : ℕ) (g : RegionId) (s : KeyState) → ((moved (Acknowledge v) s).base.key ≡ s.base.key) × ((moved (Acknowledge v) s).marks ≡ s.marks)
 keeps_marked v g s = (refl, refl)
-
-pub still_pending : (v w : ℕ) (s : KeyState) → is_pending v (moved (Acknowledge w) s) ≡ is_pending v s
-still_pending v w s = refl
 
 -- an offer, acknowledgements and commits one after another
 pub accepted_moves : (g h : RegionId) (s : KeyState) (u : Update) (ends : List Version) (a b c : KeyState) → a ≡ moved_all (offered g s u) s → b ≡ moved_all (acknowledging ends) a → c ≡ folded h (moved_all (settled b) b) → h ≡ g → c ≡ folded g (moved_all (accepted g s u ends) s)

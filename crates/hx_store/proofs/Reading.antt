@@ -15,30 +15,9 @@ use Rattle.hx_model.specs.ServerSteps.{state_from}
 use Rattle.hx_model.specs.Slots.{KeyState, found_in, kept_of, object_of, pending_of, pending_of_all, rows_of, snapshot_of, with_state}
 use Rattle.hx_folds.proofs.Texts.{below-differs}
 use Rattle.hx_slot.specs.States.{SlotState}
-use Rattle.hx_store.specs.Reading.{committed_of, matches_of}
+use Rattle.hx_store.specs.Reading.{committed_of}
 use Rattle.hx_store.proofs.Lists.{all-at, take_next}
 use Rattle.hx_store.proofs.Order.{differ-back, not-below-back}
-
-abbrev test : List Term → Row → Bool
-test terms r = matches terms r.key r.object
-
-found-more : (g : RegionId) (terms : List Term) (xs : List KeyState) (s : KeyState) → found_in g terms (xs ++ s ∷ []) ≡ found_in g terms xs ++ filter (test terms) (list_of (object_of g s))
-found-more g terms [] s = ap (filter (test terms)) (append-nil (list_of (object_of g s)))
-found-more g terms (x ∷ xs) s =
-    filter-append (test terms) (list_of (object_of g x)) (rows_of g (xs ++ s ∷ []))
-    ∙ ap (λ (l : List Row). filter (test terms) (list_of (object_of g x)) ++ l) (found-more g terms xs s)
-    ∙ sym (append_assoc (filter (test terms) (list_of (object_of g x))) (found_in g terms xs) (filter (test terms) (list_of (object_of g s))))
-    ∙ ap (λ (l : List Row). l ++ filter (test terms) (list_of (object_of g s))) (sym (filter-append (test terms) (list_of (object_of g x)) (rows_of g xs)))
-
--- one slot more of those that were searched
-pub found-next : (g : RegionId) (terms : List Term) (states : List KeyState) (i : ℕ) (b : SlotState) (rows new : List Row) → slice_get states i ≡ Some b.state → b.region ≡ g → rows ≡ found_in g terms (take i states) → new ≡ rows ++ matches_of terms b
-    → new ≡ found_in g terms (take (i + 1) states)
-found-next g terms states i b rows new at region so is =
-    is
-    ∙ ap (λ (r : RegionId). rows ++ filter (test terms) (list_of (object_of r b.state))) region
-    ∙ ap (λ (l : List Row). l ++ filter (test terms) (list_of (object_of g b.state))) so
-    ∙ sym (found-more g terms (take i states) b.state)
-    ∙ ap (found_in g terms) (sym (take_next states i b.state at))
 
 one_kept : (n : ℕ) (k : Kept) (g : RegionId) (s : KeyState) → kept_of g s ≡ k → map (kept_of g) (cond (nat_lt 0 n) (s ∷ []) []) ≡ list_of (cond (n == 0) None (Some k))
 one_kept zero k g s e = refl

@@ -9,8 +9,9 @@ use Rattle.hx_types.specs.declared.ids.RegionId.{RegionId}
 use Rattle.hx_types.specs.Words.{same_text, when_some}
 use Rattle.hx_folds.specs.Folding.{KeysAscend}
 use Rattle.hx_model.specs.Slots.{KeyState, new_state, state_among, with_state}
-use Rattle.hx_store.specs.declared.store_slot.StoreSlot.{StoreSlot}
-use Rattle.hx_store.specs.Invariant.{Entry, IsSplit, IsStore, IsStoreSlot, KeysApart, is_listed, is_place, listed_count, room_of, rooms_in, state_in, states_in}
+use Rattle.hx_store.specs.Slots.{StoreSlot}
+use Rattle.hx_store.specs.Invariant.{IsSplit, IsStore, IsStoreSlot, KeysApart, is_listed, is_place, listed_count, room_of, rooms_in, state_in, states_in}
+use Rattle.hx_store.specs.Slots.{Entry}
 use Rattle.hx_store.specs.Stores.{KeepsRooms, Room, UsesRoom}
 use Rattle.hx_store.proofs.Lists.{all-among, all-at, at-front, set-elsewhere, set-here, set-length}
 use Rattle.hx_store.proofs.Order.{ascend-with, found-place, inserted, listed-there, replaced}

@@ -11,8 +11,9 @@ use Rattle.hx_model.proofs.States.{same_text_self}
 use Rattle.hx_folds.specs.Folding.{KeysAscend}
 use Rattle.hx_folds.proofs.States.{among-key}
 use Rattle.hx_model.specs.Slots.{KeyState, new_state, state_among, with_state}
-use Rattle.hx_store.specs.declared.store_slot.StoreSlot.{StoreSlot}
-use Rattle.hx_store.specs.Invariant.{AscendAt, Entry, HasMoved, IsAdded, IsListedAt, IsSplit, IsStore, IsStoreSlot, is_listed, key_in, room_of, rooms_in, state_in, states_in, stored_at}
+use Rattle.hx_store.specs.Slots.{StoreSlot}
+use Rattle.hx_store.specs.Invariant.{AscendAt, HasMoved, IsAdded, IsListedAt, IsSplit, IsStore, IsStoreSlot, is_listed, key_in, room_of, rooms_in, state_in, states_in, stored_at}
+use Rattle.hx_store.specs.Slots.{Entry}
 use Rattle.hx_store.specs.Stores.{IsPlace, KeepsOtherRooms, KeepsRooms, Room, StoreState, UsesRoom, after_step, has_place, has_slot, key_at, no_moves, spare_at, state_at}
 use Rattle.hx_store.proofs.Lists.{all-at, at-end, at-map, at-within, length-of-map, within-at}
 use Rattle.hx_store.proofs.Order.{found-with, has-place, listed-there, with-again}
@@ -131,7 +132,7 @@ pub opened-step : (old new : StoreState) (key : List ℕ) (step : RegionId → K
 opened-step old new key step after region before states e kind place b r a k is =
     sym is ∙ opened-put old new key after e k ∙ ap (λ (s : KeyState). with_state s old.states) (a ∙ (λ i. step ((r ∙ place) i) ((b ∙ opened-state old new key kind e) i)))
 
-module _ (g : RegionId) (marks : Bool) (es : List Entry) (order : List ℕ) (cap : ℕ) (self : StoreState) (view : record { region = g; marks = marks; states = states_in es order; rooms = rooms_in es } ≡ self) (h : IsStore g marks es order cap) where
+module _ (g : RegionId) (marks : Bool) (es : List Entry) (order : List ℕ) (cap : ℕ) {attributes : ℕ} (self : StoreState) (view : record { region = g; marks = marks; attributes = attributes; states = states_in es order; rooms = rooms_in es } ≡ self) (h : IsStore g marks es order cap) where
   pub count-is : length self.rooms ≡ length es
   count-is = ap (λ (s : StoreState). length s.rooms) (sym view) ∙ length-of-map room_of es
 
@@ -381,3 +382,8 @@ stored-spare (x ∷ es) (suc i) n h = stored-spare es i n h
 pub on_ok : {A E : Type 0} {P Q : Type 0} (r : Result A E) → (P → Q) → OnOk r P → OnOk r Q
 on_ok (Ok x) f p = f p
 on_ok (Err e) f p = tt
+
+pub listed-stored : (es : List Entry) (i : ℕ) (w : StoreSlot) → stored_at es i ≡ Some w → is_listed es i ≡ w.listed
+listed-stored [] i w e = absurd cc
+listed-stored (x ∷ es) zero w e = ap (λ (o : Option StoreSlot). when_some o false (λ (v : StoreSlot). v.listed)) e
+listed-stored (x ∷ es) (suc i) w e = listed-stored es i w e

@@ -8,12 +8,8 @@ use Rattle.hx_types.specs.Words.{same_text, text_below, when_some}
 use Rattle.hx_folds.specs.Folding.{KeysAscend}
 use Rattle.hx_model.specs.Slots.{KeyState, new_state}
 use Rattle.hx_slot.specs.States.{SlotState}
-use Rattle.hx_store.specs.declared.store_slot.StoreSlot.{StoreSlot}
+use Rattle.hx_store.specs.Slots.{Entry, StoreSlot}
 use Rattle.hx_store.specs.Stores.{Room}
-
--- a key and its slot
-abbrev pub Entry : Type 0
-Entry = List ℕ × StoreSlot
 
 -- what stands at a place
 abbrev pub stored_at : List Entry → ℕ → Option StoreSlot

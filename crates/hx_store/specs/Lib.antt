@@ -1,3 +1,5 @@
 pub mod Stores
+pub mod Slots
 pub mod Invariant
 pub mod Reading
+pub mod Looks

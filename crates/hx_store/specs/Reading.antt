@@ -12,10 +12,6 @@ use Rattle.hx_model.specs.Slots.{KeyState, kept_of, no_kept, object_of, snapshot
 use Rattle.hx_types.specs.declared.ids.RegionId.{RegionId}
 use Rattle.hx_slot.specs.States.{SlotState, committed_state}
 
--- the committed object, where every term holds of it
-abbrev pub matches_of : List Term → SlotState → List Row
-matches_of terms s = filter (λ (r : Row). matches terms r.key r.object) (list_of (object_of s.region s.state))
-
 -- the committed state, where something is committed
 abbrev pub committed_of : SlotState → List Kept
 committed_of s = list_of (committed_state s.region s.state)

@@ -15,11 +15,13 @@ pub record Room : Type 0 where
   pub key : List ℕ
   pub spare : ℕ
 
--- marks: whether the slots keep marks and touches, as those of key regions do; states: the slots in byte order of keys;
--- rooms: by the places of their keys, which are the numbers in the order of coming
+-- marks: whether the slots keep marks and touches, as those of key regions do; attributes: how many an object has, the key
+-- among them; states: the slots in byte order of keys; rooms: by the places of their keys, which are the numbers in the order
+-- of coming
 pub record StoreState : Type 0 where
   pub region : RegionId
   pub marks : Bool
+  pub attributes : ℕ
   pub states : List KeyState
   pub rooms : List Room
 
@@ -92,6 +94,10 @@ accepted g s u ends =
 -- a slot of a region after a step of it
 abbrev pub no_moves : RegionId → KeyState → KeyState
 no_moves g s = s
+
+-- a slot that was offered an update
+abbrev pub offered_at : Update → RegionId → KeyState → KeyState
+offered_at u g s = moved_all (offered g s u) s
 
 abbrev pub accepted_at : Update → List Version → RegionId → KeyState → KeyState
 accepted_at u ends g s = folded g (moved_all (accepted g s u ends) s)

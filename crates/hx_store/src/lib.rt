@@ -3,21 +3,25 @@
 //! A [`Store`] numbers the keys of which the replica has heard in the order of their coming; the
 //! number is the key's place. A step looks its key up once, and goes by the place then. Room for it
 //! is made before it, by [`Store::reserve`], so that the step itself takes no memory; a slot that
-//! was made then is part of the store only once a step opens it. Searches and snapshots go through
-//! the slots in byte order of keys.
+//! was made then is part of the store only once a step opens it. Snapshots go through the slots in
+//! byte order of keys.
+//!
+//! Searches go by an index of the committed objects, as in HyperDex. It follows the slots: a slot
+//! whose object may change leaves the index before its step, and comes into it again afterwards.
 //!
 //! That memory suffices no contract says: a test shows it.
 #![tactic(auto)]
 
 mod copying;
+mod following;
 mod laws;
-mod places;
 mod searching;
-mod store_slot;
+mod slots;
+mod stepping;
 mod stores;
 
 pub use laws::snapshots_come_back;
-pub use store_slot::settle_all;
+pub use stepping::settle_all;
 pub use stores::Store;
 
 #[cfg(test)]

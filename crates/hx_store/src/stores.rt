@@ -1,24 +1,21 @@
-ghost use Rattle.std.specs.Prelude.{◌≡◌, ℕ, ◌<◌, ◌≤◌, [], IfNone, IfOk, IfSome, OnErr, OnOk, Some, false, is_some, length, map, slice_get, take, true};
+ghost use Rattle.std.specs.Prelude.{◌≡◌, ℕ, ◌+◌, ◌<◌, ◌≤◌, [], IfNone, IfOk, IfSome, OnErr, OnOk, Some, false, is_some, length, map, slice_get, take, true};
 ghost use Rattle.std.specs.Borrow.{Bor};
 ghost use Rattle.std.specs.List.{All};
 ghost use Rattle.std.specs.Option.{option_map};
+ghost use Rattle.hx_types.specs.declared.limits.TheConstants.{MOST_ATTRIBUTES};
 ghost use Rattle.hx_folds.specs.Folding.{KeptsAscend, KeysAscend};
 ghost use Rattle.hx_model.specs.ServerSteps.{state_from};
-ghost use Rattle.hx_model.specs.Slots.{found_in, is_pending, moved_all, offered, pending_of_all, snapshot_of, with_state};
+ghost use Rattle.hx_model.specs.Slots.{found_in, is_pending, moved_all, offered, pending_of_all, rows_of, snapshot_of, with_state};
+ghost use Rattle.hx_store.specs.Looks.{most_looks_at};
 ghost use Rattle.hx_slot.specs.States.{IsOrderly, SlotState};
 ghost use Rattle.hx_store.specs.Stores.{ArePending, CanBeOffered, IsPlace, KeepsOtherRooms, KeepsRooms, UsesRoom, accepted_at, acknowledged_at, after_step, forgotten_at, has_place, has_slot, key_at, marked_at, no_moves, settled_at, spare_at, state_at};
 
 use crate::copying::{add_kept, add_pending};
-use crate::places::{
-    Slots, accept_at, acknowledge_at, add, insert_within, list_at, lower_count, mark_at, place_of,
-    replace_at, reserve_at, reset_at, settle_at, stored_at,
-};
-use crate::searching::add_match;
+use crate::slots::{Slots, insert_within};
 use hx_slot::Slot;
 use hx_types::{
-    Exact, Memory, RegionId, Rows, Shared, Snapshot, Terms, Text, Update, Updates, Version,
+    Exact, Memory, RegionId, Rows, Shared, Snapshot, Space, Terms, Text, Update, Updates, Version,
 };
-use indexmap::IndexMap;
 use std::alloc::Global;
 use std::marker::Model;
 
@@ -35,29 +32,31 @@ pub struct Store {
 }
 
 impl Model for Store {
-    ghost use Rattle.std.specs.Prelude.{vec_capacity};
+    ghost use Rattle.std.specs.Prelude.{length, vec_capacity};
     ghost use Rattle.hx_store.specs.Stores.{StoreState};
     ghost use Rattle.hx_store.specs.Invariant.{IsStore, rooms_in, states_in};
 
     ghost Value = { StoreState };
 
-    ghost view = { λ s. record { region = s.region; marks = s.marks; states = states_in s.slots.entries s.order.items; rooms = rooms_in s.slots.entries } };
+    ghost view = { λ s. record { region = s.region; marks = s.marks; attributes = length s.slots.index.orders; states = states_in s.slots.entries s.order.items; rooms = rooms_in s.slots.entries } };
 
     ghost invariant = { λ s. IsStore s.region s.marks s.slots.entries s.order.items (vec_capacity s.order) };
 }
 
 impl Store {
-    /// The store of a region of which nothing was heard. Its slots keep marks and touches where
-    /// `marks` says so, as those of key regions do. It takes no memory.
-    pub fn new(alloc: Global, region: RegionId, marks: bool) -> Store
-        ensures { result ≡ record { region = region; marks = marks; states = []; rooms = [] } }
+    /// The store of a region of a space, of which nothing was heard. Its slots keep marks and touches
+    /// where `marks` says so, as those of key regions do.
+    pub fn new(alloc: Global, space: &Space, region: RegionId, marks: bool) -> Result<Store, Memory>
+        requires { length space.now.attributes ≤ MOST_ATTRIBUTES }
+        ensures { IfOk result (λ store. store ≡ record { region = region; marks = marks; attributes = length space.now.attributes + 1; states = []; rooms = [] }) }
     {
-        Store {
+        let slots = Slots::new(alloc, space.attributes.len() as u32)?;
+        Ok(Store {
             region,
             marks,
-            slots: IndexMap::new(alloc),
+            slots,
             order: Vec::new(alloc),
-        }
+        })
     }
 
     /// The place of a key, or `None` where the store has never heard of it.
@@ -65,7 +64,7 @@ impl Store {
         ensures some { IfSome result (λ place. IsPlace self.now place key.now) }
         ensures none { IfNone result (has_place self.now key.now ≡ false) }
     {
-        place_of(&self.slots, key)
+        self.slots.place_of(key)
     }
 
     /// The slot at a place: where none is part of the store yet, an empty one.
@@ -75,7 +74,7 @@ impl Store {
         ensures region { result.now.region ≡ self.now.region }
         ensures spare { result.now.spare ≡ spare_at self.now place }
     {
-        &stored_at(&self.slots, place).slot
+        self.slots.slot_at(place)
     }
 
     /// The slot of a key, or `None` where the key has none.
@@ -84,12 +83,11 @@ impl Store {
         ensures state { IfSome result (λ slot. slot.now.state ≡ state_at self.now key.now) }
         ensures region { IfSome result (λ slot. slot.now.region ≡ self.now.region) }
     {
-        let Some(place) = place_of(&self.slots, key) else {
+        let Some(place) = self.slots.place_of(key) else {
             return None;
         };
-        let stored = stored_at(&self.slots, place);
-        if stored.listed {
-            Some(&stored.slot)
+        if self.slots.is_listed(place) {
+            Some(self.slots.slot_at(place))
         } else {
             None
         }
@@ -111,25 +109,22 @@ impl Store {
         ensures ascend { KeysAscend self.now.states }
     {
         match self.order.get(i) {
-            Some(place) => Some(&stored_at(&self.slots, *place).slot),
+            Some(place) => Some(self.slots.slot_at(*place)),
             None => None,
         }
     }
 
     /// The committed objects of which every term holds, in byte order of keys: what a search finds
-    /// in the region, as in HyperDex.
-    pub fn find(&self, alloc: Global, terms: &Terms) -> Result<Rows, Memory>
+    /// in the region, as in HyperDex. It goes through the objects that meet the term which fewest
+    /// meet, and counts each look at an object.
+    pub fn find(&self, alloc: Global, terms: &Terms, looks: &mut u64) -> Result<Rows, Memory>
         ensures rows { IfOk result (λ rows. rows ≡ found_in self.now.region terms.now self.now.states) }
         ensures ascend { KeysAscend self.now.states }
+        ensures counted { looks.old ≤ looks.new }
+        ensures looks { looks.new ≤ looks.old + most_looks_at self.now.attributes (rows_of self.now.region self.now.states) terms.now }
     {
-        let mut rows = Rows::new(alloc);
-        for i in 0..self.len() {
-            match self.nth(i) {
-                Some(slot) => add_match(alloc, slot, terms, &mut rows)?,
-                None => unreachable!(),
-            }
-        }
-        Ok(rows)
+        let places = self.slots.find(alloc, terms, looks)?;
+        self.slots.rows(alloc, places.as_slice())
     }
 
     /// The committed state of each key of which something is committed, in byte order of keys. With
@@ -166,6 +161,7 @@ impl Store {
     pub fn reserve(&mut self, alloc: Global, key: &Text, n: u32) -> Result<usize, Memory>
         ensures region { self.new.region ≡ self.old.region }
         ensures marks { self.new.marks ≡ self.old.marks }
+        ensures attributes { self.new.attributes ≡ self.old.attributes }
         ensures states { self.new.states ≡ self.old.states }
         ensures rooms { KeepsRooms self.old.rooms self.new.rooms }
         ensures place { IfOk result (λ place. IsPlace self.new place key.now) }
@@ -180,6 +176,7 @@ impl Store {
     pub fn ensure(&mut self, alloc: Global, key: &Text) -> Result<usize, Memory>
         ensures region { self.new.region ≡ self.old.region }
         ensures marks { self.new.marks ≡ self.old.marks }
+        ensures attributes { self.new.attributes ≡ self.old.attributes }
         ensures states { OnOk result (self.new.states ≡ after_step self.old key.now no_moves) }
         ensures stays { OnErr result (self.new.states ≡ self.old.states) }
         ensures rooms { KeepsRooms self.old.rooms self.new.rooms }
@@ -194,16 +191,17 @@ impl Store {
     fn give_place(&mut self, alloc: Global, key: &Text) -> Result<usize, Memory>
         ensures region { self.new.region ≡ self.old.region }
         ensures marks { self.new.marks ≡ self.old.marks }
+        ensures attributes { self.new.attributes ≡ self.old.attributes }
         ensures states { self.new.states ≡ self.old.states }
         ensures rooms { KeepsRooms self.old.rooms self.new.rooms }
         ensures place { IfOk result (λ place. IsPlace self.new place key.now) }
     {
-        if let Some(place) = place_of(&self.slots, key) {
+        if let Some(place) = self.slots.place_of(key) {
             return Ok(place);
         }
         let place = self.slots.len();
         self.order.reserve(place + 1 - self.order.len())?;
-        add(alloc, &mut self.slots, self.region, self.marks, key)?;
+        self.slots.add(alloc, self.region, self.marks, key)?;
         Ok(place)
     }
 
@@ -212,11 +210,12 @@ impl Store {
         requires { place < length self.old.rooms }
         ensures region { self.new.region ≡ self.old.region }
         ensures marks { self.new.marks ≡ self.old.marks }
+        ensures attributes { self.new.attributes ≡ self.old.attributes }
         ensures states { self.new.states ≡ self.old.states }
         ensures rooms { KeepsRooms self.old.rooms self.new.rooms }
         ensures room { OnOk result (n ≤ spare_at self.new place) }
     {
-        reserve_at(alloc, &mut self.slots, place, n)
+        self.slots.reserve_at(alloc, place, n)
     }
 
     /// The key at a place has a slot from now on. It takes no memory.
@@ -224,16 +223,17 @@ impl Store {
         requires { place < length self.old.rooms }
         ensures region { self.new.region ≡ self.old.region }
         ensures marks { self.new.marks ≡ self.old.marks }
+        ensures attributes { self.new.attributes ≡ self.old.attributes }
         ensures states { self.new.states ≡ after_step self.old (key_at self.old place) no_moves }
         ensures rooms { self.new.rooms ≡ self.old.rooms }
     {
-        let stored = stored_at(&self.slots, place);
-        if stored.listed {
+        if self.slots.is_listed(place) {
             return;
         }
-        let number = lower_count(&self.slots, self.order.as_slice(), stored.slot.key());
+        let key = self.slots.slot_at(place).key();
+        let number = self.slots.lower_count(self.order.as_slice(), key);
         insert_within(&mut self.order, number, place);
-        list_at(&mut self.slots, place);
+        self.slots.list_at(place);
     }
 
     /// The slot at a place is offered an update of its key, which has its place in the region at
@@ -246,11 +246,12 @@ impl Store {
         requires pending { ArePending (moved_all (offered self.old.region (state_at self.old update.key) update) (state_at self.old update.key)) ends.now }
         ensures region { self.new.region ≡ self.old.region }
         ensures marks { self.new.marks ≡ self.old.marks }
+        ensures attributes { self.new.attributes ≡ self.old.attributes }
         ensures states { self.new.states ≡ after_step self.old update.key (accepted_at update ends.now) }
         ensures rooms { UsesRoom place self.old.rooms self.new.rooms }
     {
         self.open(place);
-        accept_at(&mut self.slots, place, update, number, ends);
+        self.slots.accept_at(place, update, number, ends);
     }
 
     /// A version is acknowledged at a place, and what can be committed is. It takes no memory.
@@ -258,11 +259,12 @@ impl Store {
         requires { place < length self.old.rooms }
         ensures region { self.new.region ≡ self.old.region }
         ensures marks { self.new.marks ≡ self.old.marks }
+        ensures attributes { self.new.attributes ≡ self.old.attributes }
         ensures states { self.new.states ≡ after_step self.old (key_at self.old place) (acknowledged_at version.0) }
         ensures rooms { KeepsRooms self.old.rooms self.new.rooms }
     {
         self.open(place);
-        acknowledge_at(&mut self.slots, place, version);
+        self.slots.acknowledge_at(place, version);
     }
 
     /// The place of the slot with this number from 0, in byte order of keys.
@@ -281,11 +283,12 @@ impl Store {
         requires { place < length self.old.rooms }
         ensures region { self.new.region ≡ self.old.region }
         ensures marks { self.new.marks ≡ self.old.marks }
+        ensures attributes { self.new.attributes ≡ self.old.attributes }
         ensures states { self.new.states ≡ after_step self.old (key_at self.old place) forgotten_at }
         ensures rooms { KeepsRooms self.old.rooms self.new.rooms }
     {
         self.open(place);
-        reset_at(&mut self.slots, place);
+        self.slots.reset_at(place);
     }
 
     /// A pending version is marked as acknowledged at a place, and nothing is committed. It takes no
@@ -295,11 +298,12 @@ impl Store {
         requires pending { is_pending version.0 (state_at self.old (key_at self.old place)) ≡ true }
         ensures region { self.new.region ≡ self.old.region }
         ensures marks { self.new.marks ≡ self.old.marks }
+        ensures attributes { self.new.attributes ≡ self.old.attributes }
         ensures states { self.new.states ≡ after_step self.old (key_at self.old place) (marked_at version.0) }
         ensures rooms { KeepsRooms self.old.rooms self.new.rooms }
     {
         self.open(place);
-        mark_at(&mut self.slots, place, version);
+        self.slots.mark_at(place, version);
     }
 
     /// What can be committed at a place is. It takes no memory.
@@ -307,11 +311,12 @@ impl Store {
         requires { place < length self.old.rooms }
         ensures region { self.new.region ≡ self.old.region }
         ensures marks { self.new.marks ≡ self.old.marks }
+        ensures attributes { self.new.attributes ≡ self.old.attributes }
         ensures states { self.new.states ≡ after_step self.old (key_at self.old place) settled_at }
         ensures rooms { KeepsRooms self.old.rooms self.new.rooms }
     {
         self.open(place);
-        settle_at(&mut self.slots, place);
+        self.slots.settle_at(place);
     }
 
     /// Puts a slot at its key, in place of the one that is there.
@@ -320,12 +325,13 @@ impl Store {
         requires marks { slot.state.marks ≡ self.old.marks }
         ensures region { self.new.region ≡ self.old.region }
         ensures marks { self.new.marks ≡ self.old.marks }
+        ensures attributes { self.new.attributes ≡ self.old.attributes }
         ensures states { OnOk result (self.new.states ≡ with_state slot.state self.old.states) }
         ensures stays { OnErr result (self.new.states ≡ self.old.states) }
         ensures others { KeepsOtherRooms slot.state.base.key self.old.rooms self.new.rooms }
     {
         let place = self.ensure(alloc, slot.key())?;
-        replace_at(&mut self.slots, place, slot);
+        self.slots.replace_at(place, slot);
         Ok(())
     }
 
@@ -338,6 +344,7 @@ impl Store {
         requires orderly { All IsOrderly snapshot.now }
         ensures region { self.new.region ≡ self.old.region }
         ensures marks { self.new.marks ≡ self.old.marks }
+        ensures attributes { self.new.attributes ≡ self.old.attributes }
         ensures states { OnOk result (self.new.states ≡ map (state_from self.old.marks) snapshot.now) }
         ensures part { OnErr result ((n : ℕ) × (self.new.states ≡ map (state_from self.old.marks) (take n snapshot.now))) }
     {

@@ -13,6 +13,7 @@ it c = gathers c.args.actors.items (map (λ list. list.items) c.in_ok-lists.list
 pub returns : goal.returns
 returns c = record {
   whole = part_of_it c.merge_lists.result _ _ (λ trace g. g.whole) (it c);
+  parts = part_of_it c.merge_lists.result _ _ (λ trace g. g.parts) (it c);
   run = part_of_it c.merge_lists.result _ _ (λ trace g. g.run) (it c);
   own = part_of_it c.merge_lists.result _ _ (λ trace g. g.own) (it c);
 }

@@ -11,12 +11,12 @@ use Rattle.hx_replica.proofs.installing.installed.Goals as goal
 
 pub join_all-requires-clause-fresh : goal.join_all-requires-clause-fresh
 join_all-requires-clause-fresh c =
-    subst (AllByRecursion (IsFresh c.args.spot.now.region)) (sym c.in_ok-install.ensures.states) (snapshot_fresh c.args.spot.now.region c.new-store.result.marks c.args.snapshot.now)
+    subst (AllByRecursion (IsFresh c.args.spot.now.region)) (sym c.in_ok-install.ensures.states) (snapshot_fresh c.args.spot.now.region c.in_ok-store.store.marks c.args.snapshot.now)
 
 pub join_all-requires-clause-kinds : goal.join_all-requires-clause-kinds
 join_all-requires-clause-kinds c =
     let b = is_key_region c.args.spot.now.space.now c.args.spot.now.region in
-    let kind : c.new-store.result.marks ≡ b = ap (λ (s : StoreState). s.marks) c.new-store.ensures in
+    let kind : c.in_ok-store.store.marks ≡ b = ap (λ (s : StoreState). s.marks) c.in_ok-store.ensures in
     subst (AllByRecursion (λ (t : KeyState). t.marks ≡ b)) (ap (λ (k : Bool). map (state_from k) c.args.snapshot.now) (sym kind) ∙ sym c.in_ok-install.ensures.states) (from_marked b c.args.snapshot.now)
 
 pub join_all-requires-clause-keys : goal.join_all-requires-clause-keys

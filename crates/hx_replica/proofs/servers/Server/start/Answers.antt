@@ -8,8 +8,11 @@ use Rattle.hx_replica.specs.Replicas.{AreReplicas, first_replica}
 use Rattle.hx_replica.proofs.Starting.{first_count, first_ones, first_state}
 use Rattle.hx_replica.proofs.servers.Server.start.Goals as goal
 
-pub first_replicas-requires : goal.first_replicas-requires
-first_replicas-requires c =
+pub first_replicas-requires-clause-attributes : goal.first_replicas-requires-clause-attributes
+first_replicas-requires-clause-attributes c = c.requires.space.attributes
+
+pub first_replicas-requires-clause-regions : goal.first_replicas-requires-clause-regions
+first_replicas-requires-clause-regions c =
     c.regions.ensures ∙ ap region_count c.in_ok-map.ensures ∙ first_count c.args.space.now ∙ ap (λ (k : Config). length k.regions) (sym (c.deref.ensures ∙ c.in_ok-config.ensures ∙ c.in_ok-first_config.ensures))
 
 pub invariant_of-result : goal.invariant_of-result

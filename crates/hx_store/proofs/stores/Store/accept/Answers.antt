@@ -21,12 +21,12 @@ accept_at-requires-clause-pending c =
     )
 
 pub invariant_of-self : goal.invariant_of-self
-invariant_of-self c = (step-there c.self.inside.region c.self.inside.marks c.self.inside.slots.entries c.self.inside.order.items (vec_capacity c.self.inside.order) c.open.new.self c.self.view_is c.self.invariant c.args.self.now c.args.place (accepted_at c.args.update c.args.ends.now) (keeps_folded (λ (g : RegionId) (s : KeyState). accepted g s c.args.update c.args.ends.now)) 1 c.accept_at.new.slots.entries c.accept_at.ensures c.args.update.key (ap (λ (rs : List Room). when_some (slice_get rs c.args.place) [] (λ (r : Room). r.key)) c.open.ensures.rooms ∙ c.requires.place.key_is) (c.open.ensures.states ∙ ap (λ (k : List ℕ). after_step c.args.self.now k no_moves) c.requires.place.key_is) c.open.ensures.marks c.open.ensures.region).0
+invariant_of-self c = (step-there c.self.inside.region c.self.inside.marks c.self.inside.slots.entries c.self.inside.order.items (vec_capacity c.self.inside.order) c.open.new.self c.self.view_is c.self.invariant c.args.self.now c.args.place (accepted_at c.args.update c.args.ends.now) (keeps_folded (λ (g : RegionId) (s : KeyState). accepted g s c.args.update c.args.ends.now)) 1 c.accept_at.new.self.entries c.accept_at.ensures.moved c.args.update.key (ap (λ (rs : List Room). when_some (slice_get rs c.args.place) [] (λ (r : Room). r.key)) c.open.ensures.rooms ∙ c.requires.place.key_is) (c.open.ensures.states ∙ ap (λ (k : List ℕ). after_step c.args.self.now k no_moves) c.requires.place.key_is) c.open.ensures.marks c.open.ensures.region).0
 
 pub returns-clause-states : goal.returns-clause-states
-returns-clause-states c = (step-there c.self.inside.region c.self.inside.marks c.self.inside.slots.entries c.self.inside.order.items (vec_capacity c.self.inside.order) c.open.new.self c.self.view_is c.self.invariant c.args.self.now c.args.place (accepted_at c.args.update c.args.ends.now) (keeps_folded (λ (g : RegionId) (s : KeyState). accepted g s c.args.update c.args.ends.now)) 1 c.accept_at.new.slots.entries c.accept_at.ensures c.args.update.key (ap (λ (rs : List Room). when_some (slice_get rs c.args.place) [] (λ (r : Room). r.key)) c.open.ensures.rooms ∙ c.requires.place.key_is) (c.open.ensures.states ∙ ap (λ (k : List ℕ). after_step c.args.self.now k no_moves) c.requires.place.key_is) c.open.ensures.marks c.open.ensures.region).1
+returns-clause-states c = (step-there c.self.inside.region c.self.inside.marks c.self.inside.slots.entries c.self.inside.order.items (vec_capacity c.self.inside.order) c.open.new.self c.self.view_is c.self.invariant c.args.self.now c.args.place (accepted_at c.args.update c.args.ends.now) (keeps_folded (λ (g : RegionId) (s : KeyState). accepted g s c.args.update c.args.ends.now)) 1 c.accept_at.new.self.entries c.accept_at.ensures.moved c.args.update.key (ap (λ (rs : List Room). when_some (slice_get rs c.args.place) [] (λ (r : Room). r.key)) c.open.ensures.rooms ∙ c.requires.place.key_is) (c.open.ensures.states ∙ ap (λ (k : List ℕ). after_step c.args.self.now k no_moves) c.requires.place.key_is) c.open.ensures.marks c.open.ensures.region).1
 
 pub returns-clause-rooms : goal.returns-clause-rooms
 returns-clause-rooms c =
-    subst (λ (rs : List Room). UsesRoom c.args.place rs (rooms_in c.accept_at.new.slots.entries)) c.open.ensures.rooms
-    (step-uses c.self.inside.region c.self.inside.marks c.self.inside.slots.entries c.self.inside.order.items (vec_capacity c.self.inside.order) c.open.new.self c.self.view_is c.self.invariant c.args.place (accepted_at c.args.update c.args.ends.now) c.accept_at.new.slots.entries c.accept_at.ensures)
+    subst (λ (rs : List Room). UsesRoom c.args.place rs (rooms_in c.accept_at.new.self.entries)) c.open.ensures.rooms
+    (step-uses c.self.inside.region c.self.inside.marks c.self.inside.slots.entries c.self.inside.order.items (vec_capacity c.self.inside.order) c.open.new.self c.self.view_is c.self.invariant c.args.place (accepted_at c.args.update c.args.ends.now) c.accept_at.new.self.entries c.accept_at.ensures.moved)

@@ -13,7 +13,7 @@ returns-in-Some-clause-place c = place-is c.self.inside.region c.self.inside.mar
 pub overflow_sub-place : goal.overflow_sub-place
 overflow_sub-place c =
     let most = order-most c.self.inside.region c.self.inside.marks c.self.inside.slots.entries c.self.inside.order.items (vec_capacity c.self.inside.order) c.args.self.now c.self.view_is c.self.invariant in
-    let place = c.len-place.ensures.len in
+    let place = c.len-place.ensures in
     let len = c.len.ensures in
     let ok = c.self.inside.order.ok.0 in
     omega (arith, most, place, len, ok)
@@ -22,40 +22,40 @@ pub returns-in_err-reserve-clause-rooms : goal.returns-in_err-reserve-clause-roo
 returns-in_err-reserve-clause-rooms c = keeps-same c.args.self.now.rooms (rooms_in c.self.inside.slots.entries) (ap (λ (s : StoreState). s.rooms) c.self.view_is)
 
 pub returns-in_err-add-clause-rooms : goal.returns-in_err-add-clause-rooms
-returns-in_err-add-clause-rooms c = keeps-same c.args.self.now.rooms (rooms_in c.add.new.slots.entries) (ap rooms_in c.in_err-add.ensures.err ∙ ap (λ (s : StoreState). s.rooms) c.self.view_is)
+returns-in_err-add-clause-rooms c = keeps-same c.args.self.now.rooms (rooms_in c.add.new.self.entries) (ap rooms_in c.in_err-add.ensures.err ∙ ap (λ (s : StoreState). s.rooms) c.self.view_is)
 
 pub invariant_of-self-2 : goal.invariant_of-self-2
 invariant_of-self-2 c =
     let most = order-most c.self.inside.region c.self.inside.marks c.self.inside.slots.entries c.self.inside.order.items (vec_capacity c.self.inside.order) c.args.self.now c.self.view_is c.self.invariant in
-    let place = c.len-place.ensures.len in
+    let place = c.len-place.ensures in
     let len = c.len.ensures in
     let ok = c.self.inside.order.ok.0 in
     let more = c.in_ok-reserve.ensures.ok in
     let same = c.in_ok-reserve.ensures.len in
     let room : length c.self.inside.slots.entries + 1 ≤ vec_capacity c.reserve.new.self = omega (arith, most, place, len, ok, more, same) in
-    (added c.self.inside.region c.self.inside.marks c.self.inside.slots.entries c.self.inside.order.items (vec_capacity c.self.inside.order) c.args.self.now c.self.view_is c.self.invariant c.args.key.now c.add.new.slots.entries c.reserve.new.self.items (vec_capacity c.reserve.new.self) c.in_default.ensures.none c.in_ok-add.ensures.ok c.in_ok-reserve.ensures.items room).0
+    (added c.self.inside.region c.self.inside.marks c.self.inside.slots.entries c.self.inside.order.items (vec_capacity c.self.inside.order) c.args.self.now c.self.view_is c.self.invariant c.args.key.now c.add.new.self.entries c.reserve.new.self.items (vec_capacity c.reserve.new.self) c.in_default.ensures.none c.in_ok-add.ensures.ok c.in_ok-reserve.ensures.items room).0
 
 pub returns-clause-states : goal.returns-clause-states
 returns-clause-states c =
     let most = order-most c.self.inside.region c.self.inside.marks c.self.inside.slots.entries c.self.inside.order.items (vec_capacity c.self.inside.order) c.args.self.now c.self.view_is c.self.invariant in
-    let place = c.len-place.ensures.len in
+    let place = c.len-place.ensures in
     let len = c.len.ensures in
     let ok = c.self.inside.order.ok.0 in
     let more = c.in_ok-reserve.ensures.ok in
     let same = c.in_ok-reserve.ensures.len in
     let room : length c.self.inside.slots.entries + 1 ≤ vec_capacity c.reserve.new.self = omega (arith, most, place, len, ok, more, same) in
-    (added c.self.inside.region c.self.inside.marks c.self.inside.slots.entries c.self.inside.order.items (vec_capacity c.self.inside.order) c.args.self.now c.self.view_is c.self.invariant c.args.key.now c.add.new.slots.entries c.reserve.new.self.items (vec_capacity c.reserve.new.self) c.in_default.ensures.none c.in_ok-add.ensures.ok c.in_ok-reserve.ensures.items room).1
+    (added c.self.inside.region c.self.inside.marks c.self.inside.slots.entries c.self.inside.order.items (vec_capacity c.self.inside.order) c.args.self.now c.self.view_is c.self.invariant c.args.key.now c.add.new.self.entries c.reserve.new.self.items (vec_capacity c.reserve.new.self) c.in_default.ensures.none c.in_ok-add.ensures.ok c.in_ok-reserve.ensures.items room).1
 
 pub returns-clause-rooms : goal.returns-clause-rooms
 returns-clause-rooms c =
     let most = order-most c.self.inside.region c.self.inside.marks c.self.inside.slots.entries c.self.inside.order.items (vec_capacity c.self.inside.order) c.args.self.now c.self.view_is c.self.invariant in
-    let place = c.len-place.ensures.len in
+    let place = c.len-place.ensures in
     let len = c.len.ensures in
     let ok = c.self.inside.order.ok.0 in
     let more = c.in_ok-reserve.ensures.ok in
     let same = c.in_ok-reserve.ensures.len in
     let room : length c.self.inside.slots.entries + 1 ≤ vec_capacity c.reserve.new.self = omega (arith, most, place, len, ok, more, same) in
-    (added c.self.inside.region c.self.inside.marks c.self.inside.slots.entries c.self.inside.order.items (vec_capacity c.self.inside.order) c.args.self.now c.self.view_is c.self.invariant c.args.key.now c.add.new.slots.entries c.reserve.new.self.items (vec_capacity c.reserve.new.self) c.in_default.ensures.none c.in_ok-add.ensures.ok c.in_ok-reserve.ensures.items room).2
+    (added c.self.inside.region c.self.inside.marks c.self.inside.slots.entries c.self.inside.order.items (vec_capacity c.self.inside.order) c.args.self.now c.self.view_is c.self.invariant c.args.key.now c.add.new.self.entries c.reserve.new.self.items (vec_capacity c.reserve.new.self) c.in_default.ensures.none c.in_ok-add.ensures.ok c.in_ok-reserve.ensures.items room).2
 
 pub returns-clause-place : goal.returns-clause-place
-returns-clause-place c = added-place c.self.inside.region c.self.inside.marks c.self.inside.slots.entries c.self.inside.order.items (vec_capacity c.self.inside.order) c.args.self.now c.self.view_is c.self.invariant c.args.key.now c.add.new.slots.entries c.len-place.result _ c.in_ok-add.ensures.ok c.len-place.ensures.len refl
+returns-clause-place c = added-place c.self.inside.region c.self.inside.marks c.self.inside.slots.entries c.self.inside.order.items (vec_capacity c.self.inside.order) c.args.self.now c.self.view_is c.self.invariant c.args.key.now c.add.new.self.entries c.len-place.result _ c.in_ok-add.ensures.ok c.len-place.ensures refl

@@ -23,4 +23,5 @@ loop-kept-preserved c =
       states = c.in_ok-put.ensures.states ∙ (λ j. with_state (state j) (c.loop-kept.invariant.states j)) ∙ installed-next marks c.args.snapshot.now c.loop-kept.kept-index k c.requires.ascend at;
       region = c.put.ensures.region ∙ c.loop-kept.invariant.region;
       marks = c.put.ensures.marks ∙ c.loop-kept.invariant.marks;
+      attributes = c.put.ensures.attributes ∙ c.loop-kept.invariant.attributes;
     }

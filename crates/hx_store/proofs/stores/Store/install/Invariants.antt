@@ -7,4 +7,5 @@ invariant-loop-kept l = record {
   states : l.self.states ≡ map (state_from l.initial.self.marks) (take l.kept-index l.snapshot);
   region : l.self.region ≡ l.initial.self.region;
   marks : l.self.marks ≡ l.initial.self.marks;
+  attributes : l.self.attributes ≡ l.initial.self.attributes;
 }

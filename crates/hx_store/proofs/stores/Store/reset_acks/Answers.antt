@@ -7,12 +7,12 @@ use Rattle.hx_store.proofs.Showing.{step-keeps, step-there}
 use Rattle.hx_store.proofs.stores.Store.reset_acks.Goals as goal
 
 pub invariant_of-self : goal.invariant_of-self
-invariant_of-self c = (step-there c.self.inside.region c.self.inside.marks c.self.inside.slots.entries c.self.inside.order.items (vec_capacity c.self.inside.order) c.open.new.self c.self.view_is c.self.invariant c.args.self.now c.args.place (forgotten_at) (keeps_forgotten) 0 c.reset_at.new.slots.entries c.reset_at.ensures (key_at c.args.self.now c.args.place) (ap (λ (rs : List Room). when_some (slice_get rs c.args.place) [] (λ (r : Room). r.key)) c.open.ensures.rooms) c.open.ensures.states c.open.ensures.marks c.open.ensures.region).0
+invariant_of-self c = (step-there c.self.inside.region c.self.inside.marks c.self.inside.slots.entries c.self.inside.order.items (vec_capacity c.self.inside.order) c.open.new.self c.self.view_is c.self.invariant c.args.self.now c.args.place (forgotten_at) (keeps_forgotten) 0 c.reset_at.new.self.entries c.reset_at.ensures.moved (key_at c.args.self.now c.args.place) (ap (λ (rs : List Room). when_some (slice_get rs c.args.place) [] (λ (r : Room). r.key)) c.open.ensures.rooms) c.open.ensures.states c.open.ensures.marks c.open.ensures.region).0
 
 pub returns-clause-states : goal.returns-clause-states
-returns-clause-states c = (step-there c.self.inside.region c.self.inside.marks c.self.inside.slots.entries c.self.inside.order.items (vec_capacity c.self.inside.order) c.open.new.self c.self.view_is c.self.invariant c.args.self.now c.args.place (forgotten_at) (keeps_forgotten) 0 c.reset_at.new.slots.entries c.reset_at.ensures (key_at c.args.self.now c.args.place) (ap (λ (rs : List Room). when_some (slice_get rs c.args.place) [] (λ (r : Room). r.key)) c.open.ensures.rooms) c.open.ensures.states c.open.ensures.marks c.open.ensures.region).1
+returns-clause-states c = (step-there c.self.inside.region c.self.inside.marks c.self.inside.slots.entries c.self.inside.order.items (vec_capacity c.self.inside.order) c.open.new.self c.self.view_is c.self.invariant c.args.self.now c.args.place (forgotten_at) (keeps_forgotten) 0 c.reset_at.new.self.entries c.reset_at.ensures.moved (key_at c.args.self.now c.args.place) (ap (λ (rs : List Room). when_some (slice_get rs c.args.place) [] (λ (r : Room). r.key)) c.open.ensures.rooms) c.open.ensures.states c.open.ensures.marks c.open.ensures.region).1
 
 pub returns-clause-rooms : goal.returns-clause-rooms
 returns-clause-rooms c =
-    subst (λ (rs : List Room). KeepsRooms rs (rooms_in c.reset_at.new.slots.entries)) c.open.ensures.rooms
-    (step-keeps c.self.inside.region c.self.inside.marks c.self.inside.slots.entries c.self.inside.order.items (vec_capacity c.self.inside.order) c.open.new.self c.self.view_is c.self.invariant c.args.place (forgotten_at) c.reset_at.new.slots.entries c.reset_at.ensures)
+    subst (λ (rs : List Room). KeepsRooms rs (rooms_in c.reset_at.new.self.entries)) c.open.ensures.rooms
+    (step-keeps c.self.inside.region c.self.inside.marks c.self.inside.slots.entries c.self.inside.order.items (vec_capacity c.self.inside.order) c.open.new.self c.self.view_is c.self.invariant c.args.place (forgotten_at) c.reset_at.new.self.entries c.reset_at.ensures.moved)

@@ -3,13 +3,13 @@ use Rattle.hx_store.proofs.Showing.{moved-quiet, on_ok, stored-spare}
 use Rattle.hx_store.proofs.stores.Store.widen.Goals as goal
 
 pub invariant_of-self : goal.invariant_of-self
-invariant_of-self c = (moved-quiet c.self.inside.region c.self.inside.marks c.self.inside.slots.entries c.self.inside.order.items (vec_capacity c.self.inside.order) c.args.self.now c.self.view_is c.self.invariant c.args.place c.reserve_at.new.slots.entries c.reserve_at.ensures.moved).0
+invariant_of-self c = (moved-quiet c.self.inside.region c.self.inside.marks c.self.inside.slots.entries c.self.inside.order.items (vec_capacity c.self.inside.order) c.args.self.now c.self.view_is c.self.invariant c.args.place c.reserve_at.new.self.entries c.reserve_at.ensures.moved).0
 
 pub returns-clause-states : goal.returns-clause-states
-returns-clause-states c = (moved-quiet c.self.inside.region c.self.inside.marks c.self.inside.slots.entries c.self.inside.order.items (vec_capacity c.self.inside.order) c.args.self.now c.self.view_is c.self.invariant c.args.place c.reserve_at.new.slots.entries c.reserve_at.ensures.moved).1
+returns-clause-states c = (moved-quiet c.self.inside.region c.self.inside.marks c.self.inside.slots.entries c.self.inside.order.items (vec_capacity c.self.inside.order) c.args.self.now c.self.view_is c.self.invariant c.args.place c.reserve_at.new.self.entries c.reserve_at.ensures.moved).1
 
 pub returns-clause-rooms : goal.returns-clause-rooms
-returns-clause-rooms c = (moved-quiet c.self.inside.region c.self.inside.marks c.self.inside.slots.entries c.self.inside.order.items (vec_capacity c.self.inside.order) c.args.self.now c.self.view_is c.self.invariant c.args.place c.reserve_at.new.slots.entries c.reserve_at.ensures.moved).2
+returns-clause-rooms c = (moved-quiet c.self.inside.region c.self.inside.marks c.self.inside.slots.entries c.self.inside.order.items (vec_capacity c.self.inside.order) c.args.self.now c.self.view_is c.self.invariant c.args.place c.reserve_at.new.self.entries c.reserve_at.ensures.moved).2
 
 pub returns-clause-room : goal.returns-clause-room
-returns-clause-room c = on_ok c.reserve_at.result (stored-spare c.reserve_at.new.slots.entries c.args.place c.args.n) c.reserve_at.ensures.room
+returns-clause-room c = on_ok c.reserve_at.result (stored-spare c.reserve_at.new.self.entries c.args.place c.args.n) c.reserve_at.ensures.room

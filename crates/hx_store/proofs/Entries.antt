@@ -1,0 +1,217 @@
+-- Keys and their slots as entries.
+use Rattle.std.proofs.Common.{◌≡◌, ℕ, zero, suc, ◌+◌, ◌^◌, ◌<◌, ◌≤◌, Bool, true, false, List, [], ◌∷◌, ◌++◌, length, is_some, Option, None, Some, IfNone, refl, ap, sym, ◌∙◌, subst, arith, cond}
+use Rattle.std.specs.List.{list_any, slice_get, slice_set}
+use Rattle.std.specs.Map.{keys_of, lookup, values_of}
+use Rattle.std.specs.Option.{IsSomeAnd}
+use Rattle.std.proofs.lemmas.Bool.{false≢true}
+use Rattle.std.proofs.lemmas.Option.{same_Some}
+use Rattle.indexmap.specs.IndexMap.{set_value_at}
+use Rattle.hx_types.specs.declared.calls.Row.{Row}
+use Rattle.hx_types.specs.declared.ids.RegionId.{RegionId}
+use Rattle.hx_types.specs.Words.{same_text, when_some}
+use Rattle.hx_model.specs.Slots.{KeyState, object_of}
+use Rattle.hx_slot.specs.States.{SlotState}
+use Rattle.hx_index.specs.Orders.{IndexState, IsIndexOf, rows_at}
+use Rattle.hx_index.proofs.Looping.{set-here, set-length}
+use Rattle.hx_store.specs.Invariant.{HasMoved, is_listed, key_in, stored_at}
+use Rattle.hx_store.specs.Slots.{AreSlots, Entry, IsKept, IsStepped, StoreSlot, entries_of, kept_count, one_kept, rows_in}
+use Rattle.hx_store.proofs.Finding.{none-lookup}
+use Rattle.hx_store.proofs.Indexed.{row, same-set}
+
+abbrev Key : Type 0
+Key = List ℕ × Bool
+
+pub entries-length : (ks : List Key) (ss : List SlotState) → length ks ≡ length ss → length (entries_of ks ss) ≡ length ss
+entries-length [] [] e = refl
+entries-length [] (s ∷ ss) e = absurd (omega (arith, e))
+entries-length (k ∷ ks) [] e = refl
+entries-length (k ∷ ks) (s ∷ ss) e = ap suc (entries-length ks ss (omega (arith, e)))
+
+pub keys-of : (ks : List Key) (ss : List SlotState) → length ks ≡ length ss → keys_of (entries_of ks ss) ≡ keys_of ks
+keys-of [] [] e = refl
+keys-of [] (s ∷ ss) e = refl
+keys-of (k ∷ ks) [] e = absurd (omega (arith, e))
+keys-of (k ∷ ks) (s ∷ ss) e = ap (λ (l : List (List ℕ)). k.0 ∷ l) (keys-of ks ss (omega (arith, e)))
+
+pub looked-up : (p : List ℕ → Bool) (ks : List Key) (ss : List SlotState) → length ks ≡ length ss → is_some (lookup p (entries_of ks ss)) ≡ is_some (lookup p ks)
+looked-up p [] [] e = refl
+looked-up p [] (s ∷ ss) e = refl
+looked-up p (k ∷ ks) [] e = absurd (omega (arith, e))
+looked-up p (k ∷ ks) (s ∷ ss) e = by (p k.0) (looked-up p ks ss (omega (arith, e)))
+  where
+    by : (b : Bool) → is_some (lookup p (entries_of ks ss)) ≡ is_some (lookup p ks) → is_some (cond b (Some (record { slot = s; listed = k.1 })) (lookup p (entries_of ks ss))) ≡ is_some (cond b (Some k.1) (lookup p ks))
+    by true h = refl
+    by false h = h
+
+pub key-at : (ks : List Key) (ss : List SlotState) (i : ℕ) → length ks ≡ length ss → key_in (entries_of ks ss) i ≡ when_some (slice_get ks i) [] (λ (k : Key). k.0)
+key-at [] ss i e = refl
+key-at (k ∷ ks) [] i e = absurd (omega (arith, e))
+key-at (k ∷ ks) (s ∷ ss) zero e = refl
+key-at (k ∷ ks) (s ∷ ss) (suc i) e = key-at ks ss i (omega (arith, e))
+
+pub listed-at : (ks : List Key) (ss : List SlotState) (i : ℕ) → length ks ≡ length ss → is_listed (entries_of ks ss) i ≡ when_some (slice_get ks i) false (λ (k : Key). k.1)
+listed-at [] ss i e = refl
+listed-at (k ∷ ks) [] i e = absurd (omega (arith, e))
+listed-at (k ∷ ks) (s ∷ ss) zero e = refl
+listed-at (k ∷ ks) (s ∷ ss) (suc i) e = listed-at ks ss i (omega (arith, e))
+
+pub rows-are : (ks : List Key) (ss : List SlotState) → length ks ≡ length ss → rows_in (entries_of ks ss) ≡ rows_at ss
+rows-are ks ss e = λ k i. at ks ss e i k
+  where
+    at : (ks : List Key) (ss : List SlotState) → length ks ≡ length ss → (i : ℕ) → rows_in (entries_of ks ss) i ≡ rows_at ss i
+    at [] [] e i = refl
+    at [] (s ∷ ss) e i = absurd (omega (arith, e))
+    at (k ∷ ks) [] e i = absurd (omega (arith, e))
+    at (k ∷ ks) (s ∷ ss) e zero = refl
+    at (k ∷ ks) (s ∷ ss) e (suc i) = at ks ss (omega (arith, e)) i
+
+pub stored-is : (ks : List Key) (ss : List SlotState) (i : ℕ) (s : SlotState) → length ks ≡ length ss → slice_get ss i ≡ Some s → stored_at (entries_of ks ss) i ≡ Some (record { slot = s; listed = is_listed (entries_of ks ss) i })
+stored-is [] [] i s e at = absurd cc
+stored-is [] (x ∷ ss) i s e at = absurd (omega (arith, e))
+stored-is (k ∷ ks) [] i s e at = absurd cc
+stored-is (k ∷ ks) (x ∷ ss) zero s e at = ap (λ (y : SlotState). Some (record { slot = y; listed = k.1 })) (same_Some x s at)
+stored-is (k ∷ ks) (x ∷ ss) (suc i) s e at = stored-is ks ss i s (omega (arith, e)) at
+
+-- a slot is set
+pub slot-set : (ks : List Key) (ss : List SlotState) (i : ℕ) (w : SlotState) → length ks ≡ length ss → entries_of ks (slice_set ss i w) ≡ set_value_at (entries_of ks ss) i (record { slot = w; listed = is_listed (entries_of ks ss) i })
+slot-set [] ss i w e = refl
+slot-set (k ∷ ks) [] i w e = absurd (omega (arith, e))
+slot-set (k ∷ ks) (s ∷ ss) zero w e = refl
+slot-set (k ∷ ks) (s ∷ ss) (suc i) w e = ap (λ (l : List Entry). (k.0, record { slot = s; listed = k.1 }) ∷ l) (slot-set ks ss i w (omega (arith, e)))
+
+-- or listed
+pub key-listed : (ks : List Key) (ss : List SlotState) (i : ℕ) (s : SlotState) (b : Bool) → slice_get ss i ≡ Some s → length ks ≡ length ss → entries_of (set_value_at ks i b) ss ≡ set_value_at (entries_of ks ss) i (record { slot = s; listed = b })
+key-listed [] [] i s b at e = refl
+key-listed [] (x ∷ ss) i s b at e = refl
+key-listed (k ∷ ks) [] i s b at e = absurd cc
+key-listed (k ∷ ks) (x ∷ ss) zero s b at e = ap (λ (y : SlotState). (k.0, record { slot = y; listed = b }) ∷ entries_of ks ss) (same_Some x s at)
+key-listed (k ∷ ks) (x ∷ ss) (suc i) s b at e = ap (λ (l : List Entry). (k.0, record { slot = x; listed = k.1 }) ∷ l) (key-listed ks ss i s b at (omega (arith, e)))
+
+pub key-length : (ks : List Key) (i : ℕ) (b : Bool) → length (set_value_at ks i b) ≡ length ks
+key-length [] i b = refl
+key-length (k ∷ ks) zero b = refl
+key-length (k ∷ ks) (suc i) b = ap suc (key-length ks i b)
+
+-- or comes last
+pub entry-added : (ks : List Key) (ss : List SlotState) (k : Key) (s : SlotState) → length ks ≡ length ss → entries_of (ks ++ k ∷ []) (ss ++ s ∷ []) ≡ entries_of ks ss ++ (k.0, record { slot = s; listed = k.1 }) ∷ []
+entry-added [] [] k s e = refl
+entry-added [] (x ∷ ss) k s e = absurd (omega (arith, e))
+entry-added (j ∷ ks) [] k s e = absurd (omega (arith, e))
+entry-added (j ∷ ks) (x ∷ ss) k s e = ap (λ (l : List Entry). (j.0, record { slot = x; listed = j.1 }) ∷ l) (entry-added ks ss k s (omega (arith, e)))
+
+-- a step of a slot is one of its entry
+pub moved-of : (ks : List Key) (i fall : ℕ) (step : RegionId → KeyState → KeyState) (old new : List SlotState) → length ks ≡ length old → IsStepped i step fall old new → HasMoved i step fall (entries_of ks old) (entries_of ks new)
+moved-of ks i fall step old new e m = record {
+  before = record { slot = m.before; listed = is_listed (entries_of ks old) i };
+  after = record { slot = m.after; listed = is_listed (entries_of ks old) i };
+  found = stored-is ks old i m.before e m.found;
+  set = ap (entries_of ks) m.set ∙ slot-set ks old i m.after e;
+  listed = refl;
+  state = m.state;
+  region = m.region;
+  spare = m.spare;
+}
+
+-- what holds of the slot of an entry
+pub slot-some : (P : SlotState → Type 0) (ks : List Key) (ss : List SlotState) (i : ℕ) → IsSomeAnd (stored_at (entries_of ks ss) i) (λ (w : StoreSlot). P w.slot) → IsSomeAnd (slice_get ss i) P
+slot-some P [] ss i h = absurd h
+slot-some P (k ∷ ks) [] i h = absurd h
+slot-some P (k ∷ ks) (s ∷ ss) zero h = h
+slot-some P (k ∷ ks) (s ∷ ss) (suc i) h = slot-some P ks ss i h
+
+-- the slots behind what contracts see
+module _ (ks : List Key) (ss : List SlotState) (es : List Entry) (e : length ks ≡ length ss) (view : entries_of ks ss ≡ es) where
+  pub count-is : length ss ≡ length es
+  count-is = sym (entries-length ks ss e) ∙ ap length view
+
+  pub within-slots : (i : ℕ) → i < length es → i < length ss
+  within-slots i l = let c = count-is in omega (arith, c, l)
+
+  pub stored-seen : (i : ℕ) (s : SlotState) → slice_get ss i ≡ Some s → stored_at es i ≡ Some (record { slot = s; listed = is_listed es i })
+  stored-seen i s at = subst (λ (xs : List Entry). stored_at xs i ≡ Some (record { slot = s; listed = is_listed xs i })) view (stored-is ks ss i s e at)
+
+  pub key-seen : (i : ℕ) → key_in es i ≡ when_some (slice_get ks i) [] (λ (k : Key). k.0)
+  key-seen i = ap (λ (xs : List Entry). key_in xs i) (sym view) ∙ key-at ks ss i e
+
+  pub listed-seen : (i : ℕ) → is_listed es i ≡ when_some (slice_get ks i) false (λ (k : Key). k.1)
+  listed-seen i = ap (λ (xs : List Entry). is_listed xs i) (sym view) ∙ listed-at ks ss i e
+
+  pub rows-seen : rows_in es ≡ rows_at ss
+  rows-seen = ap rows_in (sym view) ∙ rows-are ks ss e
+
+  pub moved-seen : (i fall : ℕ) (step : RegionId → KeyState → KeyState) (new : List SlotState) → IsStepped i step fall ss new → HasMoved i step fall es (entries_of ks new)
+  moved-seen i fall step new m = subst (λ (xs : List Entry). HasMoved i step fall xs (entries_of ks new)) view (moved-of ks i fall step ss new e m)
+
+  pub some-seen : (P : SlotState → Type 0) (i : ℕ) → IsSomeAnd (stored_at es i) (λ (w : StoreSlot). P w.slot) → IsSomeAnd (slice_get ss i) P
+  some-seen P i h = slot-some P ks ss i (subst (λ (xs : List Entry). IsSomeAnd (stored_at xs i) (λ (w : StoreSlot). P w.slot)) (sym view) h)
+
+  pub set-seen : (i : ℕ) (w : SlotState) → entries_of ks (slice_set ss i w) ≡ set_value_at es i (record { slot = w; listed = is_listed es i })
+  set-seen i w = slot-set ks ss i w e ∙ (λ k. set_value_at (view k) i (record { slot = w; listed = is_listed (view k) i }))
+
+  pub listed-set : (i : ℕ) (s : SlotState) (b : Bool) → slice_get ss i ≡ Some s → entries_of (set_value_at ks i b) ss ≡ set_value_at es i (record { slot = s; listed = b })
+  listed-set i s b at = key-listed ks ss i s b at e ∙ ap (λ (xs : List Entry). set_value_at xs i (record { slot = s; listed = b })) view
+
+  pub keys-seen : keys_of ks ≡ keys_of es
+  keys-seen = sym (keys-of ks ss e) ∙ ap keys_of view
+
+  pub looked-seen : (p : List ℕ → Bool) → is_some (lookup p ks) ≡ is_some (lookup p es)
+  looked-seen p = sym (looked-up p ks ss e) ∙ ap (λ (xs : List Entry). is_some (lookup p xs)) view
+
+-- a slot that keeps its object is set
+pub are-set : (ks : List Key) (ss : List SlotState) (index : IndexState) (i : ℕ) (s w : SlotState) → AreSlots ks ss index → slice_get ss i ≡ Some s → row w ≡ row s → AreSlots ks (slice_set ss i w) index
+are-set ks ss index i s w h at e = record { count = h.count ∙ sym (set-length ss i w); kept = same-set ss i s at w index h.kept e }
+
+pub value-there : (ks : List Key) (i : ℕ) → i < length ks → None ≡ slice_get (values_of ks) i → ⊥
+value-there [] i l e = omega arith
+value-there (k ∷ ks) zero l e = absurd cc
+value-there (k ∷ ks) (suc i) l e = value-there ks i (omega arith) e
+
+-- what is stored after a slot was set
+pub stored-set-is : (ks : List Key) (ss : List SlotState) (i : ℕ) (w : SlotState) → length ks ≡ length ss → i < length ss → stored_at (entries_of ks (slice_set ss i w)) i ≡ Some (record { slot = w; listed = is_listed (entries_of ks (slice_set ss i w)) i })
+stored-set-is ks ss i w e l = stored-is ks (slice_set ss i w) i w (e ∙ sym (set-length ss i w)) (set-here ss i w l)
+
+none-there : {A : Type 0} (o : Option A) → is_some o ≡ false → o ≡ None
+none-there None e = refl
+none-there (Some x) e = absurd (false≢true (sym e))
+
+pub no-key : (ks : List Key) (ss : List SlotState) (es : List Entry) (e : length ks ≡ length ss) (view : entries_of ks ss ≡ es) (key : List ℕ) → list_any (λ (x : Entry). same_text x.0 key) es ≡ false → lookup (same_text key) ks ≡ None
+no-key ks ss es e view key n = none-there (lookup (same_text key) ks) (looked-seen ks ss es e view (same_text key) ∙ ap is_some (none-lookup key es n))
+
+-- a slot without an object comes last
+module _ (ss : List SlotState) (s : SlotState) (none : row s ≡ None) where
+  rows-added : (xs : List SlotState) (i : ℕ) → rows_at (xs ++ s ∷ []) i ≡ rows_at xs i
+  rows-added [] zero = none
+  rows-added [] (suc i) = refl
+  rows-added (x ∷ xs) zero = refl
+  rows-added (x ∷ xs) (suc i) = rows-added xs i
+
+  count-added : (xs : List SlotState) → kept_count (xs ++ s ∷ []) ≡ kept_count xs
+  count-added [] = let z = ap one_kept none in omega (arith, z)
+  count-added (x ∷ xs) = let more = count-added xs in omega (arith, more)
+
+  length-added : (xs : List SlotState) → length (xs ++ s ∷ []) ≡ length xs + 1
+  length-added [] = refl
+  length-added (x ∷ xs) = let more = length-added xs in omega (arith, more)
+
+  pub kept-added : (old new : IndexState) → IsKept ss old → new.orders ≡ old.orders → length ss + 1 ≤ new.room → length ss + 1 < 2 ^ 32 → IsKept (ss ++ s ∷ []) new
+  kept-added old new h same room few = record {
+    index_is =
+        subst (λ (rows : ℕ → Option Row). IsIndexOf rows new) (λ k i. sym (rows-added ss i) k)
+        (subst (λ (os : List (List ℕ)). IsIndexOf (rows_at ss) (record { orders = os; room = new.room })) (sym same) (seen-room h.index_is));
+    count = (let c = h.count in let q = ap (λ (os : List (List ℕ)). length (when_some (slice_get os 0) [] (λ (o : List ℕ). o))) same in let r = count-added ss in omega (arith, c, q, r));
+    room = (let l = length-added ss in omega (arith, l, room));
+    few = (let l = length-added ss in omega (arith, l, few));
+  }
+    where
+      seen-room : IsIndexOf (rows_at ss) old → IsIndexOf (rows_at ss) (record { orders = old.orders; room = new.room })
+      seen-room is = is
+
+  pub slots-added : (ks : List Key) (key : List ℕ) (old new : IndexState) → AreSlots ks ss old → new.orders ≡ old.orders → length ss + 1 ≤ new.room → length ss + 1 < 2 ^ 32 → AreSlots (ks ++ (key, false) ∷ []) (ss ++ s ∷ []) new
+  slots-added ks key old new h same room few = record {
+    count = (let a = keys-added ks in let b = length-added ss in let c = h.count in omega (arith, a, b, c));
+    kept = kept-added old new h.kept same room few;
+  }
+    where
+      keys-added : (ks : List Key) → length (ks ++ (key, false) ∷ []) ≡ length ks + 1
+      keys-added [] = refl
+      keys-added (k ∷ ks) = let more = keys-added ks in omega (arith, more)

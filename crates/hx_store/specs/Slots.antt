@@ -1,0 +1,71 @@
+-- The slots of a store by the places of their keys, and the index of their kept objects.
+use Rattle.std.specs.Prelude.{◌≡◌, ℕ, ◌+◌, ◌^◌, ◌<◌, ◌≤◌, Bool, List, [], ◌∷◌, length, is_some, if◌then◌else◌, slice_get, Option, None, Some}
+use Rattle.std.specs.List.{slice_set}
+use Rattle.hx_types.specs.declared.calls.Row.{Row}
+use Rattle.hx_types.specs.declared.ids.RegionId.{RegionId}
+use Rattle.hx_types.specs.Words.{when_some}
+use Rattle.hx_model.specs.Slots.{KeyState, object_of}
+use Rattle.hx_slot.specs.States.{SlotState}
+use Rattle.hx_index.specs.Orders.{IndexState, IsIndexOf, count_of, rows_at, rows_without}
+
+-- a slot, and whether it is part of the store: one that isn't has had no step yet
+pub record StoreSlot : Type 0 where
+  pub slot : SlotState
+  pub listed : Bool
+
+-- a key and its slot
+abbrev pub Entry : Type 0
+Entry = List ℕ × StoreSlot
+
+-- the slots of these keys, of which is said whether they are part of the store
+abbrev pub entries_of : List (List ℕ × Bool) → List SlotState → List Entry
+entries_of [] slots = []
+entries_of (k ∷ keys) [] = []
+entries_of (k ∷ keys) (s ∷ slots) = (k.0, record { slot = s; listed = k.1 }) ∷ entries_of keys slots
+
+-- entries by the places of their keys, and the index of their kept objects
+pub record SlotsState : Type 0 where
+  pub entries : List Entry
+  pub index : IndexState
+
+-- the kept object of the slot at a place
+abbrev pub rows_in : List Entry → ℕ → Option Row
+rows_in es i = when_some (slice_get es i) None (λ (e : Entry). object_of e.1.slot.region e.1.slot.state)
+
+-- 1 for a slot that keeps an object
+abbrev pub one_kept : Option Row → ℕ
+one_kept row = if is_some row then 1 else 0
+
+-- how many slots keep an object
+abbrev pub kept_count : List SlotState → ℕ
+kept_count [] = 0
+kept_count (s ∷ slots) = one_kept (object_of s.region s.state) + kept_count slots
+
+-- the index is that of the slots' kept objects, with room for every slot
+pub record IsKept (slots : List SlotState) (index : IndexState) : Type 0 where
+  pub index_is : IsIndexOf (rows_at slots) index
+  pub count : count_of index ≡ kept_count slots
+  pub room : length slots ≤ index.room
+  pub few : length slots < 2 ^ 32
+
+-- the index is that of the kept objects of all slots but one
+pub record IsKeptBut (place : ℕ) (slots : List SlotState) (index : IndexState) : Type 0 where
+  pub index_is : IsIndexOf (rows_without place (rows_at slots)) index
+  pub count : count_of index + one_kept (rows_at slots place) ≡ kept_count slots
+  pub room : length slots ≤ index.room
+  pub few : length slots < 2 ^ 32
+
+-- there is a slot for each key, and the index is theirs
+pub record AreSlots (keys : List (List ℕ × Bool)) (slots : List SlotState) (index : IndexState) : Type 0 where
+  pub count : length keys ≡ length slots
+  pub kept : IsKept slots index
+
+-- the slot at a place made a step, which lowers its room by so much at most
+pub record IsStepped (i : ℕ) (step : RegionId → KeyState → KeyState) (fall : ℕ) (old new : List SlotState) : Type 0 where
+  pub before : SlotState
+  pub after : SlotState
+  pub found : slice_get old i ≡ Some before
+  pub set : new ≡ slice_set old i after
+  pub state : after.state ≡ step before.region before.state
+  pub region : after.region ≡ before.region
+  pub spare : before.spare ≤ after.spare + fall

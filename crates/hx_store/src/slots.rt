@@ -1,0 +1,292 @@
+ghost use Rattle.std.specs.Prelude.{◌≡◌, ℕ, ◌<◌, ◌≤◌, ◌+◌, [], IfNone, IfOk, IfSome, IsSomeAnd, OnErr, OnOk, Some, false, insert, length, nat_eq, true, vec_capacity, vec_len};
+ghost use Rattle.std.specs.Cmp.Lexicographic.{slice_cmp};
+ghost use Rattle.std.specs.List.{IsDistinct, flat_map, list_any};
+ghost use Rattle.std.specs.Ordering.{nat_cmp};
+ghost use Rattle.hx_model.specs.Slots.{is_pending, moved_all, offered};
+ghost use Rattle.hx_types.specs.Words.{list_of, same_text, text_below};
+ghost use Rattle.hx_index.specs.Orders.{IsIndexOf, stands_in};
+ghost use Rattle.hx_index.specs.Searches.{most_looks};
+ghost use Rattle.hx_index.specs.Sides.{matches_at};
+ghost use Rattle.hx_store.specs.Invariant.{AscendAt, HasMoved, IsAdded, IsListedAt, IsReplacedAt, IsSplit, KeysApart, is_listed, key_in, stored_at};
+ghost use Rattle.hx_store.specs.Slots.{Entry, StoreSlot, rows_in};
+ghost use Rattle.hx_store.specs.Stores.{ArePending, CanBeOffered, accepted_at, acknowledged_at, forgotten_at, marked_at, no_moves, settled_at};
+
+use crate::following::{accept, acknowledge, replace, settle};
+use crate::searching::rows_at;
+use hx_index::{Ids, Index, View};
+use hx_slot::Slot;
+use hx_types::{Exact, Memory, RegionId, Rows, Shared, Terms, Text, Update, Version};
+use indexmap::IndexMap;
+use std::alloc::Global;
+use std::cmp::Ordering;
+use std::marker::Model;
+
+/// The slot of each key, by its place: the number of the key in the order of coming. An index of
+/// the kept objects follows them.
+#[derive(Drop)]
+pub struct Slots {
+    /// Whether the slot of each key is part of the store.
+    keys: IndexMap<Text, bool>,
+    slots: Vec<Slot>,
+    index: Index,
+}
+
+impl Model for Slots {
+    ghost use Rattle.hx_store.specs.Slots.{AreSlots, SlotsState, entries_of};
+
+    ghost Value = { SlotsState };
+
+    ghost view = { λ x. record { entries = entries_of x.keys.entries x.slots.items; index = x.index } };
+
+    ghost invariant = { λ x. AreSlots x.keys.entries x.slots.items x.index };
+}
+
+impl Slots {
+    /// No slots, of objects with so many attributes besides the key.
+    pub fn new(alloc: Global, attributes: u32) -> Result<Slots, Memory>
+        ensures entries { IfOk result (λ slots. slots.entries ≡ []) }
+        ensures attributes { IfOk result (λ slots. length slots.index.orders ≡ attributes + 1) }
+    {
+        let index = Index::new(alloc, attributes)?;
+        Ok(Slots {
+            keys: IndexMap::new(alloc),
+            slots: Vec::new(alloc),
+            index,
+        })
+    }
+
+    /// How many slots there are.
+    pub fn len(&self) -> usize
+        ensures { result ≡ length self.now.entries }
+    {
+        self.slots.len()
+    }
+
+    /// The place of a key.
+    pub fn place_of(&self, key: &Text) -> Option<usize>
+        ensures within { IfSome result (λ place. place < length self.now.entries) }
+        ensures key { IfSome result (λ place. key_in self.now.entries place ≡ key.now) }
+        ensures none { IfNone result (list_any (λ (e : Entry). same_text e.0 key.now) self.now.entries ≡ false) }
+    {
+        self.keys.get_index_of(key)
+    }
+
+    /// The slot at a place.
+    pub fn slot_at(&self, place: usize) -> &Slot
+        requires { place < length self.now.entries }
+        ensures { stored_at self.now.entries place ≡ Some (record { slot = result.now; listed = is_listed self.now.entries place }) }
+    {
+        &self.slots[place]
+    }
+
+    /// Whether the slot at a place is part of the store.
+    pub fn is_listed(&self, place: usize) -> bool
+        ensures { result ≡ is_listed self.now.entries place }
+    {
+        match self.keys.get_index(place) {
+            Some((_, listed)) => *listed,
+            None => false,
+        }
+    }
+
+    /// The key at a place, or the empty text where there is none.
+    fn key_at(&self, place: usize) -> &str
+        ensures { result.now ≡ key_in self.now.entries place }
+    {
+        match self.keys.get_index(place) {
+            Some((key, _)) => key.as_str(),
+            None => "",
+        }
+    }
+
+    /// Whether the key at a place stands before another in byte order.
+    fn is_below(&self, place: usize, key: &Text) -> bool
+        ensures { result ≡ text_below (key_in self.now.entries place) key.now }
+    {
+        self.key_at(place) < key.as_str()
+    }
+
+    /// How many of these places, which stand in byte order of keys, are of lower keys.
+    pub fn lower_count(&self, order: &[usize], key: &Text) -> usize
+        requires { AscendAt self.now.entries order.now }
+        ensures split { IsSplit self.now.entries key.now result order.now }
+        ensures within { result ≤ length order.now }
+    {
+        order.partition_point(|place| self.is_below(*place, key))
+    }
+
+    /// The key of a place goes last, with an empty slot that isn't listed. The index has room for
+    /// it. Of more than 4,294,967,295 slots there is no index, and that is [`Memory`] too.
+    pub fn add(
+        &mut self,
+        alloc: Global,
+        region: RegionId,
+        marks: bool,
+        key: &Text,
+    ) -> Result<(), Memory>
+        requires { list_any (λ (e : Entry). same_text e.0 key.now) self.old.entries ≡ false }
+        ensures ok { OnOk result (IsAdded region marks key.now self.old.entries self.new.entries) }
+        ensures err { OnErr result (self.new.entries ≡ self.old.entries) }
+        ensures attributes { length self.new.index.orders ≡ length self.old.index.orders }
+    {
+        let count = self.slots.len();
+        if count >= u32::MAX as usize {
+            return Err(Memory);
+        }
+        self.index.reserve(alloc, count as u32 + 1)?;
+        self.slots.reserve(1)?;
+        let slot = Slot::new(alloc, region, key.copy(alloc)?, marks);
+        self.keys.insert(key.copy(alloc)?, false)?;
+        self.slots.push_reserved(slot);
+        Ok(())
+    }
+
+    /// The slot at a place is listed.
+    pub fn list_at(&mut self, place: usize)
+        requires { place < length self.old.entries }
+        ensures listed { IsListedAt place self.old.entries self.new.entries }
+        ensures attributes { length self.new.index.orders ≡ length self.old.index.orders }
+    {
+        match self.keys.get_index_mut(place) {
+            Some(listed) => *listed = true,
+            None => unreachable!(),
+        }
+    }
+
+    /// A slot comes to a place in place of the one there.
+    pub fn replace_at(&mut self, place: usize, slot: Slot)
+        requires { place < length self.old.entries }
+        ensures replaced { IsReplacedAt place slot self.old.entries self.new.entries }
+        ensures attributes { length self.new.index.orders ≡ length self.old.index.orders }
+    {
+        replace(&mut self.index, &mut self.slots, place, slot);
+    }
+
+    /// Makes room for n more updates of the slot at a place.
+    pub fn reserve_at(&mut self, alloc: Global, place: usize, n: u32) -> Result<(), Memory>
+        requires { place < length self.old.entries }
+        ensures moved { HasMoved place no_moves 0 self.old.entries self.new.entries }
+        ensures room { OnOk result (IsSomeAnd (stored_at self.new.entries place) (λ (s : StoreSlot). n ≤ s.slot.spare)) }
+        ensures attributes { length self.new.index.orders ≡ length self.old.index.orders }
+    {
+        self.slots[place].reserve(alloc, n)
+    }
+
+    /// The slot at a place is offered an update, whose place in the region has this number; then
+    /// these versions are acknowledged, and what can be committed is.
+    pub fn accept_at(&mut self, place: usize, update: Shared<Update>, number: u32, ends: &[Version])
+        requires room { IsSomeAnd (stored_at self.old.entries place) (λ (s : StoreSlot). 0 < s.slot.spare) }
+        requires offer { IsSomeAnd (stored_at self.old.entries place) (λ (s : StoreSlot). CanBeOffered s.slot.region update number) }
+        requires pending { IsSomeAnd (stored_at self.old.entries place) (λ (s : StoreSlot). ArePending (moved_all (offered s.slot.region s.slot.state update) s.slot.state) ends.now) }
+        ensures moved { HasMoved place (accepted_at update ends.now) 1 self.old.entries self.new.entries }
+        ensures attributes { length self.new.index.orders ≡ length self.old.index.orders }
+    {
+        accept(
+            &mut self.index,
+            &mut self.slots,
+            place,
+            update,
+            number,
+            ends,
+        );
+    }
+
+    /// A version is acknowledged at the slot at a place, and what can be committed is.
+    pub fn acknowledge_at(&mut self, place: usize, version: Version)
+        requires { place < length self.old.entries }
+        ensures moved { HasMoved place (acknowledged_at version.0) 0 self.old.entries self.new.entries }
+        ensures attributes { length self.new.index.orders ≡ length self.old.index.orders }
+    {
+        acknowledge(&mut self.index, &mut self.slots, place, version);
+    }
+
+    /// The slot at a place forgets which pending updates are acknowledged, and all early updates.
+    pub fn reset_at(&mut self, place: usize)
+        requires { place < length self.old.entries }
+        ensures moved { HasMoved place forgotten_at 0 self.old.entries self.new.entries }
+        ensures attributes { length self.new.index.orders ≡ length self.old.index.orders }
+    {
+        self.slots[place].reset_acks();
+    }
+
+    /// A pending version is marked as acknowledged at the slot at a place.
+    pub fn mark_at(&mut self, place: usize, version: Version)
+        requires { IsSomeAnd (stored_at self.old.entries place) (λ (s : StoreSlot). is_pending version.0 s.slot.state ≡ true) }
+        ensures moved { HasMoved place (marked_at version.0) 0 self.old.entries self.new.entries }
+        ensures attributes { length self.new.index.orders ≡ length self.old.index.orders }
+    {
+        self.slots[place].acknowledge(version);
+    }
+
+    /// What can be committed of the slot at a place is.
+    pub fn settle_at(&mut self, place: usize)
+        requires { place < length self.old.entries }
+        ensures moved { HasMoved place settled_at 0 self.old.entries self.new.entries }
+        ensures attributes { length self.new.index.orders ≡ length self.old.index.orders }
+    {
+        settle(&mut self.index, &mut self.slots, place);
+    }
+
+    /// The places of the slots at whose objects every term holds, in byte order of their keys.
+    pub fn find(&self, alloc: Global, terms: &Terms, looks: &mut u64) -> Result<Ids, Memory>
+        requires { KeysApart self.now.entries }
+        ensures matching { IfOk result (λ ids. (i : ℕ) → stands_in ids.items i ≡ matches_at (rows_in self.now.entries) terms.now i) }
+        ensures ascend { IfOk result (λ ids. AscendAt self.now.entries ids.items) }
+        ensures index { IsIndexOf (rows_in self.now.entries) self.now.index }
+        ensures counted { looks.old ≤ looks.new }
+        ensures looks { looks.new ≤ looks.old + most_looks self.now.index (rows_in self.now.entries) terms.now }
+    {
+        let mut ids = self.matching(alloc, terms, looks)?;
+        self.sort_by_keys(&mut ids);
+        Ok(ids)
+    }
+
+    /// Copies of the committed objects of the slots at these places, one after another.
+    pub fn rows(&self, alloc: Global, places: &[u32]) -> Result<Rows, Memory>
+        ensures { IfOk result (λ rows. rows ≡ flat_map (λ i. list_of (rows_in self.now.entries i)) places.now) }
+    {
+        rows_at(alloc, self.slots.as_slice(), places)
+    }
+
+    /// The places of the slots at whose objects every term holds, each once, in any order.
+    fn matching(&self, alloc: Global, terms: &Terms, looks: &mut u64) -> Result<Ids, Memory>
+        ensures matching { IfOk result (λ ids. (i : ℕ) → stands_in ids.items i ≡ matches_at (rows_in self.now.entries) terms.now i) }
+        ensures once { IfOk result (λ ids. IsDistinct nat_eq ids.items) }
+        ensures index { IsIndexOf (rows_in self.now.entries) self.now.index }
+        ensures counted { looks.old ≤ looks.new }
+        ensures looks { looks.new ≤ looks.old + most_looks self.now.index (rows_in self.now.entries) terms.now }
+    {
+        let mut view = View::new(self.slots.as_slice(), *looks);
+        let found = self.index.find(alloc, &mut view, terms);
+        *looks = view.looks();
+        found
+    }
+
+    /// Puts places of slots into byte order of their keys. Each stands there once.
+    fn sort_by_keys(&self, ids: &mut Ids)
+        requires apart { KeysApart self.now.entries }
+        requires within { (i : ℕ) → stands_in ids.old.items i ≡ true → i < length self.now.entries }
+        requires once { IsDistinct nat_eq ids.old.items }
+        ensures same { (i : ℕ) → stands_in ids.new.items i ≡ stands_in ids.old.items i }
+        ensures ascend { AscendAt self.now.entries ids.new.items }
+    {
+        ids.sort_unstable_by(|one, other| self.compare_keys(*one, *other));
+    }
+
+    /// The keys at two places, by their bytes.
+    fn compare_keys(&self, one: u32, other: u32) -> Ordering
+        ensures { result ≡ slice_cmp nat_cmp (key_in self.now.entries one) (key_in self.now.entries other) }
+    {
+        self.key_at(one as usize).cmp(self.key_at(other as usize))
+    }
+}
+
+/// Puts a place before the one at a number. There is room, so it takes no memory.
+pub fn insert_within(order: &mut Vec<usize>, number: usize, place: usize)
+    requires number { number ≤ vec_len order.old }
+    requires room { vec_len order.old < vec_capacity order.old }
+    ensures items { order.new.items ≡ insert order.old.items number place }
+    ensures capacity { vec_capacity order.old ≤ vec_capacity order.new }
+{
+    let _ = order.insert(number, place);
+}
