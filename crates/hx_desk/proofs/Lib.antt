@@ -1,0 +1,4 @@
+pub mod Heard
+pub mod Taking
+pub mod Taken
+pub mod Results

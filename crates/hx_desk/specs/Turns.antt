@@ -21,12 +21,12 @@ abbrev pub weight_of : (Mailed → ℕ) → Outbox → Desk → ℕ
 weight_of h out d = out_weight h out.ports.items + kept_weight h d.kept.items
 
 -- a turn in which these entries came: their posts were offered, each once
-pub record IsTurn (boxes : List Boxed) (d d' : Desk) (out out' : Outbox) (t t' : Totals) (f f' : FateCounts) (xs : List Stamped) : Type 0 where
+pub record IsTurn (boxes : List Boxed) (d d' : Desk) (o o' : Outbox) (t t' : Totals) (f f' : FateCounts) (xs : List Stamped) : Type 0 where
   pub later : IsLater d d'
   pub part : d'.part.items ≡ d.part.items ++ xs
-  pub out : IsOutbox boxes out' × (out'.index ≡ out.index)
-  pub more : MorePut out.ports.items out'.ports.items
-  pub offered : IsOffered (λ h. weight_of h out d) (λ h. weight_of h out' d') t t' f f' (made_by xs)
+  pub out : IsOutbox boxes o' × (o'.index ≡ o.index)
+  pub more : MorePut o.ports.items o'.ports.items
+  pub offered : IsOffered (λ h. weight_of h o d) (λ h. weight_of h o' d') t t' f f' (made_by xs)
   pub total : IsTotal t'
   -- at most one entry came, with fewer posts than can be numbered
   pub one : length xs ≤ 1

@@ -11,6 +11,7 @@ mod desks;
 mod entering;
 mod faults;
 mod gates;
+mod preparing;
 mod receiving;
 mod retrying;
 mod turning;
