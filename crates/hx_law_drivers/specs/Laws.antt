@@ -1,5 +1,5 @@
 -- The laws on a run of drivers: its trace is paced.
-use Rattle.std.specs.Prelude.{ℕ, ◌≡◌, List, [], ◌∷◌, reverse, length}
+use Rattle.std.specs.Prelude.{ℕ, ◌≡◌, List, []}
 use Rattle.std.specs.List.{AllByRecursion}
 use Rattle.atomic_table.specs.Seated.{TableId}
 use Rattle.hx_types.specs.declared.calls.Caller.{Caller}

@@ -1,0 +1,322 @@
+-- Where no server is halted and no call asks for another configuration, none is issued: the coordinator stays as it started, and no server halts.
+use Rattle.std.proofs.Common.{◌≡◌, ◌≢◌, ℕ, inl, inr, true, false, not, ◌&&◌, List, [], ◌∷◌, length, Option, Some, None, refl, sym, ap, ◌∙◌, subst, eqb, ltb, arith}
+use Rattle.std.specs.Prelude.{⊤}
+use Rattle.std.proofs.lemmas.Bool.{and_parts, cond_both, false≢true}
+use Rattle.hx_types.specs.declared.calls.Caller.{Caller}
+use Rattle.hx_types.specs.declared.calls.Op.{Op}
+use Rattle.hx_types.specs.declared.configs.Config.{Config}
+use Rattle.hx_types.specs.declared.configs.Member.{Member}
+use Rattle.hx_types.specs.declared.ids.Actor.{Actor}
+use Rattle.hx_types.specs.declared.ids.Epoch.{Epoch}
+use Rattle.hx_types.specs.declared.ids.RegionId.{RegionId}
+use Rattle.hx_types.specs.declared.ids.ServerId.{ServerId}
+use Rattle.hx_types.specs.declared.ids.SessionId.{SessionId}
+use Rattle.hx_types.specs.declared.messages.Message.{Message}
+use Rattle.hx_types.specs.declared.messages.Post.{Post}
+use Rattle.hx_types.specs.declared.spaces.Space.{Space}
+use Rattle.hx_types.specs.declared.traces.Entry.{Entry}
+use Rattle.hx_types.specs.declared.traces.Input.{Input}
+use Rattle.hx_types.specs.declared.traces.Script.{Script}
+use Rattle.hx_types.specs.declared.calls.Op.TheVariants.{Stop, Add}
+use Rattle.hx_types.specs.declared.messages.Message.TheVariants as a_message
+use Rattle.hx_types.specs.declared.ids.Actor.TheVariants.{Coordinator, Server, Session}
+use Rattle.hx_types.specs.declared.traces.Input.TheVariants.{Tick, Halt, Deliver}
+use Rattle.hx_types.specs.Words.{IsIn, post, same_server, server_in, when_some}
+use Rattle.hx_types.specs.Configs.{first_config, is_lost, leads, lists_joining, members_of}
+use Rattle.hx_types.specs.Fitting.{IsScript, call_of, calls_of, numbered}
+use Rattle.hx_model.specs.CoordinatorSteps.{CoordinatorState, CoordinatorStep, coordinator_at_start, coordinator_message, coordinator_step, resting, telling}
+use Rattle.hx_model.specs.ServerSteps.{Replica, ServerState, ServerStep, acked, asked, call_at, called, hearing, if_installed, input_step, message_step, server_step, snapped, unmoved, updated}
+use Rattle.hx_model.specs.SessionSteps.{SessionState, is_administrative}
+use Rattle.hx_model.specs.Causes.{config_of}
+use Rattle.hx_model.specs.Regions.{key_region}
+use Rattle.hx_model.specs.Runs.{IsRun, Made, MayTake, coordinator_after, coordinator_of, is_actor, made_of, server_after, server_of, session_of}
+use Rattle.hx_law_lemmas.specs.Words.{posts_of}
+use Rattle.hx_law_lemmas.proofs.FirstMembers.{all-ready}
+use Rattle.hx_law_lemmas.proofs.Lists.{any-in, in-append}
+use Rattle.hx_law_lemmas.proofs.Traces.{arrived}
+use Rattle.hx_law_epochs.proofs.Runs.{epochs-run, server-does-well}
+use Rattle.hx_law_epochs.proofs.Servers.{Tells}
+use Rattle.hx_law_chains.proofs.Named.{named}
+use Rattle.hx_law_searches.proofs.CallsKept.{step_is}
+use Rattle.hx_law_causes.proofs.Sessions.{Asks, SessionDoes, session-does}
+use Rattle.hx_law_soak.specs.Soaks.{NoHalts}
+
+-- no call asks for another configuration
+abbrev pub NoneAdministers : Script → Type 0
+NoneAdministers script = (c : Caller) (op : Op) → call_of script c ≡ Some op → is_administrative op ≡ false
+
+-- the message asks nobody to halt or for another configuration, and tells of no halt
+abbrev pub Calm : Message → Type 0
+Calm a_message.Die = ⊥
+Calm a_message.Gone = ⊥
+Calm (a_message.StopServer number server) = ⊥
+Calm (a_message.AddReplica number server g) = ⊥
+Calm (a_message.Call epoch number op) = ⊤
+Calm (a_message.Reply number version answer) = ⊤
+Calm (a_message.Update epoch g u) = ⊤
+Calm (a_message.Ack epoch g key version) = ⊤
+Calm (a_message.Ask epoch number g terms) = ⊤
+Calm (a_message.Found epoch number g rows) = ⊤
+Calm (a_message.Seal epoch) = ⊤
+Calm (a_message.Sealed epoch) = ⊤
+Calm (a_message.Install config) = ⊤
+Calm (a_message.Outcome number answer) = ⊤
+Calm (a_message.Snap epoch g snapshot pending) = ⊤
+Calm (a_message.Ready epoch g) = ⊤
+Calm (a_message.Poll epoch) = ⊤
+
+-- what stays so in every such run
+pub record IsQuiet (script : Script) (t : List Entry) : Type 0 where
+  pub rests : coordinator_of script t ≡ coordinator_at_start script.space (length script.sessions)
+  pub up : (s : ServerId) → (server_of script s t).halted ≡ false
+  pub calm : (p : Post) → IsIn p (posts_of t) → Calm p.message
+
+-- ---- servers
+
+-- an input that halts no server
+abbrev pub HaltsNone : Input → Type 0
+HaltsNone Tick = ⊤
+HaltsNone Halt = ⊥
+HaltsNone (Deliver id from m) = Calm m
+
+module _ (space : Space) (s : ServerState) (up : s.halted ≡ false) where
+  -- the server goes on
+  abbrev Up : ServerStep → Type 0
+  Up step = step.state.halted ≡ false
+
+  up-called : (epoch : Epoch) (c : Caller) (op : Op) (o : Option (List ℕ)) → Up (called space s epoch c op o)
+  up-called epoch c op None = up
+  up-called epoch c op (Some key) = by (hearing s epoch (key_region space key))
+    where
+      by : (o : Option Replica) → Up (when_some o (unmoved s) (λ (r : Replica). call_at space s r key c op))
+      by None = up
+      by (Some r) = cond_both (leads space s.config s.id r.region) _ (unmoved s) Up (λ t. up) (λ t. up)
+
+  up-message : (from : Actor) (m : Message) → Calm m → Up (message_step space s from m)
+  up-message Coordinator (a_message.Call epoch number op) c = up
+  up-message (Server i) (a_message.Call epoch number op) c = up
+  up-message (Session u) (a_message.Call epoch number op) c = up-called epoch (record { session = u; number = number }) op _
+  up-message from (a_message.Update epoch g u) c = by (if_installed (hearing s epoch g))
+    where
+      by : (o : Option Replica) → Up (updated space s u o)
+      by None = up
+      by (Some r) = up
+  up-message from (a_message.Ack epoch g key version) c = by (if_installed (hearing s epoch g))
+    where
+      by : (o : Option Replica) → Up (acked space s key version.0 o)
+      by None = up
+      by (Some r) = up
+  up-message from (a_message.Ask epoch number g terms) c = by (if_installed (hearing s epoch g))
+    where
+      by : (o : Option Replica) → Up (asked s from epoch number terms o)
+      by None = up
+      by (Some r) = up
+  up-message from (a_message.Seal epoch) c = cond_both (eqb epoch.0 s.config.epoch.0) _ (unmoved s) Up (λ t. up) (λ t. up)
+  up-message from (a_message.Install config) c = cond_both (ltb s.config.epoch.0 config.epoch.0) _ (unmoved s) Up (λ t. up) (λ t. up)
+  up-message from (a_message.Snap epoch g snapshot pending) c = by (hearing s epoch g)
+    where
+      by : (o : Option Replica) → Up (snapped space s snapshot pending o)
+      by None = up
+      by (Some r) = cond_both r.installed _ _ Up (λ t. up) (λ t. up)
+  up-message from a_message.Die c = absurd c
+  up-message from a_message.Gone c = up
+  up-message from (a_message.StopServer number server) c = up
+  up-message from (a_message.AddReplica number server g) c = up
+  up-message from (a_message.Reply number version answer) c = up
+  up-message from (a_message.Found epoch number g rows) c = up
+  up-message from (a_message.Sealed epoch) c = up
+  up-message from (a_message.Outcome number answer) c = up
+  up-message from (a_message.Ready epoch g) c = up
+  up-message from (a_message.Poll epoch) c = up
+
+  -- a server that hasn't halted goes on
+  pub up-step : (input : Input) → HaltsNone input → Up (server_step space s input)
+  up-step input h = cond_both s.halted (unmoved s) _ Up (λ t. absurd (false≢true (sym up ∙ t))) (λ t. by input h)
+    where
+      by : (input : Input) → HaltsNone input → Up (input_step space s input)
+      by Tick h = up
+      by Halt h = absurd h
+      by (Deliver id from m) h = up-message from m h
+
+-- what a server tells that hasn't halted is calm
+calm-told : (s : ServerId) (st : ServerState) → st.halted ≡ false → (to : Actor) (m : Message) → Tells s st to m → Calm m
+calm-told s st up to (a_message.Update epoch g u) h = tt
+calm-told s st up to (a_message.Ack epoch g key version) h = tt
+calm-told s st up to (a_message.Reply number version answer) h = tt
+calm-told s st up to (a_message.Found epoch number g rows) h = tt
+calm-told s st up to (a_message.Sealed epoch) h = tt
+calm-told s st up to a_message.Gone h = absurd (false≢true (sym up ∙ h))
+calm-told s st up to (a_message.Ready epoch g) h = tt
+calm-told s st up to (a_message.Snap epoch g snapshot pending) h = tt
+calm-told s st up to (a_message.Install config) h = tt
+calm-told s st up to (a_message.Seal epoch) h = tt
+calm-told s st up to a_message.Die h = absurd h
+calm-told s st up to (a_message.Outcome number answer) h = tt
+calm-told s st up to (a_message.Call epoch number op) h = tt
+calm-told s st up to (a_message.Ask epoch number g terms) h = tt
+calm-told s st up to (a_message.StopServer number server) h = absurd h
+calm-told s st up to (a_message.AddReplica number server g) h = absurd h
+calm-told s st up to (a_message.Poll epoch) h = tt
+
+-- ---- sessions
+
+-- what a session asks whose calls are all on keys or searches
+calm-asked : (script : Script) → NoneAdministers script → (u : SessionId) (s : SessionState) → s.calls ≡ calls_of script u → (m : Message) → Asks s m → Calm m
+calm-asked script none u s calls (a_message.Call epoch number op) h = tt
+calm-asked script none u s calls (a_message.StopServer number server) h =
+    false≢true (sym (none (record { session = u; number = s.begun }) (Stop server) (ap (λ (ops : List Op). numbered ops s.begun) (sym calls) ∙ h.1)))
+calm-asked script none u s calls (a_message.AddReplica number server g) h =
+    false≢true (sym (none (record { session = u; number = s.begun }) (Add server g) (ap (λ (ops : List Op). numbered ops s.begun) (sym calls) ∙ h.1)))
+calm-asked script none u s calls (a_message.Ask epoch number g terms) h = tt
+calm-asked script none u s calls (a_message.Poll epoch) h = tt
+calm-asked script none u s calls (a_message.Reply number version answer) h = absurd h
+calm-asked script none u s calls (a_message.Update epoch g w) h = absurd h
+calm-asked script none u s calls (a_message.Ack epoch g key version) h = absurd h
+calm-asked script none u s calls (a_message.Found epoch number g rows) h = absurd h
+calm-asked script none u s calls (a_message.Seal epoch) h = absurd h
+calm-asked script none u s calls (a_message.Sealed epoch) h = absurd h
+calm-asked script none u s calls (a_message.Install config) h = absurd h
+calm-asked script none u s calls a_message.Die h = absurd h
+calm-asked script none u s calls a_message.Gone h = absurd h
+calm-asked script none u s calls (a_message.Outcome number answer) h = absurd h
+calm-asked script none u s calls (a_message.Snap epoch g snapshot pending) h = absurd h
+calm-asked script none u s calls (a_message.Ready epoch g) h = absurd h
+
+-- ---- the coordinator
+
+-- nobody joins a region of the first configuration
+none-joins : (space : Space) (g : RegionId) (s : ServerId) → lists_joining (first_config space) g s ≡ true → ⊥
+none-joins space g s t =
+    let r = any-in (λ (m : Member). same_server m.server s && not m.ready) (members_of (first_config space) g) t in
+    let a = and_parts (same_server r.0.server s) (not r.0.ready) r.2 in
+    false≢true (sym (ap not (all-ready space g r.0 r.1)) ∙ a.1)
+
+module _ (space : Space) (n : ℕ) where
+  abbrev d : CoordinatorState
+  d = coordinator_at_start space n
+
+  -- the coordinator stays as it started, and what it posts is calm
+  record Rests (step : CoordinatorStep) : Type 0 where
+    pub state : step.state ≡ d
+    pub calm : (p : Post) → IsIn p step.posts → Calm p.message
+
+  nothing : Rests (resting d)
+  nothing = record { state = refl; calm = λ p i. absurd i }
+
+  installs : (to : Actor) → Rests (telling d (post Coordinator to (a_message.Install d.config) ∷ []))
+  installs to = record { state = refl; calm = λ p i. elim i [ inl e ↦ subst (λ (q : Post). Calm q.message) (sym e) tt | inr j ↦ absurd j ] }
+
+  rests-message : (from : Actor) (m : Message) → Calm m → Rests (coordinator_message d from m)
+  rests-message Coordinator (a_message.Sealed epoch) c = nothing
+  rests-message (Session u) (a_message.Sealed epoch) c = nothing
+  rests-message (Server s) (a_message.Sealed epoch) c =
+      cond_both (eqb epoch.0 d.config.epoch.0) _ _ Rests (λ t. nothing)
+      (λ t. cond_both (ltb epoch.0 d.config.epoch.0 && server_in s d.config.servers) _ (resting d) Rests (λ u. installs (Server s)) (λ u. nothing))
+  rests-message Coordinator (a_message.Ready epoch g) c = nothing
+  rests-message (Session u) (a_message.Ready epoch g) c = nothing
+  rests-message (Server s) (a_message.Ready epoch g) c =
+      cond_both (eqb epoch.0 d.config.epoch.0) _ (resting d) Rests
+      (λ t. cond_both (not (is_lost d.config g) && lists_joining d.config g s) _ (resting d) Rests (λ u. absurd (none-joins space g s (and_parts (not (is_lost d.config g)) (lists_joining d.config g s) u).1)) (λ u. nothing))
+      (λ t. nothing)
+  rests-message from (a_message.Poll epoch) c = cond_both (ltb epoch.0 d.config.epoch.0) _ (resting d) Rests (λ t. installs from) (λ t. nothing)
+  rests-message from a_message.Die c = absurd c
+  rests-message from a_message.Gone c = absurd c
+  rests-message from (a_message.StopServer number server) c = absurd c
+  rests-message from (a_message.AddReplica number server g) c = absurd c
+  rests-message from (a_message.Call epoch number op) c = nothing
+  rests-message from (a_message.Reply number version answer) c = nothing
+  rests-message from (a_message.Update epoch g u) c = nothing
+  rests-message from (a_message.Ack epoch g key version) c = nothing
+  rests-message from (a_message.Ask epoch number g terms) c = nothing
+  rests-message from (a_message.Found epoch number g rows) c = nothing
+  rests-message from (a_message.Seal epoch) c = nothing
+  rests-message from (a_message.Install config) c = nothing
+  rests-message from (a_message.Outcome number answer) c = nothing
+  rests-message from (a_message.Snap epoch g snapshot pending) c = nothing
+
+  rests-step : (input : Input) → HaltsNone input → Rests (coordinator_step d input)
+  rests-step Tick h = record { state = refl; calm = λ p i. absurd i }
+  rests-step Halt h = absurd h
+  rests-step (Deliver id from m) h = rests-message from m h
+
+-- ---- runs
+
+module _ (script : Script) (valid : IsScript script) (none : NoneAdministers script) where
+  -- what arrives is calm
+  calm-input : (older : List Entry) → IsQuiet script older → (a : Actor) (input : Input) → MayTake older a input → input ≢ Halt → HaltsNone input
+  calm-input older q a Tick may unhalted = tt
+  calm-input older q a Halt may unhalted = absurd (unhalted refl)
+  calm-input older q a (Deliver id from m) may unhalted = q.calm (post from a m) (arrived id older (post from a m) may)
+
+  module _ (older : List Entry) (q : IsQuiet script older) (x : Entry) (run : IsRun script (x ∷ older)) (unhalted : x.input ≢ Halt) where
+    abbrev before : CoordinatorState
+    before = coordinator_of script older
+
+    calm-all : ((p : Post) → IsIn p x.outputs → Calm p.message) → (p : Post) → IsIn p (posts_of (x ∷ older)) → Calm p.message
+    calm-all f p i = elim (in-append x.outputs (posts_of older) p i) [ inl j ↦ f p j | inr j ↦ q.calm p j ]
+
+    of-coordinator : x.actor ≡ Coordinator → IsQuiet script (x ∷ older)
+    of-coordinator acts =
+        let made : made_of script older Coordinator x.input ≡ record { posts = x.outputs; notes = x.notes } = subst (λ (a : Actor). made_of script older a x.input ≡ record { posts = x.outputs; notes = x.notes }) acts run.0.made in
+        let h = calm-input older q x.actor x.input run.0.input unhalted in
+        let r = rests-step script.space (length script.sessions) x.input h in
+        record {
+          rests = ap (λ (a : Actor). coordinator_after a x.input before) acts ∙ ap (λ (c : CoordinatorState). (coordinator_step c x.input).state) q.rests ∙ r.state;
+          up = λ s. ap (λ (a : Actor). (server_after script.space s a x.input (server_of script s older)).halted) acts ∙ q.up s;
+          calm = calm-all (λ p i. r.calm p (subst (λ (ps : List Post). IsIn p ps) (sym (ap (λ (m : Made). m.posts) made) ∙ ap (λ (c : CoordinatorState). (coordinator_step c x.input).posts) q.rests) i));
+        }
+
+    of-server : (i : ServerId) → x.actor ≡ Server i → IsQuiet script (x ∷ older)
+    of-server i acts =
+        let made : made_of script older (Server i) x.input ≡ record { posts = x.outputs; notes = x.notes } = subst (λ (a : Actor). made_of script older a x.input ≡ record { posts = x.outputs; notes = x.notes }) acts run.0.made in
+        let may : MayTake older (Server i) x.input = subst (λ (a : Actor). MayTake older a x.input) acts run.0.input in
+        let real : is_actor script (Server i) ≡ true = ap (is_actor script) (sym acts) ∙ run.0.actor in
+        let h = calm-input older q x.actor x.input run.0.input unhalted in
+        let does = server-does-well script valid older (epochs-run script valid older run.1) i x.input real (q.up i) may in
+        let still = up-step script.space (server_of script i older) (q.up i) x.input h in
+        record {
+          rests = ap (λ (a : Actor). coordinator_after a x.input before) acts ∙ q.rests;
+          up = λ s. ap (λ (a : Actor). (server_after script.space s a x.input (server_of script s older)).halted) acts
+              ∙ cond_both (same_server i s) (server_step script.space (server_of script s older) x.input).state (server_of script s older) (λ (w : ServerState). w.halted ≡ false)
+              (λ t. up-step script.space (server_of script s older) (q.up s) x.input h) (λ t. q.up s);
+          calm = calm-all (λ p j. calm-told i (server_step script.space (server_of script i older) x.input).state still p.to p.message
+              (does.posts p (subst (λ (ps : List Post). IsIn p ps) (sym (ap (λ (m : Made). m.posts) made)) j)).1);
+        }
+
+    of-session : (u : SessionId) → x.actor ≡ Session u → IsQuiet script (x ∷ older)
+    of-session u acts =
+        let does = subst (SessionDoes script.space x.input (session_of script u older)) (step_is script older x u run.0 acts) (session-does script.space (session_of script u older) x.input) in
+        record {
+          rests = ap (λ (a : Actor). coordinator_after a x.input before) acts ∙ q.rests;
+          up = λ s. ap (λ (a : Actor). (server_after script.space s a x.input (server_of script s older)).halted) acts ∙ q.up s;
+          calm = calm-all (λ p i. calm-asked script none u does.mid (does.calls ∙ (named script older u).1) p.message (does.goes.posts p i).1);
+        }
+
+    pub quiet-entry : IsQuiet script (x ∷ older)
+    quiet-entry = by x.actor refl
+      where
+        by : (a : Actor) → x.actor ≡ a → IsQuiet script (x ∷ older)
+        by Coordinator e = of-coordinator e
+        by (Server i) e = of-server i e
+        by (Session u) e = of-session u e
+
+  -- every such run stays so
+  pub quiet : (t : List Entry) → IsRun script t → NoHalts t → IsQuiet script t
+  quiet [] run unhalted = record { rests = refl; up = λ s. refl; calm = λ p i. absurd i }
+  quiet (x ∷ older) run unhalted = quiet-entry older (quiet older run.1 (λ y i. unhalted y (inr i))) x run (unhalted x (inl refl))
+
+  -- and the first configuration is the only one
+  pub only-first : (t : List Entry) → IsRun script t → NoHalts t → (epoch : Epoch) (config : Config) → config_of script epoch t ≡ Some config → config ≡ first_config script.space
+  only-first t run unhalted epoch config e =
+      let q = quiet t run unhalted in
+      let known = (epochs-run script valid t run).known in
+      let only = known.on.only epoch config e in
+      let first : (coordinator_of script t).config ≡ first_config script.space = ap (λ (c : CoordinatorState). c.config) q.rests in
+      let newest : config_of script (first_config script.space).epoch t ≡ Some (first_config script.space) = subst (λ (c : Config). config_of script c.epoch t ≡ Some c) first known.newest in
+      let low = only.0 in
+      let high = only.1 in
+      let top : (coordinator_of script t).config.epoch.0 ≡ 1 = ap (λ (c : Config). c.epoch.0) first in
+      let one : epoch.0 ≡ 1 = omega (arith, low, high, top) in
+      let same : epoch ≡ (first_config script.space).epoch = (λ j. record { 0 = one j }) in
+      let both : Some config ≡ Some (first_config script.space) = sym e ∙ ap (λ (w : Epoch). config_of script w t) same ∙ newest in
+      cc

@@ -1,0 +1,5 @@
+pub mod Decimals
+pub mod Words
+pub mod Sayings
+pub mod Runs
+pub mod Soaks

@@ -1,0 +1,17 @@
+-- The limits of commands.
+use Rattle.std.specs.Prelude.{◌≤◌}
+use Rattle.hx_types.specs.declared.limits.TheConstants.{MOST_CALLS}
+use Rattle.hx_words.specs.declared.commands.Run.{Run}
+use Rattle.hx_words.specs.declared.commands.Soak.{Soak}
+
+pub record IsRun (run : Run) : Type 0 where
+  pub some_workers : 1 ≤ run.workers
+  pub workers : run.workers ≤ 16
+  pub lose : run.lose ≤ 1000000
+  pub repeat : run.repeat ≤ 1000000
+
+pub record IsSoak (soak : Soak) : Type 0 where
+  pub some_calls : 1 ≤ soak.calls
+  pub calls : soak.calls ≤ MOST_CALLS
+  pub some_workers : 1 ≤ soak.workers
+  pub workers : soak.workers ≤ 16

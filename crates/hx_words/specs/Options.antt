@@ -1,0 +1,39 @@
+-- Options, their words and limits, and what they choose one after the other.
+use Rattle.std.specs.Prelude.{ℕ, ◌≡◌, ◌≤◌, true, false, List, [], ◌∷◌, Some, None, codes, ⊤}
+use Rattle.std.specs.Fmt.{decimal}
+use Rattle.hx_words.specs.declared.options.CommandOption.{CommandOption}
+use Rattle.hx_words.specs.declared.options.CommandOption.TheVariants.{Workers, Lose, Repeat, Trace}
+use Rattle.hx_words.specs.declared.choosing.Chosen.{Chosen}
+
+-- the words of an option: its name, and its value in a word of its own
+abbrev pub words_of : CommandOption → List (List ℕ)
+words_of (Workers n) = codes "--workers" ∷ decimal n ∷ []
+words_of (Lose n) = codes "--lose" ∷ decimal n ∷ []
+words_of (Repeat n) = codes "--repeat" ∷ decimal n ∷ []
+words_of Trace = codes "--trace" ∷ []
+
+-- its value is within its limits
+abbrev pub IsWithin : CommandOption → Type 0
+IsWithin (Workers n) = (1 ≤ n) × (n ≤ 16)
+IsWithin (Lose n) = n ≤ 1000000
+IsWithin (Repeat n) = n ≤ 1000000
+IsWithin Trace = ⊤
+
+-- it isn't chosen yet
+abbrev pub IsFree : Chosen → CommandOption → Type 0
+IsFree chosen (Workers n) = chosen.workers ≡ None
+IsFree chosen (Lose n) = chosen.lose ≡ None
+IsFree chosen (Repeat n) = chosen.repeat ≡ None
+IsFree chosen Trace = chosen.with_trace ≡ false
+
+-- what is chosen once it is
+abbrev pub choosing : Chosen → CommandOption → Chosen
+choosing chosen (Workers n) = record chosen { workers = Some n }
+choosing chosen (Lose n) = record chosen { lose = Some n }
+choosing chosen (Repeat n) = record chosen { repeat = Some n }
+choosing chosen Trace = record chosen { with_trace = true }
+
+-- options choose this one after the other: each is within its limits, and wasn't chosen before
+abbrev pub Choose : Chosen → List CommandOption → Chosen → Type 0
+Choose before [] after = before ≡ after
+Choose before (option ∷ options) after = IsWithin option × IsFree before option × Choose (choosing before option) options after

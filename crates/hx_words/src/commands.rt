@@ -1,0 +1,91 @@
+//! The commands, and the words that say them.
+
+ghost use Rattle.std.specs.Prelude.{ℕ, ◌≡◌, ◌↔◌, IfSome, unwrap_or};
+ghost use Rattle.hx_words.specs.Limits.{IsRun, IsSoak};
+ghost use Rattle.hx_words.specs.Saying.{OnlyWorkers, SaysRun, SaysSoak, run_by};
+
+use crate::choosing::{Chosen, chosen_by};
+use crate::numbers::{number_of, number_within};
+use hx_types::MOST_CALLS;
+
+/// The threads that drive the actors where no number of them is said.
+const WORKERS: u32 = 2;
+
+/// How a script is to be run by threads.
+#[derive(Clone, Copy, PartialEq, Eq)]
+pub struct Run {
+    /// How many threads drive the actors, from 1 to 16.
+    pub workers: u32,
+    /// Of so many posts between actors one is lost, from 1 to 1,000,000; 0 stands for never.
+    pub lose: u32,
+    /// Of so many posts between actors one is repeated, from 1 to 1,000,000; 0 stands for never.
+    pub repeat: u32,
+    /// Whether the trace is written too.
+    pub with_trace: bool,
+}
+
+/// How the store is to be soaked in a workload drawn from a number.
+#[derive(Clone, Copy, PartialEq, Eq)]
+pub struct Soak {
+    /// The number that the workload is drawn from.
+    pub seed: u64,
+    /// How many calls each session makes, from 1 to 16,384.
+    pub calls: u32,
+    /// How many threads drive the actors, from 1 to 16.
+    pub workers: u32,
+}
+
+/// The run that the words say: `run` and its options, and no other beside them.
+pub fn run_of(words: &[String]) -> Option<Run>
+    ensures said { (run : Run) → (result ≡ Some run) ↔ SaysRun words.now run }
+    ensures limits { IfSome result IsRun }
+{
+    let [command, options @ ..] = words else {
+        return None;
+    };
+    if command.as_str() != "run" {
+        return None;
+    }
+    Some(run_by(chosen_by(options)?))
+}
+
+/// The run that options choose, with the defaults of what they leave out.
+fn run_by(chosen: Chosen) -> Run
+    ensures { result ≡ run_by chosen }
+{
+    Run {
+        workers: chosen.workers.unwrap_or(WORKERS),
+        lose: chosen.lose.unwrap_or(0),
+        repeat: chosen.repeat.unwrap_or(0),
+        with_trace: chosen.with_trace,
+    }
+}
+
+/// The soak that the words say: `soak`, its seed and calls, and its option, and no other beside them.
+pub fn soak_of(words: &[String]) -> Option<Soak>
+    ensures said { (soak : Soak) → (result ≡ Some soak) ↔ SaysSoak words.now soak }
+    ensures limits { IfSome result IsSoak }
+{
+    let [command, seed, calls, options @ ..] = words else {
+        return None;
+    };
+    if command.as_str() != "soak" {
+        return None;
+    }
+    let chosen = chosen_by(options)?;
+    Some(Soak {
+        seed: number_of(seed.as_str())?,
+        calls: number_within(calls.as_str(), 1, MOST_CALLS as u32)?,
+        workers: workers_alone(chosen)?,
+    })
+}
+
+/// How many threads options choose, where they choose nothing else.
+fn workers_alone(chosen: Chosen) -> Option<u32>
+    ensures { (workers : ℕ) → (result ≡ Some workers) ↔ (OnlyWorkers chosen × (workers ≡ unwrap_or chosen.workers 2)) }
+{
+    if chosen.lose.is_some() || chosen.repeat.is_some() || chosen.with_trace {
+        return None;
+    }
+    Some(chosen.workers.unwrap_or(WORKERS))
+}

@@ -1,0 +1,23 @@
+//! The words of the commands that start threads: `run` and `soak`.
+//!
+//! - `run [--workers W] [--lose N] [--repeat N] [--trace]`
+//! - `soak SEED CALLS [--workers W]`
+//!
+//! Options stand behind the command and its numbers, in any order and each at most once, and a value
+//! stands in a word of its own. A number is decimal digits without a leading zero, but for `0`
+//! itself. W is from 1 to 16, and 2 where it isn't said; N is from 0 to 1,000,000, and 0 where it
+//! isn't said, which stands for never. SEED is any `u64`, and CALLS is from 1 to 16,384. Any other
+//! words are no command. All this is this project's choice.
+//!
+//! No function here takes memory.
+#![tactic(auto)]
+
+mod choosing;
+mod commands;
+mod numbers;
+mod options;
+
+pub use commands::{Run, Soak, run_of, soak_of};
+
+#[cfg(test)]
+mod tests;
