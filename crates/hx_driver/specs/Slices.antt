@@ -1,5 +1,5 @@
 -- What a slice and a retry of a driver leave.
-use Rattle.std.specs.Prelude.{ℕ, ◌≡◌, ◌⊎◌, ◌≤◌, List, [], ◌∷◌, None, ⊤}
+use Rattle.std.specs.Prelude.{ℕ, zero, suc, ◌≡◌, ◌⊎◌, ◌≤◌, List, [], ◌∷◌, None, ⊤}
 use Rattle.hx_types.specs.declared.traces.Script.{Script}
 use Rattle.hx_outbox.specs.Outboxes.{MorePut}
 use Rattle.hx_outbox.specs.Zipped.{Both}
@@ -27,3 +27,11 @@ MayHaveRetried script d d' = HasRetried script d d' ⊎ (d'.part.items ≡ d.par
 pub record HaveRetried (script : Script) (c c' : Crew) : Type 0 where
   pub calm : c'.fault ≡ None → Both (HasRetried script) c.desks.items c'.desks.items
   pub some : Both (MayHaveRetried script) c.desks.items c'.desks.items
+
+-- the first n actors did what is said, and the others nothing
+abbrev pub DoneTo : (Desk → Desk → Type 0) → ℕ → List Desk → List Desk → Type 0
+DoneTo R n [] [] = ⊤
+DoneTo R n [] (e ∷ es) = ⊥
+DoneTo R n (d ∷ ds) [] = ⊥
+DoneTo R zero (d ∷ ds) (e ∷ es) = (e ≡ d) × DoneTo R zero ds es
+DoneTo R (suc n) (d ∷ ds) (e ∷ es) = R d e × DoneTo R n ds es

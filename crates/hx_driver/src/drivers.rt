@@ -5,6 +5,8 @@ ghost use Rattle.hx_driver.specs.Crews.{IsCrew, IsPosted};
 ghost use Rattle.hx_driver.specs.Slices.{HaveNoRetry, HaveRetried, IsLaterCrew};
 
 use crate::crews::Crew;
+use crate::retrying::retry_each;
+use crate::turning::rounds;
 use hx_clock::Clock;
 use hx_desk::{Fault, Gate};
 use hx_fate::Fate;
@@ -48,6 +50,17 @@ impl Driver {
         ensures posted { IsPosted self.old.crew self.new.crew (record { chosen = choices self.old.fate; lost = losses self.old.fate; doubled = repeats self.old.fate }) (record { chosen = choices self.new.fate; lost = losses self.new.fate; doubled = repeats self.new.fate }) }
         ensures retries { HaveNoRetry self.old.crew self.new.crew }
     {
+        rounds(
+            rt,
+            alloc,
+            script,
+            clock,
+            boxes,
+            gate,
+            &mut self.crew,
+            &mut self.fate,
+            turns,
+        );
     }
 
     /// Ticks once, in their order, each of its actors that waits: one that hasn't halted, is no
@@ -69,5 +82,15 @@ impl Driver {
         ensures posted { IsPosted self.old.crew self.new.crew (record { chosen = choices self.old.fate; lost = losses self.old.fate; doubled = repeats self.old.fate }) (record { chosen = choices self.new.fate; lost = losses self.new.fate; doubled = repeats self.new.fate }) }
         ensures retried { HaveRetried script.now self.old.crew self.new.crew }
     {
+        retry_each(
+            rt,
+            alloc,
+            script,
+            clock,
+            boxes,
+            gate,
+            &mut self.crew,
+            &mut self.fate,
+        );
     }
 }

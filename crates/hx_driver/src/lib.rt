@@ -9,6 +9,8 @@
 
 mod crews;
 mod drivers;
+mod retrying;
+mod turning;
 
 pub use crews::Crew;
 pub use drivers::Driver;

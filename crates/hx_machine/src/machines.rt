@@ -54,7 +54,7 @@ impl Machine {
     pub fn prepare(&mut self, alloc: Global, input: &Input) -> Result<Plan, Memory>
         requires { (script : ScriptSeen) × (a : ActorSeen) × (past : List Stamped) × IsMachine script a (entries_in past) self.old × CanTake script a past input.now }
         ensures plan { IfOk result (IsPlanOn self.new) }
-        ensures step { IfOk result (λ plan. (script : ScriptSeen) (a : ActorSeen) (past : List EntrySeen) → IsMachine script a past self.old → IsStepOf script a past input.now (entry_in plan)) }
+        ensures step { IfOk result (λ plan. (script : ScriptSeen) (a : ActorSeen) (past : List Stamped) → IsMachine script a (entries_in past) self.old → CanTake script a past input.now → IsStepOf script a (entries_in past) input.now (entry_in plan)) }
         ensures state { (script : ScriptSeen) (a : ActorSeen) (past : List EntrySeen) → IsMachine script a past self.old → IsMachine script a past self.new }
     {
         match self {
