@@ -2,3 +2,6 @@ pub mod Heard
 pub mod Taking
 pub mod Taken
 pub mod Results
+pub mod Made
+pub mod Turned
+pub mod Waiting
