@@ -1,6 +1,8 @@
 -- What was taken from a box, and its counts.
 use Rattle.std.proofs.Common.{◌≡◌, ◌≢◌, ℕ, zero, suc, ◌+◌, ◌<◌, ◌≤◌, Bool, true, false, cond, eqb, List, [], ◌∷◌, ◌++◌, map, length, slice_index_or, slice_set, Some, refl, ap, sym, ◌∙◌, arith, length-append}
-use Rattle.std.specs.List.{AllByRecursion}
+use Rattle.std.specs.Prelude.{nat_lt}
+use Rattle.std.specs.List.{list_all, AllByRecursion}
+use Rattle.std.proofs.lemmas.Bool.{and_parts, ltb-true}
 use Rattle.hx_types.specs.declared.ids.Actor.{Actor}
 use Rattle.hx_types.specs.declared.limits.TheConstants.{MOST_ENTRIES}
 use Rattle.hx_types.specs.declared.traces.Input.{Input}
@@ -81,3 +83,10 @@ few-counts k (n ∷ ns) ins few h = (omega (arith, h.0, put-short k ins, few), f
 pub can-count : (xs : List Stamped) (ins : List Sent) (ns : List ℕ) → told xs ++ [] ≡ map (λ s. s.mailed) ins → length xs ≤ MOST_ENTRIES → IsHeardFrom 0 ns ins → CanCount ns
 can-count xs ins ns e few h =
     few-counts 0 ns ins (omega (arith, ap length e, length-append (told xs) [], map-length (λ (s : Sent). s.mailed) ins, told-short xs, few)) h
+
+-- each count was found to be small
+pub counted : (ns : List ℕ) → list_all (λ n. nat_lt n 18446744073709551615) ns ≡ true → CanCount ns
+counted [] e = tt
+counted (n ∷ ns) e =
+    let both = and_parts (nat_lt n 18446744073709551615) (list_all (λ n. nat_lt n 18446744073709551615) ns) e in
+    (ltb-true n 18446744073709551615 both.0, counted ns both.1)

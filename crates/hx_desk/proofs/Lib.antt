@@ -5,3 +5,4 @@ pub mod Results
 pub mod Made
 pub mod Turned
 pub mod Waiting
+pub mod Same

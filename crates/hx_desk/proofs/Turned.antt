@@ -50,8 +50,8 @@ turn-both boxes d e f o p q t u k l xs a b = record {
 
 -- one more entry, which is no retry
 pub no-retry-one : (d d' : Desk) (x : Stamped) → d'.part.items ≡ d.part.items ++ x ∷ [] → is_retry x.entry ≡ false → HasNoRetry d d'
-no-retry-one d d' x is no n y le at =
-    ⊎_elim (λ (e : slice_get d.part.items n ≡ Some y). let l = get-below d.part.items n y e in absurd (omega (arith, l, le))) (λ (e : (n ≡ length d.part.items) × (x ≡ y)). ap (λ (z : Stamped). is_retry z.entry) (sym e.1) ∙ no)
+no-retry-one d d' x is not_one n y le at =
+    ⊎_elim (λ (e : slice_get d.part.items n ≡ Some y). let l = get-below d.part.items n y e in absurd (omega (arith, l, le))) (λ (e : (n ≡ length d.part.items) × (x ≡ y)). ap (λ (z : Stamped). is_retry z.entry) (sym e.1) ∙ not_one)
     (get-snoc d.part.items x n y (ap (λ l. slice_get l n) (sym is) ∙ at))
 
 pub no-retry-none : (d d' : Desk) → d'.part.items ≡ d.part.items → HasNoRetry d d'
@@ -60,3 +60,7 @@ no-retry-none d d' is n y le at = let l = get-below d.part.items n y (ap (λ l. 
 -- no retry in two halves, of which the first makes no entry
 pub no-retry-both : (d e f : Desk) → e.part.items ≡ d.part.items → HasNoRetry e f → HasNoRetry d f
 no-retry-both d e f part h n y le at = h n y (subst (λ l. length l ≤ n) (sym part) le) at
+
+-- nothing was done
+pub turn-self : (boxes : List Boxed) (d : Desk) (o : Outbox) (t : Totals) (f : FateCounts) → IsOutbox boxes o → IsTotal t → IsTurn boxes d d o o t t f f []
+turn-self boxes d o t f out total = turn-none boxes d d o t f refl refl refl (begins-refl (ins_of d.inbox)) out total

@@ -1,6 +1,6 @@
 -- Which ticks begin a call, and which are retries.
 use Rattle.std.proofs.Common.{◌≡◌, ℕ, zero, suc, ◌+◌, ◌<◌, ◌≤◌, ⊎_elim, Bool, true, false, nat_lt, List, [], ◌∷◌, ◌++◌, length, Option, Some, None, slice_get, refl, ap, sym, subst, ◌∙◌, arith}
-use Rattle.std.specs.Prelude.{is_empty, not, ◌&&◌}
+use Rattle.std.specs.Prelude.{not, ◌&&◌}
 use Rattle.std.specs.List.{list_any}
 use Rattle.std.proofs.lemmas.Bool.{and_from, and_parts, cond_both, lt-ltb, ltb-true, not-true, true≢false}
 use Rattle.hx_types.specs.declared.calls.Op.{Op}
@@ -143,7 +143,7 @@ and-parts false false true e = (refl, refl, refl)
 and-parts false false false e = absurd (true≢false (sym e))
 
 pub retried-none : (script : Script) (d d' : Desk) → (is_waiting script (entries_before d.part.items) d.actor ≡ true → ⊥) → d'.part.items ≡ d.part.items → HasRetried script d d'
-retried-none script d d' no same = record { waiting = λ e. absurd (no e); other = λ e. same }
+retried-none script d d' never same = record { waiting = λ e. absurd (never e); other = λ e. same }
 
 pub waits-runs : (script : Script) (d : Desk) → is_waiting script (entries_before d.part.items) d.actor ≡ true → has_halted script (entries_before d.part.items) d.actor ≡ true → ⊥
 waits-runs script d e h = true≢false (sym h ∙ (and-parts _ _ _ e).0)

@@ -1,4 +1,5 @@
-ghost use Rattle.std.specs.Prelude.{ℕ, ◌≡◌, true, false, List, [], MatchResult, length, ⊤};
+ghost use Rattle.std.specs.Prelude.{ℕ, ◌≡◌, nat_lt, true, false, List, [], MatchResult, length, ⊤};
+ghost use Rattle.std.specs.List.{list_all};
 ghost use Rattle.hx_types.specs.Fitting.{IsScript};
 ghost use Rattle.hx_model.specs.Runs.{has_halted};
 ghost use Rattle.hx_clock.specs.declared.parts.Stamped.{Stamped};
@@ -46,6 +47,13 @@ fn resend<R: Wait>(
     put_kept(rt, script, clock, boxes, out, &mut desk.kept);
 }
 
+/// Whether each count can be raised. What a halted server takes isn't bounded by its entries.
+fn can_count(heard: &[u64]) -> bool
+    ensures { result ≡ list_all (λ n. nat_lt n 18446744073709551615) heard.now }
+{
+    heard.iter().all(|count| *count < u64::MAX)
+}
+
 /// Takes an envelope for a server that has halted, and drops it.
 fn discard<R: Wait>(
     rt: &R,
@@ -60,14 +68,12 @@ fn discard<R: Wait>(
     ensures taken { HasTaken desk.old desk.new }
     ensures fault { MatchResult result (λ _. ⊤) (λ fault. fault ≡ a_fault.Memory) }
 {
-    if desk.heard.contains(&u64::MAX) {
-        return Err(Fault::Memory);
+    if can_count(desk.heard.as_slice()) {
+        drop(receive(rt, script, clock, boxes, desk));
+        Ok(())
+    } else {
+        Err(Fault::Memory)
     }
-    match receive(rt, script, clock, boxes, desk) {
-        Some(input) => drop(input),
-        None => {}
-    }
-    Ok(())
 }
 
 /// Lets a session begin its next call, where it can. No other actor does anything.
