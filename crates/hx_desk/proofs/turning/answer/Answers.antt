@@ -1,7 +1,7 @@
 use Rattle.std.proofs.Common.{◌≡◌, ◌∙◌, refl, sym, ap, subst, [], ◌∷◌, ◌++◌, append-nil, false, true}
 use Rattle.hx_types.specs.declared.ids.Actor.{Actor}
 use Rattle.hx_law_threads.specs.Cuts.{is_retry}
-use Rattle.hx_model.specs.Runs.{has_halted}
+use Rattle.hx_model.specs.Runs.{has_halted, made_of}
 use Rattle.hx_desk.specs.Desks.{entries_before, told_by, IsDesk}
 use Rattle.hx_desk.proofs.Heard.{can-count}
 use Rattle.hx_desk.proofs.Results.{match-elim, match-map}
@@ -48,7 +48,7 @@ returns-in-Some-clause-turn g c =
 pub returns-in-Some-clause-retries : goal.returns-in-Some-clause-retries
 returns-in-Some-clause-retries g c =
     no-retry-both c.args.desk.now c.receive.new.desk c.enter.new.desk c.receive.ensures.taken.part
-    (match-elim _ _ _ c.enter.result (λ _ k. no-retry-one c.receive.new.desk c.enter.new.desk k.0 k.2.part (ap is_retry k.1 ∙ no-tick c.receive.new.desk.actor c.in-Some.input _ c.in-Some.ensures.given.1))
+    (match-elim _ _ _ c.enter.result (λ _ k. no-retry-one c.receive.new.desk c.enter.new.desk k.0 k.2.part (ap is_retry k.1 ∙ no-tick c.receive.new.desk.actor c.in-Some.input (made_of c.args.script.now (entries_before c.receive.new.desk.part.items) c.receive.new.desk.actor c.in-Some.input) c.in-Some.ensures.given.1))
     (λ _ k. no-retry-none c.receive.new.desk c.enter.new.desk (k.part ∙ append-nil _)) c.enter.ensures.turn)
 
 pub begin-requires-clause-desk : goal.begin-requires-clause-desk
