@@ -1,6 +1,6 @@
 -- Which ticks begin a call, and which are retries.
-use Rattle.std.proofs.Common.{◌≡◌, ℕ, zero, suc, ◌+◌, ◌<◌, ◌≤◌, ⊎_elim, Bool, true, false, nat_lt, List, [], ◌∷◌, ◌++◌, length, Option, Some, None, slice_get, refl, ap, sym, subst, ◌∙◌, arith}
-use Rattle.std.specs.Prelude.{not, ◌&&◌}
+use Rattle.std.proofs.Common.{◌≡◌, ℕ, zero, suc, ◌+◌, ◌<◌, ◌≤◌, ◌⊎◌, inl, inr, ⊎_elim, Bool, true, false, nat_lt, List, [], ◌∷◌, ◌++◌, length, Option, Some, None, slice_get, refl, ap, sym, subst, ◌∙◌, arith}
+use Rattle.std.specs.Prelude.{not, ◌&&◌, ◌||◌}
 use Rattle.std.specs.List.{list_any}
 use Rattle.std.proofs.lemmas.Bool.{and_from, and_parts, cond_both, lt-ltb, ltb-true, not-true, true≢false}
 use Rattle.hx_types.specs.declared.calls.Op.{Op}
@@ -163,3 +163,26 @@ retried-one script d d' x h i m is part =
       waiting = λ e. (x, ap is_retry is ∙ tick-retries script (entries_before d.part.items) d.actor i, part);
       other = λ e. absurd (true≢false (sym waits ∙ e));
     }
+
+or-none : (x y : Bool) → x || y ≡ false → (x ≡ false) × (y ≡ false)
+or-none true y e = absurd (true≢false e)
+or-none false y e = (refl, e)
+
+or-some : (x y : Bool) → x || y ≡ true → (x ≡ true) ⊎ (y ≡ true)
+or-some true y e = inl refl
+or-some false y e = inr e
+
+-- an actor that doesn't rest
+pub not-resting : (script : Script) (own : List Entry) (a : Actor) → has_halted script own a || is_idle_actor script own a ≡ false → (has_halted script own a ≡ false) × (is_idle_actor script own a ≡ false)
+not-resting script own a e = or-none (has_halted script own a) (is_idle_actor script own a) e
+
+-- one that rests doesn't wait
+pub retried-resting : (script : Script) (d : Desk) → has_halted script (entries_before d.part.items) d.actor || is_idle_actor script (entries_before d.part.items) d.actor ≡ true → HasRetried script d d
+retried-resting script d e =
+    retried-none script d d
+    (λ w. ⊎_elim (λ h. waits-runs script d w h) (λ h. waits-busy script d w h) (or-some (has_halted script (entries_before d.part.items) d.actor) (is_idle_actor script (entries_before d.part.items) d.actor) e))
+    refl
+
+pub not-none : (b : Bool) → not b ≡ false → b ≡ true
+not-none true e = refl
+not-none false e = absurd (true≢false e)

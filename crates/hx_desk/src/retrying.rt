@@ -1,12 +1,14 @@
-ghost use Rattle.std.specs.Prelude.{ℕ, ◌≡◌, true, false, List, [], MatchResult, length, ⊤};
+ghost use Rattle.std.specs.Prelude.{ℕ, ◌≡◌, true, false, List, [], MatchResult, length, ◌||◌, ⊤};
+ghost use Rattle.hx_types.specs.declared.ids.Actor.{Actor as ActorSeen};
+ghost use Rattle.hx_types.specs.declared.traces.Entry.{Entry as EntrySeen};
+ghost use Rattle.hx_types.specs.declared.traces.Script.{Script as ScriptSeen};
 ghost use Rattle.hx_types.specs.declared.traces.Input.TheVariants.{Tick};
 ghost use Rattle.hx_types.specs.Fitting.{IsScript};
 ghost use Rattle.hx_model.specs.Runs.{has_halted, makes_enough};
 ghost use Rattle.hx_clock.specs.declared.parts.Stamped.{Stamped};
 ghost use Rattle.hx_law_threads.specs.Cuts.{is_idle_actor};
 ghost use Rattle.hx_mail.specs.declared.views.Mailed.{Mailed};
-ghost use Rattle.hx_machine.specs.declared.plans.Plan.{Plan as PlanSeen};
-ghost use Rattle.hx_machine.specs.Machines.{entry_in};
+ghost use Rattle.hx_machine.specs.Machines.{IsMachine, entry_in};
 ghost use Rattle.hx_outbox.specs.Outboxes.{IsOutbox};
 ghost use Rattle.hx_outbox.specs.Places.{AreBoxes};
 ghost use Rattle.hx_desk.specs.Desks.{HasRetried, IsDesk, IsWholeDesk, entries_before};
@@ -20,12 +22,19 @@ use crate::gates::Gate;
 use crate::preparing::{foresee, is_worn};
 use hx_clock::Clock;
 use hx_fate::Fate;
-use hx_machine::Plan;
+use hx_machine::{Machine, Plan};
 use hx_mail::Mailbox;
 use hx_outbox::Outbox;
 use hx_types::{Input, Script, Totals};
 use std::alloc::Global;
 use std::sync::Wait;
+
+/// Whether the actor has halted, or is a session that can begin its next call.
+fn rests(machine: &Machine) -> bool
+    ensures { (script : ScriptSeen) (a : ActorSeen) (past : List EntrySeen) → IsMachine script a past machine.now → result ≡ (has_halted script past a || is_idle_actor script past a) }
+{
+    machine.halted() || machine.idle()
+}
 
 /// Whether a step posts or notes anything.
 fn makes_anything(plan: &Plan) -> bool
@@ -130,7 +139,7 @@ pub fn retry<R: Wait, G: Gate>(
     ensures fault { MatchResult result (λ _. ⊤) (λ fault. IsFaultOf desk.new fault) }
     ensures turn { (xs : List Stamped) × IsTurn boxes.now desk.old desk.new out.old out.new totals.old totals.new (record { chosen = choices fate.old; lost = losses fate.old; doubled = repeats fate.old }) (record { chosen = choices fate.new; lost = losses fate.new; doubled = repeats fate.new }) xs }
 {
-    if desk.machine.halted() || desk.machine.idle() {
+    if rests(&desk.machine) {
         Ok(())
     } else {
         tick(
