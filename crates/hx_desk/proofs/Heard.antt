@@ -1,7 +1,7 @@
 -- What was taken from a box, and its counts.
-use Rattle.std.proofs.Common.{◌≡◌, ◌≢◌, ℕ, zero, suc, ◌+◌, ◌<◌, ◌≤◌, Bool, true, false, cond, eqb, List, [], ◌∷◌, ◌++◌, map, length, slice_index_or, slice_set, Some, refl, ap, sym, ◌∙◌, arith, length-append}
+use Rattle.std.proofs.Common.{◌≡◌, ◌≢◌, ℕ, zero, suc, ◌+◌, ◌<◌, ◌≤◌, Bool, true, false, cond, eqb, List, [], ◌∷◌, ◌++◌, map, length, slice_index_or, slice_set, Some, ap, sym, ◌∙◌, arith, length-append}
 use Rattle.std.specs.Prelude.{nat_lt}
-use Rattle.std.specs.List.{list_all, AllByRecursion}
+use Rattle.std.specs.List.{list_all}
 use Rattle.std.proofs.lemmas.Bool.{and_parts, ltb-true}
 use Rattle.hx_types.specs.declared.ids.Actor.{Actor}
 use Rattle.hx_types.specs.declared.limits.TheConstants.{MOST_ENTRIES}
@@ -59,12 +59,6 @@ take-in w box p q s h of e =
     let v : q.view ≡ port 0 (Some box.names) (lists_of 0 [] (ins_of p ++ s ∷ []) ∷ []) (Some w) = e ∙ ap (after_take s) h.view in
     let o : ins_of q ≡ ins_of p ++ s ∷ [] = ap (λ (x : PortView). taken_first x.lists) v in
     (record { of = of; view = v ∙ ap (λ is. port 0 (Some box.names) (lists_of 0 [] is ∷ []) (Some w)) (sym o) }, o)
-
--- the port where there was none
-pub none-in : (w : ℕ) (box : Boxed) (p q : Ported) → IsInPort w box p → IsPortOf box q → q.view ≡ p.view → IsInPort w box q × (ins_of q ≡ ins_of p)
-none-in w box p q h of e =
-    let o : ins_of q ≡ ins_of p = ap (λ (x : PortView). taken_first x.lists) e in
-    (record { of = of; view = e ∙ h.view ∙ ap (λ is. port 0 (Some box.names) (lists_of 0 [] is ∷ []) (Some w)) (sym o) }, o)
 
 told-one : (a : Actor) (i : Input) → length (told_by a i) ≤ 1
 told-one a Tick = omega arith

@@ -1,17 +1,15 @@
 -- An actor at its desk after one more entry.
-use Rattle.std.proofs.Common.{◌≡◌, ℕ, zero, suc, ◌+◌, ◌<◌, ◌≤◌, inl, inr, true, false, List, [], ◌∷◌, ◌++◌, map, length, refl, ap, sym, subst, ◌∙◌, arith, length-append, append-nil, append_assoc}
+use Rattle.std.proofs.Common.{◌≡◌, ℕ, suc, ◌+◌, ◌<◌, inl, true, List, [], ◌∷◌, ◌++◌, length, refl, ap, sym, subst, ◌∙◌, append-nil, append_assoc}
 use Rattle.std.specs.List.{AllByRecursion}
 use Rattle.hx_types.specs.declared.ids.Actor.{Actor}
-use Rattle.hx_types.specs.declared.limits.TheConstants.{MOST_ENTRIES}
 use Rattle.hx_types.specs.declared.messages.Post.{Post}
-use Rattle.hx_types.specs.declared.messages.PostId.{PostId}
 use Rattle.hx_types.specs.declared.traces.Entry.{Entry}
 use Rattle.hx_types.specs.declared.traces.Input.{Input}
 use Rattle.hx_types.specs.declared.traces.Input.TheVariants.{Tick, Halt, Deliver}
 use Rattle.hx_types.specs.declared.traces.Script.{Script}
 use Rattle.hx_types.specs.Posts.{IsSoundPost}
 use Rattle.hx_types.specs.Words.{IsIn}
-use Rattle.hx_model.specs.Runs.{entry_of, made_of, makes_enough, Made}
+use Rattle.hx_model.specs.Runs.{entry_of, made_of, makes_enough}
 use Rattle.hx_clock.specs.declared.parts.Stamped.{Stamped}
 use Rattle.hx_clock.specs.declared.view.View.{View}
 use Rattle.hx_clock.specs.Parts.{stamped, DeliveryMeets, InputMeets}
@@ -19,7 +17,7 @@ use Rattle.hx_clock.specs.Views.{numbered, Carries, Has, Knows, Owns}
 use Rattle.hx_clock.proofs.Lists.{each_all, in_right}
 use Rattle.hx_law_own.specs.Feeding.{IsFed, IsFedBy}
 use Rattle.hx_law_own.proofs.Feeding.{actors_stay_sound}
-use Rattle.hx_law_threads.specs.Own.{IsOwn, IsOwnStep, MayHalt}
+use Rattle.hx_law_threads.specs.Own.{IsOwn, MayHalt}
 use Rattle.hx_law_threads.proofs.Lists.{reverse_snoc}
 use Rattle.hx_machine.specs.declared.plans.Plan.{Plan}
 use Rattle.hx_machine.specs.Machines.{entry_in, CanTake}

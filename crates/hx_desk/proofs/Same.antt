@@ -1,9 +1,8 @@
 -- Desks that differ by room, or by what was taken, and what was said of them.
-use Rattle.std.proofs.Common.{◌≡◌, ℕ, ◌<◌, true, false, Bool, List, [], ◌∷◌, ◌++◌, length, refl, ap, sym, subst, ◌∙◌, arith, append-nil}
+use Rattle.std.proofs.Common.{◌≡◌, ℕ, true, false, List, [], ◌∷◌, ◌++◌, refl, ap, sym, subst, ◌∙◌, arith, append-nil}
 use Rattle.std.specs.Prelude.{◌&&◌, not, MatchOption, Option, None, Some}
 use Rattle.std.specs.List.{list_any}
 use Rattle.std.proofs.lemmas.Bool.{true≢false}
-use mathlib.Core.List.{IsPrefix}
 use Rattle.atomic_table.specs.Seated.{TableId}
 use Rattle.hx_types.specs.declared.ids.Actor.{Actor}
 use Rattle.hx_types.specs.declared.totals.Totals.{Totals}
@@ -22,10 +21,10 @@ use Rattle.hx_mail.specs.declared.views.Mailed.{Mailed}
 use Rattle.hx_mail.specs.Boxes.{Boxed}
 use Rattle.hx_outbox.specs.declared.outboxes.Outbox.{Outbox}
 use Rattle.hx_outbox.specs.Offers.{FateCounts, IsTotal}
-use Rattle.hx_outbox.specs.Outboxes.{kept_weight, out_weight, IsOutbox}
+use Rattle.hx_outbox.specs.Outboxes.{kept_weight, IsOutbox}
 use Rattle.hx_desk.specs.declared.desks.Desk.{Desk}
 use Rattle.hx_desk.specs.Desks.{entries_before, past_of, told_by, HasRetried, IsBrokenDesk, IsDesk, IsSame, IsWholeDesk}
-use Rattle.hx_desk.specs.Givings.{CanBeGiven, HasTaken, IsReady, MakesEnough}
+use Rattle.hx_desk.specs.Givings.{HasTaken, IsReady, MakesEnough}
 use Rattle.hx_desk.specs.Inboxes.{ins_of}
 use Rattle.hx_desk.specs.Turns.{HasRoom, IsTurn}
 use Rattle.hx_desk.proofs.Taken.{desk-same, given-view}

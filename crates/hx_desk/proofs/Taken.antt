@@ -1,6 +1,5 @@
 -- What an actor can take at its desk, and desks that differ by room alone.
-use Rattle.std.proofs.Common.{◌≡◌, ℕ, ◌+◌, ◌*◌, ◌^◌, ◌<◌, ◌≤◌, ⊎_elim, inl, true, false, nat_lt, List, [], ◌∷◌, refl, ap, sym, subst, ◌∙◌, arith}
-use Rattle.std.specs.Prelude.{reverse}
+use Rattle.std.proofs.Common.{◌≡◌, ℕ, ◌^◌, ◌<◌, ◌≤◌, ⊎_elim, inl, true, false, nat_lt, List, [], ◌∷◌, refl, ap, sym, subst, ◌∙◌, arith}
 use mathlib.Core.Logic.{∥∥₁_elim}
 use Rattle.atomic_table.specs.Seated.{TableId}
 use Rattle.hx_types.specs.declared.ids.Actor.{Actor}
@@ -14,9 +13,7 @@ use Rattle.hx_types.specs.Fitting.{IsScript}
 use Rattle.hx_types.specs.Posts.{IsSoundPost}
 use Rattle.hx_types.specs.Words.{post, IsIn}
 use Rattle.hx_model.specs.Runs.{has_halted, is_actor}
-use Rattle.hx_clock.specs.declared.limits.TheConstants.{MOST_ENROLLED}
 use Rattle.hx_clock.specs.declared.parts.Stamped.{Stamped}
-use Rattle.hx_clock.specs.declared.view.NumberedPart.{NumberedPart}
 use Rattle.hx_clock.specs.declared.view.View.{View}
 use Rattle.hx_clock.specs.Parts.{Posted}
 use Rattle.hx_clock.specs.Seats.{Seated}
@@ -78,9 +75,6 @@ can-take script clock boxes w rest d n input valid h running after few g = recor
   input_to = fed-by script d n input after g;
 }
 
-pub same-seat : (s t : Seated) → s.clock ≡ t.clock → s.view ≡ t.view → s ≡ t
-same-seat s t e f = ap (λ c. record { clock = c; view = s.view }) e ∙ ap (λ v. record { clock = t.clock; view = v }) f
-
 -- the same desk with a machine of the same state
 pub desk-same : (script : Script) (clock : TableId) (boxes : List Boxed) (w : ℕ) (rest : List Mailed) (d d' : Desk) → IsSame d d' → IsMachine script d.actor (entries_before d.part.items) d'.machine
     → IsDesk script clock boxes w rest d → IsDesk script clock boxes w rest d'
@@ -89,8 +83,8 @@ desk-same script clock boxes w rest d d' s m h = record {
   seat = (
     ap (λ (x : Seated). x.clock) s.seat ∙ h.seat.0,
     subst (λ (a : Actor). Owns d'.seat.view (place_of script.space a) d'.part.items) (sym s.actor)
-    (subst (λ (part : List Stamped). Owns d'.seat.view (place_of script.space d.actor) part) (sym s.part)
-    (subst (λ (x : Seated). Owns x.view (place_of script.space d.actor) d.part.items) (sym s.seat) h.seat.1)),
+        (subst (λ (part : List Stamped). Owns d'.seat.view (place_of script.space d.actor) part) (sym s.part)
+        (subst (λ (x : Seated). Owns x.view (place_of script.space d.actor) d.part.items) (sym s.seat) h.seat.1)),
   );
   machine = subst (λ (a : Actor). IsMachine script a (entries_before d'.part.items) d'.machine) (sym s.actor) (subst (λ (part : List Stamped). IsMachine script d.actor (entries_before part) d'.machine) (sym s.part) m);
   own = subst (λ (a : Actor). IsOwn script a (entries_before d'.part.items)) (sym s.actor) (subst (λ (part : List Stamped). IsOwn script d.actor (entries_before part)) (sym s.part) h.own);

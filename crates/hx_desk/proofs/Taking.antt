@@ -1,7 +1,6 @@
 -- An actor's box, and what was taken from it.
-use Rattle.std.proofs.Common.{◌≡◌, ℕ, zero, suc, ◌+◌, ◌<◌, true, List, [], ◌∷◌, ◌++◌, map, length, slice_index_or, refl, ap, sym, subst, ◌∙◌, arith, append_assoc, ltb, leb}
+use Rattle.std.proofs.Common.{◌≡◌, ℕ, zero, suc, ◌<◌, true, List, [], ◌∷◌, ◌++◌, map, length, slice_index_or, refl, ap, sym, subst, ◌∙◌, arith, append_assoc, ltb, leb}
 use Rattle.std.proofs.lemmas.Bool.{and_parts, leb-true, ltb-true}
-use mathlib.Core.List.{IsPrefix}
 use Rattle.atomic_table.specs.Seated.{TableId}
 use Rattle.hx_types.specs.declared.ids.Actor.{Actor}
 use Rattle.hx_types.specs.declared.ids.Actor.TheVariants.{Coordinator, Server, Session}
@@ -16,12 +15,12 @@ use Rattle.hx_mail.specs.declared.views.BoxNames.{BoxNames}
 use Rattle.hx_mail.specs.declared.views.Mailed.{Mailed}
 use Rattle.hx_mail.specs.declared.views.Sent.{Sent}
 use Rattle.hx_mail.specs.Boxes.{Boxed, Ported, IsAddressed, IsPortOf}
-use Rattle.hx_mail.specs.Ports.{after_take, mailed, mailed_of}
+use Rattle.hx_mail.specs.Ports.{after_take, mailed}
 use Rattle.hx_mail.proofs.Lists.{map-snoc}
 use Rattle.hx_outbox.specs.Places.{names_for, place_of, AreBoxes, Exists}
 use Rattle.hx_outbox.proofs.Places.{place-below}
 use Rattle.hx_desk.specs.Inboxes.{ins_of, HasInPort}
-use Rattle.hx_desk.proofs.Heard.{none-in, take-in}
+use Rattle.hx_desk.proofs.Heard.{take-in}
 
 pub exists-of : (script : Script) (a : Actor) → is_actor script a ≡ true → Exists script a
 exists-of script Coordinator e = tt
@@ -45,24 +44,12 @@ pub taken-ins : (w : ℕ) (boxes : List Boxed) (place : ℕ) (box : Boxed) (p q 
     → HasInPort w boxes place p → ins_of q ≡ ins_of p ++ s ∷ []
 taken-ins w boxes place box p q s at of e h = (take-in w box p q s (h box at) of e).1
 
-pub same-port : (w : ℕ) (boxes : List Boxed) (place : ℕ) (box : Boxed) (p q : Ported) → place < length boxes → box ≡ slice_index_or boxes place box → IsPortOf box q → q.view ≡ p.view
-    → HasInPort w boxes place p → HasInPort w boxes place q
-same-port w boxes place box p q lt at of e h other is =
-    (none-in w other p q (h other is) (subst (λ b. IsPortOf b q) (at ∙ same-at boxes place box other lt ∙ sym is) of) e).0
-
-pub same-ins : (w : ℕ) (boxes : List Boxed) (place : ℕ) (box : Boxed) (p q : Ported) → box ≡ slice_index_or boxes place box → IsPortOf box q → q.view ≡ p.view
-    → HasInPort w boxes place p → ins_of q ≡ ins_of p
-same-ins w boxes place box p q at of e h = (none-in w box p q (h box at) of e).1
-
 -- the envelope's post, for the actor of the box
 pub post-to : (script : Script) (clock : TableId) (a : Actor) (n : BoxNames) (e : Envelope) → n ≡ names_for script clock a → IsAddressed n e → post e.post.from a e.post.message ≡ e.post
 post-to script clock a n e is h = ap (λ (b : Actor). post e.post.from b e.post.message) (sym (h.owner ∙ ap (λ (m : BoxNames). m.owner) is))
 
 pub sound-to : (script : Script) (clock : TableId) (a : Actor) (n : BoxNames) (e : Envelope) → n ≡ names_for script clock a → IsAddressed n e → IsSoundPost script.space (length script.sessions) e.id.entry e.post
 sound-to script clock a n e is h = subst (λ (m : BoxNames). IsSoundPost m.space m.sessions e.id.entry e.post) is h.sound
-
-pub clock-to : (script : Script) (clock : TableId) (a : Actor) (n : BoxNames) (e : Envelope) → n ≡ names_for script clock a → IsAddressed n e → e.pass.clock ≡ clock
-clock-to script clock a n e is h = h.clock ∙ ap (λ (m : BoxNames). m.clock) is
 
 -- one more was taken after what was delivered
 pub told-next : (ts rest : List Mailed) (ins ins' : List Sent) (s : Sent) (id : PostId) (p q : Post) → ts ++ rest ≡ map (λ s. s.mailed) ins → ins' ≡ ins ++ s ∷ [] → s.mailed ≡ mailed id p → q ≡ p

@@ -1,5 +1,5 @@
 -- Turns put together.
-use Rattle.std.proofs.Common.{◌≡◌, ℕ, zero, suc, ◌+◌, ◌^◌, ◌<◌, ◌≤◌, ⊎_elim, Bool, true, false, List, [], ◌∷◌, ◌++◌, length, slice_get, Some, refl, ap, sym, subst, ◌∙◌, arith, append-nil}
+use Rattle.std.proofs.Common.{◌≡◌, ◌+◌, ◌≤◌, ⊎_elim, false, List, [], ◌∷◌, ◌++◌, length, slice_get, Some, refl, ap, sym, subst, ◌∙◌, arith, append-nil}
 use mathlib.Core.List.{IsPrefix}
 use Rattle.hx_types.specs.declared.totals.Totals.{Totals}
 use Rattle.hx_clock.specs.declared.parts.Stamped.{Stamped}
@@ -13,9 +13,9 @@ use Rattle.hx_outbox.proofs.Lists.{begins-refl, begins-trans}
 use Rattle.hx_outbox.proofs.Offering.{offered-both, offered-none}
 use Rattle.hx_outbox.proofs.Outs.{more-refl, more-trans}
 use Rattle.hx_desk.specs.declared.desks.Desk.{Desk}
-use Rattle.hx_desk.specs.Desks.{made_by, HasNoRetry, IsLater}
+use Rattle.hx_desk.specs.Desks.{made_by, HasNoRetry}
 use Rattle.hx_desk.specs.Inboxes.{ins_of}
-use Rattle.hx_desk.specs.Turns.{weight_of, HasRoom, IsTurn}
+use Rattle.hx_desk.specs.Turns.{weight_of, IsTurn}
 
 -- nothing was done but what was taken
 pub turn-none : (boxes : List Boxed) (d d' : Desk) (o : Outbox) (t : Totals) (f : FateCounts) → d'.actor ≡ d.actor → d'.part.items ≡ d.part.items → d'.kept.items ≡ d.kept.items → IsPrefix (ins_of d.inbox) (ins_of d'.inbox)

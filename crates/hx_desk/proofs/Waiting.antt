@@ -1,5 +1,5 @@
 -- Which ticks begin a call, and which are retries.
-use Rattle.std.proofs.Common.{◌≡◌, ℕ, zero, suc, ◌+◌, ◌<◌, ◌≤◌, ◌⊎◌, inl, inr, ⊎_elim, Bool, true, false, nat_lt, List, [], ◌∷◌, ◌++◌, length, Option, Some, None, slice_get, refl, ap, sym, subst, ◌∙◌, arith}
+use Rattle.std.proofs.Common.{◌≡◌, ℕ, zero, suc, ◌+◌, ◌<◌, ◌⊎◌, inl, inr, ⊎_elim, Bool, true, false, nat_lt, List, [], ◌∷◌, ◌++◌, length, Option, Some, None, slice_get, refl, ap, sym, subst, ◌∙◌, arith}
 use Rattle.std.specs.Prelude.{not, ◌&&◌, ◌||◌}
 use Rattle.std.specs.List.{list_any}
 use Rattle.std.proofs.lemmas.Bool.{and_from, and_parts, cond_both, lt-ltb, ltb-true, not-true, true≢false}
@@ -21,7 +21,7 @@ use Rattle.hx_types.specs.declared.outcomes.Planned.{Planned}
 use Rattle.hx_types.specs.declared.outcomes.Planned.TheVariants as a_plan
 use Rattle.hx_types.specs.Configs.{is_lost}
 use Rattle.hx_model.specs.CoordinatorSteps.{coordinator_tick, CoordinatorState, Phase, Sealing, Steady}
-use Rattle.hx_model.specs.Runs.{coordinator_of, entry_of, has_halted, made_of, makes_enough, server_of, session_of, Made}
+use Rattle.hx_model.specs.Runs.{coordinator_of, entry_of, has_halted, made_of, makes_enough, server_of, session_of}
 use Rattle.hx_model.specs.Schedule.{is_idle}
 use Rattle.hx_model.specs.ServerSteps.{server_step, tick_step, unmoved, ServerState, ServerStep}
 use Rattle.hx_model.specs.SessionSteps.{ask_regions, begin, send, send_to, session_tick, staying, with_poll, SessionState, SessionStep}
@@ -151,9 +151,6 @@ waits-runs script d e h = true≢false (sym h ∙ (and-parts _ _ _ e).0)
 pub waits-busy : (script : Script) (d : Desk) → is_waiting script (entries_before d.part.items) d.actor ≡ true → is_idle_actor script (entries_before d.part.items) d.actor ≡ true → ⊥
 waits-busy script d e h = true≢false (sym h ∙ (and-parts _ _ _ e).1)
 
-pub waits-enough : (script : Script) (d : Desk) → is_waiting script (entries_before d.part.items) d.actor ≡ true → makes_enough Tick (made_of script (entries_before d.part.items) d.actor Tick) ≡ false → ⊥
-waits-enough script d e h = true≢false (sym (and-parts _ _ _ e).2 ∙ h)
-
 pub retried-one : (script : Script) (d d' : Desk) (x : Stamped) → has_halted script (entries_before d.part.items) d.actor ≡ false → is_idle_actor script (entries_before d.part.items) d.actor ≡ false
     → makes_enough Tick (made_of script (entries_before d.part.items) d.actor Tick) ≡ true → x.entry ≡ entry_of d.actor Tick (made_of script (entries_before d.part.items) d.actor Tick) → d'.part.items ≡ d.part.items ++ x ∷ []
     → HasRetried script d d'
@@ -182,7 +179,3 @@ retried-resting script d e =
     retried-none script d d
     (λ w. ⊎_elim (λ h. waits-runs script d w h) (λ h. waits-busy script d w h) (or-some (has_halted script (entries_before d.part.items) d.actor) (is_idle_actor script (entries_before d.part.items) d.actor) e))
     refl
-
-pub not-none : (b : Bool) → not b ≡ false → b ≡ true
-not-none true e = refl
-not-none false e = absurd (true≢false e)

@@ -1,10 +1,9 @@
 -- What an actor is given: an input that it can take at its desk, and the step that is ready on it.
-use Rattle.std.specs.Prelude.{ℕ, ◌≡◌, ◌+◌, ◌*◌, ◌≤◌, ◌<◌, ◌^◌, true, false, List, length, ⊤, vec_len}
+use Rattle.std.specs.Prelude.{ℕ, ◌≡◌, ◌+◌, ◌*◌, ◌≤◌, ◌<◌, true, List, length, ⊤, vec_len}
 use Rattle.std.specs.List.{AllByRecursion}
 use Rattle.std.specs.Vec.{vec_capacity}
 use Rattle.std.specs.VecDeque.{deque_len, deque_capacity}
 use mathlib.Core.List.{IsPrefix}
-use Rattle.hx_types.specs.declared.limits.TheConstants.{MOST_ENTRIES}
 use Rattle.hx_types.specs.declared.traces.Input.{Input}
 use Rattle.hx_types.specs.declared.traces.Script.{Script}
 use Rattle.hx_types.specs.declared.traces.Input.TheVariants.{Tick, Halt, Deliver}
@@ -13,7 +12,6 @@ use Rattle.hx_types.specs.Words.{post}
 use Rattle.hx_model.specs.Runs.{entry_of, made_of, makes_enough}
 use Rattle.hx_clock.specs.declared.parts.Stamped.{Stamped}
 use Rattle.hx_clock.specs.Views.{Knows}
-use Rattle.hx_machine.specs.declared.machines.Machine.{Machine}
 use Rattle.hx_machine.specs.declared.plans.Plan.{Plan}
 use Rattle.hx_machine.specs.Machines.{CanTake, IsPlanOn, IsStepOf, entry_in}
 use Rattle.hx_desk.specs.declared.desks.Desk.{Desk}

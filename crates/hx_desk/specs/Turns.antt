@@ -1,10 +1,7 @@
 -- What a turn of an actor does: which entries came, what was posted for them, and why a turn may fail.
-use Rattle.std.specs.Prelude.{ℕ, ◌≡◌, ◌+◌, ◌≤◌, ◌<◌, ◌^◌, List, [], ◌∷◌, ◌++◌, length, ⊤}
-use Rattle.atomic_table.specs.Seated.{TableId}
-use Rattle.hx_types.specs.declared.ids.Actor.{Actor}
+use Rattle.std.specs.Prelude.{ℕ, ◌≡◌, ◌+◌, ◌≤◌, ◌<◌, ◌^◌, List, ◌++◌, length, ⊤}
 use Rattle.hx_types.specs.declared.limits.TheConstants.{MOST_ENTRIES}
 use Rattle.hx_types.specs.declared.totals.Totals.{Totals}
-use Rattle.hx_types.specs.declared.traces.Script.{Script}
 use Rattle.hx_clock.specs.declared.parts.Stamped.{Stamped}
 use Rattle.hx_mail.specs.declared.views.Mailed.{Mailed}
 use Rattle.hx_mail.specs.Boxes.{Boxed}

@@ -1,4 +1,4 @@
-use Rattle.std.proofs.Common.{◌≡◌, refl, sym, subst, []}
+use Rattle.std.proofs.Common.{sym, subst}
 use Rattle.hx_desk.specs.Turns.{IsFaultOf}
 use Rattle.hx_desk.proofs.Results.{match-map}
 use Rattle.hx_desk.proofs.Turned.{turn-self}

@@ -1,18 +1,16 @@
-use Rattle.std.proofs.Common.{arith, ◌≡◌, ◌+◌, ◌<◌, ◌^◌, ◌∙◌, refl, sym, ap, subst, length, length-append, [], ◌∷◌, ◌++◌, append-nil}
+use Rattle.std.proofs.Common.{arith, ◌≡◌, ◌+◌, ◌∙◌, refl, sym, ap, subst, length, length-append, [], ◌∷◌, ◌++◌, append-nil}
 use Rattle.std.specs.List.{AllByRecursion}
 use Rattle.hx_types.specs.Posts.{IsSoundPost}
-use Rattle.hx_types.specs.declared.ids.Actor.{Actor}
 use Rattle.hx_types.specs.declared.traces.Entry.{Entry}
-use Rattle.hx_clock.specs.declared.parts.Stamped.{Stamped}
 use Rattle.hx_clock.specs.Parts.{stamped}
 use Rattle.hx_clock.specs.Seats.{Seated}
 use Rattle.hx_clock.specs.Views.{Owns}
 use Rattle.hx_law_own.specs.Feeding.{IsFed, entries_in}
 use Rattle.hx_law_threads.specs.Own.{IsOwn}
-use Rattle.hx_machine.specs.Machines.{entry_in, IsMachine}
+use Rattle.hx_machine.specs.Machines.{IsMachine}
 use Rattle.hx_outbox.specs.declared.copies.Copies.{Copies}
 use Rattle.hx_outbox.proofs.Lists.{map-length}
-use Rattle.hx_outbox.specs.Offers.{firsts_of, named, IsOffered}
+use Rattle.hx_outbox.specs.Offers.{firsts_of, IsOffered}
 use Rattle.hx_outbox.specs.Places.{place_of}
 use Rattle.hx_desk.specs.Desks.{past_of, told, told_by}
 use Rattle.hx_desk.specs.Inboxes.{ins_of}

@@ -1,4 +1,4 @@
-use Rattle.std.proofs.Common.{◌≡◌, ◌<◌, length, refl, sym, subst}
+use Rattle.std.proofs.Common.{◌<◌, length, refl, sym, subst}
 use Rattle.hx_types.specs.declared.limits.TheConstants.{MOST_ENTRIES}
 use Rattle.hx_clock.specs.declared.parts.Stamped.{Stamped}
 use Rattle.hx_machine.specs.Machines.{entry_in}
@@ -14,7 +14,7 @@ make-requires-clause-desk g c =
     let w = c.requires.desk.0 in (
       w,
       desk-told c.args.script.now c.args.clock.now c.args.boxes.now w c.args.desk.now c.make_room.new.desk i i s.0 refl
-      (desk-kept c.args.script.now c.args.clock.now c.args.boxes.now w (told_by c.args.desk.now.actor i) c.args.desk.now c.make_room.new.desk s.0 s.1 c.requires.desk.1),
+          (desk-kept c.args.script.now c.args.clock.now c.args.boxes.now w (told_by c.args.desk.now.actor i) c.args.desk.now c.make_room.new.desk s.0 s.1 c.requires.desk.1),
     )
 
 pub make-requires-clause-step : goal.make-requires-clause-step

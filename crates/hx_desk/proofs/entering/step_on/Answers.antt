@@ -1,4 +1,4 @@
-use Rattle.std.proofs.Common.{◌≡◌, ◌<◌, true, false, length, refl, ap, sym, subst, ◌∙◌, List, ◌∷◌, []}
+use Rattle.std.proofs.Common.{◌≡◌, ◌<◌, true, length, sym, subst, ◌∙◌, List}
 use Rattle.hx_types.specs.declared.ids.Actor.{Actor}
 use Rattle.hx_types.specs.declared.limits.TheConstants.{MOST_ENTRIES}
 use Rattle.hx_clock.specs.declared.parts.Stamped.{Stamped}
@@ -16,7 +16,7 @@ settle-requires-clause-desk g c =
     let d = c.foresee.new.desk in (
       w,
       desk-told c.args.script.now c.args.clock.now c.args.boxes.now w c.args.desk.now d c.args.input (entry_in c.in-Ok.plan).input c.foresee.ensures.same (ready-own c.args.script.now d c.args.input c.in-Ok.plan c.in-Ok.ensures.ready)
-      (c.foresee.ensures.desk c.args.boxes.now w (told_by c.args.desk.now.actor c.args.input) c.requires.desk.1),
+          (c.foresee.ensures.desk c.args.boxes.now w (told_by c.args.desk.now.actor c.args.input) c.requires.desk.1),
     )
 
 pub settle-requires-clause-step : goal.settle-requires-clause-step
@@ -27,7 +27,7 @@ settle-requires-clause-step g c =
     let i = c.args.input in (
       ready-input c.args.script.now d i c.in-Ok.plan r,
       step-enough c.args.script.now d i c.in-Ok.plan r
-      (at-same (λ (a : Actor) xs. makes_enough i (made_of c.args.script.now (entries_before xs) a i) ≡ true) c.args.desk.now.actor d.actor c.args.desk.now.part.items d.part.items s.actor s.part c.requires.enough),
+          (at-same (λ (a : Actor) xs. makes_enough i (made_of c.args.script.now (entries_before xs) a i) ≡ true) c.args.desk.now.actor d.actor c.args.desk.now.part.items d.part.items s.actor s.part c.requires.enough),
     )
 
 pub settle-requires-clause-fresh : goal.settle-requires-clause-fresh

@@ -1,4 +1,4 @@
-use Rattle.std.proofs.Common.{◌≡◌, ◌++◌}
+use Rattle.std.proofs.Common.{◌≡◌}
 use Rattle.std.specs.Prelude.{take}
 use Rattle.hx_outbox.specs.Offers.{firsts_of}
 use Rattle.hx_desk.proofs.preparing.double.Given as goal

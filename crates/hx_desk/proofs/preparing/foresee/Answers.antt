@@ -1,8 +1,4 @@
-use Rattle.std.proofs.Common.{◌≡◌, ◌*◌, ◌<◌, ◌^◌, arith, refl, sym, subst, ◌∙◌}
-use Rattle.hx_clock.specs.Views.{Has}
-use Rattle.hx_clock.specs.declared.parts.Stamped.{Stamped}
-use Rattle.hx_clock.specs.declared.view.View.{View}
-use Rattle.hx_desk.specs.declared.desks.Desk.{Desk}
+use Rattle.std.proofs.Common.{arith, refl}
 use Rattle.hx_desk.specs.Desks.{past_of}
 use Rattle.hx_desk.proofs.Results.{ok-both}
 use Rattle.hx_desk.proofs.Taken.{can-take, given-view}

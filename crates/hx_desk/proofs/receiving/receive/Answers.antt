@@ -1,11 +1,10 @@
-use Rattle.std.proofs.Common.{arith, ◌≡◌, ◌<◌, ◌++◌, ◌∷◌, ◌∙◌, [], ap, sym, subst, refl, length, slice_index_or, append-nil}
-use Rattle.hx_types.specs.declared.messages.Post.{Post}
+use Rattle.std.proofs.Common.{◌≡◌, ◌∙◌, sym, subst, refl, length, slice_index_or}
 use Rattle.hx_types.specs.Posts.{IsSoundPost}
 use Rattle.hx_clock.specs.Views.{Knows}
 use Rattle.hx_mail.specs.Ports.{mailed_of, sent_of}
 use Rattle.hx_outbox.specs.Places.{place_of}
 use Rattle.hx_desk.specs.Inboxes.{ins_of, IsHeardFrom}
-use Rattle.hx_desk.proofs.Taking.{actor-below, clock-to, exists-of, post-to, same-ins, same-port, sound-to, taken-ins, taken-port, told-next}
+use Rattle.hx_desk.proofs.Taking.{actor-below, exists-of, post-to, sound-to, taken-ins, taken-port, told-next}
 use Rattle.hx_desk.proofs.receiving.receive.Goals as goal
 
 pub returns-clause-desk : goal.returns-clause-desk

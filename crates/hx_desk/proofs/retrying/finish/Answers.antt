@@ -1,9 +1,9 @@
-use Rattle.std.proofs.Common.{◌≡◌, ◌∙◌, sym, [], ◌∷◌, append-nil, true}
+use Rattle.std.proofs.Common.{◌∙◌, sym, [], ◌∷◌, append-nil}
 use Rattle.hx_types.specs.declared.traces.Input.TheVariants.{Tick}
 use Rattle.hx_desk.proofs.Results.{match-elim, match-map}
 use Rattle.hx_desk.proofs.Same.{desk-input}
 use Rattle.hx_desk.proofs.Turned.{turn-self}
-use Rattle.hx_desk.proofs.Waiting.{not-none, plan-enough, retried-one}
+use Rattle.hx_desk.proofs.Waiting.{plan-enough, retried-one}
 use Rattle.hx_desk.proofs.retrying.finish.Goals as goal
 
 pub returns-then-not-makes_anything-clause-turn : goal.returns-then-not-makes_anything-clause-turn
@@ -19,7 +19,7 @@ returns-else-is_worn-clause-turn g c = match-elim _ _ _ c.settle.result (λ _ k.
 pub returns-else-is_worn-clause-retried : goal.returns-else-is_worn-clause-retried
 returns-else-is_worn-clause-retried g c =
     let d = c.args.desk.now in
-    let enough = sym (plan-enough c.args.script.now d c.args.plan c.requires.ready) ∙ sym c.makes_anything.ensures ∙ not-none c.makes_anything.result c.if-not-makes_anything.false in
+    let enough = sym (plan-enough c.args.script.now d c.args.plan c.requires.ready) ∙ sym c.makes_anything.ensures ∙ c.if-not-makes_anything.false in
     match-map _ _ _ _ c.settle.result
     (λ _ k. retried-one c.args.script.now d c.settle.new.desk k.0 c.requires.running c.requires.waits enough (k.1 ∙ c.requires.ready.step) k.2.part)
     (λ _ k. k.part ∙ append-nil _) c.settle.ensures.turn

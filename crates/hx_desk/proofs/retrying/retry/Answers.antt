@@ -1,4 +1,4 @@
-use Rattle.std.proofs.Common.{◌≡◌, ◌∙◌, sym, []}
+use Rattle.std.proofs.Common.{◌∙◌, sym, []}
 use Rattle.hx_desk.specs.Desks.{entries_before}
 use Rattle.hx_desk.proofs.Same.{whole-of, whole-running}
 use Rattle.hx_desk.proofs.Turned.{turn-self}

@@ -1,4 +1,4 @@
-use Rattle.std.proofs.Common.{◌≡◌, ◌∙◌, refl, sym, [], false}
+use Rattle.std.proofs.Common.{◌≡◌, ◌∙◌, [], false}
 use Rattle.hx_types.specs.declared.ids.Actor.{Actor}
 use Rattle.hx_model.specs.Runs.{has_halted}
 use Rattle.hx_law_threads.specs.Cuts.{is_idle_actor}

@@ -1,4 +1,4 @@
-use Rattle.std.proofs.Common.{◌≡◌, ◌∙◌, refl, sym, ap, subst, [], ◌∷◌, ◌++◌, append-nil, false, true}
+use Rattle.std.proofs.Common.{◌≡◌, ◌∙◌, sym, ap, subst, [], ◌∷◌, append-nil, false}
 use Rattle.hx_types.specs.declared.ids.Actor.{Actor}
 use Rattle.hx_law_threads.specs.Cuts.{is_retry}
 use Rattle.hx_model.specs.Runs.{has_halted, made_of}
@@ -7,7 +7,7 @@ use Rattle.hx_desk.proofs.Heard.{can-count}
 use Rattle.hx_desk.proofs.Results.{match-elim, match-map}
 use Rattle.hx_desk.specs.Inboxes.{ins_of}
 use Rattle.hx_desk.proofs.Same.{at-same, broken-of, no-tick, room-same, taken-enough, turn-taken}
-use Rattle.hx_desk.proofs.Turned.{no-retry-both, no-retry-none, no-retry-one, turn-self}
+use Rattle.hx_desk.proofs.Turned.{no-retry-both, no-retry-none, no-retry-one}
 use Rattle.hx_desk.proofs.turning.answer.Goals as goal
 
 pub receive-requires-clause-room : goal.receive-requires-clause-room

@@ -1,4 +1,4 @@
-use Rattle.std.proofs.Common.{◌≡◌, ◌∙◌, refl, sym, ap, [], ◌∷◌, append-nil}
+use Rattle.std.proofs.Common.{◌∙◌, refl, sym, ap, [], ◌∷◌, append-nil}
 use Rattle.hx_law_threads.specs.Cuts.{is_retry}
 use Rattle.hx_desk.specs.Desks.{entries_before}
 use Rattle.hx_desk.proofs.Results.{match-elim, match-map}

@@ -1,4 +1,4 @@
-use Rattle.std.proofs.Common.{arith, refl, sym, append-nil, []}
+use Rattle.std.proofs.Common.{arith, refl, sym, append-nil}
 use Rattle.hx_outbox.proofs.Lists.{begins-refl}
 use Rattle.hx_outbox.proofs.Offering.{offered-none}
 use Rattle.hx_desk.specs.Inboxes.{ins_of}

@@ -1,4 +1,4 @@
-use Rattle.std.proofs.Common.{◌≡◌, ◌∙◌, refl, sym, subst, [], append-nil, true, false}
+use Rattle.std.proofs.Common.{◌≡◌, ◌∙◌, sym, subst, [], append-nil, false}
 use Rattle.hx_types.specs.declared.ids.Actor.{Actor}
 use Rattle.hx_model.specs.Runs.{has_halted}
 use Rattle.hx_desk.specs.Desks.{entries_before}
