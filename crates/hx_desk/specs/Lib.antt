@@ -1,3 +1,4 @@
 pub mod Inboxes
 pub mod Desks
 pub mod Turns
+pub mod Givings
