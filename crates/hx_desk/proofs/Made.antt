@@ -24,7 +24,8 @@ use Rattle.hx_machine.specs.Machines.{entry_in, CanTake}
 use Rattle.hx_mail.specs.declared.views.Mailed.{Mailed}
 use Rattle.hx_outbox.specs.Offers.{named}
 use Rattle.hx_desk.specs.declared.desks.Desk.{Desk}
-use Rattle.hx_desk.specs.Desks.{entries_before, made_by, past_of, told, told_by}
+use Rattle.hx_desk.specs.Desks.{entries_before, made_by, past_of, told}
+use Rattle.hx_desk.specs.Told.{told_by}
 use Rattle.hx_desk.specs.Givings.{CanBeGiven, IsReady, MakesEnough}
 use Rattle.hx_desk.proofs.Taken.{fed-by, latest-low}
 

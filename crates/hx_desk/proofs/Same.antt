@@ -23,7 +23,8 @@ use Rattle.hx_outbox.specs.declared.outboxes.Outbox.{Outbox}
 use Rattle.hx_outbox.specs.Offers.{FateCounts, IsTotal}
 use Rattle.hx_outbox.specs.Outboxes.{kept_weight, IsOutbox}
 use Rattle.hx_desk.specs.declared.desks.Desk.{Desk}
-use Rattle.hx_desk.specs.Desks.{entries_before, past_of, told_by, HasRetried, IsBrokenDesk, IsDesk, IsSame, IsWholeDesk}
+use Rattle.hx_desk.specs.Desks.{entries_before, past_of, HasRetried, IsBrokenDesk, IsDesk, IsSame, IsWholeDesk}
+use Rattle.hx_desk.specs.Told.{told_by}
 use Rattle.hx_desk.specs.Givings.{HasTaken, IsReady, MakesEnough}
 use Rattle.hx_desk.specs.Inboxes.{ins_of}
 use Rattle.hx_desk.specs.Turns.{HasRoom, IsTurn}

@@ -24,12 +24,7 @@ use Rattle.hx_outbox.specs.Offers.{named}
 use Rattle.hx_outbox.specs.Places.{place_of}
 use Rattle.hx_desk.specs.declared.desks.Desk.{Desk}
 use Rattle.hx_desk.specs.Inboxes.{HasInPort, IsHeardFrom, ins_of}
-
--- the post that an input delivers to an actor
-abbrev pub told_by : Actor → Input → List Mailed
-told_by a Tick = []
-told_by a Halt = []
-told_by a (Deliver id from message) = mailed id (post from a message) ∷ []
+use Rattle.hx_desk.specs.Told.{told_by}
 
 -- the posts that these entries deliver, in order
 abbrev pub told : List Stamped → List Mailed

@@ -11,7 +11,8 @@ ghost use Rattle.hx_outbox.specs.Offers.{firsts_of};
 ghost use Rattle.hx_outbox.specs.Outboxes.{IsOutbox};
 ghost use Rattle.hx_outbox.specs.Places.{AreBoxes};
 ghost use Rattle.hx_desk.specs.declared.faults.Fault.TheVariants as a_fault;
-ghost use Rattle.hx_desk.specs.Desks.{IsDesk, entries_before, told_by};
+ghost use Rattle.hx_desk.specs.Desks.{IsDesk, entries_before};
+ghost use Rattle.hx_desk.specs.Told.{told_by};
 ghost use Rattle.hx_desk.specs.Givings.{CanBeGiven, HasPlaces, IsMadeOf, IsReady, MakesEnough};
 ghost use Rattle.hx_desk.specs.Turns.{HasRoom, IsFaultOf, IsTurn};
 

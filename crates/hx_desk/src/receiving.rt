@@ -6,7 +6,8 @@ ghost use Rattle.hx_mail.specs.declared.views.Mailed.{Mailed};
 ghost use Rattle.hx_mail.specs.declared.views.Sent.{Sent};
 ghost use Rattle.hx_mail.specs.Ports.{sent};
 ghost use Rattle.hx_outbox.specs.Places.{AreBoxes};
-ghost use Rattle.hx_desk.specs.Desks.{IsDesk, told_by};
+ghost use Rattle.hx_desk.specs.Desks.{IsDesk};
+ghost use Rattle.hx_desk.specs.Told.{told_by};
 ghost use Rattle.hx_desk.specs.Givings.{CanBeGiven, CanCount, HasTaken};
 ghost use Rattle.hx_desk.specs.Inboxes.{IsHeardFrom};
 

@@ -12,7 +12,8 @@ use Rattle.hx_outbox.specs.declared.copies.Copies.{Copies}
 use Rattle.hx_outbox.proofs.Lists.{map-length}
 use Rattle.hx_outbox.specs.Offers.{firsts_of, IsOffered}
 use Rattle.hx_outbox.specs.Places.{place_of}
-use Rattle.hx_desk.specs.Desks.{past_of, told, told_by}
+use Rattle.hx_desk.specs.Desks.{past_of, told}
+use Rattle.hx_desk.specs.Told.{told_by}
 use Rattle.hx_desk.specs.Inboxes.{ins_of}
 use Rattle.hx_desk.proofs.Made.{made-long, made-one, next-fed, next-meets, next-of, next-own, next-sound, next-told, owns-carries, past-next}
 use Rattle.hx_desk.proofs.entering.make.Goals as goal

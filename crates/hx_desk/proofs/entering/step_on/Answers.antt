@@ -4,7 +4,8 @@ use Rattle.hx_types.specs.declared.limits.TheConstants.{MOST_ENTRIES}
 use Rattle.hx_clock.specs.declared.parts.Stamped.{Stamped}
 use Rattle.hx_model.specs.Runs.{entry_of, made_of, makes_enough}
 use Rattle.hx_machine.specs.Machines.{entry_in}
-use Rattle.hx_desk.specs.Desks.{entries_before, told_by}
+use Rattle.hx_desk.specs.Desks.{entries_before}
+use Rattle.hx_desk.specs.Told.{told_by}
 use Rattle.hx_desk.proofs.Made.{ready-own}
 use Rattle.hx_desk.proofs.Results.{match-map}
 use Rattle.hx_desk.proofs.Same.{at-same, desk-told, ready-input, room-same, step-enough, turn-after, turn-same}

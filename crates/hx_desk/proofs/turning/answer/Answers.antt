@@ -2,7 +2,8 @@ use Rattle.std.proofs.Common.{◌≡◌, ◌∙◌, sym, ap, subst, [], ◌∷�
 use Rattle.hx_types.specs.declared.ids.Actor.{Actor}
 use Rattle.hx_law_threads.specs.Cuts.{is_retry}
 use Rattle.hx_model.specs.Runs.{has_halted, made_of}
-use Rattle.hx_desk.specs.Desks.{entries_before, told_by, IsDesk}
+use Rattle.hx_desk.specs.Desks.{entries_before, IsDesk}
+use Rattle.hx_desk.specs.Told.{told_by}
 use Rattle.hx_desk.proofs.Heard.{can-count}
 use Rattle.hx_desk.proofs.Results.{match-elim, match-map}
 use Rattle.hx_desk.specs.Inboxes.{ins_of}
