@@ -61,6 +61,7 @@ fn made_of_turn(alloc: Global, script: &Script, actor: Actor) -> Result<(usize, 
 }
 
 #[test]
+#[tactic(auto, using(crate::proofs::Examples::is_script, crate::proofs::Examples::exists))]
 fn a_session_begins_its_call(rt: HostRuntime) -> Result<(), Fail> {
     let script = script(rt.alloc())?;
     let made = made_of_turn(rt.alloc(), &script, Actor::Session(SessionId(1)))?;
@@ -69,6 +70,7 @@ fn a_session_begins_its_call(rt: HostRuntime) -> Result<(), Fail> {
 }
 
 #[test]
+#[tactic(auto, using(crate::proofs::Examples::is_script, crate::proofs::Examples::exists))]
 fn nothing_is_sent_again_at_the_start(rt: HostRuntime) -> Result<(), Fail> {
     let script = script(rt.alloc())?;
     let coordinator = made_of_turn(rt.alloc(), &script, Actor::Coordinator)?;
@@ -78,6 +80,7 @@ fn nothing_is_sent_again_at_the_start(rt: HostRuntime) -> Result<(), Fail> {
 }
 
 #[test]
+#[tactic(auto, using(crate::proofs::Examples::is_script, crate::proofs::Examples::exists))]
 fn a_session_with_a_call_left_is_idle(rt: HostRuntime) -> Result<(), Fail> {
     let script = script(rt.alloc())?;
     let session = Machine::start(rt.alloc(), &script, Actor::Session(SessionId(1)))?;
