@@ -1,8 +1,0 @@
-pub mod Heard
-pub mod Taking
-pub mod Taken
-pub mod Results
-pub mod Made
-pub mod Turned
-pub mod Waiting
-pub mod Same

@@ -1,3 +1,0 @@
-mod Booking
-mod Moving
-mod Places

@@ -1,5 +1,0 @@
-pub mod Crews
-pub mod Rests
-pub mod Courses
-pub mod Joined
-pub mod Laws

@@ -1,3 +1,0 @@
-mod Moving
-mod Starting
-mod Taking

@@ -1,4 +1,0 @@
-pub mod Rounds
-pub mod Joined
-pub mod Ran
-pub mod Closed
