@@ -9,7 +9,7 @@ use Rattle.hx_tool.specs.declared.words.Command.{Command}
 use Rattle.hx_tool.proofs.Judging.{refused_is_not_taken}
 use Rattle.hx_tool.proofs.Making.{told_refused, told_worn}
 use Rattle.hx_tool.proofs.Wearing.{err_wears, made_wears}
-use Rattle.hx_tool.proofs.top.hyperstore.Goals as goal
+use Rattle.hx_tool.proofs.alone.hyperstore_alone.Goals as goal
 
 written_is_not_usage : (outcome : Outcome) → (outcome ≡ Fine) ⊎ (outcome ≡ WriteFault) → outcome ≡ Usage → ⊥
 written_is_not_usage outcome (inl fine) usage = absurd (cc)
