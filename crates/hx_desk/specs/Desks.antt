@@ -1,6 +1,5 @@
 -- An actor at its desk: with its entries, its seat, the port that takes for it, and the envelopes that are kept for it.
-use Rattle.std.specs.Prelude.{ℕ, ◌≡◌, ◌+◌, ◌≤◌, ◌<◌, true, false, List, [], ◌∷◌, ◌++◌, length, map, reverse, slice_get, Some, ⊤}
-use Rattle.std.specs.List.{AllByRecursion}
+use Rattle.std.specs.Prelude.{ℕ, ◌≡◌, ◌+◌, ◌≤◌, true, false, List, [], ◌∷◌, ◌++◌, length, map, reverse, slice_get, Some}
 use mathlib.Core.List.{IsPrefix}
 use Rattle.atomic_table.specs.Seated.{TableId}
 use Rattle.hx_types.specs.declared.ids.Actor.{Actor}
@@ -9,7 +8,6 @@ use Rattle.hx_types.specs.declared.traces.Entry.{Entry}
 use Rattle.hx_types.specs.declared.traces.Input.{Input}
 use Rattle.hx_types.specs.declared.traces.Script.{Script}
 use Rattle.hx_types.specs.declared.traces.Input.TheVariants.{Tick, Halt, Deliver}
-use Rattle.hx_types.specs.Fitting.{IsScript}
 use Rattle.hx_types.specs.Words.{post}
 use Rattle.hx_model.specs.Runs.{has_halted, is_actor}
 use Rattle.hx_clock.specs.declared.parts.Stamped.{Stamped}
@@ -26,12 +24,7 @@ use Rattle.hx_outbox.specs.Offers.{named}
 use Rattle.hx_outbox.specs.Places.{place_of}
 use Rattle.hx_desk.specs.declared.desks.Desk.{Desk}
 use Rattle.hx_desk.specs.Inboxes.{HasInPort, IsHeardFrom, ins_of}
-
--- the post that an input delivers to an actor
-abbrev pub told_by : Actor → Input → List Mailed
-told_by a Tick = []
-told_by a Halt = []
-told_by a (Deliver id from message) = mailed id (post from a message) ∷ []
+use Rattle.hx_desk.specs.Told.{told_by}
 
 -- the posts that these entries deliver, in order
 abbrev pub told : List Stamped → List Mailed

@@ -1,10 +1,7 @@
 -- What a turn of an actor does: which entries came, what was posted for them, and why a turn may fail.
-use Rattle.std.specs.Prelude.{ℕ, ◌≡◌, ◌+◌, ◌≤◌, ◌<◌, ◌^◌, List, [], ◌∷◌, ◌++◌, length, ⊤}
-use Rattle.atomic_table.specs.Seated.{TableId}
-use Rattle.hx_types.specs.declared.ids.Actor.{Actor}
+use Rattle.std.specs.Prelude.{ℕ, ◌≡◌, ◌+◌, ◌≤◌, ◌<◌, ◌^◌, List, ◌++◌, length, ⊤}
 use Rattle.hx_types.specs.declared.limits.TheConstants.{MOST_ENTRIES}
 use Rattle.hx_types.specs.declared.totals.Totals.{Totals}
-use Rattle.hx_types.specs.declared.traces.Script.{Script}
 use Rattle.hx_clock.specs.declared.parts.Stamped.{Stamped}
 use Rattle.hx_mail.specs.declared.views.Mailed.{Mailed}
 use Rattle.hx_mail.specs.Boxes.{Boxed}
@@ -21,12 +18,12 @@ abbrev pub weight_of : (Mailed → ℕ) → Outbox → Desk → ℕ
 weight_of h out d = out_weight h out.ports.items + kept_weight h d.kept.items
 
 -- a turn in which these entries came: their posts were offered, each once
-pub record IsTurn (boxes : List Boxed) (d d' : Desk) (out out' : Outbox) (t t' : Totals) (f f' : FateCounts) (xs : List Stamped) : Type 0 where
+pub record IsTurn (boxes : List Boxed) (d d' : Desk) (o o' : Outbox) (t t' : Totals) (f f' : FateCounts) (xs : List Stamped) : Type 0 where
   pub later : IsLater d d'
   pub part : d'.part.items ≡ d.part.items ++ xs
-  pub out : IsOutbox boxes out' × (out'.index ≡ out.index)
-  pub more : MorePut out.ports.items out'.ports.items
-  pub offered : IsOffered (λ h. weight_of h out d) (λ h. weight_of h out' d') t t' f f' (made_by xs)
+  pub out : IsOutbox boxes o' × (o'.index ≡ o.index)
+  pub more : MorePut o.ports.items o'.ports.items
+  pub offered : IsOffered (λ h. weight_of h o d) (λ h. weight_of h o' d') t t' f f' (made_by xs)
   pub total : IsTotal t'
   -- at most one entry came, with fewer posts than can be numbered
   pub one : length xs ≤ 1

@@ -5,12 +5,16 @@
 //! out. What a desk knows is its own: the entries that its actor made, what was taken for it, and what
 //! was put or is kept for them. That turns are given to actors by drivers, and the order in a turn, are
 //! this project's choice.
+//!
+//! No contract says that there is memory for a turn. The tests of whole runs give turns to actors of
+//! each role.
 #![tactic(auto)]
 
 mod desks;
 mod entering;
 mod faults;
 mod gates;
+mod preparing;
 mod receiving;
 mod retrying;
 mod turning;

@@ -41,7 +41,8 @@ use Rattle.hx_outbox.proofs.Outs.{both-long}
 use Rattle.hx_desk.specs.declared.desks.Desk.{Desk}
 use Rattle.hx_desk.specs.declared.faults.Fault.{Fault}
 use Rattle.hx_desk.specs.declared.faults.Fault.TheVariants.{Memory, Worn}
-use Rattle.hx_desk.specs.Desks.{entries_before, told, told_by, IsDesk}
+use Rattle.hx_desk.specs.Desks.{entries_before, told, IsDesk}
+use Rattle.hx_desk.specs.Told.{told_by}
 use Rattle.hx_desk.specs.Inboxes.{ins_of}
 use Rattle.hx_driver.specs.declared.crews.Crew.{Crew}
 use Rattle.hx_driver.specs.Crews.{HasFault, IsCrew}

@@ -27,7 +27,7 @@ use Rattle.hx_mail.specs.Ports.{CarriesAll, TookAlone}
 use Rattle.hx_outbox.specs.Offers.{FateCounts, IsTotal, is_gone, raised_by}
 use Rattle.hx_outbox.specs.Places.{place_of}
 use Rattle.hx_outbox.specs.Zipped.{Both}
-use Rattle.hx_desk.specs.Desks.{told_by}
+use Rattle.hx_desk.specs.Told.{told_by}
 use Rattle.hx_cluster.specs.Everyone.{actors_of}
 
 -- ---- traces here have the oldest entry first
