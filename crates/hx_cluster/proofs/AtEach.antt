@@ -1,6 +1,5 @@
 -- What holds of each item with its place.
 use Rattle.std.proofs.Common.{◌≡◌, ◌≢◌, ℕ, zero, suc, ◌+◌, ◌<◌, ◌⊎◌, inl, inr, List, [], ◌∷◌, ◌++◌, length, slice_get, slice_set, slice_index_or, Some, None, refl, ap, sym, subst, arith, ⊎_elim, length-append}
-use Rattle.std.specs.List.{AllByRecursion}
 use Rattle.std.proofs.lemmas.Option.{slice_get_read}
 use Rattle.hx_clock.proofs.Lists.{get-below, get-snoc}
 use Rattle.hx_cluster.specs.Dealt.{AtEach}
@@ -29,9 +28,6 @@ module _ {A : Type 0} where
   pub snoc-long : (xs ys : List A) (x : A) → ys ≡ xs ++ x ∷ [] → length ys ≡ length xs + 1
   snoc-long xs ys x e = let a = length-append xs (x ∷ []) in let b = ap length e in omega (arith, a, b)
 
-  pub at_each_none : (P : ℕ → A → Type 0) → AtEach P []
-  at_each_none P i x e = none-is x e
-
   pub at_each_snoc : (P : ℕ → A → Type 0) (xs : List A) (y : A) → AtEach P xs → P (length xs) y → AtEach P (xs ++ y ∷ [])
   at_each_snoc P xs y h p i x e =
       ⊎_elim (λ (g : slice_get xs i ≡ Some x). h i x g) (λ (g : (i ≡ length xs) × (y ≡ x)). subst (λ k. P k x) (sym g.0) (subst (P (length xs)) g.1 p)) (get-snoc xs y i x e)
@@ -46,7 +42,3 @@ module _ {A : Type 0} where
 
   pub at_each_map : (P Q : ℕ → A → Type 0) (xs : List A) → AtEach P xs → ((j : ℕ) (x : A) → j < length xs → P j x → Q j x) → AtEach Q xs
   at_each_map P Q xs h f j x e = f j x (get-below xs j x e) (h j x e)
-
-  pub at_each_all : (P : ℕ → A → Type 0) (R : A → Type 0) (xs : List A) → AtEach P xs → ((j : ℕ) (x : A) → P j x → R x) → AllByRecursion R xs
-  at_each_all P R [] h f = tt
-  at_each_all P R (a ∷ xs) h f = (f 0 a (h 0 a refl), at_each_all (λ j. P (suc j)) R xs (λ j x e. h (suc j) x e) (λ j x p. f (suc j) x p))

@@ -104,33 +104,7 @@ both-true : (a b : Bool) → (a && b) ≡ true → (a ≡ true) × (b ≡ true)
 both-true true b e = (refl, e)
 both-true false b e = absurd (false≢true e)
 
-le-true : (m n : ℕ) → m ≤ n → nat_le m n ≡ true
-le-true m n e = grind (arith, nat_tests)
-
-lt-true : (m n : ℕ) → m < n → nat_lt m n ≡ true
-lt-true m n e = grind (arith, nat_tests)
-
-and-true : (a b : Bool) → a ≡ true → b ≡ true → (a && b) ≡ true
-and-true a b e f = ap (λ x. x && b) e ∙ f
-
 pub exists-is : (script : Script) (a : Actor) → is_actor script a ≡ true → Exists script a
 exists-is script Coordinator e = tt
 exists-is script (Server s) e = let h = both-true (nat_lt 0 s.0) (nat_le s.0 script.space.servers) e in (is-below 0 s.0 h.0, is-le s.0 script.space.servers h.1)
 exists-is script (Session u) e = let h = both-true (nat_lt 0 u.0) (nat_le u.0 (length script.sessions)) e in (is-below 0 u.0 h.0, is-le u.0 (length script.sessions) h.1)
-
-is-exists : (script : Script) (a : Actor) → Exists script a → is_actor script a ≡ true
-is-exists script Coordinator h = refl
-is-exists script (Server s) h = and-true _ _ (lt-true 0 s.0 h.0) (le-true s.0 script.space.servers h.1)
-is-exists script (Session u) h = and-true _ _ (lt-true 0 u.0 h.0) (le-true u.0 (length script.sessions) h.1)
-
-at-exists : (script : Script) (k : ℕ) → k < 1 + script.space.servers + length script.sessions → Exists script (actor_at script.space k)
-at-exists script zero lt = tt
-at-exists script (suc n) lt =
-    cond_both (nat_le (suc n) script.space.servers) (Server (record { 0 = suc n })) (Session (record { 0 = suc n - script.space.servers }))
-    (λ (a : Actor). Exists script a)
-    (λ t. let le = is-le (suc n) script.space.servers t in (omega arith, le))
-    (λ f. let gt = not-le (suc n) script.space.servers f in (omega (arith, gt), omega (arith, gt, lt)))
-
--- the actor of a place is one of the script's
-pub at-actor : (script : Script) (k : ℕ) → k < 1 + script.space.servers + length script.sessions → is_actor script (actor_at script.space k) ≡ true
-at-actor script k lt = is-exists script (actor_at script.space k) (at-exists script k lt)

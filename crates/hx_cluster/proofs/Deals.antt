@@ -39,10 +39,10 @@ use Rattle.hx_cluster.specs.Everyone.{actors_of}
 use Rattle.hx_cluster.specs.Actors.{actor_at, first_actors, first_dealt}
 use Rattle.hx_cluster.specs.Dealt.{AreNewDesks, AtEach, IsNewDesk, IsNewOutbox}
 use Rattle.hx_cluster.specs.Opened.{AreOutPortsFrom}
-use Rattle.hx_cluster.proofs.AtEach.{at_each_none, at_each_read, at_each_set, at_each_snoc}
+use Rattle.hx_cluster.proofs.AtEach.{at_each_read, at_each_set, at_each_snoc}
 use Rattle.hx_cluster.proofs.Boxing.{below-long}
 use Rattle.hx_cluster.proofs.ByPlace.{all-first, all-length, first-length, place-at}
-use Rattle.hx_cluster.proofs.Everyone.{everyone}
+use Rattle.hx_cluster.proofs.Everyone.{eqb-same, everyone}
 use Rattle.hx_cluster.proofs.Opens.{both-snoc}
 
 -- the first n drivers have their ports at one more box
@@ -105,9 +105,6 @@ dealt-more space w i k =
     ap (filter test) (map-append (actor_at space) (below k) (k ∷ []))
     ∙ filter-append test (first_actors space k) (actor_at space k ∷ [])
     ∙ ap (λ b. first_dealt space w i k ++ cond b (actor_at space k ∷ []) []) (test-place space w i k)
-
-eqb-same : (k : ℕ) → eqb k k ≡ true
-eqb-same k = ⊎_elim (λ (h : (eqb k k ≡ true) × (k ≡ k)). h.0) (λ (h : (eqb k k ≡ false) × (k ≢ k)). absurd (h.1 refl)) (eqb_tells k k)
 
 eqb-apart : (j k : ℕ) → j ≢ k → eqb j k ≡ false
 eqb-apart j k n = ⊎_elim (λ (h : (eqb j k ≡ true) × (j ≡ k)). absurd (n h.1)) (λ (h : (eqb j k ≡ false) × (j ≢ k)). h.0) (eqb_tells j k)
@@ -246,9 +243,6 @@ module _ (script : Script) (clock : TableId) (boxes : List Boxed) (w : ℕ) wher
         dealt = at_each_snoc (λ (i : ℕ) (x : Crew). map (λ (d : Desk). d.actor) x.desks.items ≡ actors_dealt script w i) crews c h.dealt (desks.actors ∙ dealt-all script w (length crews) n all);
         new = each_append IsNewCrew crews (c ∷ []) h.new (new.1, tt);
       })
-
-  pub no-crews : AreCrewsSoFar []
-  no-crews = record { crews_are = tt; numbered = refl; dealt = at_each_none (λ (i : ℕ) (x : Crew). map (λ (d : Desk). d.actor) x.desks.items ≡ actors_dealt script w i); new = tt }
 
   pub crews-all : (crews : List Crew) → AreCrewsSoFar crews → length crews ≡ w → 1 ≤ w → AreNewCrews script clock boxes w crews
   crews-all crews h many some = record {

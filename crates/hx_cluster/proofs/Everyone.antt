@@ -101,7 +101,7 @@ in-place (y ∷ xs) x (inr h) = let r = in-place xs x h in (suc r.0, r.1)
 eqb-is : (j k : ℕ) → eqb j k ≡ true → j ≡ k
 eqb-is j k e = ⊎_elim (λ (h : (eqb j k ≡ true) × (j ≡ k)). h.1) (λ (h : (eqb j k ≡ false) × (j ≢ k)). absurd (false≢true (sym h.0 ∙ e))) (eqb_tells j k)
 
-eqb-same : (k : ℕ) → eqb k k ≡ true
+pub eqb-same : (k : ℕ) → eqb k k ≡ true
 eqb-same k = ⊎_elim (λ (h : (eqb k k ≡ true) × (k ≡ k)). h.0) (λ (h : (eqb k k ≡ false) × (k ≢ k)). absurd (h.1 refl)) (eqb_tells k k)
 
 actors-flat : (crews : List Crew) → map (λ (d : Desk). d.actor) (desks_of crews) ≡ flat_map (λ (c : Crew). map (λ (d : Desk). d.actor) c.desks.items) crews

@@ -7,7 +7,6 @@ use Rattle.hx_mail.specs.Boxes.{Boxed, Ported, IsPortOf}
 use Rattle.hx_mail.specs.Ports.{lists_of, port, split_off}
 use Rattle.hx_outbox.specs.Zipped.{Both}
 use Rattle.hx_outbox.specs.Outboxes.{put_first, outs_of, IsOutPort}
-use Rattle.hx_desk.specs.Inboxes.{IsInPort, ins_of, taken_first}
 use Rattle.hx_cluster.specs.Opened.{AreOutPortsFrom}
 
 -- the view of a first port of which n ports were split off
@@ -31,11 +30,6 @@ split-out j box p v e of k =
       },
       o,
     )
-
-pub split-in : (n : ℕ) (box : Boxed) (p : Ported) → p.view ≡ split_view box.names n → IsPortOf box p → IsInPort n box p × (ins_of p ≡ [])
-split-in n box p e of =
-    let o : ins_of p ≡ [] = ap (λ (x : PortView). taken_first x.lists) e in
-    (record { of = of; view = e ∙ ap (λ us. port 0 (Some box.names) (lists_of 0 [] us ∷ []) (Some n)) (sym o) }, o)
 
 -- a pair at the end of each of two lists
 pub both-snoc : {A B : Type 0} (R : A → B → Type 0) (xs : List A) (ys : List B) (x : A) (y : B) → Both R xs ys → R x y → Both R (xs ++ x ∷ []) (ys ++ y ∷ [])

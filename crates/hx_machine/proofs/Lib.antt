@@ -1,4 +1,3 @@
-mod Examples
 mod Moving
 mod Starting
 mod Taking

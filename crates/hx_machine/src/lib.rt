@@ -5,7 +5,7 @@
 //! them it has the state that the definitions fold from them, and what it makes of its next input is
 //! theirs. That a driver knows no more of a run than this is this project's choice.
 //!
-//! No contract says that there is memory for a step. Tests start actors of each role and move them.
+//! No contract says that there is memory for a step.
 #![tactic(auto)]
 
 mod machines;
@@ -13,6 +13,3 @@ mod plans;
 
 pub use machines::Machine;
 pub use plans::Plan;
-
-#[cfg(test)]
-mod tests;
