@@ -9,10 +9,43 @@ program=$folder/out/hx_tool
 picture=$top/crates/hx_picture/out/hx_picture
 log=$folder/hx-build.log
 
-# commands: whether the words are some that the program takes; wrong words never start a build
+# number WORD LEAST MOST: whether the word is a number in decimal, without a leading zero, from LEAST to MOST
+number() {
+  [[ ${1-} =~ ^(0|[1-9][0-9]*)$ ]] || return 1
+  at_most "$2" "$1" && at_most "$1" "$3"
+}
+
+at_most() {
+  [ "${#1}" -lt "${#2}" ] || { [ "${#1}" -eq "${#2}" ] && [[ ! $1 > $2 ]]; }
+}
+
+# options NAMES WORD..: whether the words are options of these names, each at most once with its value
+options() {
+  local names=" $1 " seen=' '
+  shift
+  while [ $# -gt 0 ]; do
+    [[ $names == *" $1 "* && $seen != *" $1 "* ]] || return 1
+    seen="$seen$1 "
+    case $1 in
+      --trace) shift; continue ;;
+      --workers) number "${2-}" 1 16 || return 1 ;;
+      *) number "${2-}" 0 1000000 || return 1 ;;
+    esac
+    shift 2
+  done
+}
+
+# commands WORD..: whether the words are some that the program takes; wrong words never start a build
 commands() {
   case "$*" in
     replay | 'replay --trace' | plan | --help | --version) return 0 ;;
+  esac
+  case "${1-}" in
+    run) shift && options '--workers --lose --repeat --trace' "$@" ;;
+    soak)
+      number "${2-}" 0 18446744073709551615 && number "${3-}" 1 16384 || return 1
+      shift 3 && options '--workers' "$@"
+      ;;
     *) return 1 ;;
   esac
 }

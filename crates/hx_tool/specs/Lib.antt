@@ -4,4 +4,6 @@ pub mod Plans
 pub mod Steps
 pub mod Causes
 pub mod Calling
+pub mod Threads
+pub mod Telling
 pub mod Showing

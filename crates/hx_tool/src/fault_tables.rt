@@ -1,8 +1,8 @@
 //! Faults in every place where one can come: each read and each write of a run that fails, and a script
 //! that ends after each of its lines.
+use crate::alone::hyperstore_alone;
 use crate::outcomes::Outcome;
 use crate::tests::{FIRST, FIRST_REPORT, run, words};
-use crate::top::hyperstore;
 use hx_io::{MemorySink, MemorySource};
 use hx_script::Reason;
 use std::alloc::Global;
@@ -21,7 +21,7 @@ fn fails_to_read(alloc: Global, number: u64) -> Result<bool, Fail> {
     let text = FIRST.as_bytes().to_vec(alloc)?;
     let mut source = MemorySource::new(alloc, text, 1, vec![in alloc; number]?);
     let mut sink = MemorySink::new(alloc, 4096, 16, Vec::new(alloc))?;
-    let done = hyperstore(alloc, replay.as_slice(), &mut source, &mut sink);
+    let done = hyperstore_alone(alloc, replay.as_slice(), &mut source, &mut sink);
     let told = done.outcome == Outcome::ReadFault && done.status == 4;
     Ok(told && done.trace.is_empty() && sink.bytes().is_empty())
 }

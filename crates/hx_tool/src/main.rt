@@ -6,14 +6,22 @@
 //! the words are those of the process, and the streams its standard ones, is what `main` adds.
 #![tactic(auto)]
 
+mod alone;
 mod answering;
+mod finished;
 mod outcomes;
 mod plans;
 mod program;
+mod reading;
 mod replaying;
+mod reporting;
+mod soaking;
 mod steps;
+mod threaded;
+mod threads;
 mod top;
 mod words;
+mod writing;
 
 use hx_io::{StdSink, StdSource};
 use std::process::ExitCode;
@@ -29,3 +37,5 @@ fn main(rt: HostRuntime) -> ExitCode {
 mod fault_tables;
 #[cfg(test)]
 mod tests;
+#[cfg(test)]
+mod thread_tests;

@@ -4,33 +4,46 @@ ghost use Rattle.std.specs.declared.alloc.Global.{Global};
 ghost use Rattle.std.specs.Io.KnownBytes.{Appends};
 ghost use Rattle.hx_io.specs.Causes.{Rose};
 ghost use Rattle.hx_io.specs.Pieces.{AppendsPrefix};
-ghost use Rattle.hx_types.specs.declared.traces.Entry.{Entry};
-ghost use Rattle.hx_tool.specs.Calling.{Ends, Shows, Writes};
+ghost use Rattle.hx_tool.specs.Calling.{Shows};
+ghost use Rattle.hx_tool.specs.Telling.{Answers, Told};
+ghost use Rattle.hx_tool.specs.Threads.{Handed};
 ghost use Rattle.hx_tool.specs.Commands.{Asks};
 ghost use Rattle.hx_tool.specs.Outcomes.{IsSilent, fault_line};
 ghost use Rattle.hx_tool.specs.Showing.{shown_text};
 ghost use Rattle.hx_tool.specs.declared.words.Question.{Question};
 
+use crate::finished::Finished;
 use crate::outcomes::{Done, Outcome, fault_text, status};
 use crate::top::hyperstore;
 use crate::words::{Question, question_of};
+use hx_desk::{Gate, Open};
+use hx_fate::{EveryNth, Fate};
 use hx_io::{Sink, Source, write_all};
 use hx_types::Memory;
 use std::alloc::Global;
 use std::mem::ManuallyDrop;
 use std::rt::Env;
+use std::sync::Wait;
+use std::thread::Threads;
 use std::{env, io};
 
 /// What `hx --help` prints.
 const HELP: &[u8] = b"hx: a searchable key-value store whose histories are proved linear
 
 usage: hx replay [--trace] < SCRIPT
+       hx run [--workers W] [--lose N] [--repeat N] [--trace] < SCRIPT
+       hx soak SEED CALLS [--workers W]
        hx plan < SCRIPT
 
 Commands:
   replay       run the script that stands on standard input, and write every
                reply and every key's history on standard output;
                with --trace every step of every actor too
+  run          the same on W threads (1 to 16; 2 where it isn't said), losing
+               and repeating one message in so many of each thread's
+               (0 to 1000000; never where it isn't said)
+  soak         run 1 to 16384 calls drawn from a seed on W threads, and write
+               a summary that is the same for every W
   plan         write which regions each search of the script asks
 
 Options:
@@ -43,6 +56,9 @@ Status: 0 fine, 2 usage, 3 a text that can't be run, 4 a fault of reading,
 
 /// What `hx --version` prints.
 const VERSION: &[u8] = b"hx 0.1.0\n";
+
+/// On how many threads a script is run at most.
+const MOST_WORKERS: u32 = 16;
 
 /// Why the line of an outcome wasn't printed.
 #[derive(Clone, Copy, PartialEq, Eq)]
@@ -68,15 +84,15 @@ impl From<Memory> for Unprinted {
 /// The line of its outcome goes to `errors`. Where that can't be printed, the status alone tells.
 pub fn run<R, S, K, E>(rt: &R, source: &mut S, sink: &mut K, errors: &mut E) -> u8
 where
-    R: Env + AllocGlobal,
+    R: Env + AllocGlobal + Threads + Wait + Sync,
     S: Source,
     K: Sink,
     E: Sink,
     // With status 0 what was asked was shown, or the answer to the source's text was written.
     ensures fine { result ≡ 0 → (words : List (String Global)) × (
         ((question : Question) × Asks words question × Appends (K.held sink.old) (K.held sink.new) (shown_text question))
-        ⊎ ((trace : List Entry) × Writes words (record { before = S.left source.old; after = S.left source.new; faults_before = S.faults source.old; faults_after = S.faults source.new })
-        (record { before = K.held sink.old; after = K.held sink.new; faults_before = K.faults sink.old; faults_after = K.faults sink.new }) trace)) }
+        ⊎ ((h : Handed) × Answers words (record { before = S.left source.old; after = S.left source.new; faults_before = S.faults source.old; faults_after = S.faults source.new })
+        (record { before = K.held sink.old; after = K.held sink.new; faults_before = K.faults sink.old; faults_after = K.faults sink.new }) h)) }
 
     // The status is that of the outcome: a fault has its cause, and only an answer is written.
     ensures read_fault { result ≡ 4 → Rose (S.faults source.old) (S.faults source.new) }
@@ -84,7 +100,7 @@ where
     ensures silent { result ≢ 0 → result ≢ 5 → sink.new ≡ sink.old }
 {
     let outcome = match words_of(rt) {
-        Ok(words) => command(rt.alloc(), words.as_slice(), source, sink),
+        Ok(words) => command(rt, rt.alloc(), words.as_slice(), source, sink),
         Err(outcome) => outcome,
     };
     let _printed = print_outcome(rt.alloc(), errors, &outcome);
@@ -92,7 +108,8 @@ where
 }
 
 /// Answers `--help` and `--version`, and hands all other words on.
-fn command<S: Source, K: Sink>(
+fn command<R: Threads + Wait + Sync, S: Source, K: Sink>(
+    rt: &R,
     alloc: Global,
     words: &[String],
     source: &mut S,
@@ -100,26 +117,57 @@ fn command<S: Source, K: Sink>(
 ) -> Outcome
     ensures shown { (question : Question) → Asks words.now question → Shows (record { before = K.held sink.old; after = K.held sink.new; faults_before = K.faults sink.old; faults_after = K.faults sink.new }) (shown_text question) result }
     ensures unread { (question : Question) → Asks words.now question → source.new ≡ source.old }
-    ensures told { ((question : Question) → ¬ Asks words.now question) → (trace : List Entry) × Ends words.now
+    ensures told { ((question : Question) → ¬ Asks words.now question) → Told words.now
         (record { before = S.left source.old; after = S.left source.new; faults_before = S.faults source.old; faults_after = S.faults source.new })
         (record { before = K.held sink.old; after = K.held sink.new; faults_before = K.faults sink.old; faults_after = K.faults sink.new })
-        result trace }
+        result }
     ensures fine { result ≡ Outcome.Fine →
         ((question : Question) × Asks words.now question × Appends (K.held sink.old) (K.held sink.new) (shown_text question))
-        ⊎ ((trace : List Entry) × Writes words.now (record { before = S.left source.old; after = S.left source.new; faults_before = S.faults source.old; faults_after = S.faults source.new })
-        (record { before = K.held sink.old; after = K.held sink.new; faults_before = K.faults sink.old; faults_after = K.faults sink.new }) trace) }
+        ⊎ ((h : Handed) × Answers words.now (record { before = S.left source.old; after = S.left source.new; faults_before = S.faults source.old; faults_after = S.faults source.new })
+        (record { before = K.held sink.old; after = K.held sink.new; faults_before = K.faults sink.old; faults_after = K.faults sink.new }) h) }
     ensures read_fault { result ≡ Outcome.ReadFault → Rose (S.faults source.old) (S.faults source.new) }
     ensures write_fault { result ≡ Outcome.WriteFault → Rose (K.faults sink.old) (K.faults sink.new) }
     ensures silent { IsSilent result → sink.new ≡ sink.old }
 {
     match question_of(words) {
         Some(question) => show(sink, shown_text(question)),
-        None => {
-            let Done { outcome, trace, .. } = hyperstore(alloc, words, source, sink);
-            let _left = ManuallyDrop::new(trace);
-            outcome
-        }
+        None => called(rt, alloc, words, source, sink),
     }
+}
+
+/// Makes the call with fates that lose and repeat by number, and a gate that holds nobody.
+fn called<R: Threads + Wait + Sync, S: Source, K: Sink>(
+    rt: &R,
+    alloc: Global,
+    words: &[String],
+    source: &mut S,
+    sink: &mut K,
+) -> Outcome
+    ensures told { Told words.now
+        (record { before = S.left source.old; after = S.left source.new; faults_before = S.faults source.old; faults_after = S.faults source.new })
+        (record { before = K.held sink.old; after = K.held sink.new; faults_before = K.faults sink.old; faults_after = K.faults sink.new })
+        result }
+    ensures fine { result ≡ Outcome.Fine → (h : Handed) × Answers words.now
+        (record { before = S.left source.old; after = S.left source.new; faults_before = S.faults source.old; faults_after = S.faults source.new })
+        (record { before = K.held sink.old; after = K.held sink.new; faults_before = K.faults sink.old; faults_after = K.faults sink.new }) h }
+    ensures read_fault { result ≡ Outcome.ReadFault → Rose (S.faults source.old) (S.faults source.new) }
+    ensures write_fault { result ≡ Outcome.WriteFault → Rose (K.faults sink.old) (K.faults sink.new) }
+    ensures silent { IsSilent result → sink.new ≡ sink.old }
+{
+    let mut fates: Vec<Box<dyn Fate + Send>> = Vec::new(alloc);
+    for _driver in 0..MOST_WORKERS {
+        let Ok(fate) = Box::new(alloc, EveryNth::new()) else {
+            return Outcome::Memory;
+        };
+        let Ok(()) = fates.push(fate) else {
+            return Outcome::Memory;
+        };
+    }
+    let Finished { done, ports, .. } = hyperstore(rt, alloc, words, source, sink, fates, &Open);
+    drop(ports);
+    let Done { outcome, trace, .. } = done;
+    let _left = ManuallyDrop::new(trace);
+    outcome
 }
 
 /// The words of the process without the program's name. A word that isn't UTF-8 is no command.

@@ -1,5 +1,5 @@
+use crate::alone::hyperstore_alone;
 use crate::outcomes::{Done, Outcome, fault_text, status};
-use crate::top::hyperstore;
 use hx_io::{MemorySink, MemorySource};
 use hx_script::Reason;
 use hx_types::{Actor, LONGEST_SCRIPT, LONGEST_TEXT, ServerId};
@@ -133,7 +133,7 @@ pub fn words(alloc: Global, line: &str) -> Result<Vec<String>, Fail> {
 pub fn run(alloc: Global, line: &str, text: &[u8], sink: &mut MemorySink) -> Result<Done, Fail> {
     let words = words(alloc, line)?;
     let mut source = MemorySource::new(alloc, text.to_vec(alloc)?, 7, Vec::new(alloc));
-    Ok(hyperstore(alloc, words.as_slice(), &mut source, sink))
+    Ok(hyperstore_alone(alloc, words.as_slice(), &mut source, sink))
 }
 
 /// Whether the command ends well on the text, with a trace of so many entries, and writes this.
@@ -450,11 +450,11 @@ fn a_source_may_be_too_large_or_fail(rt: HostRuntime) -> Result<(), Fail> {
         65_536,
         Vec::new(alloc),
     );
-    let done = hyperstore(alloc, plan.as_slice(), &mut large, &mut sink);
+    let done = hyperstore_alone(alloc, plan.as_slice(), &mut large, &mut sink);
     assert!(rt; done.outcome == Outcome::TooLarge);
     assert_eq!(rt; done.status, 3);
     let mut failing = MemorySource::new(alloc, Vec::new(alloc), 1, vec![in alloc; 1]?);
-    let done = hyperstore(alloc, plan.as_slice(), &mut failing, &mut sink);
+    let done = hyperstore_alone(alloc, plan.as_slice(), &mut failing, &mut sink);
     assert!(rt; done.outcome == Outcome::ReadFault);
     assert_eq!(rt; done.status, 4);
     assert!(rt; sink.bytes().is_empty());

@@ -1,205 +1,94 @@
-ghost use Rattle.std.specs.Prelude.{◌≡◌, ◌↔◌, ◌⊎◌, ◌+◌, ◌≤◌, ◌<◌, ℕ, List, [], Some, IfOk, IfErr, IfSome, length};
-ghost use Rattle.std.specs.Io.KnownBytes.{Appends};
+ghost use Rattle.std.specs.Prelude.{◌≡◌, ◌≤◌, ◌↔◌, ◌⊎◌, ℕ, [], length, slice_get, Some};
 ghost use Rattle.hx_io.specs.Causes.{Rose};
-ghost use Rattle.hx_io.specs.Pieces.{AppendsPrefix, ConsumesExactly};
-ghost use Rattle.hx_script.specs.declared.errors.Reason.{Reason};
-ghost use Rattle.hx_script.specs.declared.errors.Reason.TheVariants as a_reason;
 ghost use Rattle.hx_types.specs.declared.ids.Actor.{Actor};
-ghost use Rattle.hx_types.specs.declared.traces.Entry.{Entry};
-ghost use Rattle.hx_tool.specs.Causes.{IsAnswer, IsCause, IsFaulty, IsJudged, IsJudgedResult, IsMadeOf, IsRefused, IsStopped, IsTaken, IsWorn, ReadsText, limit};
-ghost use Rattle.hx_tool.specs.Commands.{Replays, Says};
+ghost use Rattle.hx_types.specs.declared.totals.Totals.{Totals as TotalsSeen};
+ghost use Rattle.hx_types.specs.declared.traces.Script.{Script as ScriptSeen};
+ghost use Rattle.hx_gen.specs.Soaking.{script_drawn};
+ghost use Rattle.hx_run.specs.Ran.{HasRisen};
+ghost use Rattle.hx_words.specs.Saying.{SaysRun, SaysSoak};
+ghost use Rattle.hx_words.specs.declared.commands.Run.{Run as RunSeen};
+ghost use Rattle.hx_words.specs.declared.commands.Soak.{Soak as SoakSeen};
+ghost use Rattle.hx_tool.specs.Calling.{Ends};
 ghost use Rattle.hx_tool.specs.Outcomes.{HasNoTrace, IsSilent, status_of};
+ghost use Rattle.hx_tool.specs.Threads.{EndsRun, EndsSoak, IsDecided, IsUnthreaded};
 ghost use Rattle.hx_tool.specs.declared.outcomes.Outcome.{Outcome};
-ghost use Rattle.hx_tool.specs.declared.words.Command.{Command};
 
-use crate::answering::answer;
-use crate::outcomes::{Answered, Done, Made, Outcome, status};
-use crate::words::{Command, command_of};
-use hx_io::{Sink, Source, read_all, write_all};
-use hx_script::Reason;
-use hx_types::{Actor, LONGEST_SCRIPT, Trace};
+use crate::alone::hyperstore_alone;
+use crate::finished::{Finished, unthreaded};
+use crate::threaded::{run_words, soak_words};
+use hx_desk::Gate;
+use hx_fate::Fate;
+use hx_io::{Sink, Source};
+use hx_words::{run_of, soak_of};
 use std::alloc::Global;
+use std::sync::Wait;
+use std::thread::Threads;
 
-/// How many bytes a script may have.
-const LIMIT: usize = LONGEST_SCRIPT;
-
-/// The program: it takes its words, the source of its script and the sink of its answer.
+/// The program with threads: it takes its words, the source of its script and the sink of its answer,
+/// a fate for each of up to 16 drivers, and a gate.
 ///
-/// It reads the source to its end. With the words `replay` it takes the script's steps, goes on by
-/// the schedule until there is nothing left to do, and writes the report, and with the words
-/// `replay --trace` every entry and its posts in it too; with the words `plan` it
-/// writes which regions each search of the script asks.
+/// With the words of `run` it runs the script of the source on threads, and with those of `soak` a
+/// script that it draws itself; all other words it hands on to [`hyperstore_alone`]. Fates that no
+/// driver has are dropped.
 ///
 /// # Errors
 ///
-/// Each outcome but `Memory` comes exactly where its cause holds. The answer is made whole before
-/// the first write, so nothing is written with any outcome but `Fine` and `WriteFault`.
-///
-/// An actor makes at most 1,048,576 entries: `Worn` comes where the next entry of a replay is one
-/// more of an actor that has made so many, and the trace is the run up to there.
-pub fn hyperstore<S: Source, K: Sink>(
+/// Those of `hyperstore_alone`. `Worn` comes where an actor has made 1,048,576 entries and has one more
+/// to make.
+pub fn hyperstore<R: Threads + Wait + Sync, S: Source, K: Sink, G: Gate + Sync>(
+    rt: &R,
     alloc: Global,
     words: &[String],
     source: &mut S,
     sink: &mut K,
-) -> Done
-    ensures status { result.status ≡ status_of result.outcome }
+    fates: Vec<Box<dyn Fate + Send>>,
+    gate: &G,
+) -> Finished
+    requires { 16 ≤ length fates.items }
+    ensures status { result.done.status ≡ status_of result.done.outcome }
 
-    // With status 0 the text that the source gave is that of a script. Under `replay` the trace is
-    // its run by its steps and the schedule, each key's history is linear, each finished search
-    // whole and true, every answer has its cause, and the report was written and nothing else;
-    // under `plan` the plans of its searches.
-    ensures fine { result.outcome ≡ Outcome.Fine → (command : Command) × (text : List ℕ) × (bytes : List ℕ)
-        × Says words.now command
-        × ReadsText (S.left source.old) (S.left source.new) text
-        × IsAnswer command text result.trace bytes
-        × Appends (K.held sink.old) (K.held sink.new) bytes }
+    // Words that start no threads end as they do alone.
+    ensures alone { IsUnthreaded words.now → Ends words.now
+        (record { before = S.left source.old; after = S.left source.new; faults_before = S.faults source.old; faults_after = S.faults source.new })
+        (record { before = K.held sink.old; after = K.held sink.new; faults_before = K.faults sink.old; faults_after = K.faults sink.new })
+        result.done.outcome result.done.trace }
 
-    // What each other outcome comes from. A replay that refuses a step hands back the run before it.
-    ensures usage { (result.outcome ≡ Outcome.Usage) ↔ ((command : Command) → ¬ Says words.now command) }
-    ensures refused { (line : ℕ) (reason : Reason) → result.outcome ≡ Outcome.Refused line reason → (text : List ℕ)
-        × ReadsText (S.left source.old) (S.left source.new) text
-        × (IsRefused text line reason
-        ⊎ ((reason ≡ a_reason.Step) × ((command : Command) × Says words.now command × Replays command) × IsStopped text line result.trace)) }
-    ensures too_large { result.outcome ≡ Outcome.TooLarge →
-        ConsumesExactly (S.left source.old) (S.left source.new) (limit + 1) }
-    ensures read_fault { result.outcome ≡ Outcome.ReadFault → Rose (S.faults source.old) (S.faults source.new) }
-    ensures write_fault { result.outcome ≡ Outcome.WriteFault → Rose (K.faults sink.old) (K.faults sink.new) }
-    ensures prefix { result.outcome ≡ Outcome.WriteFault → (command : Command) × (text : List ℕ) × (bytes : List ℕ)
-        × Says words.now command
-        × ReadsText (S.left source.old) (S.left source.new) text
-        × IsAnswer command text result.trace bytes
-        × AppendsPrefix (K.held sink.old) (K.held sink.new) bytes }
+    // Under `run` the text that the source gave is that of a script. With status 0 the trace is a run of
+    // it without halts in which every call has ended, paced by retries that come only where nothing else
+    // is left but what was lost; all that the laws say of runs holds of it, and the report was written
+    // and nothing else. A worn actor hands back the run up to there.
+    ensures run { (command : RunSeen) → SaysRun words.now command → (script : ScriptSeen) × EndsRun command script
+        (record { before = S.left source.old; after = S.left source.new; faults_before = S.faults source.old; faults_after = S.faults source.new })
+        (record { before = K.held sink.old; after = K.held sink.new; faults_before = K.faults sink.old; faults_after = K.faults sink.new })
+        (record { trace = result.done.trace; totals = result.totals.items; ports = result.ports.items })
+        result.done.outcome
+        × ((i : ℕ) (f : _) (g : _) (t : TotalsSeen) → slice_get fates.items i ≡ Some f → slice_get result.fates.items i ≡ Some g → slice_get result.totals.items i ≡ Some t → HasRisen script command.workers result.done.trace i t (record { chosen = choices f; lost = losses f; doubled = repeats f }) (record { chosen = choices g; lost = losses g; doubled = repeats g })) }
+    ensures decided { (command : RunSeen) → SaysRun words.now command → IsDecided
+        (record { before = S.left source.old; after = S.left source.new; faults_before = S.faults source.old; faults_after = S.faults source.new })
+        (record { before = K.held sink.old; after = K.held sink.new; faults_before = K.faults sink.old; faults_after = K.faults sink.new })
+        result.done.outcome }
 
-    // Under `replay` the schedule came to an entry of an actor that has made all its entries. The
-    // trace is the run up to there.
-    ensures worn { (a : Actor) → result.outcome ≡ Outcome.Worn a → (text : List ℕ)
-        × ((command : Command) × Says words.now command × Replays command)
-        × ReadsText (S.left source.old) (S.left source.new) text
-        × IsWorn text result.trace a }
+    // Under `soak` the bytes are the summary of the calls one after the other on one map, the same for
+    // every number of threads.
+    ensures soak { (command : SoakSeen) → SaysSoak words.now command → EndsSoak command
+        (record { before = K.held sink.old; after = K.held sink.new; faults_before = K.faults sink.old; faults_after = K.faults sink.new })
+        (record { trace = result.done.trace; totals = result.totals.items; ports = result.ports.items })
+        result.done.outcome
+        × ((i : ℕ) (f : _) (g : _) (t : TotalsSeen) → slice_get fates.items i ≡ Some f → slice_get result.fates.items i ≡ Some g → slice_get result.totals.items i ≡ Some t → HasRisen (script_drawn command.seed command.calls) command.workers result.done.trace i t (record { chosen = choices f; lost = losses f; doubled = repeats f }) (record { chosen = choices g; lost = losses g; doubled = repeats g })) }
+    ensures soaked { (command : SoakSeen) → SaysSoak words.now command → ¬ Rose (K.faults sink.old) (K.faults sink.new)
+        → (result.done.outcome ≡ Outcome.Fine) ⊎ (result.done.outcome ≡ Outcome.Memory) ⊎ ((a : Actor) × (result.done.outcome ≡ Outcome.Worn a)) }
+    ensures unread { (command : SoakSeen) → SaysSoak words.now command → source.new ≡ source.old }
 
-    // And where the text's script has a run that ends so, the outcome is no other.
-    ensures wears { (command : Command) → (text : List ℕ) → (trace : List Entry) → (a : Actor) → Says words.now command
-        → Replays command → S.left source.old ≡ Some text → length text ≤ limit → IsWorn text trace a
-        → ¬ Rose (S.faults source.old) (S.faults source.new)
-        → (result.outcome ≡ Outcome.Worn a) ⊎ (result.outcome ≡ Outcome.Memory) }
-
-    // For a source that tells its bytes these alone decide, but for faults and want of memory.
-    ensures judged { (command : Command) → Says words.now command
-        → IfSome (S.left source.old) (λ text. IsJudged command text result.outcome) }
-    ensures faulty { (command : Command) → (text : List ℕ) → (outcome : Outcome) → Says words.now command
-        → S.left source.old ≡ Some text → IsFaulty command text outcome
-        → ¬ Rose (S.faults source.old) (S.faults source.new)
-        → (result.outcome ≡ outcome) ⊎ (result.outcome ≡ Outcome.Memory) }
-    ensures complete { (command : Command) → (text : List ℕ) → Says words.now command
-        → S.left source.old ≡ Some text → length text ≤ limit → IsTaken command text
-        → ¬ Rose (S.faults source.old) (S.faults source.new)
-        → ¬ Rose (K.faults sink.old) (K.faults sink.new)
-        → (result.outcome ≡ Outcome.Fine) ⊎ (result.outcome ≡ Outcome.Memory)
-        ⊎ ((a : Actor) × (result.outcome ≡ Outcome.Worn a)) }
-
-    // Nothing is written with the other outcomes, and there is no trace but where an actor is worn or
-    // a step is refused.
-    ensures silent { IsSilent result.outcome → sink.new ≡ sink.old }
-    ensures no_trace { HasNoTrace result.outcome → result.trace ≡ [] }
-    ensures untouched { result.outcome ≡ Outcome.Usage → source.new ≡ source.old }
-
-    // Counts of faults never fall.
+    // Nothing is written but with an answer.
+    ensures silent { IsSilent result.done.outcome → sink.new ≡ sink.old }
     ensures source_faults { S.faults source.old ≤ S.faults source.new }
     ensures sink_faults { K.faults sink.old ≤ K.faults sink.new }
 {
-    let Some(command) = command_of(words) else {
-        return silent(alloc, Outcome::Usage);
-    };
-    match read_and_answer(alloc, command, source) {
-        Ok(Made::Whole(made)) => write(sink, made),
-        Ok(Made::Refused { line, trace }) => refused(line, trace),
-        Ok(Made::Worn { actor, trace }) => worn(actor, trace),
-        Err(outcome) => silent(alloc, outcome),
-    }
-}
-
-fn silent(alloc: Global, outcome: Outcome) -> Done
-    ensures outcome { result.outcome ≡ outcome }
-    ensures status { result.status ≡ status_of outcome }
-    ensures trace { result.trace ≡ [] }
-{
-    Done {
-        status: status(outcome),
-        outcome,
-        trace: Trace::new(alloc),
-    }
-}
-
-/// A replay that ended at a step which can't be taken: its trace, and nothing to write.
-fn refused(line: u64, trace: Trace) -> Done
-    ensures outcome { result.outcome ≡ Outcome.Refused line a_reason.Step }
-    ensures status { result.status ≡ status_of result.outcome }
-    ensures trace { result.trace ≡ trace }
-{
-    let outcome = Outcome::Refused {
-        line,
-        reason: Reason::Step,
-    };
-    Done {
-        status: status(outcome),
-        outcome,
-        trace,
-    }
-}
-
-/// A replay that a worn actor ended: its trace, and nothing to write.
-fn worn(actor: Actor, trace: Trace) -> Done
-    ensures outcome { result.outcome ≡ Outcome.Worn actor }
-    ensures status { result.status ≡ status_of result.outcome }
-    ensures trace { result.trace ≡ trace }
-{
-    let outcome = Outcome::Worn(actor);
-    Done {
-        status: status(outcome),
-        outcome,
-        trace,
-    }
-}
-
-/// Reads the source to its end and answers its text.
-#[tactic(auto, using(crate::proofs::Making::made_is_judged))]
-fn read_and_answer<S: Source>(
-    alloc: Global,
-    command: Command,
-    source: &mut S,
-) -> Result<Made, Outcome>
-    ensures answer { IfOk result (λ made. (text : List ℕ)
-        × ReadsText (S.left source.old) (S.left source.new) text
-        × IsMadeOf command text made) }
-    ensures cause { IfErr result (IsCause command (S.left source.old) (S.left source.new) (S.faults source.old) (S.faults source.new)) }
-    ensures judged { IfSome (S.left source.old) (λ text. IsJudgedResult command text result) }
-    ensures made { IfSome (S.left source.old) (λ text. IfOk result (IsMadeOf command text)) }
-    ensures faults { S.faults source.old ≤ S.faults source.new }
-{
-    let text = read_all(alloc, source, LIMIT)?;
-    let made = answer(alloc, command, text.as_slice())?;
-    Ok(made)
-}
-
-/// Writes the answer.
-fn write<K: Sink>(sink: &mut K, made: Answered) -> Done
-    ensures status { result.status ≡ status_of result.outcome }
-    ensures trace { result.trace ≡ made.trace }
-    ensures ends { (result.outcome ≡ Outcome.Fine) ⊎ (result.outcome ≡ Outcome.WriteFault) }
-    ensures fine { result.outcome ≡ Outcome.Fine → Appends (K.held sink.old) (K.held sink.new) made.bytes.items }
-    ensures prefix { result.outcome ≡ Outcome.WriteFault → AppendsPrefix (K.held sink.old) (K.held sink.new) made.bytes.items }
-    ensures fault { result.outcome ≡ Outcome.WriteFault → Rose (K.faults sink.old) (K.faults sink.new) }
-    ensures faults { K.faults sink.old ≤ K.faults sink.new }
-{
-    let Answered { trace, bytes } = made;
-    let outcome = match write_all(sink, bytes.as_slice()) {
-        Ok(()) => Outcome::Fine,
-        Err(_) => Outcome::WriteFault,
-    };
-    Done {
-        status: status(outcome),
-        outcome,
-        trace,
+    match run_of(words) {
+        Some(command) => run_words(rt, alloc, command, source, sink, fates, gate),
+        None => match soak_of(words) {
+            Some(command) => soak_words(rt, alloc, command, sink, fates, gate),
+            None => unthreaded(alloc, hyperstore_alone(alloc, words, source, sink)),
+        },
     }
 }

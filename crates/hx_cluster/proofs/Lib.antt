@@ -1,0 +1,8 @@
+pub mod AtEach
+pub mod Boxing
+pub mod ByPlace
+pub mod Deals
+pub mod Everyone
+pub mod Examples
+pub mod Opens
+pub mod Zips

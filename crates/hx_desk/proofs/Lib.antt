@@ -1,0 +1,8 @@
+pub mod Heard
+pub mod Taking
+pub mod Taken
+pub mod Results
+pub mod Made
+pub mod Turned
+pub mod Waiting
+pub mod Same

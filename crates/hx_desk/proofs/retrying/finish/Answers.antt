@@ -1,0 +1,25 @@
+use Rattle.std.proofs.Common.{◌∙◌, sym, [], ◌∷◌, append-nil}
+use Rattle.hx_types.specs.declared.traces.Input.TheVariants.{Tick}
+use Rattle.hx_desk.proofs.Results.{match-elim, match-map}
+use Rattle.hx_desk.proofs.Same.{desk-input}
+use Rattle.hx_desk.proofs.Turned.{turn-self}
+use Rattle.hx_desk.proofs.Waiting.{plan-enough, retried-one}
+use Rattle.hx_desk.proofs.retrying.finish.Goals as goal
+
+pub returns-then-not-makes_anything-clause-turn : goal.returns-then-not-makes_anything-clause-turn
+returns-then-not-makes_anything-clause-turn g c = ([], turn-self c.args.boxes.now c.args.desk.now c.args.out.now c.args.totals.now _ c.requires.out c.requires.room.total)
+
+pub returns-else-is_worn-clause-desk : goal.returns-else-is_worn-clause-desk
+returns-else-is_worn-clause-desk g c w h =
+    match-elim _ _ _ c.settle.result (λ _ k. k w (desk-input c.args.script.now c.args.clock.now c.args.boxes.now w c.args.desk.now Tick c.args.plan c.requires.ready h)) (λ _ k. k w [] h) c.settle.ensures.desk
+
+pub returns-else-is_worn-clause-turn : goal.returns-else-is_worn-clause-turn
+returns-else-is_worn-clause-turn g c = match-elim _ _ _ c.settle.result (λ _ k. (k.0 ∷ [], k.2)) (λ _ k. ([], k)) c.settle.ensures.turn
+
+pub returns-else-is_worn-clause-retried : goal.returns-else-is_worn-clause-retried
+returns-else-is_worn-clause-retried g c =
+    let d = c.args.desk.now in
+    let enough = sym (plan-enough c.args.script.now d c.args.plan c.requires.ready) ∙ sym c.makes_anything.ensures ∙ c.if-not-makes_anything.false in
+    match-map _ _ _ _ c.settle.result
+    (λ _ k. retried-one c.args.script.now d c.settle.new.desk k.0 c.requires.running c.requires.waits enough (k.1 ∙ c.requires.ready.step) k.2.part)
+    (λ _ k. k.part ∙ append-nil _) c.settle.ensures.turn

@@ -1,0 +1,5 @@
+pub mod Inboxes
+pub mod Told
+pub mod Desks
+pub mod Turns
+pub mod Givings

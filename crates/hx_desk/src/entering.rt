@@ -1,0 +1,181 @@
+//! The entry of an actor: how it is stamped and made, and what becomes of its posts.
+ghost use Rattle.std.specs.Prelude.{ℕ, ◌≡◌, ◌<◌, ◌^◌, true, false, List, [], ◌∷◌, MatchResult, length, ⊤};
+ghost use Rattle.hx_types.specs.declared.limits.TheConstants.{MOST_ENTRIES};
+ghost use Rattle.hx_types.specs.declared.traces.Input.TheVariants.{Tick};
+ghost use Rattle.hx_types.specs.Fitting.{IsScript};
+ghost use Rattle.hx_model.specs.Runs.{has_halted, made_of, makes_enough};
+ghost use Rattle.hx_clock.specs.declared.parts.Stamped.{Stamped};
+ghost use Rattle.hx_mail.specs.declared.views.Mailed.{Mailed};
+ghost use Rattle.hx_machine.specs.Machines.{entry_in};
+ghost use Rattle.hx_outbox.specs.Offers.{firsts_of};
+ghost use Rattle.hx_outbox.specs.Outboxes.{IsOutbox};
+ghost use Rattle.hx_outbox.specs.Places.{AreBoxes};
+ghost use Rattle.hx_desk.specs.declared.faults.Fault.TheVariants as a_fault;
+ghost use Rattle.hx_desk.specs.Desks.{IsDesk, entries_before};
+ghost use Rattle.hx_desk.specs.Told.{told_by};
+ghost use Rattle.hx_desk.specs.Givings.{CanBeGiven, HasPlaces, IsMadeOf, IsReady, MakesEnough};
+ghost use Rattle.hx_desk.specs.Turns.{HasRoom, IsFaultOf, IsTurn};
+
+use crate::desks::Desk;
+use crate::faults::Fault;
+use crate::gates::Gate;
+use crate::preparing::{foresee, is_worn, make_room};
+use hx_clock::{Clock, Stamped};
+use hx_fate::Fate;
+use hx_machine::Plan;
+use hx_mail::Mailbox;
+use hx_outbox::{Copies, Outbox, offer_all};
+use hx_types::{Input, Script, Totals};
+use std::alloc::Global;
+use std::sync::Wait;
+
+/// Makes a step, for which there is room: its entry is stamped and pushed, and its posts are offered.
+fn make<R: Wait, G: Gate>(
+    rt: &R,
+    script: &Script,
+    clock: &Clock,
+    boxes: &[Mailbox<'_>],
+    gate: &G,
+    desk: &mut Desk,
+    out: &mut Outbox,
+    fate: &mut Box<dyn Fate + Send>,
+    totals: &mut Totals,
+    plan: Plan,
+    copies: Vec<Copies>,
+)
+    requires script { IsScript script.now }
+    requires boxes { AreBoxes script.now clock.now boxes.now }
+    requires desk { (w : ℕ) × IsDesk script.now clock.now boxes.now w (told_by desk.old.actor (entry_in plan).input) desk.old }
+    requires step { IsReady script.now desk.old (entry_in plan).input plan × MakesEnough (entry_in plan).input plan }
+    requires copies { (firsts_of copies.items ≡ (entry_in plan).outputs) × (length copies.items < 2 ^ 32) }
+    requires places { HasPlaces desk.old (length copies.items) × (length desk.old.part.items < MOST_ENTRIES) }
+    requires out { IsOutbox boxes.now out.old }
+    requires room { HasRoom out.old desk.old totals.old }
+    ensures desk { (w : ℕ) → IsDesk script.now clock.now boxes.now w (told_by desk.old.actor (entry_in plan).input) desk.old → IsDesk script.now clock.now boxes.now w [] desk.new }
+    ensures turn { (x : Stamped) × (x.entry ≡ entry_in plan) × IsTurn boxes.now desk.old desk.new out.old out.new totals.old totals.new (record { chosen = choices fate.old; lost = losses fate.old; doubled = repeats fate.old }) (record { chosen = choices fate.new; lost = losses fate.new; doubled = repeats fate.new }) (x ∷ []) }
+{
+    gate.before(desk.actor);
+    let entry = desk.machine.apply(plan);
+    let stamp = clock.act(&mut desk.seat, &entry);
+    offer_all(
+        rt,
+        script,
+        clock,
+        boxes,
+        out,
+        &mut desk.kept,
+        &mut desk.seat,
+        fate,
+        totals,
+        stamp.0 + 1,
+        copies,
+    );
+    desk.part.push_reserved(Stamped { stamp, entry });
+}
+
+/// Takes the memory that a step still needs, and makes it. The actor isn't worn.
+pub(crate) fn settle<R: Wait, G: Gate>(
+    rt: &R,
+    alloc: Global,
+    script: &Script,
+    clock: &Clock,
+    boxes: &[Mailbox<'_>],
+    gate: &G,
+    desk: &mut Desk,
+    out: &mut Outbox,
+    fate: &mut Box<dyn Fate + Send>,
+    totals: &mut Totals,
+    plan: Plan,
+) -> Result<(), Fault>
+    requires script { IsScript script.now }
+    requires boxes { AreBoxes script.now clock.now boxes.now }
+    requires desk { (w : ℕ) × IsDesk script.now clock.now boxes.now w (told_by desk.old.actor (entry_in plan).input) desk.old }
+    requires step { IsReady script.now desk.old (entry_in plan).input plan × MakesEnough (entry_in plan).input plan }
+    requires fresh { length desk.old.part.items < MOST_ENTRIES }
+    requires out { IsOutbox boxes.now out.old }
+    requires room { HasRoom out.old desk.old totals.old }
+    ensures desk { MatchResult result (λ _. (w : ℕ) → IsDesk script.now clock.now boxes.now w (told_by desk.old.actor (entry_in plan).input) desk.old → IsDesk script.now clock.now boxes.now w [] desk.new) (λ _. (w : ℕ) (rest : List Mailed) → IsDesk script.now clock.now boxes.now w rest desk.old → IsDesk script.now clock.now boxes.now w rest desk.new) }
+    ensures turn { MatchResult result (λ _. (x : Stamped) × (x.entry ≡ entry_in plan) × IsTurn boxes.now desk.old desk.new out.old out.new totals.old totals.new (record { chosen = choices fate.old; lost = losses fate.old; doubled = repeats fate.old }) (record { chosen = choices fate.new; lost = losses fate.new; doubled = repeats fate.new }) (x ∷ [])) (λ _. IsTurn boxes.now desk.old desk.new out.old out.new totals.old totals.new (record { chosen = choices fate.old; lost = losses fate.old; doubled = repeats fate.old }) (record { chosen = choices fate.new; lost = losses fate.new; doubled = repeats fate.new }) []) }
+    ensures fault { MatchResult result (λ _. ⊤) (λ fault. fault ≡ a_fault.Memory) }
+{
+    match make_room(alloc, desk, &plan) {
+        Ok(copies) => {
+            make(
+                rt, script, clock, boxes, gate, desk, out, fate, totals, plan, copies,
+            );
+            Ok(())
+        }
+        Err(_) => Err(Fault::Memory),
+    }
+}
+
+/// The step of an input, and its entry. The actor isn't worn.
+fn step_on<R: Wait, G: Gate>(
+    rt: &R,
+    alloc: Global,
+    script: &Script,
+    clock: &Clock,
+    boxes: &[Mailbox<'_>],
+    gate: &G,
+    desk: &mut Desk,
+    out: &mut Outbox,
+    fate: &mut Box<dyn Fate + Send>,
+    totals: &mut Totals,
+    input: Input,
+) -> Result<(), Fault>
+    requires fresh { length desk.old.part.items < MOST_ENTRIES }
+    requires script { IsScript script.now }
+    requires boxes { AreBoxes script.now clock.now boxes.now }
+    requires desk { (w : ℕ) × IsDesk script.now clock.now boxes.now w (told_by desk.old.actor input) desk.old }
+    requires running { has_halted script.now (entries_before desk.old.part.items) desk.old.actor ≡ false }
+    requires given { CanBeGiven script.now desk.old input }
+    requires enough { makes_enough input (made_of script.now (entries_before desk.old.part.items) desk.old.actor input) ≡ true }
+    requires out { IsOutbox boxes.now out.old }
+    requires room { HasRoom out.old desk.old totals.old }
+    ensures desk { MatchResult result (λ _. (w : ℕ) → IsDesk script.now clock.now boxes.now w (told_by desk.old.actor input) desk.old → IsDesk script.now clock.now boxes.now w [] desk.new) (λ _. (w : ℕ) (rest : List Mailed) → IsDesk script.now clock.now boxes.now w rest desk.old → IsDesk script.now clock.now boxes.now w rest desk.new) }
+    ensures turn { MatchResult result (λ _. (x : Stamped) × IsMadeOf script.now desk.old input x × IsTurn boxes.now desk.old desk.new out.old out.new totals.old totals.new (record { chosen = choices fate.old; lost = losses fate.old; doubled = repeats fate.old }) (record { chosen = choices fate.new; lost = losses fate.new; doubled = repeats fate.new }) (x ∷ [])) (λ _. IsTurn boxes.now desk.old desk.new out.old out.new totals.old totals.new (record { chosen = choices fate.old; lost = losses fate.old; doubled = repeats fate.old }) (record { chosen = choices fate.new; lost = losses fate.new; doubled = repeats fate.new }) []) }
+    ensures fault { MatchResult result (λ _. ⊤) (λ fault. fault ≡ a_fault.Memory) }
+{
+    match foresee(alloc, script, clock, desk, &input) {
+        Ok(plan) => settle(
+            rt, alloc, script, clock, boxes, gate, desk, out, fate, totals, plan,
+        ),
+        Err(_) => Err(Fault::Memory),
+    }
+}
+
+/// Makes an entry of an input that the actor can be given, and that makes something, unless the actor
+/// is worn or memory is wanting. After a fault the actor is as it was.
+pub(crate) fn enter<R: Wait, G: Gate>(
+    rt: &R,
+    alloc: Global,
+    script: &Script,
+    clock: &Clock,
+    boxes: &[Mailbox<'_>],
+    gate: &G,
+    desk: &mut Desk,
+    out: &mut Outbox,
+    fate: &mut Box<dyn Fate + Send>,
+    totals: &mut Totals,
+    input: Input,
+) -> Result<(), Fault>
+    requires script { IsScript script.now }
+    requires boxes { AreBoxes script.now clock.now boxes.now }
+    requires desk { (w : ℕ) × IsDesk script.now clock.now boxes.now w (told_by desk.old.actor input) desk.old }
+    requires running { has_halted script.now (entries_before desk.old.part.items) desk.old.actor ≡ false }
+    requires given { CanBeGiven script.now desk.old input }
+    requires enough { makes_enough input (made_of script.now (entries_before desk.old.part.items) desk.old.actor input) ≡ true }
+    requires out { IsOutbox boxes.now out.old }
+    requires room { HasRoom out.old desk.old totals.old }
+    ensures desk { MatchResult result (λ _. (w : ℕ) → IsDesk script.now clock.now boxes.now w (told_by desk.old.actor input) desk.old → IsDesk script.now clock.now boxes.now w [] desk.new) (λ _. (w : ℕ) (rest : List Mailed) → IsDesk script.now clock.now boxes.now w rest desk.old → IsDesk script.now clock.now boxes.now w rest desk.new) }
+    ensures turn { MatchResult result (λ _. (x : Stamped) × IsMadeOf script.now desk.old input x × IsTurn boxes.now desk.old desk.new out.old out.new totals.old totals.new (record { chosen = choices fate.old; lost = losses fate.old; doubled = repeats fate.old }) (record { chosen = choices fate.new; lost = losses fate.new; doubled = repeats fate.new }) (x ∷ [])) (λ _. IsTurn boxes.now desk.old desk.new out.old out.new totals.old totals.new (record { chosen = choices fate.old; lost = losses fate.old; doubled = repeats fate.old }) (record { chosen = choices fate.new; lost = losses fate.new; doubled = repeats fate.new }) []) }
+    ensures fault { MatchResult result (λ _. ⊤) (λ fault. IsFaultOf desk.new fault) }
+{
+    if is_worn(desk) {
+        Err(Fault::Worn(desk.actor))
+    } else {
+        step_on(
+            rt, alloc, script, clock, boxes, gate, desk, out, fate, totals, input,
+        )
+    }
+}

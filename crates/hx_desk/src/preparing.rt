@@ -1,0 +1,80 @@
+//! All that an entry needs before it has a stamp.
+ghost use Rattle.std.specs.Prelude.{ℕ, ◌≡◌, ◌<◌, ◌≤◌, ◌^◌, true, false, List, IfOk, length};
+ghost use Rattle.hx_types.specs.declared.limits.TheConstants.{MOST_ENTRIES};
+ghost use Rattle.hx_types.specs.Fitting.{IsScript};
+ghost use Rattle.hx_model.specs.Runs.{has_halted};
+ghost use Rattle.hx_mail.specs.declared.views.Mailed.{Mailed};
+ghost use Rattle.hx_mail.specs.Boxes.{Boxed};
+ghost use Rattle.hx_machine.specs.Machines.{IsMachine, entry_in};
+ghost use Rattle.hx_outbox.specs.Offers.{firsts_of};
+ghost use Rattle.hx_desk.specs.declared.faults.Fault.TheVariants as a_fault;
+ghost use Rattle.hx_desk.specs.Desks.{IsDesk, IsSame, entries_before};
+ghost use Rattle.hx_desk.specs.Givings.{CanBeGiven, HasPlaces, IsReady};
+ghost use Rattle.hx_desk.specs.Turns.{IsFaultOf};
+
+use crate::desks::Desk;
+use hx_clock::Clock;
+use hx_machine::Plan;
+use hx_outbox::Copies;
+use hx_types::{Exact, Input, MOST_ENTRIES, Memory, Post, Script};
+use std::alloc::Global;
+
+/// Whether the actor has made the most entries that it may make.
+pub(crate) fn is_worn(desk: &Desk) -> bool
+    requires few { length desk.now.part.items ≤ MOST_ENTRIES }
+    ensures worn { result ≡ false → length desk.now.part.items < MOST_ENTRIES }
+    ensures fault { result ≡ true → IsFaultOf desk.now (a_fault.Worn desk.now.actor) }
+{
+    desk.part.len() >= MOST_ENTRIES as usize
+}
+
+/// The step that the actor makes of an input that it can be given.
+pub(crate) fn foresee(
+    alloc: Global,
+    script: &Script,
+    clock: &Clock,
+    desk: &mut Desk,
+    input: &Input,
+) -> Result<Plan, Memory>
+    requires script { IsScript script.now }
+    requires desk { (boxes : List Boxed) × (w : ℕ) × (rest : List Mailed) × IsDesk script.now clock.now boxes w rest desk.old }
+    requires running { has_halted script.now (entries_before desk.old.part.items) desk.old.actor ≡ false }
+    requires given { CanBeGiven script.now desk.old input.now }
+    ensures same { IsSame desk.old desk.new }
+    ensures desk { (boxes : List Boxed) (w : ℕ) (rest : List Mailed) → IsDesk script.now clock.now boxes w rest desk.old → IsDesk script.now clock.now boxes w rest desk.new }
+    ensures ready { IfOk result (IsReady script.now desk.new input.now) }
+{
+    let _ = script;
+    let _drawn = clock.now(&mut desk.seat);
+    desk.machine.prepare(alloc, input)
+}
+
+/// Each post twice.
+fn double(alloc: Global, posts: &[Post]) -> Result<Vec<Copies>, Memory>
+    ensures { IfOk result (λ copies. firsts_of copies.items ≡ posts.now) }
+{
+    let mut copies = Vec::new(alloc);
+    for post in posts {
+        let first = post.copy(alloc)?;
+        let second = post.copy(alloc)?;
+        copies.push(Copies { first, second })?;
+    }
+    Ok(copies)
+}
+
+/// The copies of a step's posts, and room for its entry and for what may have to be kept.
+pub(crate) fn make_room(alloc: Global, desk: &mut Desk, plan: &Plan) -> Result<Vec<Copies>, Memory>
+    ensures same { IsSame desk.old desk.new × (desk.new.machine ≡ desk.old.machine) }
+    ensures copies { IfOk result (λ copies. firsts_of copies.items ≡ (entry_in plan.now).outputs) }
+    ensures few { IfOk result (λ copies. length copies.items < 2 ^ 32) }
+    ensures places { IfOk result (λ copies. HasPlaces desk.new (length copies.items)) }
+{
+    let copies = double(alloc, plan.entry().outputs.as_slice())?;
+    let count = copies.len();
+    if count >= 1 << 32 {
+        return Err(Memory);
+    }
+    desk.part.reserve(1)?;
+    desk.kept.reserve(2 * count)?;
+    Ok(copies)
+}

@@ -1,0 +1,3 @@
+mod Booking
+mod Moving
+mod Places

@@ -1,0 +1,178 @@
+-- A crew before and after one of its actors had a turn.
+use Rattle.std.proofs.Common.{◌≡◌, ℕ, zero, suc, ◌+◌, ◌<◌, ◌≤◌, ◌⊎◌, ⊎_elim, inl, inr, List, [], ◌∷◌, ◌++◌, length, slice_get, slice_index_or, slice_set, Some, None, refl, ap, sym, subst, ◌∙◌, arith}
+use Rattle.std.specs.List.{AllByRecursion}
+use Rattle.std.proofs.lemmas.Option.{none-some, slice_get_within}
+use Rattle.atomic_table.specs.Seated.{TableId}
+use Rattle.hx_types.specs.declared.traces.Script.{Script}
+use Rattle.hx_types.specs.Words.{IsIn}
+use Rattle.hx_clock.specs.declared.parts.Stamped.{Stamped}
+use Rattle.hx_clock.proofs.Lists.{each_map}
+use Rattle.hx_mail.specs.Boxes.{Boxed}
+use Rattle.hx_outbox.specs.Offers.{FateCounts}
+use Rattle.hx_outbox.specs.Zipped.{Both}
+use Rattle.hx_outbox.proofs.Lists.{begins-refl, begins-trans}
+use Rattle.hx_outbox.proofs.Outs.{more-refl, more-trans}
+use Rattle.hx_desk.specs.declared.desks.Desk.{Desk}
+use Rattle.hx_desk.specs.declared.faults.Fault.{Fault}
+use Rattle.hx_desk.specs.declared.faults.Fault.TheVariants as a_fault
+use Rattle.hx_desk.specs.Desks.{HasNoRetry, IsBrokenDesk, IsLater, IsWholeDesk}
+use Rattle.hx_desk.specs.Inboxes.{ins_of}
+use Rattle.hx_desk.specs.Turns.{IsFaultOf}
+use Rattle.hx_driver.specs.declared.crews.Crew.{Crew}
+use Rattle.hx_driver.specs.Crews.{HasFault, IsCrew, IsDeskOf}
+use Rattle.hx_driver.specs.Slices.{DoneTo, HaveNoRetry, IsLaterCrew, MayHaveRetried}
+use Rattle.hx_driver.proofs.Booking.{booked-turn, IsTurnIn}
+use Rattle.hx_driver.proofs.Places.{both-and, both-refl, both-set, both-trans, each-at, each-set, in-set, set-length}
+
+-- an actor of a crew that met no fault
+pub desk-at : (script : Script) (clock : TableId) (boxes : List Boxed) (w : ℕ) (c : Crew) (at : ℕ) (d : Desk) → IsCrew script clock boxes w c → c.fault ≡ None → at < length c.desks.items → d ≡ slice_index_or c.desks.items at d
+    → IsWholeDesk script clock boxes w d
+desk-at script clock boxes w c at d h calm within is = (each-at (IsDeskOf script clock boxes w c) c.desks.items at d h.desks within is).whole calm
+
+-- the crew after the turn: without a fault, or with one
+module _ (script : Script) (clock : TableId) (boxes : List Boxed) (w : ℕ) (c c' : Crew) (at : ℕ) (d d' : Desk) (f f' : FateCounts) (xs : List Stamped)
+    (k : IsTurnIn boxes c c' at d d' f f' xs) (calm : c.fault ≡ None) (h : IsCrew script clock boxes w c) where
+  same-desk : (e : Desk) → IsDeskOf script clock boxes w c e → IsDeskOf script clock boxes w c' e
+  same-desk e g = record { broken = g.broken; whole = λ n. g.whole calm }
+
+  moved : IsDeskOf script clock boxes w c' d' → HasFault c' → IsCrew script clock boxes w c'
+  moved here fault = record {
+    out = k.turn.out.0;
+    desks =
+        subst (AllByRecursion (IsDeskOf script clock boxes w c')) (sym k.desks)
+        (each-set (IsDeskOf script clock boxes w c') c.desks.items at d' (each_map (IsDeskOf script clock boxes w c) (IsDeskOf script clock boxes w c') c.desks.items (λ e i g. same-desk e g) h.desks) here);
+    many = let many = h.many in omega (arith, many, ap length k.desks, set-length c.desks.items at d');
+    booked = booked-turn boxes c c' at d d' f f' xs k h.booked;
+    total = k.turn.total;
+    fault = fault;
+  }
+
+  pub moved-calm : c'.fault ≡ None → IsWholeDesk script clock boxes w d' → IsCrew script clock boxes w c'
+  moved-calm none whole = moved (record { broken = record { rest = whole.rest; desk = whole.desk }; whole = λ n. whole }) (inl none)
+
+  fault-of : (fault : Fault) → c'.fault ≡ Some fault → IsFaultOf d' fault → HasFault c'
+  fault-of a_fault.Memory e why = inr (inl e)
+  fault-of (a_fault.Worn a) e why =
+      inr
+      (inr (
+        d',
+        subst (IsIn d') (sym k.desks) (in-set c.desks.items at d' k.within),
+        e ∙ ap (λ b. Some (a_fault.Worn b)) why.0,
+        why.1,
+      ))
+
+  pub moved-fault : (fault : Fault) → c'.fault ≡ Some fault → IsFaultOf d' fault → IsBrokenDesk script clock boxes w d' → IsCrew script clock boxes w c'
+  moved-fault fault e why broken = moved (record { broken = broken; whole = λ n. absurd (none-some fault (sym n ∙ e)) }) (fault-of fault e why)
+
+-- the crew is the same later
+later-refl : (d : Desk) → IsLater d d
+later-refl d = record { actor = refl; part = begins-refl d.part.items; ins = begins-refl (ins_of d.inbox) }
+
+later-trans : (d e f : Desk) → IsLater d e → IsLater e f → IsLater d f
+later-trans d e f a b = record {
+  actor = b.actor ∙ a.actor;
+  part = begins-trans d.part.items e.part.items f.part.items a.part b.part;
+  ins = begins-trans (ins_of d.inbox) (ins_of e.inbox) (ins_of f.inbox) a.ins b.ins;
+}
+
+pub crew-later : (boxes : List Boxed) (c c' : Crew) (at : ℕ) (d d' : Desk) (f f' : FateCounts) (xs : List Stamped) → IsTurnIn boxes c c' at d d' f f' xs → c.fault ≡ None → IsLaterCrew c c'
+crew-later boxes c c' at d d' f f' xs k calm = record {
+  index = k.turn.out.1;
+  put = k.turn.more;
+  desks = subst (Both IsLater c.desks.items) (sym k.desks) (both-set IsLater later-refl c.desks.items at d d' k.desk k.turn.later);
+  calm = λ e. calm;
+  lose = let lose = k.turn.offered.lose in omega (arith, lose);
+  twice = let twice = k.turn.offered.twice in omega (arith, twice);
+}
+
+pub crew-later-refl : (c : Crew) → IsLaterCrew c c
+crew-later-refl c = record {
+  index = refl;
+  put = more-refl c.out.ports.items;
+  desks = both-refl IsLater later-refl c.desks.items;
+  calm = λ e. e;
+  lose = omega arith;
+  twice = omega arith;
+}
+
+pub crew-later-trans : (a b c : Crew) → IsLaterCrew a b → IsLaterCrew b c → IsLaterCrew a c
+crew-later-trans a b c h k = record {
+  index = k.index ∙ h.index;
+  put = more-trans a.out.ports.items b.out.ports.items c.out.ports.items h.put k.put;
+  desks = both-trans IsLater IsLater IsLater later-trans a.desks.items b.desks.items c.desks.items h.desks k.desks;
+  calm = λ e. h.calm (k.calm e);
+  lose = let one = h.lose in let two = k.lose in omega (arith, one, two);
+  twice = let one = h.twice in let two = k.twice in omega (arith, one, two);
+}
+
+-- no actor retried
+no-retry-refl : (d : Desk) → HasNoRetry d d
+no-retry-refl d n x le at = let within = slice_get_within d.part.items n x at in absurd (omega (arith, le, within))
+
+get-before : {A : Type 0} (xs ys : List A) (n : ℕ) → n < length xs → slice_get (xs ++ ys) n ≡ slice_get xs n
+get-before [] ys n lt = absurd (omega (arith, lt))
+get-before (x ∷ xs) ys zero lt = refl
+get-before (x ∷ xs) ys (suc n) lt = get-before xs ys n (omega (arith, lt))
+
+below-or-not : (i n : ℕ) → (i < n) ⊎ (n ≤ i)
+below-or-not i zero = inr (omega arith)
+below-or-not zero (suc n) = inl (omega arith)
+below-or-not (suc i) (suc n) = ⊎_elim (λ (h : i < n). inl (omega (arith, h))) (λ (h : n ≤ i). inr (omega (arith, h))) (below-or-not i n)
+
+no-retry-trans : (d e f : Desk) → HasNoRetry d e → IsLater e f → HasNoRetry e f → HasNoRetry d f
+no-retry-trans d e f h later k n x le at =
+    ⊎_elim
+    (λ (lt : n < length e.part.items). h n x le (sym (get-before e.part.items later.part.0 n lt) ∙ ap (λ (l : List Stamped). slice_get l n) later.part.1 ∙ at))
+    (λ (ge : length e.part.items ≤ n). k n x ge at)
+    (below-or-not n (length e.part.items))
+
+pub none-retried : (boxes : List Boxed) (c c' : Crew) (at : ℕ) (d d' : Desk) (f f' : FateCounts) (xs : List Stamped) → IsTurnIn boxes c c' at d d' f f' xs → HasNoRetry d d' → HaveNoRetry c c'
+none-retried boxes c c' at d d' f f' xs k h =
+    subst (Both HasNoRetry c.desks.items) (sym k.desks) (both-set HasNoRetry no-retry-refl c.desks.items at d d' k.desk h)
+
+pub none-retried-refl : (c : Crew) → HaveNoRetry c c
+none-retried-refl c = both-refl HasNoRetry no-retry-refl c.desks.items
+
+pub none-retried-trans : (a b c : Crew) → HaveNoRetry a b → IsLaterCrew b c → HaveNoRetry b c → HaveNoRetry a c
+none-retried-trans a b c h later k =
+    both-trans HasNoRetry (λ x y. IsLater x y × HasNoRetry x y) HasNoRetry (λ x y z m n. no-retry-trans x y z m n.0 n.1) a.desks.items b.desks.items c.desks.items h
+    (both-and IsLater HasNoRetry b.desks.items c.desks.items later.desks k)
+
+-- one actor after the other
+pub done-none : (R : Desk → Desk → Type 0) (ds : List Desk) → DoneTo R 0 ds ds
+done-none R [] = tt
+done-none R (d ∷ ds) = (refl, done-none R ds)
+
+done-set : (R : Desk → Desk → Type 0) (n : ℕ) (ds es : List Desk) (e e' : Desk) → DoneTo R n ds es → n < length es → e ≡ slice_index_or es n e → R e e' → DoneTo R (n + 1) ds (slice_set es n e')
+done-set R n [] [] e e' h lt is k = absurd (omega (arith, lt))
+done-set R n [] (x ∷ es) e e' h lt is k = absurd h
+done-set R n (d ∷ ds) [] e e' h lt is k = absurd h
+done-set R zero (d ∷ ds) (x ∷ es) e e' h lt is k =
+    let one : suc zero ≡ zero + 1 = omega arith in subst (λ m. DoneTo R m (d ∷ ds) (e' ∷ es)) one (subst (λ y. R y e') (is ∙ h.0) k, h.1)
+done-set R (suc n) (d ∷ ds) (x ∷ es) e e' h lt is k =
+    let next : suc (n + 1) ≡ suc n + 1 = omega arith in
+    subst (λ m. DoneTo R m (d ∷ ds) (x ∷ slice_set es n e')) next (h.0, done-set R n ds es e e' h.1 (omega (arith, lt)) is k)
+
+pub done-turn : (R : Desk → Desk → Type 0) (boxes : List Boxed) (c c' : Crew) (at : ℕ) (d d' : Desk) (f f' : FateCounts) (xs : List Stamped) → IsTurnIn boxes c c' at d d' f f' xs → R d d'
+    → (before : List Desk) → DoneTo R at before c.desks.items → DoneTo R (at + 1) before c'.desks.items
+done-turn R boxes c c' at d d' f f' xs k r before h = subst (DoneTo R (at + 1) before) (sym k.desks) (done-set R at before c.desks.items d d' h k.within k.desk r)
+
+-- an actor that did nothing
+may-same : (script : Script) (n : ℕ) (ds es : List Desk) → DoneTo (MayHaveRetried script) n ds es → DoneTo (MayHaveRetried script) (n + 1) ds es
+may-same script n [] [] h = tt
+may-same script n [] (e ∷ es) h = absurd h
+may-same script n (d ∷ ds) [] h = absurd h
+may-same script zero (d ∷ ds) (e ∷ es) h =
+    let one : suc zero ≡ zero + 1 = omega arith in subst (λ m. DoneTo (MayHaveRetried script) m (d ∷ ds) (e ∷ es)) one (inr (ap (λ (x : Desk). x.part.items) h.0), h.1)
+may-same script (suc n) (d ∷ ds) (e ∷ es) h =
+    let next : suc (n + 1) ≡ suc n + 1 = omega arith in subst (λ m. DoneTo (MayHaveRetried script) m (d ∷ ds) (e ∷ es)) next (h.0, may-same script n ds es h.1)
+
+pub may-idle : (script : Script) (c : Crew) (at : ℕ) (before : List Desk) → DoneTo (MayHaveRetried script) at before c.desks.items → DoneTo (MayHaveRetried script) (at + 1) before c.desks.items
+may-idle script c at before h = may-same script at before c.desks.items h
+
+pub done-all : (R : Desk → Desk → Type 0) (n : ℕ) (ds es : List Desk) → n ≡ length ds → DoneTo R n ds es → Both R ds es
+done-all R n [] [] e h = tt
+done-all R n [] (x ∷ es) e h = absurd h
+done-all R n (d ∷ ds) [] e h = absurd h
+done-all R zero (d ∷ ds) (x ∷ es) e h = absurd (omega (arith, e))
+done-all R (suc n) (d ∷ ds) (x ∷ es) e h = (h.0, done-all R n ds es (omega (arith, e)) h.1)

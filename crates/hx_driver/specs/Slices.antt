@@ -1,0 +1,37 @@
+-- What a slice and a retry of a driver leave.
+use Rattle.std.specs.Prelude.{ℕ, zero, suc, ◌≡◌, ◌⊎◌, ◌≤◌, List, [], ◌∷◌, None, ⊤}
+use Rattle.hx_types.specs.declared.traces.Script.{Script}
+use Rattle.hx_outbox.specs.Outboxes.{MorePut}
+use Rattle.hx_outbox.specs.Zipped.{Both}
+use Rattle.hx_desk.specs.declared.desks.Desk.{Desk}
+use Rattle.hx_desk.specs.Desks.{HasNoRetry, HasRetried, IsLater}
+use Rattle.hx_driver.specs.declared.crews.Crew.{Crew}
+
+-- the same crew later: what its actors made, put and took before is a beginning of what they did by now
+pub record IsLaterCrew (c c' : Crew) : Type 0 where
+  pub index : c'.out.index ≡ c.out.index
+  pub put : MorePut c.out.ports.items c'.out.ports.items
+  pub desks : Both IsLater c.desks.items c'.desks.items
+  pub calm : c'.fault ≡ None → c.fault ≡ None
+  pub lose : c.totals.lose ≤ c'.totals.lose
+  pub twice : c.totals.twice ≤ c'.totals.twice
+
+-- no actor retried
+abbrev pub HaveNoRetry : Crew → Crew → Type 0
+HaveNoRetry c c' = Both HasNoRetry c.desks.items c'.desks.items
+
+-- each actor that waited retried, and nothing else was done; after a fault some of them may not have
+abbrev pub MayHaveRetried : Script → Desk → Desk → Type 0
+MayHaveRetried script d d' = HasRetried script d d' ⊎ (d'.part.items ≡ d.part.items)
+
+pub record HaveRetried (script : Script) (c c' : Crew) : Type 0 where
+  pub calm : c'.fault ≡ None → Both (HasRetried script) c.desks.items c'.desks.items
+  pub some : Both (MayHaveRetried script) c.desks.items c'.desks.items
+
+-- the first n actors did what is said, and the others nothing
+abbrev pub DoneTo : (Desk → Desk → Type 0) → ℕ → List Desk → List Desk → Type 0
+DoneTo R n [] [] = ⊤
+DoneTo R n [] (e ∷ es) = ⊥
+DoneTo R n (d ∷ ds) [] = ⊥
+DoneTo R zero (d ∷ ds) (e ∷ es) = (e ≡ d) × DoneTo R zero ds es
+DoneTo R (suc n) (d ∷ ds) (e ∷ es) = R d e × DoneTo R n ds es

@@ -1,0 +1,89 @@
+-- The laws on a run of drivers: its trace is paced.
+use Rattle.std.specs.Prelude.{ℕ, ◌≡◌, ◌≢◌, List, [], length}
+use Rattle.std.specs.List.{AllByRecursion}
+use Rattle.atomic_table.specs.Seated.{TableId}
+use Rattle.hx_types.specs.declared.calls.Caller.{Caller}
+use Rattle.hx_types.specs.declared.traces.Entry.{Entry}
+use Rattle.hx_types.specs.declared.traces.Script.{Script}
+use Rattle.hx_types.specs.Fitting.{IsScript, call_of}
+use Rattle.hx_types.specs.Words.{IsIn}
+use Rattle.std.specs.Prelude.{IsSome}
+use Rattle.hx_types.specs.declared.traces.Input.TheVariants.{Halt}
+use Rattle.hx_model.specs.Histories.{note_of_end}
+use Rattle.hx_model.specs.Runs.{IsRun}
+use Rattle.hx_model.specs.Schedule.{entries_of}
+use Rattle.hx_clock.specs.declared.parts.Stamped.{Stamped}
+use Rattle.hx_law_threads.specs.Own.{own_entries, past_of}
+use Rattle.hx_law_threads.specs.Merged.{parts_in, AreOwnParts, AreWholeParts, IsMerged}
+use Rattle.hx_law_threads.specs.Pacing.{IsPaced, IsPacedToEnd}
+use Rattle.hx_mail.specs.Boxes.{Boxed}
+use Rattle.hx_outbox.specs.Places.{AreBoxes}
+use Rattle.hx_desk.specs.declared.desks.Desk.{Desk}
+use Rattle.hx_driver.specs.declared.crews.Crew.{Crew}
+use Rattle.hx_driver.specs.Crews.{IsCrew}
+use Rattle.hx_law_drivers.specs.Crews.{AreNumbered, HaveAllActors, desks_of, doubled_by, lost_by, parts_of}
+use Rattle.hx_law_drivers.specs.Courses.{IsCourse}
+use Rattle.hx_law_drivers.specs.Joined.{AreInOrder, AreOnce}
+use Rattle.hx_law_drivers.specs.Rests.{AreAtRest, HaveAllEnded}
+
+-- drivers that began with no entry, ran, and whose ports were joined
+pub record HaveRun (script : Script) (clock : TableId) (boxes : List Boxed) (w : ℕ) (start now : List Crew) : Type 0 where
+  pub valid : IsScript script
+  pub boxes_are : AreBoxes script clock boxes
+  pub new : (d : Desk) → IsIn d (desks_of start) → d.part.items ≡ []
+  pub actors : HaveAllActors script start
+  pub numbered : AreNumbered w start
+  pub cuts : List (List Crew)
+  pub course : IsCourse script clock boxes w start cuts now
+  pub crews : AllByRecursion (IsCrew script clock boxes w) now
+  pub order : AreInOrder script now
+  pub once : AreOnce now
+
+-- the trace is that of their parts
+pub record IsTraceOf (crews : List Crew) (trace : List Entry) : Type 0 where
+  pub merged : List Stamped
+  pub whole : AreWholeParts (parts_in (parts_of crews))
+  pub is : IsMerged (parts_in (parts_of crews)) merged
+  pub trace_is : trace ≡ past_of merged
+
+-- what each actor made is its own steps, so that the merged parts are a run
+abbrev pub PartsAreOwn : Type 0
+PartsAreOwn =
+    (script : Script) (clock : TableId) (boxes : List Boxed) (w : ℕ) (start now : List Crew) → HaveRun script clock boxes w start now
+    → AreOwnParts script (parts_of now)
+
+-- the trace is a run of the script without halts, in which each actor's entries are those of its desk
+pub record ShowsDesks (script : Script) (crews : List Crew) (trace : List Entry) : Type 0 where
+  pub run : IsRun script trace
+  pub no_halts : AllByRecursion (λ (x : Entry). x.input ≢ Halt) trace
+  pub own : (d : Desk) → IsIn d (desks_of crews) → own_entries d.actor trace ≡ past_of d.part.items
+  pub counts : (d : Desk) → IsIn d (desks_of crews) → entries_of d.actor trace ≡ length d.part.items
+
+abbrev pub TracesShowDesks : Type 0
+TracesShowDesks =
+    (script : Script) (clock : TableId) (boxes : List Boxed) (w : ℕ) (start now : List Crew) → HaveRun script clock boxes w start now
+    → (trace : List Entry) → IsTraceOf now trace
+    → ShowsDesks script now trace
+
+-- the trace of drivers that met a fault, or none, is paced: no more is open at a cut than was lost, and no more came twice than was doubled
+abbrev pub RunsArePaced : Type 0
+RunsArePaced =
+    (script : Script) (clock : TableId) (boxes : List Boxed) (w : ℕ) (start now : List Crew) → HaveRun script clock boxes w start now
+    → (trace : List Entry) → IsTraceOf now trace
+    → IsPaced script trace (lost_by now) (doubled_by now)
+
+-- where they came to rest it is paced to its end
+abbrev pub RestedRunsArePacedToEnd : Type 0
+RestedRunsArePacedToEnd =
+    (script : Script) (clock : TableId) (boxes : List Boxed) (w : ℕ) (start now : List Crew) → HaveRun script clock boxes w start now
+    → AreAtRest script now
+    → (trace : List Entry) → IsTraceOf now trace
+    → IsPacedToEnd script trace (lost_by now) (doubled_by now)
+
+-- and where every session ended, each call of the script has a note of its end
+abbrev pub EndedRunsEndCalls : Type 0
+EndedRunsEndCalls =
+    (script : Script) (clock : TableId) (boxes : List Boxed) (w : ℕ) (start now : List Crew) → HaveRun script clock boxes w start now
+    → HaveAllEnded script now
+    → (trace : List Entry) → IsTraceOf now trace
+    → (c : Caller) → IsSome (call_of script c) → IsSome (note_of_end c trace)

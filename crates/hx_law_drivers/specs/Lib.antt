@@ -1,0 +1,5 @@
+pub mod Crews
+pub mod Rests
+pub mod Courses
+pub mod Joined
+pub mod Laws

@@ -1,0 +1,24 @@
+//! The laws on a run of drivers, whatever their threads did: what their actors made is paced, so that
+//! an actor retries only where nothing else can go on but for what was lost.
+#![tactic(auto)]
+
+ghost use Rattle.hx_law_drivers.specs.Laws.{EndedRunsEndCalls, PartsAreOwn, RestedRunsArePacedToEnd, RunsArePaced, TracesShowDesks};
+
+/// The parts of all desks of drivers, merged by their stamps, are a run of the script in which no entry
+/// is a halt, and each actor's entries in it are those of its desk.
+pub fn traces_show_desks()
+    ensures shown { TracesShowDesks }
+{}
+
+/// What drivers made between retries that came all together, each where the drivers were at rest, is a
+/// trace that is paced by these moments: each retry is its actor's first entry after one of them; after
+/// each of them but the last exactly the actors that waited retry; at each of them a call is under way,
+/// and no more posts are open than were lost in all. No post is delivered thrice, and no more twice than
+/// were put twice. Where the drivers came to rest, this holds of the last moment and of the end too; and
+/// where all sessions ended, each call has ended.
+pub fn runs_of_drivers_are_paced()
+    ensures own { PartsAreOwn }
+    ensures paced { RunsArePaced }
+    ensures rested { RestedRunsArePacedToEnd }
+    ensures ended { EndedRunsEndCalls }
+{}

@@ -1,0 +1,12 @@
+pub mod Zipped
+pub mod Courses
+pub mod Joins
+pub mod Onces
+pub mod Arranged
+pub mod Leaving
+pub mod Apart
+pub mod Counted
+pub mod Traces
+pub mod Starts
+pub mod Closes
+pub mod Ends

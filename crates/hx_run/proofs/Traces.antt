@@ -1,0 +1,268 @@
+-- What a trace of drivers that ran to their end tells.
+use Rattle.std.proofs.Common.{◌≡◌, ℕ, zero, suc, ◌+◌, ◌%◌, ◌<◌, ◌⊎◌, ⊎_elim, inl, inr, Bool, true, false, cond, List, [], ◌∷◌, ◌++◌, map, length, slice_get, Option, Some, None, refl, ap, sym, subst, ◌∙◌, arith, append_assoc, append-nil, length-append}
+use Rattle.std.specs.Prelude.{reverse, IsSome}
+use Rattle.std.specs.List.{flat_map, filter, AllByRecursion}
+use Rattle.std.proofs.lemmas.Bool.{cond_both}
+use Rattle.std.proofs.lemmas.List.{reverse-append}
+use Rattle.std.proofs.lemmas.List.Sorted.{IsPermutation-sym}
+use Rattle.atomic_table.specs.Seated.{TableId}
+use Rattle.hx_types.specs.declared.calls.Caller.{Caller}
+use Rattle.hx_types.specs.declared.ids.Actor.{Actor}
+use Rattle.hx_types.specs.declared.limits.TheConstants.{MOST_ENTRIES}
+use Rattle.hx_types.specs.declared.totals.Totals.{Totals}
+use Rattle.hx_types.specs.declared.traces.Entry.{Entry}
+use Rattle.hx_types.specs.declared.traces.Input.{Input}
+use Rattle.hx_types.specs.declared.traces.Script.{Script}
+use Rattle.hx_types.specs.declared.traces.Input.TheVariants.{Tick, Halt, Deliver}
+use Rattle.hx_types.specs.Fitting.{call_of}
+use Rattle.hx_types.specs.Words.{first_some, same_actor, IsIn}
+use Rattle.hx_model.specs.Histories.{note_of_end}
+use Rattle.hx_model.specs.Runs.{IsRun}
+use Rattle.hx_model.specs.Schedule.{entries_of}
+use Rattle.hx_clock.specs.declared.parts.Stamped.{Stamped}
+use Rattle.hx_clock.specs.Parts.{all_of}
+use Rattle.hx_clock.specs.Views.{total}
+use Rattle.hx_clock.proofs.Lists.{each_all, each_in, each_map}
+use Rattle.hx_law_threads.specs.Own.{own_entries, past_of, IsOwn}
+use Rattle.hx_law_threads.specs.Merged.{parts_in, ActorPart, AreOwnParts, AreWholeParts, HasOwnParts, IsMerged}
+use Rattle.hx_law_threads.specs.Laws.{IsRunOfParts}
+use Rattle.hx_law_threads.specs.Pacing.{IsPaced, IsPacedToEnd}
+use Rattle.hx_law_threads.proofs.Lists.{in_append, in_permuted, in_map, in_reverse, map_reverse, of_map, reverse_cons, reverse_snoc}
+use Rattle.hx_law_threads.proofs.Runs.{merged_run}
+use Rattle.hx_law_own.specs.Feeding.{IsFed, IsFedBy}
+use Rattle.hx_mail.specs.declared.views.Mailed.{Mailed}
+use Rattle.hx_mail.specs.declared.views.Sent.{Sent}
+use Rattle.hx_mail.specs.Boxes.{Boxed, Ported}
+use Rattle.hx_outbox.specs.Offers.{FateCounts}
+use Rattle.hx_outbox.specs.Places.{place_of}
+use Rattle.hx_outbox.specs.Zipped.{Both}
+use Rattle.hx_outbox.proofs.Lists.{map-length}
+use Rattle.hx_outbox.proofs.Outs.{both-long}
+use Rattle.hx_desk.specs.declared.desks.Desk.{Desk}
+use Rattle.hx_desk.specs.declared.faults.Fault.{Fault}
+use Rattle.hx_desk.specs.declared.faults.Fault.TheVariants.{Memory, Worn}
+use Rattle.hx_desk.specs.Desks.{entries_before, told, IsDesk}
+use Rattle.hx_desk.specs.Told.{told_by}
+use Rattle.hx_desk.specs.Inboxes.{ins_of}
+use Rattle.hx_driver.specs.declared.crews.Crew.{Crew}
+use Rattle.hx_driver.specs.Crews.{HasFault, IsCrew}
+use Rattle.hx_law_drivers.specs.Crews.{desks_of, doubled_by, lost_by, part_of, parts_of}
+use Rattle.hx_law_drivers.specs.Laws.{EndedRunsEndCalls, HaveRun, IsTraceOf, PartsAreOwn, RestedRunsArePacedToEnd, RunsArePaced}
+use Rattle.hx_cluster.specs.Everyone.{actors_of}
+use Rattle.hx_run.specs.Closed.{fault_of, AreClosed, HasPosted, IsFirstPort, IsLeft}
+use Rattle.hx_run.specs.Ran.{delivered_to, doubled_in, is_any, is_asked, is_halt, lost_in, posts_by, taken_under, ArePortsOfActors, AreTotalsOf, HasEnd, HasNoHalts, HasRisen, HaveCallsEnded, IsPortOfActor, IsRan, IsTotalOf}
+use Rattle.hx_run.specs.Rounds.{first_fault, AreOver}
+use Rattle.hx_run.proofs.Counted.{booked-posts, part-actor, posted-risen, posts-of-crew, worth, AreDealtFrom}
+use Rattle.hx_run.proofs.Leaving.{all-desks, total-map, IsSome as IsADesk}
+use Rattle.hx_run.proofs.Zipped.{both-map, in-flat, some-same}
+
+-- ---- inputs
+not-halt : (script : Script) (n : ℕ) (a : Actor) (input : Input) → IsFedBy script n a input → is_halt input ≡ false
+not-halt script n a Tick h = refl
+not-halt script n a Halt h = absurd h
+not-halt script n a (Deliver id from message) h = refl
+
+fed-halt : (script : Script) (xs : List Stamped) (z : Stamped) → IsFed script xs → IsIn z xs → is_halt z.entry.input ≡ false
+fed-halt script [] z f i = absurd i
+fed-halt script (x ∷ xs) z f (inl e) = ap (λ (y : Stamped). is_halt y.entry.input) e ∙ not-halt script x.stamp.0 x.entry.actor x.entry.input f.1
+fed-halt script (x ∷ xs) z f (inr i) = fed-halt script xs z f.2 i
+
+in-parts : (ds : List Desk) (z : Stamped) → IsIn z (all_of (parts_in (map part_of ds))) → (d : Desk) × IsIn d ds × IsIn z d.part.items
+in-parts [] z i = absurd i
+in-parts (d ∷ ds) z i =
+    ⊎_elim (λ (j : IsIn z d.part.items). (d, inl refl, j)) (λ (j : IsIn z (all_of (parts_in (map part_of ds)))). let r = in-parts ds z j in (r.0, inr r.1, r.2)) (in_append d.part.items (all_of (parts_in (map part_of ds))) z i)
+
+-- ---- an actor's entries in a trace and in its reverse
+filter-append : {A : Type 0} (test : A → Bool) (xs ys : List A) → filter test (xs ++ ys) ≡ filter test xs ++ filter test ys
+filter-append test [] ys = refl
+filter-append test (x ∷ xs) ys = by (test x) (filter-append test xs ys)
+  where
+    by : (b : Bool) → filter test (xs ++ ys) ≡ filter test xs ++ filter test ys → cond b (x ∷ filter test (xs ++ ys)) (filter test (xs ++ ys)) ≡ cond b (x ∷ filter test xs) (filter test xs) ++ filter test ys
+    by true e = ap (λ l. x ∷ l) e
+    by false e = e
+
+filter-reverse : {A : Type 0} (test : A → Bool) (xs : List A) → filter test (reverse xs) ≡ reverse (filter test xs)
+filter-reverse test [] = refl
+filter-reverse test (x ∷ xs) = ap (filter test) (reverse_cons x xs) ∙ filter-append test (reverse xs) (x ∷ []) ∙ ap (λ l. l ++ filter test (x ∷ [])) (filter-reverse test xs) ∙ by (test x)
+  where
+    by : (b : Bool) → reverse (filter test xs) ++ cond b (x ∷ []) [] ≡ reverse (cond b (x ∷ filter test xs) (filter test xs))
+    by true = sym (reverse_cons x (filter test xs))
+    by false = append-nil (reverse (filter test xs))
+
+reverse-twice : {A : Type 0} (xs : List A) → reverse (reverse xs) ≡ xs
+reverse-twice [] = refl
+reverse-twice (x ∷ xs) = ap reverse (reverse_cons x xs) ∙ reverse_snoc x (reverse xs) ∙ ap (λ l. x ∷ l) (reverse-twice xs)
+
+flat-filter : {A B : Type 0} (test : A → Bool) (f : A → List B) (xs : List A) → flat_map (λ x. cond (test x) (f x) []) xs ≡ flat_map f (filter test xs)
+flat-filter test f [] = refl
+flat-filter test f (x ∷ xs) = by (test x) (flat-filter test f xs)
+  where
+    by : (b : Bool) → flat_map (λ x. cond (test x) (f x) []) xs ≡ flat_map f (filter test xs) → cond b (f x) [] ++ flat_map (λ x. cond (test x) (f x) []) xs ≡ flat_map f (cond b (x ∷ filter test xs) (filter test xs))
+    by true e = ap (λ l. f x ++ l) e
+    by false e = e
+
+told-flat : (a : Actor) (part : List Stamped) → ((z : Stamped) → IsIn z part → z.entry.actor ≡ a) → flat_map (λ (x : Entry). told_by a x.input) (map (λ (x : Stamped). x.entry) part) ≡ told part
+told-flat a [] h = refl
+told-flat a (x ∷ part) h =
+    ap (λ b. told_by b x.entry.input ++ flat_map (λ (y : Entry). told_by a y.input) (map (λ (y : Stamped). y.entry) part)) (sym (h x (inl refl))) ∙ ap (λ l. told_by x.entry.actor x.entry.input ++ l) (told-flat a part (λ z i. h z (inr i)))
+
+count-own : (a : Actor) (xs : List Entry) → entries_of a xs ≡ length (own_entries a xs)
+count-own a [] = refl
+count-own a (x ∷ xs) = by (same_actor x.actor a) (count-own a xs)
+  where
+    by : (b : Bool) → entries_of a xs ≡ length (own_entries a xs) → cond b (entries_of a xs + 1) (entries_of a xs) ≡ length (cond b (x ∷ own_entries a xs) (own_entries a xs))
+    by true e = omega (arith, e)
+    by false e = e
+
+length-reverse : {A : Type 0} (xs : List A) → length (reverse xs) ≡ length xs
+length-reverse [] = refl
+length-reverse (x ∷ xs) = omega (arith, ap length (reverse_cons x xs), length-append (reverse xs) (x ∷ []), length-reverse xs)
+
+get-map : {A B : Type 0} (f : A → B) (xs : List A) (i : ℕ) (y : B) → slice_get (map f xs) i ≡ Some y → (x : A) × (slice_get xs i ≡ Some x) × (f x ≡ y)
+get-map f [] i y e = absurd cc
+get-map f (x ∷ xs) zero y e = (x, refl, some-same (f x) y e)
+get-map f (x ∷ xs) (suc i) y e = get-map f xs i y e
+
+get-in : {A : Type 0} (xs : List A) (i : ℕ) (x : A) → slice_get xs i ≡ Some x → IsIn x xs
+get-in [] i x e = absurd cc
+get-in (y ∷ xs) zero x e = inl (sym (some-same y x e))
+get-in (y ∷ xs) (suc i) x e = inr (get-in xs i x e)
+
+-- ---- faults
+first-in : (crews : List Crew) (f : Fault) → first_fault crews ≡ Some f → (c : Crew) × IsIn c crews × (c.fault ≡ Some f)
+first-in [] f e = absurd cc
+first-in (c ∷ crews) f e = by c.fault refl e (λ q. first-in crews f q)
+  where
+    by : (o : Option Fault) → o ≡ c.fault → first_some o (first_fault crews) ≡ Some f → (first_fault crews ≡ Some f → (d : Crew) × IsIn d crews × (d.fault ≡ Some f)) → (d : Crew) × IsIn d (c ∷ crews) × (d.fault ≡ Some f)
+    by None p q k = let r = k q in (r.0, inr r.1, r.2)
+    by (Some g) p q k = (c, inl refl, sym p ∙ q)
+
+desk-in : (crews : List Crew) (c : Crew) (d : Desk) → IsIn c crews → IsIn d c.desks.items → IsIn d (desks_of crews)
+desk-in crews c d i j = in-flat (λ (k : Crew). k.desks.items) crews c d i j
+
+worn-desk : (c : Crew) (a : Actor) → HasFault c → c.fault ≡ Some (Worn a) → (d : Desk) × IsIn d c.desks.items × (d.actor ≡ a) × (length d.part.items ≡ MOST_ENTRIES)
+worn-desk c a h e =
+    ⊎_elim (λ (n : c.fault ≡ None). absurd (some-none c.fault e n))
+    (λ (r : _).
+    ⊎_elim (λ (m : c.fault ≡ Some Memory). absurd (not-memory c.fault e m)) (λ (d : (d : Desk) × IsIn d c.desks.items × (c.fault ≡ Some (Worn d.actor)) × (length d.part.items ≡ MOST_ENTRIES)). (d.0, d.1, same d.0.actor c.fault d.2 e, d.3)) r) h
+  where
+    some-none : (o : Option Fault) → o ≡ Some (Worn a) → o ≡ None → ⊥
+    some-none o p q = cc
+
+    not-memory : (o : Option Fault) → o ≡ Some (Worn a) → o ≡ Some Memory → ⊥
+    not-memory o p q = cc
+
+    same : (b : Actor) (o : Option Fault) → o ≡ Some (Worn b) → o ≡ Some (Worn a) → b ≡ a
+    same b o p q = cc
+
+module _ (script : Script) (clock : TableId) (w : ℕ) (start now : List Crew) (fault : Option Fault) (closed : AreClosed script clock w start now fault)
+    (own : PartsAreOwn) (paced : RunsArePaced) (rested : RestedRunsArePacedToEnd) (ended : EndedRunsEndCalls)
+    (trace : List Entry) (merged : List Stamped) (whole : AreWholeParts (parts_in (parts_of now))) (is : IsMerged (parts_in (parts_of now)) merged) (made : trace ≡ map (λ (x : Stamped). x.entry) merged)
+    (totals : List Totals) (totals-are : totals ≡ map (λ (c : Crew). c.totals) now) where
+  abbrev boxes : List Boxed
+  boxes = closed.boxes
+
+  run-is : HaveRun script clock boxes w start now
+  run-is = closed.run
+
+  back : reverse trace ≡ past_of merged
+  back = ap reverse made
+
+  traced : IsTraceOf now (reverse trace)
+  traced = record { merged = merged; whole = whole; is = is; trace_is = back }
+
+  owned : AreOwnParts script (parts_of now)
+  owned = own script clock boxes w start now run-is
+
+  runs : IsRunOfParts script (parts_of now) merged
+  runs = merged_run script (parts_of now) merged owned whole is
+
+  desks : AllByRecursion (IsADesk script clock boxes w) (desks_of now)
+  desks = all-desks script clock boxes w now run-is.crews
+
+  desk-of : (d : Desk) → IsIn d (desks_of now) → IsADesk script clock boxes w d
+  desk-of d i = each_in (IsADesk script clock boxes w) (desks_of now) d desks i
+
+  own-of : (d : Desk) → IsIn d (desks_of now) → own_entries d.actor (reverse trace) ≡ past_of d.part.items
+  own-of d i = ap (own_entries d.actor) back ∙ each_in (λ (p : ActorPart). own_entries p.actor (past_of merged) ≡ past_of p.part) (parts_of now) (part_of d) runs.own (in_map part_of (desks_of now) d i)
+
+  no-halts : HasNoHalts trace
+  no-halts = each_all (λ (x : Entry). is_halt x.input ≡ false) trace (λ x i. halts x (subst (IsIn x) made i))
+    where
+      halts : (x : Entry) → IsIn x (map (λ (z : Stamped). z.entry) merged) → is_halt x.input ≡ false
+      halts x i =
+          let z = of_map (λ (z : Stamped). z.entry) merged x i in
+          let d = in-parts (desks_of now) z.0 (in_permuted merged (all_of (parts_in (parts_of now))) z.0 (IsPermutation-sym _ _ is.all) z.1) in
+          ap (λ (y : Entry). is_halt y.input) z.2 ∙ fed-halt script (reverse d.0.part.items) z.0 (desk-of d.0 d.1).1.fed (in_reverse d.0.part.items z.0 d.2)
+
+  lost-is : lost_by now ≡ lost_in totals
+  lost-is = sym (total-map (λ (t : Totals). t.lose) (λ (c : Crew). c.totals) now) ∙ ap (total (λ (t : Totals). t.lose)) (sym totals-are)
+
+  doubled-is : doubled_by now ≡ doubled_in totals
+  doubled-is = sym (total-map (λ (t : Totals). t.twice) (λ (c : Crew). c.totals) now) ∙ ap (total (λ (t : Totals). t.twice)) (sym totals-are)
+
+  worn-count : (a : Actor) → fault ≡ Some (Worn a) → entries_of a (reverse trace) ≡ MOST_ENTRIES
+  worn-count a e =
+      let c = first-in now (Worn a) (sym closed.over.first ∙ e) in
+      let d = worn-desk c.0 a (each_in (IsCrew script clock boxes w) now c.0 run-is.crews c.1).fault c.2 in
+      let i = desk-in now c.0 d.0 c.1 d.1 in
+      let n : length (past_of d.0.part.items) ≡ length d.0.part.items = length-reverse (map (λ (x : Stamped). x.entry) d.0.part.items) ∙ map-length (λ (x : Stamped). x.entry) d.0.part.items in
+      subst (λ b. entries_of b (reverse trace) ≡ MOST_ENTRIES) d.2 (count-own d.0.actor (reverse trace) ∙ ap length (own-of d.0 i) ∙ n ∙ d.3)
+
+  ends : (worn : Option Actor) → fault ≡ fault_of worn → HasEnd script trace totals worn
+  ends None e = (
+    ended script clock boxes w start now run-is (closed.over.ended e) (reverse trace) traced,
+    subst (λ n. IsPacedToEnd script (reverse trace) n (doubled_in totals)) lost-is (subst (λ n. IsPacedToEnd script (reverse trace) (lost_by now) n) doubled-is (rested script clock boxes w start now run-is (closed.over.rest e) (reverse trace) traced)),
+  )
+  ends (Some a) e = (
+    worn-count a e,
+    subst (λ n. IsPaced script (reverse trace) n (doubled_in totals)) lost-is (subst (λ n. IsPaced script (reverse trace) (lost_by now) n) doubled-is (paced script clock boxes w start now run-is (reverse trace) traced)),
+  )
+
+  own-desks : AllByRecursion (λ (d : Desk). IsOwn script d.actor (entries_before d.part.items)) (desks_of now)
+  own-desks = each_map (IsADesk script clock boxes w) (λ (d : Desk). IsOwn script d.actor (entries_before d.part.items)) (desks_of now) (λ d i k. k.1.own) desks
+
+  module _ (dealt : AreDealtFrom script w 0 now) (many : length now ≡ w) where
+    crew-posts : (test : _) (i : ℕ) (c : Crew) → slice_get now i ≡ Some c → posts_by test script w i trace ≡ total (worth script w test) c.desks.items
+    crew-posts test i c g = posts-of-crew script w test now merged trace is made own-desks dealt i c g
+
+    total-one : (i : ℕ) (t : Totals) → slice_get totals i ≡ Some t → IsTotalOf script w trace i t
+    total-one i t g =
+        let c = get-map (λ (c : Crew). c.totals) now i t (subst (λ l. slice_get l i ≡ Some t) totals-are g) in
+        let k = each_in (IsCrew script clock boxes w) now c.0 run-is.crews (get-in now i c.0 c.1) in
+        subst (IsTotalOf script w trace i) c.2 (record { sum = k.total; posts = booked-posts script w c.0 k.booked ∙ sym (crew-posts is_any i c.0 c.1) })
+
+    all-totals : AreTotalsOf script w trace totals
+    all-totals = record { count = ap length totals-are ∙ map-length (λ (c : Crew). c.totals) now ∙ many; each = total-one }
+
+    port-one : (a : Actor) (p : Ported) → IsFirstPort now a p → IsPortOfActor trace a p
+    port-one a p h =
+        let d = desk-of h.desk h.is in
+        let mine : own_entries a trace ≡ map (λ (x : Stamped). x.entry) h.desk.part.items =
+        sym (reverse-twice (own_entries a trace)) ∙ ap reverse (sym (filter-reverse (λ (x : Entry). same_actor x.actor a) trace))
+        ∙ ap reverse (subst (λ b. own_entries b (reverse trace) ≡ past_of h.desk.part.items) h.actor (own-of h.desk h.is)) ∙ reverse-twice (map (λ (x : Stamped). x.entry) h.desk.part.items) in
+        let came : delivered_to a trace ≡ told h.desk.part.items =
+        flat-filter (λ (x : Entry). same_actor x.actor a) (λ (x : Entry). told_by a x.input) trace ∙ ap (flat_map (λ (x : Entry). told_by a x.input)) mine
+        ∙ told-flat a h.desk.part.items (λ z i. part-actor script h.desk.actor h.desk.part.items z d.1.own i ∙ h.actor) in
+        record {
+          names = h.names;
+          of_box = h.of_box;
+          owner = h.owner;
+          all = h.all;
+          alone = h.alone;
+          delivered = (d.0, ap (λ l. l ++ d.0) came ∙ d.1.told ∙ ap (map (λ (s : Sent). s.mailed)) (sym h.taken));
+        }
+
+    pub is-ran : (worn : Option Actor) → fault ≡ fault_of worn → (ports : List Ported) → Both (IsFirstPort now) (actors_of script) ports → IsRan script w trace totals ports worn
+    is-ran worn e ports p = record {
+      run = subst (IsRun script) (sym back) runs.run;
+      no_halts = no-halts;
+      end = ends worn e;
+      totals_are = all-totals;
+      ports_are = both-map (IsFirstPort now) (IsPortOfActor trace) port-one (actors_of script) ports p;
+    }
+
+    pub has-risen : (i : ℕ) (t : Totals) (f f' : FateCounts) → ((c : Crew) → slice_get now i ≡ Some c → HasPosted c f f') → slice_get totals i ≡ Some t → HasRisen script w trace i t f f'
+    has-risen i t f f' posted g =
+        let c = get-map (λ (c : Crew). c.totals) now i t (subst (λ l. slice_get l i ≡ Some t) totals-are g) in
+        subst (λ u. HasRisen script w trace i u f f') c.2 (posted-risen script w trace i c.0 f f' (crew-posts is_asked i c.0 c.1) (posted c.0 c.1))

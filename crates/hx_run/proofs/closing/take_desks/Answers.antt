@@ -1,0 +1,12 @@
+use Rattle.std.proofs.Common.{◌≡◌, ◌++◌, ◌∷◌, [], ap, sym, ◌∙◌, append_assoc}
+use Rattle.hx_run.specs.Closed.{seated_of, taker_of}
+use Rattle.hx_run.proofs.Apart.{one-more}
+use Rattle.hx_run.proofs.closing.take_desks.Goals as goal
+
+pub loop-desk-preserved : goal.loop-desk-preserved
+loop-desk-preserved c =
+    let i = c.loop-desk.invariant in
+    let n = c.in_ok-take_desk.ensures in (
+      n.actors ∙ ap (λ l. l ++ seated_of c.in-Some.desk ∷ []) i.0 ∙ one-more seated_of c.args.actors.now.items c.loop-desk.yielded c.in-Some.desk,
+      n.takers ∙ ap (λ l. l ++ taker_of c.in-Some.desk ∷ []) i.1 ∙ one-more taker_of c.args.takers.now.items c.loop-desk.yielded c.in-Some.desk,
+    )

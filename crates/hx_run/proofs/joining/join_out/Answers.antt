@@ -1,0 +1,42 @@
+use Rattle.std.proofs.Common.{arith, ◌≡◌, ◌+◌, ◌≤◌, ◌∙◌, refl, [], length, append-nil}
+use Rattle.hx_outbox.specs.Outboxes.{IsOutPort}
+use Rattle.hx_outbox.proofs.Outs.{both-long}
+use Rattle.hx_run.specs.Joined.{IsKeptTaker}
+use Rattle.hx_run.proofs.Zipped.{both-refl, both-trans}
+use Rattle.hx_run.proofs.Joins.{joined-start, joined-end, kept-refl, kept-trans, places-kept}
+use Rattle.hx_run.proofs.joining.join_out.Goals as goal
+
+pub loop-round-init : goal.loop-round-init
+loop-round-init g c =
+    let le : length c.args.takers.now.items ≤ length c.args.out.ports.items = omega (arith, both-long (IsOutPort c.args.out.index) _ c.args.out.ports.items c.requires.out.ports, c.requires.takers.1) in (
+      record { rest = []; all = append-nil _; whole = c.requires.out; index = refl },
+      omega arith,
+      both-refl IsKeptTaker kept-refl c.args.takers.now.items,
+      λ w outs h. joined-start c.args.script.now w _ outs c.args.out (length c.args.out.ports.items) c.args.takers.now.items le h,
+    )
+
+pub join_last-requires-clause-takers : goal.join_last-requires-clause-takers
+join_last-requires-clause-takers g c =
+    let i = c.loop-round.invariant in
+    (places-kept c.args.script.now 0 c.args.takers.now.items c.loop-round.takers.items i.2 c.requires.takers.0, both-long IsKeptTaker c.args.takers.now.items c.loop-round.takers.items i.2 ∙ c.requires.takers.1)
+
+pub join_last-requires-clause-joined : goal.join_last-requires-clause-joined
+join_last-requires-clause-joined g c =
+    let j = c.requires.joined in
+    (j.0, j.1, c.args.out, c.loop-round.invariant.3 j.0 j.1 j.2)
+
+pub loop-round-preserved : goal.loop-round-preserved
+loop-round-preserved g c =
+    let i = c.loop-round.invariant in
+    let n = c.join_last.ensures in (
+      n.rest c.args.out i.0,
+      omega (arith, n.fewer, i.1),
+      both-trans IsKeptTaker kept-trans c.args.takers.now.items c.loop-round.takers.items c.join_last.new.takers.items i.2 n.kept,
+      λ w outs h. n.joined w outs c.args.out i.0 (i.3 w outs h),
+    )
+
+pub returns-clause-joined : goal.returns-clause-joined
+returns-clause-joined g c w outs h =
+    let i = c.loop-round.invariant in
+    let none : length c.loop-round.out.ports.items ≡ 0 = grind (arith, i.1, c.loop-round-test.false, c.len-round-end.ensures) in
+    joined-end c.args.script.now w _ outs c.args.out (length c.loop-round.out.ports.items) c.loop-round.takers.items none (i.3 w outs h)

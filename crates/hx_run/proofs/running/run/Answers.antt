@@ -1,0 +1,37 @@
+use Rattle.std.proofs.Common.{◌≡◌, ◌∙◌, ℕ, ◌+◌, List, length, ap, sym, subst, arith, slice_get, Some}
+use Rattle.hx_cluster.specs.Clusters.{AreNewSeats}
+use Rattle.hx_cluster.specs.Everyone.{actors_of}
+use Rattle.hx_run.proofs.Leaving.{how-many}
+use Rattle.hx_run.proofs.Ends.{left-counts, ran-of, risen-of}
+use Rattle.hx_run.proofs.running.run.Goals as goal
+
+pub run_drivers-requires-clause-seats : goal.run_drivers-requires-clause-seats
+run_drivers-requires-clause-seats g c κs within =
+    let e = c.in_ok-seats.ensures in
+    let n : length c.in_ok-seats.seats.items ≡ 1 + c.args.script.now.space.servers + length c.args.script.now.sessions = grind (arith, e.seats.1, c.len.ensures) in
+    (subst (λ k. AreNewSeats k c.in_ok-seats.seats.items) (sym e.clock.0) e.seats.0, n ∙ sym (how-many c.args.script.now))
+
+pub gather-requires : goal.gather-requires
+gather-requires g c =
+    let r = c.in_ok-fault.ensures.left in
+    let e = c.in_ok-seats.ensures in
+    let n : length c.in_ok-seats.seats.items ≡ 1 + c.args.script.now.space.servers + length c.args.script.now.sessions = grind (arith, e.seats.1, c.len.ensures) in
+    record {
+      clock = e.clock.1 ∙ sym e.clock.0;
+      counting = e.counted.1;
+      seats = r.3.seats;
+      all = (length c.in_ok-seats.seats.items, e.counted.0 ∙ ap (λ k. Some k) (sym e.seats.1), λ k lt. r.3.numbers k (left-counts c.args.script.now (length c.in_ok-seats.seats.items) k n lt));
+    }
+
+pub returns : goal.returns
+returns g c =
+    let r = c.in_ok-fault.ensures.left in
+    record {
+      ran =
+          ran-of c.args.script.now c.enrol_all.new.clock c.args.workers r.0 r.1 c.in_ok-fault.fault r.2 c.runs_of_drivers_are_paced.ensures.own c.runs_of_drivers_are_paced.ensures.paced c.runs_of_drivers_are_paced.ensures.rested c.runs_of_drivers_are_paced.ensures.ended
+          c.in_ok-fault.left.actors.items c.in_ok-fault.left.totals.items c.in_ok-fault.left.ports.items r.3 c.in_ok-trace.trace c.in_ok-trace.ensures.whole c.in_ok-trace.ensures.parts c.in_ok-worn.worn c.in_ok-worn.ensures;
+      fates = r.4;
+      risen = λ i f f' t p q s.
+          risen-of c.args.script.now c.enrol_all.new.clock c.args.workers r.0 r.1 c.in_ok-fault.fault r.2 c.runs_of_drivers_are_paced.ensures.own c.runs_of_drivers_are_paced.ensures.paced c.runs_of_drivers_are_paced.ensures.rested c.runs_of_drivers_are_paced.ensures.ended
+          c.in_ok-fault.left.actors.items c.in_ok-fault.left.totals.items c.in_ok-fault.left.ports.items r.3 c.in_ok-trace.trace c.in_ok-trace.ensures.whole c.in_ok-trace.ensures.parts i t _ _ (λ k e. r.5 i f f' k p q e) s;
+    }

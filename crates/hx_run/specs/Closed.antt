@@ -1,0 +1,73 @@
+-- Drivers whose rounds are over and whose ports are joined, and what is left of them.
+use Rattle.std.specs.Prelude.{ℕ, ◌≡◌, ◌<◌, List, map, length, slice_get, Option, None, Some}
+use Rattle.std.specs.List.{AllByRecursion}
+use Rattle.atomic_table.specs.Seated.{TableId}
+use Rattle.hx_types.specs.declared.ids.Actor.{Actor}
+use Rattle.hx_types.specs.declared.totals.Totals.{Totals}
+use Rattle.hx_types.specs.declared.traces.Script.{Script}
+use Rattle.hx_types.specs.Words.{IsIn}
+use Rattle.hx_mail.specs.declared.views.BoxNames.{BoxNames}
+use Rattle.hx_mail.specs.Boxes.{Boxed, Ported}
+use Rattle.hx_mail.specs.Ports.{CarriesAll, TookAlone}
+use Rattle.hx_outbox.specs.Offers.{FateCounts}
+use Rattle.hx_outbox.specs.Zipped.{Both}
+use Rattle.hx_desk.specs.declared.desks.Desk.{Desk}
+use Rattle.hx_desk.specs.declared.faults.Fault.{Fault}
+use Rattle.hx_desk.specs.declared.faults.Fault.TheVariants.{Worn}
+use Rattle.hx_desk.specs.Inboxes.{ins_of}
+use Rattle.hx_driver.specs.declared.crews.Crew.{Crew}
+use Rattle.hx_driver.specs.Crews.{IsPosted}
+use Rattle.hx_law_drivers.specs.Crews.{desks_of, parts_of}
+use Rattle.hx_law_drivers.specs.Laws.{HaveRun}
+use Rattle.hx_cluster.specs.Clusters.{AreNewCrews, IsNewCrew}
+use Rattle.hx_cluster.specs.Everyone.{actors_of}
+use Rattle.hx_gather.specs.declared.gathering.SeatedPart.{SeatedPart}
+use Rattle.hx_gather.specs.Gathered.{parts_by, HasNumber, IsSeated}
+use Rattle.hx_run.specs.declared.joining.Taker.{Taker}
+use Rattle.hx_run.specs.Ran.{taken_under}
+use Rattle.hx_run.specs.Rounds.{AreOver}
+
+-- the first port of an actor's box took in all others: it has all names, and what was taken was taken under the name 0
+pub record IsFirstPort (crews : List Crew) (a : Actor) (p : Ported) : Type 0 where
+  pub names : BoxNames
+  pub of_box : p.view.of_box ≡ Some names
+  pub owner : names.owner ≡ a
+  pub all : CarriesAll p.view
+  pub alone : TookAlone 0 p.view
+  pub desk : Desk
+  pub is : IsIn desk (desks_of crews)
+  pub actor : desk.actor ≡ a
+  pub taken : taken_under 0 p.view.lists ≡ ins_of desk.inbox
+
+-- what is left of an actor, and the first port of its box
+abbrev pub seated_of : Desk → SeatedPart
+seated_of d = record { actor = d.actor; part = d.part.items; seat = d.seat }
+
+abbrev pub taker_of : Desk → Taker
+taker_of d = record { actor = d.actor; inbox = d.inbox }
+
+-- the parts of all actors with their seats, the drivers' totals, and the first ports, in the order of actors
+pub record IsLeft (script : Script) (clock : TableId) (crews : List Crew) (actors : List SeatedPart) (totals : List Totals) (ports : List Ported) : Type 0 where
+  pub parts : parts_by actors ≡ parts_of crews
+  pub seats : AllByRecursion (IsSeated clock) actors
+  pub numbers : (k : ℕ) → k < length (actors_of script) → HasNumber k actors
+  pub totals_are : totals ≡ map (λ (c : Crew). c.totals) crews
+  pub ports_are : Both (IsFirstPort crews) (actors_of script) ports
+
+-- drivers that were new ran to their end
+pub record AreClosed (script : Script) (clock : TableId) (w : ℕ) (start now : List Crew) (fault : Option Fault) : Type 0 where
+  pub boxes : List Boxed
+  pub new : AreNewCrews script clock boxes w start
+  pub run : HaveRun script clock boxes w start now
+  pub over : AreOver script now fault
+
+-- what a new driver posted by now, and its fate's counts then and now
+pub record HasPosted (c : Crew) (f f' : FateCounts) : Type 0 where
+  pub start : Crew
+  pub new : IsNewCrew start
+  pub posted : IsPosted start c f f'
+
+-- the fault where this actor, or none, is worn
+abbrev pub fault_of : Option Actor → Option Fault
+fault_of None = None
+fault_of (Some a) = Some (Worn a)

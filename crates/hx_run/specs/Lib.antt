@@ -1,0 +1,4 @@
+pub mod Rounds
+pub mod Joined
+pub mod Ran
+pub mod Closed

@@ -1,0 +1,124 @@
+-- What a run of drivers answers: a trace, what each driver posted, and the ports of all boxes.
+use Rattle.std.specs.Prelude.{ℕ, ◌≡◌, ◌+◌, ◌%◌, Bool, true, false, not, cond, eqb, List, [], ◌∷◌, ◌++◌, length, map, reverse, slice_get, Option, None, Some, IsSome}
+use Rattle.std.specs.List.{AllByRecursion, flat_map}
+use mathlib.Core.List.{IsPrefix}
+use Rattle.hx_types.specs.declared.calls.Caller.{Caller}
+use Rattle.hx_types.specs.declared.ids.Actor.{Actor}
+use Rattle.hx_types.specs.declared.limits.TheConstants.{MOST_ENTRIES}
+use Rattle.hx_types.specs.declared.messages.Post.{Post}
+use Rattle.hx_types.specs.declared.totals.Totals.{Totals}
+use Rattle.hx_types.specs.declared.traces.Entry.{Entry}
+use Rattle.hx_types.specs.declared.traces.Input.{Input}
+use Rattle.hx_types.specs.declared.traces.Script.{Script}
+use Rattle.hx_types.specs.declared.traces.Input.TheVariants.{Tick, Halt, Deliver}
+use Rattle.hx_types.specs.Fitting.{call_of}
+use Rattle.hx_types.specs.Words.{same_actor}
+use Rattle.hx_model.specs.Histories.{note_of_end}
+use Rattle.hx_model.specs.Runs.{IsRun}
+use Rattle.hx_model.specs.Schedule.{entries_of}
+use Rattle.hx_clock.specs.Views.{one, total}
+use Rattle.hx_law_threads.specs.Pacing.{IsPaced, IsPacedToEnd}
+use Rattle.hx_mail.specs.declared.views.BoxNames.{BoxNames}
+use Rattle.hx_mail.specs.declared.views.Mailed.{Mailed}
+use Rattle.hx_mail.specs.declared.views.PortLists.{PortLists}
+use Rattle.hx_mail.specs.declared.views.Sent.{Sent}
+use Rattle.hx_mail.specs.Boxes.{Ported}
+use Rattle.hx_mail.specs.Ports.{CarriesAll, TookAlone}
+use Rattle.hx_outbox.specs.Offers.{FateCounts, IsTotal, is_gone, raised_by}
+use Rattle.hx_outbox.specs.Places.{place_of}
+use Rattle.hx_outbox.specs.Zipped.{Both}
+use Rattle.hx_desk.specs.Told.{told_by}
+use Rattle.hx_cluster.specs.Everyone.{actors_of}
+
+-- ---- traces here have the oldest entry first
+
+abbrev pub is_halt : Input → Bool
+is_halt Tick = false
+is_halt Halt = true
+is_halt (Deliver id from message) = false
+
+-- no entry halts its actor from outside
+abbrev pub HasNoHalts : List Entry → Type 0
+HasNoHalts trace = AllByRecursion (λ (x : Entry). is_halt x.input ≡ false) trace
+
+-- each call of the script has a note of its end
+abbrev pub HaveCallsEnded : Script → List Entry → Type 0
+HaveCallsEnded script trace = (c : Caller) → IsSome (call_of script c) → IsSome (note_of_end c (reverse trace))
+
+-- ---- what drivers posted
+
+-- the actor belongs to driver i of w
+abbrev pub is_dealt : Script → ℕ → ℕ → Actor → Bool
+is_dealt script w i a = eqb (place_of script.space a % w) i
+
+-- how many posts the actors of driver i made, of those of which the test holds
+abbrev pub posts_by : (Post → Bool) → Script → ℕ → ℕ → List Entry → ℕ
+posts_by test script w i trace =
+    total (λ (x : Entry). cond (is_dealt script w i x.actor) (total (λ (p : Post). one (test p)) x.outputs) 0) trace
+
+abbrev pub is_any : Post → Bool
+is_any p = true
+
+-- it isn't a server's word that it has halted, which no fate is asked about
+abbrev pub is_asked : Post → Bool
+is_asked p = not (is_gone p.message)
+
+-- the totals of driver i: they add up, and count each post of its actors once
+pub record IsTotalOf (script : Script) (w : ℕ) (trace : List Entry) (i : ℕ) (t : Totals) : Type 0 where
+  pub sum : IsTotal t
+  pub posts : t.posts ≡ posts_by is_any script w i trace
+
+pub record AreTotalsOf (script : Script) (w : ℕ) (trace : List Entry) (totals : List Totals) : Type 0 where
+  pub count : length totals ≡ w
+  pub each : (i : ℕ) (t : Totals) → slice_get totals i ≡ Some t → IsTotalOf script w trace i t
+
+-- the counts of driver i's fate rose by what it was asked, and by what it answered
+pub record HasRisen (script : Script) (w : ℕ) (trace : List Entry) (i : ℕ) (t : Totals) (f f' : FateCounts) : Type 0 where
+  pub chosen : f'.chosen ≡ raised_by (posts_by is_asked script w i trace) f.chosen
+  pub lost : f'.lost ≡ raised_by t.lose f.lost
+  pub doubled : f'.doubled ≡ raised_by t.twice f.doubled
+
+abbrev pub lost_in : List Totals → ℕ
+lost_in totals = total (λ (t : Totals). t.lose) totals
+
+abbrev pub doubled_in : List Totals → ℕ
+doubled_in totals = total (λ (t : Totals). t.twice) totals
+
+-- ---- what went through the boxes
+
+-- the posts that an actor's entries deliver, in order
+abbrev pub delivered_to : Actor → List Entry → List Mailed
+delivered_to a trace = flat_map (λ (x : Entry). cond (same_actor x.actor a) (told_by a x.input) []) trace
+
+-- what was taken under the name k
+abbrev pub taken_under : ℕ → List PortLists → List Sent
+taken_under k lists = flat_map (λ (b : PortLists). cond (eqb k b.name) b.taken []) lists
+
+-- the port is of the actor's box and carries all its names; what the actor's entries deliver is, in order, a prefix of what was taken under the name 0, and nothing was taken under another
+pub record IsPortOfActor (trace : List Entry) (a : Actor) (p : Ported) : Type 0 where
+  pub names : BoxNames
+  pub of_box : p.view.of_box ≡ Some names
+  pub owner : names.owner ≡ a
+  pub all : CarriesAll p.view
+  pub alone : TookAlone 0 p.view
+  pub delivered : IsPrefix (delivered_to a trace) (map (λ (s : Sent). s.mailed) (taken_under 0 p.view.lists))
+
+abbrev pub ArePortsOfActors : Script → List Entry → List Ported → Type 0
+ArePortsOfActors script trace ports = Both (IsPortOfActor trace) (actors_of script) ports
+
+-- ---- all of it
+
+-- where no actor was worn, every call ended, and the trace is paced to its end; a worn actor made all the entries that it may make, and had one more to make
+abbrev pub HasEnd : Script → List Entry → List Totals → Option Actor → Type 0
+HasEnd script trace totals None =
+    HaveCallsEnded script trace × IsPacedToEnd script (reverse trace) (lost_in totals) (doubled_in totals)
+HasEnd script trace totals (Some a) =
+    (entries_of a (reverse trace) ≡ MOST_ENTRIES) × IsPaced script (reverse trace) (lost_in totals) (doubled_in totals)
+
+-- what drivers of w threads made of a script
+pub record IsRan (script : Script) (w : ℕ) (trace : List Entry) (totals : List Totals) (ports : List Ported) (worn : Option Actor) : Type 0 where
+  pub run : IsRun script (reverse trace)
+  pub no_halts : HasNoHalts trace
+  pub end : HasEnd script trace totals worn
+  pub totals_are : AreTotalsOf script w trace totals
+  pub ports_are : ArePortsOfActors script trace ports

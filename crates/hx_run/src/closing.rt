@@ -1,0 +1,181 @@
+ghost use Rattle.std.specs.Prelude.{ℕ, List, ◌≡◌, ◌≤◌, ◌++◌, ◌∷◌, [], map, IfOk, OnOk};
+ghost use Rattle.std.specs.List.{AllByRecursion};
+ghost use Rattle.atomic_table.specs.Seated.{TableId};
+ghost use Rattle.hx_types.specs.Fitting.{IsScript};
+ghost use Rattle.hx_outbox.specs.Places.{AreBoxes};
+ghost use Rattle.hx_driver.specs.Crews.{IsCrew};
+ghost use Rattle.hx_law_drivers.specs.Crews.{desks_of, AreNumbered, HaveAllActors};
+ghost use Rattle.hx_law_drivers.specs.Joined.{AreInOrder, AreOnce};
+ghost use Rattle.hx_run.specs.Closed.{seated_of, taker_of, IsLeft};
+
+use crate::joining::{Taker, join_all, sort_by_place};
+use hx_clock::{Clock, Part};
+use hx_driver::{Crew, Desk, Driver};
+use hx_fate::Fate;
+use hx_gather::SeatedPart;
+use hx_mail::{Mailbox, Port};
+use hx_outbox::Outbox;
+use hx_types::{Memory, Script, Totals};
+use std::alloc::Global;
+use std::sync::Wait;
+
+/// What is left of drivers: the parts of their actors, their totals and fates in order, and the first
+/// ports of all boxes in the order of actors.
+#[derive(Drop)]
+pub struct Left {
+    pub actors: Vec<SeatedPart>,
+    pub totals: Vec<Totals>,
+    pub fates: Vec<Box<dyn Fate + Send>>,
+    pub ports: Vec<Port>,
+}
+
+/// What is left of an actor.
+fn take_desk(
+    actors: &mut Vec<SeatedPart>,
+    takers: &mut Vec<Taker>,
+    desk: Desk,
+) -> Result<(), Memory>
+    ensures actors { OnOk result (actors.new.items ≡ actors.old.items ++ seated_of desk ∷ []) }
+    ensures takers { OnOk result (takers.new.items ≡ takers.old.items ++ taker_of desk ∷ []) }
+{
+    let Desk {
+        actor,
+        part,
+        seat,
+        inbox,
+        ..
+    } = desk;
+    let part = Part::from_vec(part);
+    actors.push(SeatedPart { actor, part, seat })?;
+    takers.push(Taker { actor, inbox })?;
+    Ok(())
+}
+
+/// What is left of a driver's actors.
+fn take_desks(
+    actors: &mut Vec<SeatedPart>,
+    takers: &mut Vec<Taker>,
+    desks: Vec<Desk>,
+) -> Result<(), Memory>
+    ensures actors { OnOk result (actors.new.items ≡ actors.old.items ++ map seated_of desks.items) }
+    ensures takers { OnOk result (takers.new.items ≡ takers.old.items ++ map taker_of desks.items) }
+{
+    for desk in desks {
+        take_desk(actors, takers, desk)?;
+    }
+    Ok(())
+}
+
+/// What is left of a driver, but for its fate.
+fn take_crew(
+    actors: &mut Vec<SeatedPart>,
+    takers: &mut Vec<Taker>,
+    outs: &mut Vec<Outbox>,
+    totals: &mut Vec<Totals>,
+    crew: Crew,
+) -> Result<(), Memory>
+    ensures actors { OnOk result (actors.new.items ≡ actors.old.items ++ map seated_of crew.desks.items) }
+    ensures takers { OnOk result (takers.new.items ≡ takers.old.items ++ map taker_of crew.desks.items) }
+    ensures outs { OnOk result (outs.new.items ≡ outs.old.items ++ crew.out ∷ []) }
+    ensures totals { OnOk result (totals.new.items ≡ totals.old.items ++ crew.totals ∷ []) }
+{
+    let Crew {
+        desks,
+        out,
+        totals: sum,
+        ..
+    } = crew;
+    take_desks(actors, takers, desks)?;
+    outs.push(out)?;
+    totals.push(sum)?;
+    Ok(())
+}
+
+/// Drivers taken apart: their actors' parts and ports in the order of drivers, their own ports, totals
+/// and fates.
+#[derive(Drop)]
+struct Apart {
+    actors: Vec<SeatedPart>,
+    takers: Vec<Taker>,
+    outs: Vec<Outbox>,
+    totals: Vec<Totals>,
+    fates: Vec<Box<dyn Fate + Send>>,
+}
+
+/// Takes drivers apart.
+fn take_apart(alloc: Global, drivers: Vec<Driver>) -> Result<Apart, Memory>
+    ensures actors { IfOk result (λ apart. apart.actors.items ≡ map seated_of (desks_of (map (λ d. d.crew) drivers.items))) }
+    ensures takers { IfOk result (λ apart. apart.takers.items ≡ map taker_of (desks_of (map (λ d. d.crew) drivers.items))) }
+    ensures outs { IfOk result (λ apart. apart.outs.items ≡ map (λ c. c.out) (map (λ d. d.crew) drivers.items)) }
+    ensures totals { IfOk result (λ apart. apart.totals.items ≡ map (λ c. c.totals) (map (λ d. d.crew) drivers.items)) }
+    ensures fates { IfOk result (λ apart. apart.fates.items ≡ map (λ d. d.fate) drivers.items) }
+{
+    let mut actors = Vec::new(alloc);
+    let mut takers = Vec::new(alloc);
+    let mut outs = Vec::new(alloc);
+    let mut totals = Vec::new(alloc);
+    let mut fates = Vec::new(alloc);
+    for driver in drivers {
+        let Driver { crew, fate } = driver;
+        take_crew(&mut actors, &mut takers, &mut outs, &mut totals, crew)?;
+        fates.push(fate)?;
+    }
+    Ok(Apart {
+        actors,
+        takers,
+        outs,
+        totals,
+        fates,
+    })
+}
+
+/// The ports of takers, in order.
+fn ports_of(alloc: Global, takers: Vec<Taker>) -> Result<Vec<Port>, Memory>
+    ensures { IfOk result (λ ports. ports.items ≡ map (λ t. t.inbox) takers.items) }
+{
+    let mut ports = Vec::new(alloc);
+    for taker in takers {
+        let Taker { actor: _, inbox } = taker;
+        ports.push(inbox)?;
+    }
+    Ok(ports)
+}
+
+/// Takes drivers apart and joins all ports of each box into its first one.
+pub fn close<R: Wait>(
+    rt: &R,
+    alloc: Global,
+    script: &Script,
+    clock: &Clock,
+    boxes: &[Mailbox<'_>],
+    drivers: Vec<Driver>,
+) -> Result<Left, Memory>
+    requires script { IsScript script.now }
+    requires boxes { AreBoxes script.now clock.now boxes.now }
+    requires crews { (w : ℕ) × (1 ≤ w) × AreNumbered w (map (λ d. d.crew) drivers.items) × AllByRecursion (IsCrew script.now clock.now boxes.now w) (map (λ d. d.crew) drivers.items) }
+    requires actors { HaveAllActors script.now (map (λ d. d.crew) drivers.items) }
+    ensures left { IfOk result (λ left. IsLeft script.now clock.now (map (λ d. d.crew) drivers.items) left.actors.items left.totals.items left.ports.items) }
+    ensures fates { IfOk result (λ left. left.fates.items ≡ map (λ d. d.fate) drivers.items) }
+    ensures order { IfOk result (λ left. AreInOrder script.now (map (λ d. d.crew) drivers.items)) }
+    ensures once { IfOk result (λ left. AreOnce (map (λ d. d.crew) drivers.items)) }
+{
+    // The contract alone reads the clock.
+    let _ = clock;
+    let apart = take_apart(alloc, drivers)?;
+    let Apart {
+        actors,
+        mut takers,
+        outs,
+        totals,
+        fates,
+    } = apart;
+    sort_by_place(script, &mut takers)?;
+    join_all(rt, script, boxes, &mut takers, outs);
+    let ports = ports_of(alloc, takers)?;
+    Ok(Left {
+        actors,
+        totals,
+        fates,
+        ports,
+    })
+}

@@ -1,0 +1,176 @@
+ghost use Rattle.std.specs.Prelude.{ℕ, All, ◌≡◌, ◌⊎◌, List, length, map, MatchOption};
+ghost use Rattle.std.specs.List.{AllByRecursion};
+ghost use Rattle.hx_types.specs.Fitting.{IsScript};
+ghost use Rattle.hx_outbox.specs.Places.{AreBoxes};
+ghost use Rattle.hx_outbox.specs.Zipped.{Both};
+ghost use Rattle.hx_driver.specs.declared.crews.Crew.{Crew};
+ghost use Rattle.hx_driver.specs.Crews.{IsCrew, IsPosted};
+ghost use Rattle.hx_law_drivers.specs.Courses.{AreRetried, AreSliced, IsCourse, IsSliced};
+ghost use Rattle.hx_run.specs.Rounds.{counted, first_fault, Advance, AreOver, StayCrews, StaysCrew};
+
+use crate::resting::{all_ended, at_rest};
+use hx_clock::Clock;
+use hx_driver::{Driver, Fault, Gate};
+use hx_mail::Mailbox;
+use hx_types::Script;
+use std::alloc::Global;
+use std::sync::Wait;
+use std::thread;
+use std::thread::Threads;
+
+/// How many drivers are moved side by side at most.
+const MOST_DRIVERS: usize = 16;
+
+/// How many turns an actor has in a slice.
+const TURNS: u32 = 256;
+
+/// A slice of one driver.
+fn slice_one<R: Wait, G: Gate>(
+    rt: &R,
+    alloc: Global,
+    script: &Script,
+    clock: &Clock,
+    boxes: &[Mailbox<'_>],
+    gate: &G,
+    driver: &mut Driver,
+)
+    requires script { IsScript script.now }
+    requires boxes { AreBoxes script.now clock.now boxes.now }
+    requires crew { (w : ℕ) × IsCrew script.now clock.now boxes.now w driver.old.crew }
+    ensures crew { StaysCrew script.now clock.now boxes.now driver.old.crew driver.new.crew }
+    ensures sliced { IsSliced driver.old.crew driver.new.crew }
+    ensures posted { IsPosted driver.old.crew driver.new.crew (counted (choices (driver.old.fate.vtable, driver.old.fate.value)) (losses (driver.old.fate.vtable, driver.old.fate.value)) (repeats (driver.old.fate.vtable, driver.old.fate.value))) (counted (choices (driver.new.fate.vtable, driver.new.fate.value)) (losses (driver.new.fate.vtable, driver.new.fate.value)) (repeats (driver.new.fate.vtable, driver.new.fate.value))) }
+{
+    driver.slice(rt, alloc, script, clock, boxes, gate, TURNS);
+}
+
+/// A slice of each driver, side by side.
+fn slice_all<R: Threads + Wait + Sync, G: Gate + Sync>(
+    rt: &R,
+    alloc: Global,
+    script: &Script,
+    clock: &Clock,
+    boxes: &[Mailbox<'_>],
+    gate: &G,
+    drivers: &mut [Driver],
+)
+    requires script { IsScript script.now }
+    requires boxes { AreBoxes script.now clock.now boxes.now }
+    requires crews { All (λ d. (w : ℕ) × IsCrew script.now clock.now boxes.now w d.crew) drivers.old }
+    ensures crews { StayCrews script.now clock.now boxes.now (map (λ d. d.crew) drivers.old) (map (λ d. d.crew) drivers.new) }
+    ensures sliced { AreSliced (map (λ d. d.crew) drivers.old) (map (λ d. d.crew) drivers.new) }
+    ensures posted { Both (λ d d'. IsPosted d.crew d'.crew (counted (choices (d.fate.vtable, d.fate.value)) (losses (d.fate.vtable, d.fate.value)) (repeats (d.fate.vtable, d.fate.value))) (counted (choices (d'.fate.vtable, d'.fate.value)) (losses (d'.fate.vtable, d'.fate.value)) (repeats (d'.fate.vtable, d'.fate.value)))) drivers.old drivers.new }
+{
+    thread::for_each_mut(
+        rt,
+        drivers,
+        MOST_DRIVERS,
+        &|_place: usize, driver: &mut Driver|
+            requires script { IsScript script.now }
+            requires boxes { AreBoxes script.now clock.now boxes.now }
+            requires crew { (w : ℕ) × IsCrew script.now clock.now boxes.now w driver.now.crew }
+            ensures crew { StaysCrew script.entry.now clock.entry.now boxes.entry.now driver.entry.now.crew driver.exit.now.crew }
+            ensures sliced { IsSliced driver.entry.now.crew driver.exit.now.crew }
+            ensures posted { IsPosted driver.entry.now.crew driver.exit.now.crew (counted (choices (driver.entry.now.fate.vtable, driver.entry.now.fate.value)) (losses (driver.entry.now.fate.vtable, driver.entry.now.fate.value)) (repeats (driver.entry.now.fate.vtable, driver.entry.now.fate.value))) (counted (choices (driver.exit.now.fate.vtable, driver.exit.now.fate.value)) (losses (driver.exit.now.fate.vtable, driver.exit.now.fate.value)) (repeats (driver.exit.now.fate.vtable, driver.exit.now.fate.value))) }
+        { slice_one(rt, alloc, script, clock, boxes, gate, driver) },
+    );
+}
+
+/// A retry of each driver, one after another, until one has a fault.
+fn retry_all<R: Wait, G: Gate>(
+    rt: &R,
+    alloc: Global,
+    script: &Script,
+    clock: &Clock,
+    boxes: &[Mailbox<'_>],
+    gate: &G,
+    drivers: &mut [Driver],
+)
+    requires script { IsScript script.now }
+    requires boxes { AreBoxes script.now clock.now boxes.now }
+    requires crews { (w : ℕ) × AllByRecursion (IsCrew script.now clock.now boxes.now w) (map (λ d. d.crew) drivers.old) }
+    ensures crews { StayCrews script.now clock.now boxes.now (map (λ d. d.crew) drivers.old) (map (λ d. d.crew) drivers.new) }
+    ensures retried { AreRetried script.now (map (λ d. d.crew) drivers.old) (map (λ d. d.crew) drivers.new) }
+    ensures posted { Both (λ d d'. IsPosted d.crew d'.crew (counted (choices (d.fate.vtable, d.fate.value)) (losses (d.fate.vtable, d.fate.value)) (repeats (d.fate.vtable, d.fate.value))) (counted (choices (d'.fate.vtable, d'.fate.value)) (losses (d'.fate.vtable, d'.fate.value)) (repeats (d'.fate.vtable, d'.fate.value)))) drivers.old drivers.new }
+{
+    for at in 0..drivers.len() {
+        drivers[at].retry(rt, alloc, script, clock, boxes, gate);
+        if drivers[at].crew.fault.is_some() {
+            return;
+        }
+    }
+}
+
+/// The fault of the lowest driver that has one.
+fn first_fault(drivers: &[Driver]) -> Option<Fault>
+    ensures { result ≡ first_fault (map (λ d. d.crew) drivers.now) }
+{
+    for at in 0..drivers.len() {
+        if drivers[at].crew.fault.is_some() {
+            return drivers[at].crew.fault;
+        }
+    }
+    None
+}
+
+/// One round: slices while something is left to do, else retries while a session has a call. Where
+/// neither is left, or a driver has a fault, the rounds are over, with that fault.
+fn advance<R: Threads + Wait + Sync, G: Gate + Sync>(
+    rt: &R,
+    alloc: Global,
+    script: &Script,
+    clock: &Clock,
+    boxes: &[Mailbox<'_>],
+    gate: &G,
+    drivers: &mut [Driver],
+) -> Option<Option<Fault>>
+    requires script { IsScript script.now }
+    requires boxes { AreBoxes script.now clock.now boxes.now }
+    requires crews { (w : ℕ) × AllByRecursion (IsCrew script.now clock.now boxes.now w) (map (λ d. d.crew) drivers.old) }
+    ensures crews { StayCrews script.now clock.now boxes.now (map (λ d. d.crew) drivers.old) (map (λ d. d.crew) drivers.new) }
+    ensures goes { MatchOption result (Advance script.now (map (λ d. d.crew) drivers.old) (map (λ d. d.crew) drivers.new)) (λ fault. (drivers.new ≡ drivers.old) × AreOver script.now (map (λ d. d.crew) drivers.old) fault) }
+    ensures posted { Both (λ d d'. IsPosted d.crew d'.crew (counted (choices (d.fate.vtable, d.fate.value)) (losses (d.fate.vtable, d.fate.value)) (repeats (d.fate.vtable, d.fate.value))) (counted (choices (d'.fate.vtable, d'.fate.value)) (losses (d'.fate.vtable, d'.fate.value)) (repeats (d'.fate.vtable, d'.fate.value)))) drivers.old drivers.new }
+{
+    let fault = first_fault(drivers);
+    if fault.is_some() {
+        return Some(fault);
+    }
+    if !at_rest(script, drivers) {
+        slice_all(rt, alloc, script, clock, boxes, gate, drivers);
+        return None;
+    }
+    if all_ended(script, drivers) {
+        return Some(None);
+    }
+    retry_all(rt, alloc, script, clock, boxes, gate, drivers);
+    None
+}
+
+/// Rounds until all calls have ended and nothing is left to do, or a driver has a fault: then the
+/// fault of the lowest driver that has one. All that was put is taken, and every session has begun
+/// what it can, before an actor retries; and all that wait retry together.
+pub fn run_rounds<R: Threads + Wait + Sync, G: Gate + Sync>(
+    rt: &R,
+    alloc: Global,
+    script: &Script,
+    clock: &Clock,
+    boxes: &[Mailbox<'_>],
+    gate: &G,
+    drivers: &mut [Driver],
+) -> Option<Fault>
+    requires script { IsScript script.now }
+    requires boxes { AreBoxes script.now clock.now boxes.now }
+    requires crews { (w : ℕ) × AllByRecursion (IsCrew script.now clock.now boxes.now w) (map (λ d. d.crew) drivers.old) }
+    ensures crews { StayCrews script.now clock.now boxes.now (map (λ d. d.crew) drivers.old) (map (λ d. d.crew) drivers.new) }
+    ensures course { (w : ℕ) → AllByRecursion (IsCrew script.now clock.now boxes.now w) (map (λ d. d.crew) drivers.old) → (cuts : List (List Crew)) × IsCourse script.now clock.now boxes.now w (map (λ d. d.crew) drivers.old) cuts (map (λ d. d.crew) drivers.new) }
+    ensures over { AreOver script.now (map (λ d. d.crew) drivers.new) result }
+    ensures posted { Both (λ d d'. IsPosted d.crew d'.crew (counted (choices (d.fate.vtable, d.fate.value)) (losses (d.fate.vtable, d.fate.value)) (repeats (d.fate.vtable, d.fate.value))) (counted (choices (d'.fate.vtable, d'.fate.value)) (losses (d'.fate.vtable, d'.fate.value)) (repeats (d'.fate.vtable, d'.fate.value)))) drivers.old drivers.new }
+{
+    for _round in rt.forever() {
+        match advance(rt, alloc, script, clock, boxes, gate, drivers) {
+            Some(fault) => return fault,
+            None => {}
+        }
+    }
+    unreachable!()
+}

@@ -1,0 +1,120 @@
+ghost use Rattle.std.specs.Prelude.{ℕ, ◌≡◌, ◌≤◌, ◌<◌, List, length, slice_get, IfOk, Some};
+ghost use Rattle.hx_types.specs.declared.totals.Totals.{Totals as TotalsSeen};
+ghost use Rattle.hx_types.specs.Fitting.{IsScript};
+ghost use Rattle.hx_driver.specs.declared.crews.Crew.{Crew};
+ghost use Rattle.hx_cluster.specs.Clusters.{AreNewSeats};
+ghost use Rattle.hx_cluster.specs.Everyone.{actors_of};
+ghost use Rattle.hx_run.specs.Closed.{fault_of, AreClosed, HasPosted, IsLeft};
+ghost use Rattle.hx_run.specs.Ran.{HasRisen, IsRan};
+
+use crate::closing::{Left, close};
+use crate::rounds::run_rounds;
+use hx_clock::{Clock, Seat};
+use hx_cluster::{deal, enrol_all, open_boxes};
+use hx_desk::{Fault, Gate};
+use hx_fate::Fate;
+use hx_gather::gather;
+use hx_law_drivers::runs_of_drivers_are_paced;
+use hx_mail::Port;
+use hx_types::{Actor, Memory, Script, Totals, Trace};
+use std::alloc::Global;
+use std::sync::Wait;
+use std::thread::Threads;
+
+/// What drivers made of a script: the trace; for each driver in order the totals of its posts, and its
+/// fate; for each actor in order the first port of its box, which carries the names of all its ports.
+/// And the actor, if one ended the run, that had made all the entries that it may make and had one more
+/// to make.
+#[derive(Drop)]
+pub struct Ran {
+    pub trace: Trace,
+    pub totals: Vec<Totals>,
+    pub fates: Vec<Box<dyn Fate + Send>>,
+    pub ports: Vec<Port>,
+    pub worn: Option<Actor>,
+}
+
+/// Opens the boxes, deals the actors out, moves them until their rounds are over, and joins the ports:
+/// what is left of the drivers, and the fault of the lowest driver that has one.
+fn run_drivers<R: Threads + Wait + Sync, G: Gate + Sync>(
+    rt: &R,
+    alloc: Global,
+    script: &Script,
+    clock: &Clock,
+    seats: Vec<Seat>,
+    workers: u32,
+    capacity: usize,
+    fates: Vec<Box<dyn Fate + Send>>,
+    gate: &G,
+) -> Result<(Option<Fault>, Left), Memory>
+    requires script { IsScript script.now }
+    requires seats { AreNewSeats clock.now seats.items × (length seats.items ≡ length (actors_of script.now)) }
+    requires workers { (1 ≤ workers) × (workers ≤ 16) × (workers ≤ length fates.items) }
+    requires capacity { 1 ≤ capacity }
+    ensures left { IfOk result (λ made. (start : List Crew) × (now : List Crew) × AreClosed script.now clock.now workers start now made.0 × IsLeft script.now clock.now now made.1.actors.items made.1.totals.items made.1.ports.items × (length made.1.fates.items ≡ workers) × ((i : ℕ) (f : _) (g : _) (c : Crew) → slice_get fates.items i ≡ Some f → slice_get made.1.fates.items i ≡ Some g → slice_get now i ≡ Some c → HasPosted c (record { chosen = choices f; lost = losses f; doubled = repeats f }) (record { chosen = choices g; lost = losses g; doubled = repeats g }))) }
+{
+    let (boxes, ports) = open_boxes(rt, alloc, script, clock, workers, capacity)?;
+    let held = boxes.as_slice();
+    let mut drivers = deal(alloc, script, clock, held, seats, ports, workers, fates)?;
+    let fault = run_rounds(rt, alloc, script, clock, held, gate, drivers.as_mut_slice());
+    let left = close(rt, alloc, script, clock, held, drivers)?;
+    Ok((fault, left))
+}
+
+/// The actor that is worn, where that is the fault.
+fn worn_by(fault: Option<Fault>) -> Result<Option<Actor>, Memory>
+    ensures { IfOk result (λ worn. fault ≡ fault_of worn) }
+{
+    match fault {
+        None => Ok(None),
+        Some(Fault::Memory) => Err(Memory),
+        Some(Fault::Worn(actor)) => Ok(Some(actor)),
+    }
+}
+
+/// Runs the actors of a script on so many threads (1 to 16) over mailboxes of so many places. Actor i,
+/// in the order coordinator, servers, sessions, belongs to driver i modulo the number of drivers. Driver
+/// i has the i-th fate that is handed in; those that no driver has are dropped.
+///
+/// # Errors
+///
+/// [`Memory`] alone. Where several actors are worn, it is one of the lowest driver's that is told.
+pub fn run<R: Threads + Wait + Sync, G: Gate + Sync>(
+    rt: &R,
+    alloc: Global,
+    script: &Script,
+    workers: u32,
+    capacity: usize,
+    fates: Vec<Box<dyn Fate + Send>>,
+    gate: &G,
+) -> Result<Ran, Memory>
+    requires script { IsScript script.now }
+    requires workers { (1 ≤ workers) × (workers ≤ 16) × (workers ≤ length fates.items) }
+    requires capacity { 1 ≤ capacity }
+    ensures ran { IfOk result (λ ran. IsRan script.now workers ran.trace ran.totals.items ran.ports.items ran.worn) }
+    ensures fates { IfOk result (λ ran. length ran.fates.items ≡ workers) }
+    ensures risen { IfOk result (λ ran. (i : ℕ) (f : _) (g : _) (t : TotalsSeen) → slice_get fates.items i ≡ Some f → slice_get ran.fates.items i ≡ Some g → slice_get ran.totals.items i ≡ Some t → HasRisen script.now workers ran.trace i t (record { chosen = choices f; lost = losses f; doubled = repeats f }) (record { chosen = choices g; lost = losses g; doubled = repeats g })) }
+{
+    let (mut clock, mut seat) = Clock::new(alloc)?;
+    let count = 1 + script.space.servers + script.sessions.len() as u32;
+    let seats = enrol_all(alloc, &mut clock, &mut seat, count)?;
+    let (fault, left) = run_drivers(
+        rt, alloc, script, &clock, seats, workers, capacity, fates, gate,
+    )?;
+    let worn = worn_by(fault)?;
+    let Left {
+        actors,
+        totals,
+        fates,
+        ports,
+    } = left;
+    let trace = gather(alloc, clock, seat, actors)?;
+    runs_of_drivers_are_paced();
+    Ok(Ran {
+        trace,
+        totals,
+        fates,
+        ports,
+        worn,
+    })
+}
