@@ -4,7 +4,6 @@ pub mod Hearing
 pub mod Servers
 pub mod Inside
 pub mod Plans
-pub mod Examples
 pub mod Ticking
 pub mod Adopting
 pub mod Installing

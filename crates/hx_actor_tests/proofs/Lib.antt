@@ -1,0 +1,2 @@
+pub mod OneServer
+pub mod FourServers

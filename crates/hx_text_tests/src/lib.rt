@@ -1,0 +1,15 @@
+//! Tests of scripts, reports and bytes: a module for each crate that they are of.
+#![tactic(auto)]
+
+#[cfg(test)]
+mod io;
+#[cfg(test)]
+mod lex;
+#[cfg(test)]
+mod print;
+#[cfg(test)]
+mod read_back;
+#[cfg(test)]
+mod report;
+#[cfg(test)]
+mod script;

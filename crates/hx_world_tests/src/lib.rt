@@ -1,0 +1,5 @@
+//! Tests of the world on one thread.
+#![tactic(auto)]
+
+#[cfg(test)]
+mod world;
