@@ -53,7 +53,7 @@ commands() {
 stale() {
   [ ! -x "$program" ] && return 0
   [ -n "$(find "$top/crates" "$top/crates.txt" \( -name '*.rt' -o -name '*.antt' -o -name crates.txt \) -newer "$program" \
-    -not -path '*/out/*' -not -path '*/hx_picture/*' -not -path '*/hx_tests/*' -print -quit)" ]
+    -not -path '*/out/*' -not -path '*/hx_picture/*' -not -path '*/hx_*tests/*' -print -quit)" ]
 }
 
 # below: the crates that the program depends on, lowest first, a line each
