@@ -1,9 +1,12 @@
 use Rattle.std.proofs.Common.{◌≡◌, ◌∙◌, sym, subst, refl, length, slice_index_or}
+use mathlib.Core.List.{IsPrefix}
 use Rattle.hx_types.specs.Posts.{IsSoundPost}
 use Rattle.hx_clock.specs.Views.{Knows}
+use Rattle.hx_mail.specs.declared.views.PortView.{PortView}
 use Rattle.hx_mail.specs.Ports.{mailed_of, sent_of}
 use Rattle.hx_outbox.specs.Places.{place_of}
-use Rattle.hx_desk.specs.Inboxes.{ins_of, IsHeardFrom}
+use Rattle.hx_outbox.proofs.Lists.{begins-refl}
+use Rattle.hx_desk.specs.Inboxes.{ins_of, IsHeardFrom, taken_first}
 use Rattle.hx_desk.proofs.Taking.{actor-below, exists-of, post-to, sound-to, taken-ins, taken-port, told-next}
 use Rattle.hx_desk.proofs.receiving.receive.Goals as goal
 
@@ -40,3 +43,12 @@ returns-clause-given g c =
       ),
       refl,
     )
+
+pub returns-in_err-port-clause-taken : goal.returns-in_err-port-clause-taken
+returns-in_err-port-clause-taken g c = record {
+  actor = refl;
+  machine = refl;
+  part = refl;
+  kept = refl;
+  ins = subst (λ (v : PortView). IsPrefix (ins_of c.args.desk.now.inbox) (taken_first v.lists)) (sym c.in_err-port.ensures.taken.0) (begins-refl (ins_of c.args.desk.now.inbox));
+}
