@@ -72,8 +72,10 @@ fn finish<R: Wait, G: Gate>(
     ensures turn { (xs : List Stamped) × IsTurn boxes.now desk.old desk.new out.old out.new totals.old totals.new (record { chosen = choices fate.old; lost = losses fate.old; doubled = repeats fate.old }) (record { chosen = choices fate.new; lost = losses fate.new; doubled = repeats fate.new }) xs }
 {
     if !makes_anything(&plan) {
+        drop(plan);
         Ok(())
     } else if is_worn(desk) {
+        drop(plan);
         Err(Fault::Worn(desk.actor))
     } else {
         settle(

@@ -9,6 +9,9 @@ use Rattle.hx_desk.proofs.retrying.finish.Goals as goal
 pub returns-then-not-makes_anything-clause-turn : goal.returns-then-not-makes_anything-clause-turn
 returns-then-not-makes_anything-clause-turn g c = ([], turn-self c.args.boxes.now c.args.desk.now c.args.out.now c.args.totals.now _ c.requires.out c.requires.room.total)
 
+pub returns-then-is_worn-clause-turn : goal.returns-then-is_worn-clause-turn
+returns-then-is_worn-clause-turn g c = ([], turn-self c.args.boxes.now c.args.desk.now c.args.out.now c.args.totals.now _ c.requires.out c.requires.room.total)
+
 pub returns-else-is_worn-clause-desk : goal.returns-else-is_worn-clause-desk
 returns-else-is_worn-clause-desk g c w h =
     match-elim _ _ _ c.settle.result (λ _ k. k w (desk-input c.args.script.now c.args.clock.now c.args.boxes.now w c.args.desk.now Tick c.args.plan c.requires.ready h)) (λ _ k. k w [] h) c.settle.ensures.desk
