@@ -1,6 +1,7 @@
 pub mod Totals
 pub mod Inserting
 pub mod Placing
+pub mod Standing
 pub mod Looping
 pub mod Showing
 pub mod Siding
@@ -8,4 +9,5 @@ pub mod Halving
 pub mod Running
 pub mod Narrowing
 pub mod Matched
+pub mod Pairs
 pub mod Examples

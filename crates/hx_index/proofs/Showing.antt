@@ -5,7 +5,7 @@ use Rattle.std.specs.List.Sorted.{IsStrictlySortedBy}
 use Rattle.std.proofs.lemmas.Option.{same_Some, slice_get_within}
 use Rattle.hx_types.specs.Words.{when_some}
 use Rattle.hx_types.specs.declared.calls.Row.{Row}
-use Rattle.hx_index.specs.Invariant.{AreOrders, EachMoves, HasOrders, HaveRoom, IsAdded, IsRemoved, IsWidened, items_of}
+use Rattle.hx_index.specs.Invariant.{AreOrders, EachMoves, HasOrders, HaveRoom, IsAdded, IsRemoved, IsReplaced, IsWidened, items_of}
 use Rattle.hx_index.specs.Orders.{IndexState, IsIndexOf, IsOrder, no_rows, order_of, rows_without, without}
 
 -- an empty list more
@@ -161,6 +161,33 @@ module _ {Z : Type 0} where
 
       pub removed-without : EachMoves (IsRemoved rows id) os new → items_of new ≡ map (without id) (items_of os)
       removed-without m = mapped (without id) new os (sym m.count) (λ k a b f e. (m.each k b a e f).others)
+
+      pub replaced-count : EachMoves (IsReplaced rows) os new → count_in new ≡ count_in os
+      replaced-count m =
+          let a = first-after m.count in
+          let b = first-there in
+          let p = m.each 0 b.0 a.0 b.1 a.1 in
+          let q = ap length (order-at new room 0 a.0 a.1) in
+          let r = ap length (order-at os room 0 b.0 b.1) in
+          let l = p.len in let s = a.0.ok.0 in let t = b.0.ok.0 in
+          omega (arith, q, r, l, s, t)
+
+      pub replaced-orders : EachMoves (IsReplaced rows) os new → HasOrders new room
+      replaced-orders m = record {
+        small = h.small;
+        within = (let c = replaced-count m in let w = h.within in omega (arith, c, w));
+        some = (let s = h.some in let n = m.count in omega (arith, s, n));
+        few = (let s = h.few in let n = m.count in omega (arith, s, n));
+        each = λ k o e.
+            let b = moved-from (IsReplaced rows) os new m k o e in
+            let r = h.each k b.0 b.1 in
+            let c = replaced-count m in
+            let l = b.2.len in let p = b.2.capacity in let s = o.ok.0 in let t = b.0.ok.0 in let u = r.len in let v = r.room in
+            record { len = omega (arith, c, l, s, t, u); room = omega (arith, p, v) };
+      }
+
+      pub replaced-index : EachMoves (IsReplaced rows) os new → IsIndexOf rows (record { orders = items_of new; room = room })
+      replaced-index m = is-index rows new room (λ k o e. (moved-from (IsReplaced rows) os new m k o e).2.order)
 
     pub widened-same : (new : List (Vec ℕ Z)) → EachMoves IsWidened os new → items_of new ≡ items_of os
     widened-same new m = mapped (λ l. l) new os (sym m.count) (λ k a b f e. (m.each k b a e f).items) ∙ map-same (items_of os)

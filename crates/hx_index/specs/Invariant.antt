@@ -55,6 +55,12 @@ pub record IsRemoved {Z : Type 0} (rows : ℕ → Option Row) (id attribute : �
   pub len : vec_len new + 1 ≡ vec_len old
   pub capacity : vec_capacity new ≡ vec_capacity old
 
+-- a number of an order went to another place, or stayed
+pub record IsReplaced {Z : Type 0} (rows : ℕ → Option Row) (attribute : ℕ) (old new : Vec ℕ Z) : Type 0 where
+  pub order : IsOrder rows attribute new.items
+  pub len : vec_len new ≡ vec_len old
+  pub capacity : vec_capacity old ≤ vec_capacity new
+
 -- an order got room
 pub record IsWidened {Z : Type 0} (attribute : ℕ) (old new : Vec ℕ Z) : Type 0 where
   pub items : new.items ≡ old.items

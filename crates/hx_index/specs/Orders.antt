@@ -83,6 +83,10 @@ rows_at slots i = when_some (slice_get slots i) None (λ (s : SlotState). object
 abbrev pub rows_without : ℕ → (ℕ → Option Row) → ℕ → Option Row
 rows_without id rows i = if i == id then None else rows i
 
+-- the kept objects, where one slot has this one or none
+abbrev pub rows_with : ℕ → Option Row → (ℕ → Option Row) → ℕ → Option Row
+rows_with id row rows i = if i == id then row else rows i
+
 -- in every order the numbers of the one index are those of the other but for one, in the same order
 abbrev pub IsWithout : ℕ → IndexState → IndexState → Type 0
 IsWithout id fewer more = fewer.orders ≡ map (without id) more.orders

@@ -1,8 +1,8 @@
-ghost use Rattle.std.specs.Prelude.{◌≡◌};
+ghost use Rattle.std.specs.Prelude.{◌≡◌, Some};
 ghost use Rattle.std.specs.Option.{option_cmp, option_copied};
 ghost use Rattle.std.specs.Ordering.{is_lt};
 ghost use Rattle.hx_slot.specs.Updates.{row_seen};
-ghost use Rattle.hx_index.specs.Orders.{compare_at, compare_rows, compare_values, row_lent, rows_at};
+ghost use Rattle.hx_index.specs.Orders.{compare_at, compare_rows, compare_values, row_lent, rows_at, rows_with};
 ghost use Rattle.hx_index.specs.Sides.{side_in, side_of, side_of_value};
 
 use crate::looking::Side;
@@ -23,7 +23,7 @@ fn compare_values(one: &Value, other: &Value) -> Ordering
 }
 
 /// The missing value first.
-fn compare_found(one: Option<&Value>, other: Option<&Value>) -> Ordering
+pub fn compare_found(one: Option<&Value>, other: Option<&Value>) -> Ordering
     ensures { result ≡ option_cmp compare_values (option_copied one.entry) (option_copied other.entry) }
 {
     match (one, other) {
@@ -59,23 +59,17 @@ pub fn row_at(slots: &[Slot], id: u32) -> Option<RowRef<'_>>
     }
 }
 
-/// The slots without a kept object first.
-fn compare_kept(attribute: u32, one: Option<RowRef<'_>>, other: Option<RowRef<'_>>) -> Ordering
-    ensures { result ≡ option_cmp (compare_rows attribute) (row_seen one.entry) (row_seen other.entry) }
+/// Whether a slot stands before another, which has this row, in the order of an attribute.
+pub fn is_before(slots: &[Slot], attribute: u32, one: u32, other: u32, row: RowRef<'_>) -> bool
+    ensures { result ≡ is_lt (compare_at (rows_with other (Some (row_lent row.entry)) (rows_at slots.now)) attribute one other) }
 {
-    match (one, other) {
-        (None, None) => Ordering::Equal,
-        (None, Some(_)) => Ordering::Less,
-        (Some(_), None) => Ordering::Greater,
-        (Some(one), Some(other)) => compare_rows(attribute, one, other),
+    if one == other {
+        return false;
     }
-}
-
-/// Whether a slot stands before another in the order of an attribute.
-pub fn is_before(slots: &[Slot], attribute: u32, one: u32, other: u32) -> bool
-    ensures { result ≡ is_lt (compare_at (rows_at slots.now) attribute one other) }
-{
-    match compare_kept(attribute, row_at(slots, one), row_at(slots, other)) {
+    let Some(found) = row_at(slots, one) else {
+        return true;
+    };
+    match compare_rows(attribute, found, row) {
         Ordering::Less => true,
         Ordering::Equal => one < other,
         Ordering::Greater => false,

@@ -1,18 +1,22 @@
-ghost use Rattle.std.specs.Prelude.{◌≡◌, ◌<◌, ◌≤◌, ◌+◌, ◌-◌, ◌*◌, ◌^◌, ℕ, IfOk, IsSome, OnOk, [], ◌∷◌, drop, length, nat_eq};
+ghost use Rattle.std.specs.Prelude.{◌≡◌, ◌<◌, ◌≤◌, ◌+◌, ◌-◌, ◌*◌, ◌^◌, ℕ, IfOk, IsSome, OnOk, Some, [], ◌∷◌, drop, length, nat_eq};
 ghost use Rattle.std.specs.List.{IsDistinct, repeat};
 ghost use Rattle.hx_types.specs.Spaces.{attribute_of};
 ghost use Rattle.hx_index.specs.Invariant.{IsSpan};
 ghost use Rattle.hx_index.specs.Looks.{digits_of};
-ghost use Rattle.hx_index.specs.Orders.{IndexState, IsIndexOf, IsWithout, count_of, no_rows, order_of, rows_at, rows_without, stands_in};
+ghost use Rattle.hx_index.specs.Orders.{IndexState, IsIndexOf, IsWithout, count_of, no_rows, order_of, rows_at, rows_with, rows_without, stands_in};
 ghost use Rattle.hx_index.specs.Runs.{IsRun};
 ghost use Rattle.hx_index.specs.Searches.{indexed_count, is_indexed, least_run, most_looks};
 ghost use Rattle.hx_index.specs.Sides.{matches_at};
 
+use crate::comparing::row_at;
 use crate::looking::{Ids, Look};
-use crate::orders::{empty_orders, insert_everywhere, remove_everywhere, widen_everywhere};
+use crate::orders::{
+    empty_orders, insert_everywhere, remove_everywhere, replace_everywhere, widen_everywhere,
+};
 use crate::searching::{Span, end_of_part, matching, shorter};
+use crate::staying::lend;
 use hx_slot::Slot;
-use hx_types::{Memory, Term, Terms};
+use hx_types::{Memory, Row, Term, Terms};
 use std::alloc::Global;
 use std::marker::Model;
 
@@ -87,7 +91,36 @@ impl Index {
         ensures count { count_of self.new + 1 ≡ count_of self.old }
         ensures room { self.new.room ≡ self.old.room }
     {
-        remove_everywhere(&mut self.orders, slots, id);
+        let Some(row) = row_at(slots, id) else {
+            unreachable!()
+        };
+        remove_everywhere(&mut self.orders, slots, id, row);
+    }
+
+    /// Takes the slot with this number out of every order, by the object that it had when it came
+    /// into the index. It takes no memory.
+    pub fn forget(&mut self, slots: &[Slot], id: u32, old: &Row)
+        requires index { IsIndexOf (rows_with id (Some old.now) (rows_at slots.now)) self.old }
+        ensures index { IsIndexOf (rows_without id (rows_at slots.now)) self.new }
+        ensures others { IsWithout id self.new self.old }
+        ensures count { count_of self.new + 1 ≡ count_of self.old }
+        ensures room { self.new.room ≡ self.old.room }
+    {
+        remove_everywhere(&mut self.orders, slots, id, lend(old));
+    }
+
+    /// The slot with this number has another object than when it came into the index. It goes to
+    /// its new place in the orders of the attributes whose value changed, in every order where the
+    /// key did, and stays in the others, in which no place is sought. It takes no memory.
+    pub fn replace(&mut self, slots: &[Slot], id: u32, old: &Row)
+        requires index { IsIndexOf (rows_with id (Some old.now) (rows_at slots.now)) self.old }
+        requires kept { IsSome (rows_at slots.now id) }
+        ensures index { IsIndexOf (rows_at slots.now) self.new }
+        ensures attributes { length self.new.orders ≡ length self.old.orders }
+        ensures count { count_of self.new ≡ count_of self.old }
+        ensures room { self.new.room ≡ self.old.room }
+    {
+        replace_everywhere(&mut self.orders, slots, id, lend(old));
     }
 
     /// The first place and the end of the run of a term: the part of the order of its attribute

@@ -13,6 +13,7 @@ mod indexes;
 mod looking;
 mod orders;
 mod searching;
+mod staying;
 mod views;
 
 pub use indexes::Index;

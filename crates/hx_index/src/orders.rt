@@ -1,20 +1,22 @@
-ghost use Rattle.std.specs.Prelude.{◌≡◌, ◌<◌, ◌≤◌, ◌+◌, ◌^◌, [], ◌∷◌, IfOk, IsSome, OnOk, insert, vec_capacity, vec_len};
+ghost use Rattle.std.specs.Prelude.{◌≡◌, ◌<◌, ◌≤◌, ◌+◌, ◌^◌, [], ◌∷◌, IfOk, IsSome, IsSomeAnd, IsTrue, OnOk, Some, insert, vec_capacity, vec_len};
 ghost use Rattle.std.specs.List.{repeat};
 ghost use Rattle.std.specs.List.Sorted.{IsStrictlySortedBy};
-ghost use Rattle.hx_index.specs.Invariant.{AreOrders, EachMoves, HaveRoom, HaveRoomFor, IsAdded, IsRemoved, IsSplit, IsWidened, items_of, stands_before};
-ghost use Rattle.hx_index.specs.Orders.{IsOrder, compare_at, rows_at, rows_without, without};
+ghost use Rattle.hx_types.specs.declared.calls.Row.{Row};
+ghost use Rattle.hx_index.specs.Invariant.{AreOrders, EachMoves, HaveRoom, HaveRoomFor, IsAdded, IsRemoved, IsReplaced, IsSplit, IsWidened, items_of, stands_before};
+ghost use Rattle.hx_index.specs.Orders.{IsOrder, compare_at, key_of, row_lent, rows_at, rows_with, rows_without, without};
 
-use crate::comparing::is_before;
-use hx_slot::Slot;
+use crate::comparing::{is_before, row_at};
+use crate::staying::{has_key, stays};
+use hx_slot::{RowRef, Slot};
 use hx_types::Memory;
 use std::alloc::Global;
 
-/// How many numbers stand before that of a slot in the order of an attribute.
-fn place_of(order: &[u32], slots: &[Slot], attribute: u32, id: u32) -> usize
-    requires { IsStrictlySortedBy (compare_at (rows_at slots.now) attribute) order.now }
-    ensures { IsSplit (stands_before (rows_at slots.now) attribute id) result order.now }
+/// How many numbers stand before that of a slot, which has this row, in the order of an attribute.
+fn place_of(order: &[u32], slots: &[Slot], attribute: u32, id: u32, row: RowRef<'_>) -> usize
+    requires { IsStrictlySortedBy (compare_at (rows_with id (Some (row_lent row)) (rows_at slots.now)) attribute) order.now }
+    ensures { IsSplit (stands_before (rows_with id (Some (row_lent row.entry)) (rows_at slots.now)) attribute id) result order.now }
 {
-    order.partition_point(|other| is_before(slots, attribute, *other, id))
+    order.partition_point(|other| is_before(slots, attribute, *other, id, row))
 }
 
 /// Puts the number of a slot into the order of an attribute. There is room, so it takes no memory.
@@ -27,7 +29,10 @@ pub fn insert_number(order: &mut Vec<u32>, slots: &[Slot], attribute: u32, id: u
     ensures len { vec_len order.new ≡ vec_len order.old + 1 }
     ensures capacity { vec_capacity order.old ≤ vec_capacity order.new }
 {
-    let place = place_of(order.as_slice(), slots, attribute, id);
+    let Some(row) = row_at(slots, id) else {
+        unreachable!()
+    };
+    let place = place_of(order.as_slice(), slots, attribute, id, row);
     insert_within(order, place, id);
 }
 
@@ -42,17 +47,40 @@ fn insert_within(order: &mut Vec<u32>, place: usize, id: u32)
     let _ = order.insert(place, id);
 }
 
-/// Takes the number of a slot out of the order of an attribute.
-pub fn remove_number(order: &mut Vec<u32>, slots: &[Slot], attribute: u32, id: u32)
-    requires order { IsOrder (rows_at slots.now) attribute order.old.items }
-    requires kept { IsSome (rows_at slots.now id) }
+/// Takes the number of a slot, which stands by this row, out of the order of an attribute.
+pub fn remove_number(order: &mut Vec<u32>, slots: &[Slot], attribute: u32, id: u32, row: RowRef<'_>)
+    requires order { IsOrder (rows_with id (Some (row_lent row)) (rows_at slots.now)) attribute order.old.items }
     ensures order { IsOrder (rows_without id (rows_at slots.now)) attribute order.new.items }
     ensures others { order.new.items ≡ without id order.old.items }
     ensures len { vec_len order.new + 1 ≡ vec_len order.old }
     ensures capacity { vec_capacity order.new ≡ vec_capacity order.old }
 {
-    let place = place_of(order.as_slice(), slots, attribute, id);
+    let place = place_of(order.as_slice(), slots, attribute, id, row);
     let _ = order.remove(place);
+}
+
+/// The number of a slot, which stands by this row in the order of an attribute, goes to the place
+/// of its object. It stays where the value and the key are the same.
+pub fn replace_number(
+    order: &mut Vec<u32>,
+    slots: &[Slot],
+    attribute: u32,
+    id: u32,
+    old: RowRef<'_>,
+    keeps_key: bool,
+)
+    requires order { IsOrder (rows_with id (Some (row_lent old)) (rows_at slots.now)) attribute order.old.items }
+    requires kept { IsSome (rows_at slots.now id) }
+    requires key { IsTrue keeps_key → IsSomeAnd (rows_at slots.now id) (λ (r : Row). key_of r ≡ key_of (row_lent old)) }
+    ensures order { IsOrder (rows_at slots.now) attribute order.new.items }
+    ensures len { vec_len order.new ≡ vec_len order.old }
+    ensures capacity { vec_capacity order.old ≤ vec_capacity order.new }
+{
+    if stays(slots, attribute, id, old, keeps_key) {
+        return;
+    }
+    remove_number(order, slots, attribute, id, old);
+    insert_number(order, slots, attribute, id);
 }
 
 /// Puts the number of a slot into every order. There is room, so it takes no memory.
@@ -68,15 +96,34 @@ pub fn insert_everywhere(orders: &mut Vec<Vec<u32>>, slots: &[Slot], id: u32)
     }
 }
 
-/// Takes the number of a slot out of every order.
-pub fn remove_everywhere(orders: &mut Vec<Vec<u32>>, slots: &[Slot], id: u32)
-    requires orders { AreOrders (rows_at slots.now) orders.old.items }
-    requires kept { IsSome (rows_at slots.now id) }
+/// Takes the number of a slot, which stands by this row, out of every order.
+pub fn remove_everywhere(orders: &mut Vec<Vec<u32>>, slots: &[Slot], id: u32, row: RowRef<'_>)
+    requires orders { AreOrders (rows_with id (Some (row_lent row)) (rows_at slots.now)) orders.old.items }
     requires few { vec_len orders.old ≤ 2 ^ 32 }
     ensures { EachMoves (IsRemoved (rows_at slots.now) id) orders.old.items orders.new.items }
 {
     for attribute in 0..orders.len() {
-        remove_number(&mut orders[attribute], slots, attribute as u32, id);
+        remove_number(&mut orders[attribute], slots, attribute as u32, id, row);
+    }
+}
+
+/// The number of a slot, which stands by this row, goes to the place of its object in every order.
+pub fn replace_everywhere(orders: &mut Vec<Vec<u32>>, slots: &[Slot], id: u32, old: RowRef<'_>)
+    requires orders { AreOrders (rows_with id (Some (row_lent old)) (rows_at slots.now)) orders.old.items }
+    requires kept { IsSome (rows_at slots.now id) }
+    requires few { vec_len orders.old ≤ 2 ^ 32 }
+    ensures { EachMoves (IsReplaced (rows_at slots.now)) orders.old.items orders.new.items }
+{
+    let keeps_key = has_key(slots, id, old.key);
+    for attribute in 0..orders.len() {
+        replace_number(
+            &mut orders[attribute],
+            slots,
+            attribute as u32,
+            id,
+            old,
+            keeps_key,
+        );
     }
 }
 

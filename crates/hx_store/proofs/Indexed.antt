@@ -1,8 +1,8 @@
--- An index that follows the kept objects of slots: one slot leaves it, changes, and comes into it again.
-use Rattle.std.proofs.Common.{◌≡◌, ℕ, zero, suc, ◌+◌, ◌<◌, ◌≤◌, Bool, true, false, cond, List, [], ◌∷◌, length, inl, inr, is_some, Option, None, Some, get_or, refl, ap, sym, ◌∙◌, subst, arith, eqb}
+-- An index that follows the kept objects of slots: one slot changes, and then its place in the index.
+use Rattle.std.proofs.Common.{◌≡◌, ℕ, zero, suc, ◌+◌, ◌<◌, ◌≤◌, true, false, cond, List, [], ◌∷◌, length, inl, inr, is_some, Option, None, Some, get_or, refl, ap, sym, ◌∙◌, subst, arith, eqb}
 use Rattle.std.specs.List.{slice_get, slice_set}
 use Rattle.std.specs.Option.{IsSomeAnd}
-use Rattle.std.proofs.lemmas.Bool.{cases_eq, cond_both, cond-true, eq-eqb, eqb-true, false≢true}
+use Rattle.std.proofs.lemmas.Bool.{cases_eq, cond-true, eq-eqb, false≢true}
 use Rattle.std.proofs.lemmas.Option.{same_Some, slice_get-get_or}
 use Rattle.hx_types.specs.declared.calls.Row.{Row}
 use Rattle.hx_types.specs.declared.ids.RegionId.{RegionId}
@@ -11,9 +11,10 @@ use Rattle.hx_model.specs.Slots.{KeyState, object_of}
 use Rattle.hx_slot.specs.declared.line.RowRef.{RowRef}
 use Rattle.hx_slot.specs.States.{SlotState}
 use Rattle.hx_slot.specs.Updates.{row_seen}
-use Rattle.hx_index.specs.Orders.{IndexState, IsIndexOf, count_of, rows_at, rows_without}
+use Rattle.hx_index.specs.Orders.{IndexState, IsIndexOf, count_of, rows_at, rows_with, rows_without}
 use Rattle.hx_index.proofs.Looping.{set-elsewhere, set-here, set-length}
-use Rattle.hx_store.specs.Slots.{IsKept, IsKeptBut, IsStepped, kept_count, one_kept}
+use Rattle.hx_index.proofs.Standing.{with-own}
+use Rattle.hx_store.specs.Slots.{IsKept, IsKeptAs, IsStepped, kept_count, one_kept}
 
 abbrev pub row : SlotState → Option Row
 row s = object_of s.region s.state
@@ -62,45 +63,65 @@ module _ (slots : List SlotState) (place : ℕ) (s : SlotState) (at : slice_get 
   pub row-is : rows_at slots place ≡ row s
   row-is = ap row-in at
 
-  -- a slot without an object is in no index
-  same-rows : is_some (row s) ≡ false → rows_at slots ≡ rows_without place (rows_at slots)
-  same-rows e = λ k i. one i k
-    where
-      one : (i : ℕ) → rows_at slots i ≡ rows_without place (rows_at slots) i
-      one i = cond_both (eqb i place) None (rows_at slots i) (λ (o : Option Row). rows_at slots i ≡ o) (λ t. ap (rows_at slots) (eqb-true i place t) ∙ row-is ∙ none-of (row s) e) (λ f. refl)
-
-  no-count : is_some (row s) ≡ false → one_kept (rows_at slots place) ≡ 0
-  no-count e = ap one_kept (row-is ∙ none-of (row s) e)
-
-  pub out-none : (index : IndexState) → IsKept slots index → is_some (row s) ≡ false → IsKeptBut place slots index
-  out-none index h e = record {
-    index_is = subst (λ (rows : ℕ → Option Row). IsIndexOf rows index) (same-rows e) h.index_is;
-    count = (let c = h.count in let n = no-count e in omega (arith, c, n));
+  -- the index has the slot by its own object
+  pub as-own : (index : IndexState) → IsKept slots index → (own : Option Row) → own ≡ row s → IsKeptAs own place slots index
+  as-own index h own e = record {
+    index_is = subst (λ (rows : ℕ → Option Row). IsIndexOf rows index) (sym (with-own (rows_at slots) place own (row-is ∙ sym e))) h.index_is;
+    count = (let c = h.count in let n = ap one_kept (row-is ∙ sym e) in omega (arith, c, n));
     room = h.room;
     few = h.few;
   }
 
-  pub in-none : (index : IndexState) → IsKeptBut place slots index → is_some (row s) ≡ false → IsKept slots index
-  in-none index h e = record {
-    index_is = subst (λ (rows : ℕ → Option Row). IsIndexOf rows index) (sym (same-rows e)) h.index_is;
-    count = (let c = h.count in let n = no-count e in omega (arith, c, n));
-    room = h.room;
-    few = h.few;
-  }
+  pub out-none : (index : IndexState) → IsKept slots index → is_some (row s) ≡ false → IsKeptAs None place slots index
+  out-none index h e = as-own index h None (sym (none-of (row s) e))
 
   one-count : is_some (row s) ≡ true → one_kept (rows_at slots place) ≡ 1
   one-count e = ap one_kept row-is ∙ one-of (row s) e
 
-  pub in-room : (index : IndexState) → IsKeptBut place slots index → is_some (row s) ≡ true → count_of index < index.room
+  no-count : is_some (row s) ≡ false → one_kept (rows_at slots place) ≡ 0
+  no-count e = ap one_kept (row-is ∙ none-of (row s) e)
+
+  none-there : is_some (row s) ≡ false → rows_without place (rows_at slots) ≡ rows_at slots
+  none-there e = with-own (rows_at slots) place None (row-is ∙ none-of (row s) e)
+
+  -- it comes in, or stays out
+  pub in-none : (index : IndexState) → IsKeptAs None place slots index → is_some (row s) ≡ false → IsKept slots index
+  in-none index h e = record {
+    index_is = subst (λ (rows : ℕ → Option Row). IsIndexOf rows index) (none-there e) h.index_is;
+    count = (let c = h.count in let n = no-count e in omega (arith, c, n));
+    room = h.room;
+    few = h.few;
+  }
+
+  pub in-room : (index : IndexState) → IsKeptAs None place slots index → is_some (row s) ≡ true → count_of index < index.room
   in-room index h e = let c = h.count in let n = one-count e in let m = count-most slots in let r = h.room in omega (arith, c, n, m, r)
 
-  pub in-some : (old new : IndexState) → IsKeptBut place slots old → is_some (row s) ≡ true → IsIndexOf (rows_at slots) new → count_of new ≡ count_of old + 1 → new.room ≡ old.room → IsKept slots new
+  pub in-some : (old new : IndexState) → IsKeptAs None place slots old → is_some (row s) ≡ true → IsIndexOf (rows_at slots) new → count_of new ≡ count_of old + 1 → new.room ≡ old.room → IsKept slots new
   in-some old new h e is more same = record {
     index_is = is;
     count = (let c = h.count in let n = one-count e in omega (arith, c, n, more));
     room = (let r = h.room in omega (arith, r, same));
     few = h.few;
   }
+
+  module _ (former : Row) (old new : IndexState) (h : IsKeptAs (Some former) place slots old) (same : new.room ≡ old.room) where
+    -- it has no object any more
+    pub forgotten : is_some (row s) ≡ false → IsIndexOf (rows_without place (rows_at slots)) new → count_of new + 1 ≡ count_of old → IsKept slots new
+    forgotten e is less = record {
+      index_is = subst (λ (rows : ℕ → Option Row). IsIndexOf rows new) (none-there e) is;
+      count = (let c = h.count in let n = no-count e in omega (arith, c, n, less));
+      room = (let r = h.room in omega (arith, r, same));
+      few = h.few;
+    }
+
+    -- or another one
+    pub replaced : is_some (row s) ≡ true → IsIndexOf (rows_at slots) new → count_of new ≡ count_of old → IsKept slots new
+    replaced e is count = record {
+      index_is = is;
+      count = (let c = h.count in let n = one-count e in omega (arith, c, n, count));
+      room = (let r = h.room in omega (arith, r, same));
+      few = h.few;
+    }
 
   module _ (w : SlotState) where
     abbrev new : List SlotState
@@ -112,13 +133,13 @@ module _ (slots : List SlotState) (place : ℕ) (s : SlotState) (at : slice_get 
     row-other : (i : ℕ) → (i ≡ place → ⊥) → rows_at new i ≡ rows_at slots i
     row-other i n = ap row-in (set-elsewhere slots place i w n)
 
-    same-others : rows_without place (rows_at slots) ≡ rows_without place (rows_at new)
-    same-others = λ k i. one i k
+    same-others : (own : Option Row) → rows_with place own (rows_at slots) ≡ rows_with place own (rows_at new)
+    same-others own = λ k i. one i k
       where
-        one : (i : ℕ) → rows_without place (rows_at slots) i ≡ rows_without place (rows_at new) i
+        one : (i : ℕ) → rows_with place own (rows_at slots) i ≡ rows_with place own (rows_at new) i
         one i = elim (cases_eq i place) [
-          | inl p ↦ cond-true (eqb i place) None (rows_at slots i) (eq-eqb i place p) ∙ sym (cond-true (eqb i place) None (rows_at new i) (eq-eqb i place p))
-          | inr n ↦ ap (cond (eqb i place) None) (sym (row-other i n))
+          | inl p ↦ cond-true (eqb i place) own (rows_at slots i) (eq-eqb i place p) ∙ sym (cond-true (eqb i place) own (rows_at new i) (eq-eqb i place p))
+          | inr n ↦ ap (cond (eqb i place) own) (sym (row-other i n))
         ]
 
     same-all : row w ≡ row s → rows_at slots ≡ rows_at new
@@ -130,10 +151,10 @@ module _ (slots : List SlotState) (place : ℕ) (s : SlotState) (at : slice_get 
           | inr n ↦ sym (row-other i n)
         ]
 
-    -- the slot that isn't in the index changes
-    pub but-set : (index : IndexState) → IsKeptBut place slots index → IsKeptBut place new index
-    but-set index h = record {
-      index_is = subst (λ (rows : ℕ → Option Row). IsIndexOf rows index) same-others h.index_is;
+    -- the slot changes, and the index has it as before
+    pub but-set : (own : Option Row) (index : IndexState) → IsKeptAs own place slots index → IsKeptAs own place new index
+    but-set own index h = record {
+      index_is = subst (λ (rows : ℕ → Option Row). IsIndexOf rows index) (same-others own) h.index_is;
       count = (let c = h.count in let a = ap one_kept row-is in let b = ap one_kept row-new in let m = count-set slots place s w at in omega (arith, c, a, b, m));
       room = (let r = h.room in let l = set-length slots place w in omega (arith, r, l));
       few = (let r = h.few in let l = set-length slots place w in omega (arith, r, l));

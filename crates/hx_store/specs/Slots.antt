@@ -6,7 +6,7 @@ use Rattle.hx_types.specs.declared.ids.RegionId.{RegionId}
 use Rattle.hx_types.specs.Words.{when_some}
 use Rattle.hx_model.specs.Slots.{KeyState, object_of}
 use Rattle.hx_slot.specs.States.{SlotState}
-use Rattle.hx_index.specs.Orders.{IndexState, IsIndexOf, count_of, rows_at, rows_without}
+use Rattle.hx_index.specs.Orders.{IndexState, IsIndexOf, count_of, rows_at, rows_with}
 
 -- a slot, and whether it is part of the store: one that isn't has had no step yet
 pub record StoreSlot : Type 0 where
@@ -48,10 +48,10 @@ pub record IsKept (slots : List SlotState) (index : IndexState) : Type 0 where
   pub room : length slots ≤ index.room
   pub few : length slots < 2 ^ 32
 
--- the index is that of the kept objects of all slots but one
-pub record IsKeptBut (place : ℕ) (slots : List SlotState) (index : IndexState) : Type 0 where
-  pub index_is : IsIndexOf (rows_without place (rows_at slots)) index
-  pub count : count_of index + one_kept (rows_at slots place) ≡ kept_count slots
+-- the index is that of the slots' kept objects, where one slot has this one or none
+pub record IsKeptAs (row : Option Row) (place : ℕ) (slots : List SlotState) (index : IndexState) : Type 0 where
+  pub index_is : IsIndexOf (rows_with place row (rows_at slots)) index
+  pub count : count_of index + one_kept (rows_at slots place) ≡ kept_count slots + one_kept row
   pub room : length slots ≤ index.room
   pub few : length slots < 2 ^ 32
 

@@ -1,10 +1,25 @@
-ghost use Rattle.std.specs.Prelude.{◌≡◌, ◌++◌, OnOk};
-ghost use Rattle.hx_model.specs.Slots.{pending_of};
+ghost use Rattle.std.specs.Prelude.{◌≡◌, ◌++◌, IfOk, OnOk};
+ghost use Rattle.hx_model.specs.Slots.{object_of, pending_of};
 ghost use Rattle.hx_store.specs.Reading.{committed_of};
 
 use hx_slot::Slot;
-use hx_types::{Exact, Memory, Snapshot, Updates};
+use hx_types::{Exact, Memory, Row, Snapshot, Updates};
 use std::alloc::Global;
+
+/// A copy of the committed object of a slot, if it keeps one. It takes no memory: there is none only
+/// where a count of owners is full.
+pub fn copy_row(alloc: Global, slot: &Slot) -> Result<Option<Row>, Memory>
+    ensures { IfOk result (λ row. row ≡ object_of slot.now.region slot.now.state) }
+{
+    match slot.row() {
+        Some(row) => Ok(Some(Row {
+            key: row.key.copy(alloc)?,
+            version: row.version,
+            object: row.object.copy(alloc)?,
+        })),
+        None => Ok(None),
+    }
+}
 
 /// Adds the committed state of a slot, where something is committed.
 pub fn add_kept(alloc: Global, slot: &Slot, snapshot: &mut Snapshot) -> Result<(), Memory>

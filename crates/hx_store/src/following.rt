@@ -1,19 +1,38 @@
-ghost use Rattle.std.specs.Prelude.{◌≡◌, ◌<◌, IsSomeAnd, length, slice_get, slice_set};
+ghost use Rattle.std.specs.Prelude.{◌≡◌, ◌<◌, IsSomeAnd, None, length, slice_get, slice_set};
 ghost use Rattle.hx_model.specs.Slots.{moved_all, offered};
 ghost use Rattle.hx_slot.specs.States.{SlotState};
-ghost use Rattle.hx_store.specs.Slots.{IsKept, IsKeptBut, IsStepped};
+ghost use Rattle.hx_store.specs.Slots.{IsKept, IsKeptAs, IsStepped};
 ghost use Rattle.hx_store.specs.Stores.{ArePending, CanBeOffered, accepted_at, acknowledged_at, offered_at, settled_at};
 
+use crate::copying::copy_row;
 use crate::stepping::{acknowledge_all, can_settle, holds_early};
 use hx_index::Index;
 use hx_slot::Slot;
-use hx_types::{Shared, Update, Version};
+use hx_types::{Memory, Row, Shared, Update, Version};
+
+/// Makes the index ready for a change of the slot at a place, and gives the object by which it still
+/// has the slot: a copy of the one that the slot keeps. Where a count of owners is full, the slot
+/// leaves the index.
+fn prepare(index: &mut Index, slots: &Vec<Slot>, place: usize) -> Option<Row>
+    requires kept { IsKept slots.now.items index.old }
+    requires place { place < length slots.now.items }
+    ensures kept { IsKeptAs result place slots.now.items index.new }
+    ensures attributes { length index.new.orders ≡ length index.old.orders }
+{
+    match copy_row(*slots.allocator(), &slots[place]) {
+        Ok(row) => row,
+        Err(Memory) => {
+            take_out(index, slots.as_slice(), place);
+            None
+        }
+    }
+}
 
 /// The slot at a place leaves the index, if it keeps an object.
 fn take_out(index: &mut Index, slots: &[Slot], place: usize)
     requires kept { IsKept slots.now index.old }
     requires place { place < length slots.now }
-    ensures kept { IsKeptBut place slots.now index.new }
+    ensures kept { IsKeptAs None place slots.now index.new }
     ensures attributes { length index.new.orders ≡ length index.old.orders }
 {
     if slots[place].row().is_some() {
@@ -21,15 +40,19 @@ fn take_out(index: &mut Index, slots: &[Slot], place: usize)
     }
 }
 
-/// The slot at a place comes into the index, if it keeps an object.
-fn put_in(index: &mut Index, slots: &[Slot], place: usize)
-    requires kept { IsKeptBut place slots.now index.old }
+/// The index follows a change of the slot at a place. It has the slot by this object, or not.
+fn follow(index: &mut Index, slots: &[Slot], place: usize, before: Option<Row>)
+    requires kept { IsKeptAs before place slots.now index.old }
     requires place { place < length slots.now }
     ensures kept { IsKept slots.now index.new }
     ensures attributes { length index.new.orders ≡ length index.old.orders }
 {
-    if slots[place].row().is_some() {
-        index.add(slots, place as u32);
+    let keeps = slots[place].row().is_some();
+    match before {
+        Some(row) if keeps => index.replace(slots, place as u32, &row),
+        Some(row) => index.forget(slots, place as u32, &row),
+        None if keeps => index.add(slots, place as u32),
+        None => {}
     }
 }
 
@@ -41,9 +64,9 @@ pub fn replace(index: &mut Index, slots: &mut Vec<Slot>, place: usize, slot: Slo
     ensures attributes { length index.new.orders ≡ length index.old.orders }
     ensures slots { slots.new.items ≡ slice_set slots.old.items place slot }
 {
-    take_out(index, slots.as_slice(), place);
+    let before = prepare(index, slots, place);
     slots[place] = slot;
-    put_in(index, slots.as_slice(), place);
+    follow(index, slots.as_slice(), place, before);
 }
 
 /// The slot at a place is offered an update; then these versions, whose chain ends here, are
@@ -89,9 +112,9 @@ fn offer(
         let _ = slots[place].offer(update, number);
         return;
     }
-    take_out(index, slots.as_slice(), place);
+    let before = prepare(index, slots, place);
     let _ = slots[place].offer(update, number);
-    put_in(index, slots.as_slice(), place);
+    follow(index, slots.as_slice(), place, before);
 }
 
 /// A version is acknowledged at the slot at a place, and what can be committed is. The index follows
@@ -107,9 +130,9 @@ pub fn acknowledge(index: &mut Index, slots: &mut Vec<Slot>, place: usize, versi
         let _ = slots[place].ack(version);
         return;
     }
-    take_out(index, slots.as_slice(), place);
+    let before = prepare(index, slots, place);
     let _ = slots[place].ack(version);
-    put_in(index, slots.as_slice(), place);
+    follow(index, slots.as_slice(), place, before);
 }
 
 /// What can be committed of the slot at a place is. The index follows where that is something.
@@ -124,7 +147,7 @@ pub fn settle(index: &mut Index, slots: &mut Vec<Slot>, place: usize)
         let _ = slots[place].settle();
         return;
     }
-    take_out(index, slots.as_slice(), place);
+    let before = prepare(index, slots, place);
     let _ = slots[place].settle();
-    put_in(index, slots.as_slice(), place);
+    follow(index, slots.as_slice(), place, before);
 }

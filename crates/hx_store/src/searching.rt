@@ -4,8 +4,9 @@ ghost use Rattle.hx_types.specs.Words.{list_of};
 ghost use Rattle.hx_index.specs.Orders.{rows_at};
 ghost use Rattle.hx_model.specs.Slots.{object_of};
 
+use crate::copying::copy_row;
 use hx_slot::Slot;
-use hx_types::{Exact, Memory, Row, Rows};
+use hx_types::{Memory, Rows};
 use std::alloc::Global;
 
 /// Copies of the committed objects of the slots at these places, one after another.
@@ -33,13 +34,8 @@ fn add_row_at(alloc: Global, slots: &[Slot], place: u32, rows: &mut Rows) -> Res
 fn add_row(alloc: Global, slot: &Slot, rows: &mut Rows) -> Result<(), Memory>
     ensures { OnOk result (rows.new ≡ rows.old ++ list_of (object_of slot.now.region slot.now.state)) }
 {
-    let Some(row) = slot.row() else {
-        return Ok(());
-    };
-    rows.push(Row {
-        key: row.key.copy(alloc)?,
-        version: row.version,
-        object: row.object.copy(alloc)?,
-    })?;
+    if let Some(row) = copy_row(alloc, slot)? {
+        rows.push(row)?;
+    }
     Ok(())
 }

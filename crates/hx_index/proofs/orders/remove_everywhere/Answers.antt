@@ -7,14 +7,14 @@ use Rattle.hx_index.proofs.orders.remove_everywhere.Goals as goal
 pub loop-attribute-init : goal.loop-attribute-init
 loop-attribute-init c = begun (IsRemoved (rows_at c.args.slots.now) c.args.id) c.args.orders.now.items
 
-pub remove_number-requires-clause-order : goal.remove_number-requires-clause-order
-remove_number-requires-clause-order c =
+pub remove_number-requires : goal.remove_number-requires
+remove_number-requires c =
     let count = c.loop-attribute.invariant.count in
     let len = c.len-attribute-end.ensures in
     let ok = c.args.orders.now.ok.0 in
     let test = c.loop-attribute-test.true in
     let within : c.loop-attribute.attribute < length c.loop-attribute.orders.items = omega (arith, count, len, ok, test) in
-    c.requires.orders c.loop-attribute.attribute c.index_mut.result.now (next-is (IsRemoved (rows_at c.args.slots.now) c.args.id) c.args.orders.now.items c.loop-attribute.orders.items c.loop-attribute.attribute c.loop-attribute.invariant c.index_mut.result.now within c.index_mut.ensures.value)
+    record { order = c.requires.orders c.loop-attribute.attribute c.index_mut.result.now (next-is (IsRemoved (rows_at c.args.slots.now) c.args.id) c.args.orders.now.items c.loop-attribute.orders.items c.loop-attribute.attribute c.loop-attribute.invariant c.index_mut.result.now within c.index_mut.ensures.value) }
 
 pub loop-attribute-preserved : goal.loop-attribute-preserved
 loop-attribute-preserved c =

@@ -1,7 +1,7 @@
-use Rattle.std.proofs.Common.{◌≡◌, List, arith, ap, refl, subst, sym, ◌∙◌}
+use Rattle.std.proofs.Common.{◌≡◌, List, arith, refl, subst, sym, ◌∙◌}
 use Rattle.hx_model.specs.Slots.{ack_answer, object_of}
 use Rattle.hx_slot.specs.States.{SlotState, committed_count}
-use Rattle.hx_store.specs.Slots.{IsKeptBut}
+use Rattle.hx_store.specs.Slots.{IsKeptAs}
 use Rattle.hx_store.proofs.Indexed.{at-item, but-set, same-item, same-set}
 use Rattle.hx_store.proofs.Objects.{acknowledged-object}
 use Rattle.hx_store.proofs.following.acknowledge.Goals as goal
@@ -23,13 +23,10 @@ returns-then-would_commit-eq0-clause-stepped c = record {
   spare = (let l = c.ack.ensures.spare in omega (arith, l));
 }
 
-pub put_in-requires-clause-kept : goal.put_in-requires-clause-kept
-put_in-requires-clause-kept c =
-    subst (λ (xs : List SlotState). IsKeptBut c.args.place xs c.take_out.new.index) (sym c.as_slice-2.ensures.value)
-    (
-    but-set c.args.slots.now.items c.args.place c.index_mut-2.result.now (at-item c.args.slots.now.items c.args.place c.index_mut-2.result.now c.requires.place c.index_mut-2.ensures.value) c.ack-2.new.self c.take_out.new.index
-    (subst (λ (xs : List SlotState). IsKeptBut c.args.place xs c.take_out.new.index) c.as_slice.ensures.value c.take_out.ensures.kept)
-    )
+pub follow-requires-clause-kept : goal.follow-requires-clause-kept
+follow-requires-clause-kept c =
+    subst (λ (xs : List SlotState). IsKeptAs c.prepare-before.result c.args.place xs c.prepare-before.new.index) (sym c.as_slice.ensures.value)
+    (but-set c.args.slots.now.items c.args.place c.index_mut-2.result.now (at-item c.args.slots.now.items c.args.place c.index_mut-2.result.now c.requires.place c.index_mut-2.ensures.value) c.ack-2.new.self c.prepare-before.result c.prepare-before.new.index c.prepare-before.ensures.kept)
 
 pub returns-clause-stepped : goal.returns-clause-stepped
 returns-clause-stepped c = record {

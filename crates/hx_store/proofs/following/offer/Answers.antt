@@ -1,7 +1,7 @@
-use Rattle.std.proofs.Common.{◌≡◌, ◌<◌, ◌≤◌, List, false, length, nat_lt, arith, ap, refl, subst, sym, ◌∙◌}
+use Rattle.std.proofs.Common.{◌≡◌, ◌<◌, ◌≤◌, List, false, length, nat_lt, arith, refl, subst, sym, ◌∙◌}
 use Rattle.hx_model.specs.Slots.{object_of, top_of}
 use Rattle.hx_slot.specs.States.{SlotState}
-use Rattle.hx_store.specs.Slots.{IsKeptBut}
+use Rattle.hx_store.specs.Slots.{IsKeptAs}
 use Rattle.hx_store.specs.Stores.{CanBeOffered}
 use Rattle.hx_store.proofs.Indexed.{at-item, but-set, same-item, same-set, some-at, some-within, within-set}
 use Rattle.hx_store.proofs.Objects.{offered-object}
@@ -24,13 +24,10 @@ returns-then-not-holds_early-clause-stepped c = record {
   spare = (let l = c.offer.ensures.spare in omega (arith, l));
 }
 
-pub put_in-requires-clause-kept : goal.put_in-requires-clause-kept
-put_in-requires-clause-kept c =
-    subst (λ (xs : List SlotState). IsKeptBut c.args.place xs c.take_out.new.index) (sym c.as_slice-2.ensures.value)
-    (
-    but-set c.args.slots.now.items c.args.place c.index_mut-2.result.now (at-item c.args.slots.now.items c.args.place c.index_mut-2.result.now (some-within (λ (s : SlotState). 0 < s.spare) c.args.slots.now.items c.args.place c.requires.room) c.index_mut-2.ensures.value) c.offer-2.new.self c.take_out.new.index
-    (subst (λ (xs : List SlotState). IsKeptBut c.args.place xs c.take_out.new.index) c.as_slice.ensures.value c.take_out.ensures.kept)
-    )
+pub follow-requires-clause-kept : goal.follow-requires-clause-kept
+follow-requires-clause-kept c =
+    subst (λ (xs : List SlotState). IsKeptAs c.prepare-before.result c.args.place xs c.prepare-before.new.index) (sym c.as_slice.ensures.value)
+    (but-set c.args.slots.now.items c.args.place c.index_mut-2.result.now (at-item c.args.slots.now.items c.args.place c.index_mut-2.result.now (some-within (λ (s : SlotState). 0 < s.spare) c.args.slots.now.items c.args.place c.requires.room) c.index_mut-2.ensures.value) c.offer-2.new.self c.prepare-before.result c.prepare-before.new.index c.prepare-before.ensures.kept)
 
 pub returns-clause-stepped : goal.returns-clause-stepped
 returns-clause-stepped c = record {
@@ -42,9 +39,6 @@ returns-clause-stepped c = record {
   region = c.offer-2.ensures.region;
   spare = (let l = c.offer-2.ensures.spare in omega (arith, l));
 }
-
-pub take_out-requires-clause-place : goal.take_out-requires-clause-place
-take_out-requires-clause-place c = subst (λ (xs : List SlotState). c.args.place < length xs) (sym c.as_slice.ensures.value) (some-within (λ (s : SlotState). 0 < s.spare) c.args.slots.now.items c.args.place c.requires.room)
 
 pub index_mut-requires-2 : goal.index_mut-requires-2
 index_mut-requires-2 c = let l = (some-within (λ (s : SlotState). 0 < s.spare) c.args.slots.now.items c.args.place c.requires.room) in let ok = c.args.slots.now.ok.0 in omega (arith, l, ok)
@@ -62,5 +56,5 @@ offer-requires-2-clause-placed c =
     let is = can.place_is in
     omega (arith, placed, is)
 
-pub put_in-requires-clause-place : goal.put_in-requires-clause-place
-put_in-requires-clause-place c = subst (λ (xs : List SlotState). c.args.place < length xs) (sym c.as_slice-2.ensures.value) (within-set c.args.slots.now.items c.args.place c.offer-2.new.self (some-within (λ (s : SlotState). 0 < s.spare) c.args.slots.now.items c.args.place c.requires.room))
+pub follow-requires-clause-place : goal.follow-requires-clause-place
+follow-requires-clause-place c = subst (λ (xs : List SlotState). c.args.place < length xs) (sym c.as_slice.ensures.value) (within-set c.args.slots.now.items c.args.place c.offer-2.new.self (some-within (λ (s : SlotState). 0 < s.spare) c.args.slots.now.items c.args.place c.requires.room))

@@ -1,7 +1,7 @@
-use Rattle.std.proofs.Common.{◌≡◌, List, false, length, nat_lt, arith, ap, refl, subst, sym, ◌∙◌}
+use Rattle.std.proofs.Common.{◌≡◌, List, false, length, nat_lt, arith, refl, subst, sym, ◌∙◌}
 use Rattle.hx_model.specs.Slots.{object_of, settled}
 use Rattle.hx_slot.specs.States.{SlotState}
-use Rattle.hx_store.specs.Slots.{IsKeptBut}
+use Rattle.hx_store.specs.Slots.{IsKeptAs}
 use Rattle.hx_store.proofs.Indexed.{at-item, but-set, same-item, same-set}
 use Rattle.hx_store.proofs.Objects.{settled-object}
 use Rattle.hx_store.proofs.following.settle.Goals as goal
@@ -23,13 +23,10 @@ returns-then-not-can_settle-clause-stepped c = record {
   spare = (let l = c.settle.ensures.spare in omega (arith, l));
 }
 
-pub put_in-requires-clause-kept : goal.put_in-requires-clause-kept
-put_in-requires-clause-kept c =
-    subst (λ (xs : List SlotState). IsKeptBut c.args.place xs c.take_out.new.index) (sym c.as_slice-2.ensures.value)
-    (
-    but-set c.args.slots.now.items c.args.place c.index_mut-2.result.now (at-item c.args.slots.now.items c.args.place c.index_mut-2.result.now c.requires.place c.index_mut-2.ensures.value) c.settle-2.new.self c.take_out.new.index
-    (subst (λ (xs : List SlotState). IsKeptBut c.args.place xs c.take_out.new.index) c.as_slice.ensures.value c.take_out.ensures.kept)
-    )
+pub follow-requires-clause-kept : goal.follow-requires-clause-kept
+follow-requires-clause-kept c =
+    subst (λ (xs : List SlotState). IsKeptAs c.prepare-before.result c.args.place xs c.prepare-before.new.index) (sym c.as_slice.ensures.value)
+    (but-set c.args.slots.now.items c.args.place c.index_mut-2.result.now (at-item c.args.slots.now.items c.args.place c.index_mut-2.result.now c.requires.place c.index_mut-2.ensures.value) c.settle-2.new.self c.prepare-before.result c.prepare-before.new.index c.prepare-before.ensures.kept)
 
 pub returns-clause-stepped : goal.returns-clause-stepped
 returns-clause-stepped c = record {

@@ -1,4 +1,4 @@
-use Rattle.std.proofs.Common.{ap, sym, ◌∙◌, is_some}
+use Rattle.std.proofs.Common.{sym, ◌∙◌}
 use Rattle.hx_store.proofs.Indexed.{at-item, out-none, seen-is}
 use Rattle.hx_store.proofs.following.take_out.Goals as goal
 
