@@ -4,7 +4,7 @@ use Rattle.hx_model.specs.Slots.{object_of}
 use Rattle.hx_index.specs.Looks.{ViewState}
 use Rattle.hx_index.specs.Orders.{IsIndexOf, no_rows, rows_at}
 use Rattle.hx_index.proofs.Pairs.{first-changes, first-comes, same-orders, second-comes, without-length}
-use Rattle.hx_index.proofs.tests.an_object_goes_to_its_new_place.Goals as goal
+use Rattle.hx_actor_tests.proofs.index.an_object_goes_to_its_new_place.Goals as goal
 
 pub add-requires-clause-others : goal.add-requires-clause-others
 add-requires-clause-others g c =
