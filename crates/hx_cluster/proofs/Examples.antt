@@ -7,7 +7,7 @@ use Rattle.hx_types.specs.declared.spaces.Attribute.{Attribute}
 use Rattle.hx_types.specs.declared.traces.Script.{Script}
 use Rattle.hx_types.specs.Fitting.{IsScript}
 use Rattle.hx_types.specs.Spaces.{Fits, IsKind, IsName, IsSpace, IsSubspaceOf, is_word}
-use Rattle.hx_cluster.specs.Clusters.{actors_of}
+use Rattle.hx_cluster.specs.Everyone.{actors_of}
 use Rattle.hx_cluster.specs.Examples.{two_servers}
 
 abbrev head_of : List ℕ → ℕ

@@ -1,6 +1,6 @@
 ghost use Rattle.std.specs.Prelude.{◌≡◌, IfOk, length};
 ghost use Rattle.hx_types.specs.Fitting.{IsScript};
-ghost use Rattle.hx_cluster.specs.Clusters.{actors_of};
+ghost use Rattle.hx_cluster.specs.Everyone.{actors_of};
 ghost use Rattle.hx_cluster.specs.Examples.{two_servers};
 
 use super::*;

@@ -2,8 +2,14 @@ use Rattle.std.proofs.Common.{◌≡◌, ◌≤◌, length, arith, map, None}
 use Rattle.std.specs.List.{AllByRecursion}
 use Rattle.hx_driver.specs.declared.crews.Crew.{Crew}
 use Rattle.hx_law_drivers.specs.Rests.{IsRested}
-use Rattle.hx_run.proofs.Zipped.{each-all-map, each-flat}
+use Rattle.hx_run.specs.Rounds.{HaveMachines}
+use Rattle.hx_run.proofs.Zipped.{each-all-map, each-flat, each-index}
 use Rattle.hx_run.proofs.resting.at_rest.Goals as goal
+
+pub is_crew_rested-requires : goal.is_crew_rested-requires
+is_crew_rested-requires g c = record {
+  machines = each-index (λ d. d.crew) (HaveMachines c.args.script.now) c.args.drivers.now c.loop-at.at c.index-drivers-at.result c.requires.machines c.loop-at-test.true;
+}
 
 pub returns : goal.returns
 returns g c e =
