@@ -4,3 +4,7 @@ pub mod Making
 pub mod Judging
 pub mod Wearing
 mod Saying
+pub mod Handing
+pub mod Deciding
+pub mod Tuning
+pub mod Wording

@@ -1,10 +1,9 @@
 -- What the program tells of a call, whichever words it has.
-use Rattle.std.specs.Prelude.{◌≡◌, ◌⊎◌, ◌↔◌, ℕ, List, []}
+use Rattle.std.specs.Prelude.{◌≡◌, ◌⊎◌, List}
 use Rattle.std.specs.declared.string.String.{String}
 use Rattle.std.specs.declared.alloc.Global.{Global}
 use Rattle.hx_io.specs.Causes.{Rose}
 use Rattle.hx_types.specs.declared.ids.Actor.{Actor}
-use Rattle.hx_types.specs.declared.traces.Entry.{Entry}
 use Rattle.hx_types.specs.declared.traces.Script.{Script}
 use Rattle.hx_words.specs.declared.commands.Run.{Run}
 use Rattle.hx_words.specs.declared.commands.Soak.{Soak}
@@ -40,8 +39,8 @@ Answers words source sink h = AnswersAlone words source sink h ⊎ (AnswersRun w
 pub record Told (words : List (String Global)) (source : Drawn) (sink : Filled) (outcome : Outcome) : Type 0 where
   pub h : Handed
   pub alone : IsUnthreaded words → (outcome ≡ an_outcome.Memory) ⊎ Ends words source sink outcome h.trace
-  pub run : (command : Run) → SaysRun words command → (outcome ≡ an_outcome.Memory) ⊎ ((script : Script) × EndsRun command script source sink h outcome)
-  pub decided : (command : Run) → SaysRun words command → (outcome ≡ an_outcome.Memory) ⊎ IsDecided source sink outcome
-  pub soak : (command : Soak) → SaysSoak words command → (outcome ≡ an_outcome.Memory) ⊎ EndsSoak command sink h outcome
+  pub run : (command : Run) → SaysRun words command → (script : Script) × EndsRun command script source sink h outcome
+  pub decided : (command : Run) → SaysRun words command → IsDecided source sink outcome
+  pub soak : (command : Soak) → SaysSoak words command → EndsSoak command sink h outcome
   pub soaked : (command : Soak) → SaysSoak words command → ¬ Rose sink.faults_before sink.faults_after
       → (outcome ≡ an_outcome.Fine) ⊎ (outcome ≡ an_outcome.Memory) ⊎ ((a : Actor) × (outcome ≡ an_outcome.Worn a))

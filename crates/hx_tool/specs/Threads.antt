@@ -1,5 +1,5 @@
 -- What the program makes of a script on threads, and how a call with the words of `run` or of `soak` ends.
-use Rattle.std.specs.Prelude.{◌≡◌, ◌⊎◌, ◌≤◌, ℕ, List, [], reverse, length, Option, None, Some, Ok, Err, Result, IfSome, ⊤}
+use Rattle.std.specs.Prelude.{◌≡◌, ◌⊎◌, ◌+◌, ◌≤◌, ℕ, List, [], reverse, length, Option, None, Some, Ok, Err, Result, IfSome}
 use Rattle.std.specs.declared.string.String.{String}
 use Rattle.std.specs.declared.alloc.Global.{Global}
 use Rattle.std.specs.Io.KnownBytes.{Appends}
@@ -29,14 +29,15 @@ use Rattle.hx_tool.specs.declared.words.Command.TheVariants as a_command
 use Rattle.hx_tool.specs.Calling.{Drawn, Filled}
 use Rattle.hx_tool.specs.Causes.{IsFaulty, IsJudged, IsRefused, IsSearchWell, IsTaken, ReadsText, limit}
 
--- what a call hands back beside its outcome
+-- what a call hands back beside its outcome; of the fates, how many
 pub record Handed : Type 0 where
   pub trace : List Entry
   pub totals : List Totals
   pub ports : List Ported
+  pub fates : ℕ
 
 abbrev pub nothing : Handed
-nothing = record { trace = []; totals = []; ports = [] }
+nothing = record { trace = []; totals = []; ports = []; fates = 0 }
 
 -- each key's history is linear, each finished search whole and true, and every answer has its cause
 pub record IsLawful (script : Script) (trace : List Entry) : Type 0 where
@@ -44,10 +45,11 @@ pub record IsLawful (script : Script) (trace : List Entry) : Type 0 where
   pub searches : (c : Caller) (s : FinishedSearch) → search_of script (reverse trace) c ≡ Some s → IsSearchWell script (reverse trace) s
   pub causes : HasCauses script (reverse trace)
 
--- so many threads ran the script, to its end or until this actor was worn
+-- so many threads ran the script, to its end or until this actor was worn, and each has its fate
 pub record IsThreaded (script : Script) (workers : ℕ) (h : Handed) (worn : Option Actor) : Type 0 where
   pub ran : IsRan script workers h.trace h.totals h.ports worn
   pub lawful : IsLawful script h.trace
+  pub fates : h.fates ≡ workers
 
 -- the report tells of the run and of what each driver posted
 pub record IsReported (run : Run) (script : Script) (h : Handed) (bytes : List ℕ) : Type 0 where

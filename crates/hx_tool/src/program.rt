@@ -16,7 +16,7 @@ use crate::finished::Finished;
 use crate::outcomes::{Done, Outcome, fault_text, status};
 use crate::top::hyperstore;
 use crate::words::{Question, question_of};
-use hx_desk::{Gate, Open};
+use hx_desk::Open;
 use hx_fate::{EveryNth, Fate};
 use hx_io::{Sink, Source, write_all};
 use hx_types::Memory;

@@ -1,7 +1,7 @@
-ghost use Rattle.std.specs.Prelude.{◌≡◌, ◌≤◌, ℕ, List, IfOk, IfErr, IfSome, length, Ok, Some};
+ghost use Rattle.std.specs.Prelude.{◌≡◌, ◌≤◌, IfOk, IfErr, IfSome, Ok};
 ghost use Rattle.hx_script.specs.Texts.{script_of};
 ghost use Rattle.hx_types.specs.Fitting.{IsScript};
-ghost use Rattle.hx_tool.specs.Causes.{IsCause, IsJudged, IsTextCause, limit};
+ghost use Rattle.hx_tool.specs.Causes.{IsCause, IsTextCause};
 ghost use Rattle.hx_tool.specs.Threads.{IsReadAs, ReadsScript};
 ghost use Rattle.hx_tool.specs.declared.words.Command.TheVariants as a_command;
 

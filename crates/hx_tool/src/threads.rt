@@ -1,7 +1,7 @@
-ghost use Rattle.std.specs.Prelude.{ℕ, ◌≡◌, ◌≤◌, [], length, slice_get, IfOk, None, Some};
+ghost use Rattle.std.specs.Prelude.{ℕ, ◌≡◌, ◌≤◌, ◌<◌, length, slice_get, IfOk, Some};
 ghost use Rattle.hx_types.specs.declared.totals.Totals.{Totals as TotalsSeen};
 ghost use Rattle.hx_types.specs.Fitting.{IsScript};
-ghost use Rattle.hx_run.specs.Ran.{HasRisen, IsRan};
+ghost use Rattle.hx_run.specs.Ran.{HasRisen};
 ghost use Rattle.hx_tool.specs.Threads.{IsThreaded};
 
 use hx_desk::Gate;
@@ -24,13 +24,22 @@ pub struct Threading {
     pub repeat: u32,
 }
 
-/// Tunes the fate at a place, where there is one. No count changes.
+/// Tunes a fate. No count changes.
+fn tune(fate: &mut Box<dyn Fate + Send>, lose: u32, repeat: u32)
+    ensures chosen { choices fate.new ≡ choices fate.old }
+    ensures lost { losses fate.new ≡ losses fate.old }
+    ensures doubled { repeats fate.new ≡ repeats fate.old }
+{
+    fate.tune(lose, repeat);
+}
+
+/// Tunes the fate at a place. No count changes.
 fn tune_at(fates: &mut Vec<Box<dyn Fate + Send>>, at: usize, lose: u32, repeat: u32)
     requires { at < length fates.old.items }
     ensures count { length fates.new.items ≡ length fates.old.items }
     ensures same { (i : ℕ) (f : _) (g : _) → slice_get fates.old.items i ≡ Some f → slice_get fates.new.items i ≡ Some g → (choices g ≡ choices f) × (losses g ≡ losses f) × (repeats g ≡ repeats f) }
 {
-    fates[at].tune(lose, repeat);
+    tune(&mut fates[at], lose, repeat);
 }
 
 /// Tunes the first fates. No count changes.
@@ -55,8 +64,7 @@ pub fn run_threads<R: Threads + Wait + Sync, G: Gate + Sync>(
 ) -> Result<Ran, Memory>
     requires script { IsScript script.now }
     requires workers { (1 ≤ threading.workers) × (threading.workers ≤ 16) × (threading.workers ≤ length fates.items) }
-    ensures ran { IfOk result (λ ran. IsThreaded script.now threading.workers (record { trace = ran.trace; totals = ran.totals.items; ports = ran.ports.items }) ran.worn) }
-    ensures fates { IfOk result (λ ran. length ran.fates.items ≡ threading.workers) }
+    ensures ran { IfOk result (λ ran. IsThreaded script.now threading.workers (record { trace = ran.trace; totals = ran.totals.items; ports = ran.ports.items; fates = length ran.fates.items }) ran.worn) }
     ensures risen { IfOk result (λ ran. (i : ℕ) (f : _) (g : _) (t : TotalsSeen) → slice_get fates.items i ≡ Some f → slice_get ran.fates.items i ≡ Some g → slice_get ran.totals.items i ≡ Some t → HasRisen script.now threading.workers ran.trace i t (record { chosen = choices f; lost = losses f; doubled = repeats f }) (record { chosen = choices g; lost = losses g; doubled = repeats g })) }
 {
     hx_law_searches::histories_are_linear();
@@ -69,5 +77,6 @@ pub fn run_threads<R: Threads + Wait + Sync, G: Gate + Sync>(
         threading.lose,
         threading.repeat,
     );
-    run(rt, alloc, script, threading.workers, CAPACITY, fates, gate)
+    let ran = run(rt, alloc, script, threading.workers, CAPACITY, fates, gate)?;
+    Ok(ran)
 }

@@ -1,14 +1,13 @@
-ghost use Rattle.std.specs.Prelude.{◌≡◌, ℕ, List, []};
+ghost use Rattle.std.specs.Prelude.{◌≡◌, ◌≤◌};
 ghost use Rattle.hx_tool.specs.Outcomes.{status_of};
-ghost use Rattle.hx_tool.specs.Threads.{Handed, IsWritten};
+ghost use Rattle.hx_tool.specs.Threads.{IsWritten};
 ghost use Rattle.hx_tool.specs.declared.outcomes.Outcome.TheVariants as an_outcome;
 
-use crate::finished::{Finished, ended};
+use crate::finished::Finished;
 use crate::outcomes::{Done, Outcome, status};
 use hx_io::{Sink, write_all};
 use hx_run::Ran;
-use hx_types::{Actor, Memory};
-use std::alloc::Global;
+use hx_types::Actor;
 
 /// What a run hands back, with this outcome.
 fn handed(ran: Ran, outcome: Outcome) -> Finished
