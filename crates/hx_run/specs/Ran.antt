@@ -108,7 +108,7 @@ ArePortsOfActors script trace ports = Both (IsPortOfActor trace) (actors_of scri
 
 -- ---- all of it
 
--- where no actor was worn, every call ended, and the trace is paced to its end; a worn actor made all the entries that it may make, and had one more to make
+-- where no actor was worn, every call ended, and the trace is paced to its end; a worn actor made all the entries that it may make
 abbrev pub HasEnd : Script → List Entry → List Totals → Option Actor → Type 0
 HasEnd script trace totals None =
     HaveCallsEnded script trace × IsPacedToEnd script (reverse trace) (lost_in totals) (doubled_in totals)

@@ -100,6 +100,18 @@ fn every_call_is_answered_though_posts_are_lost(rt: HostRuntime) -> Result<(), F
     Ok(())
 }
 
+/// The numbers of the words reach the fates.
+#[test]
+fn one_in_so_many_posts_is_lost_or_repeated(rt: HostRuntime) -> Result<(), Fail> {
+    let lost = written(&rt, "run --workers 1 --lose 7", LIBRARY)?;
+    assert!(rt; lost.is_some_and(|report| !holds(report.as_slice(), " lose 0 ")));
+    let repeated = written(&rt, "run --workers 1 --repeat 2", LIBRARY)?;
+    assert!(rt; repeated.is_some_and(|report| !holds(report.as_slice(), " twice 0")));
+    let whole = written(&rt, "run --workers 1", LIBRARY)?;
+    assert!(rt; whole.is_some_and(|report| holds(report.as_slice(), " lose 0 twice 0")));
+    Ok(())
+}
+
 /// Loses every other post by SplitMix64, drawn anew at each choice.
 #[derive(Drop)]
 struct Coin {
