@@ -1,5 +1,7 @@
 //! The commands on threads: every call is answered and every history legal, whatever is lost; soaks say
 //! the same on any number of threads; and drivers overlap.
+ghost use Rattle.std.specs.Prelude.{◌≤◌};
+
 use crate::finished::Finished;
 use crate::outcomes::Outcome;
 use crate::tests::words;
@@ -203,6 +205,8 @@ fn boxes_of_one_place_lose_nothing(rt: HostRuntime) -> Result<(), Fail> {
 /// Holds each server's first entry until the other thread has come so far.
 #[derive(Drop)]
 struct Hold {
+    /// How often a thread looks before it gives up.
+    patience: u64,
     first_reached: AtomicU64,
     second_went: AtomicU64,
     seen: AtomicU64,
@@ -210,8 +214,9 @@ struct Hold {
 }
 
 impl Hold {
-    fn new() -> Hold {
+    fn new(patience: u64) -> Hold {
         Hold {
+            patience,
             first_reached: AtomicU64::new(0),
             second_went: AtomicU64::new(0),
             seen: AtomicU64::new(0),
@@ -221,7 +226,7 @@ impl Hold {
 
     /// Waits until the word has at least this value, or notes that it gave up.
     fn until(&self, word: &AtomicU64, value: u64) {
-        for _turn in 0..200_000_000u64 {
+        for _turn in 0..self.patience {
             if word.load(Ordering::SeqCst) >= value {
                 return;
             }
@@ -262,17 +267,34 @@ impl Gate for Hold {
     }
 }
 
-#[test]
-fn drivers_overlap(rt: HostRuntime) -> Result<(), Fail> {
+/// Runs the script on so many threads, which are held: whether all went well, and how often one gave up.
+fn held<R: AllocGlobal + Threads + Wait + Sync>(
+    rt: &R,
+    workers: u32,
+    patience: u64,
+) -> Result<(bool, u64), Fail>
+    requires { (1 ≤ workers) × (workers ≤ 2) }
+{
     let alloc = rt.alloc();
     let script = hx_script::read(alloc, APART.as_bytes())?;
     hx_script::scripts_are_valid();
     let mut fates: Vec<Box<dyn Fate + Send>> = Vec::new(alloc);
     fates.push(Box::new(alloc, EveryNth::new())?)?;
     fates.push(Box::new(alloc, EveryNth::new())?)?;
-    let hold = Hold::new();
-    let ran = run(&rt, alloc, &script, 2, 1024, fates, &hold)?;
-    assert!(rt; ran.worn.is_none());
-    assert_eq!(rt; hold.gave_up.load(Ordering::SeqCst), 0);
+    let hold = Hold::new(patience);
+    let ran = run(rt, alloc, &script, workers, 1024, fates, &hold)?;
+    Ok((ran.worn.is_none(), hold.gave_up.load(Ordering::SeqCst)))
+}
+
+#[test]
+fn drivers_overlap(rt: HostRuntime) -> Result<(), Fail> {
+    assert_eq!(rt; held(&rt, 2, 4_000_000_000)?, (true, 0));
+    Ok(())
+}
+
+#[test]
+fn one_thread_waits_in_vain(rt: HostRuntime) -> Result<(), Fail> {
+    let (went_well, gave_up) = held(&rt, 1, 1_000_000)?;
+    assert!(rt; went_well && gave_up > 0);
     Ok(())
 }
