@@ -12,6 +12,11 @@ use hx_mail::Mailbox;
 use hx_types::Script;
 use std::alloc::Global;
 use std::sync::Wait;
+use std::thread;
+
+/// After how many rounds the processor is offered to another thread: a driver that starts late may wait
+/// for it, and the others for what that driver has.
+const ROUNDS_BETWEEN_YIELDS: u32 = 32;
 
 /// One turn of the actor at a place, of a crew that met no fault.
 fn turn_of<R: Wait, G: Gate>(
@@ -104,7 +109,14 @@ fn round<R: Wait, G: Gate>(
     }
 }
 
-/// So many rounds of turns.
+/// Offers the processor to another thread after the first round and each of so many.
+fn yield_at(number: u32) {
+    if number % ROUNDS_BETWEEN_YIELDS == 0 {
+        thread::yield_now();
+    }
+}
+
+/// So many rounds of turns. Now and then the processor is offered to other threads.
 pub fn rounds<R: Wait, G: Gate>(
     rt: &R,
     alloc: Global,
@@ -124,7 +136,8 @@ pub fn rounds<R: Wait, G: Gate>(
     ensures posted { IsPosted crew.old crew.new (record { chosen = choices fate.old; lost = losses fate.old; doubled = repeats fate.old }) (record { chosen = choices fate.new; lost = losses fate.new; doubled = repeats fate.new }) }
     ensures retries { HaveNoRetry crew.old crew.new }
 {
-    for _round in 0..turns {
+    for number in 0..turns {
         round(rt, alloc, script, clock, boxes, gate, crew, fate);
+        yield_at(number);
     }
 }
