@@ -1,16 +1,8 @@
-//! Tests of slots, stores, servers and the coordinator: a module for each crate that they are of.
-//! They need no private part of it, so the proof of that crate isn't made twice.
+//! Tests of slots and of the places and neighbours of their updates: a module for each crate that they
+//! are of.
 #![tactic(auto)]
 
 #[cfg(test)]
 mod chain;
 #[cfg(test)]
-mod coord;
-#[cfg(test)]
-mod index;
-#[cfg(test)]
-mod replica;
-#[cfg(test)]
 mod slot;
-#[cfg(test)]
-mod store;

@@ -16,6 +16,3 @@ mod seating;
 pub use dealing::deal;
 pub use enrolling::enrol_all;
 pub use opening::{BoxPorts, open_boxes};
-
-#[cfg(test)]
-mod tests;

@@ -4,3 +4,4 @@ pub mod Leaving
 pub mod Numbers
 pub mod Tasks
 pub mod Inside
+pub mod Examples

@@ -22,3 +22,6 @@ mod turns;
 
 pub use coordinators::Coordinator;
 pub use plans::Plan;
+
+#[cfg(test)]
+mod tests;

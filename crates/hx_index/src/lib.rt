@@ -19,3 +19,6 @@ mod views;
 pub use indexes::Index;
 pub use looking::{Ids, Look, Side};
 pub use views::View;
+
+#[cfg(test)]
+mod tests;

@@ -4,6 +4,7 @@ pub mod Hearing
 pub mod Servers
 pub mod Inside
 pub mod Plans
+pub mod Examples
 pub mod Ticking
 pub mod Adopting
 pub mod Installing

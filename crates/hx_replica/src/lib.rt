@@ -20,3 +20,6 @@ mod ticking;
 
 pub use plans::Plan;
 pub use servers::Server;
+
+#[cfg(test)]
+mod tests;

@@ -23,3 +23,6 @@ mod stores;
 pub use laws::snapshots_come_back;
 pub use stepping::settle_all;
 pub use stores::Store;
+
+#[cfg(test)]
+mod tests;

@@ -36,8 +36,4 @@ fn main(rt: HostRuntime) -> ExitCode {
 #[cfg(test)]
 mod fault_tables;
 #[cfg(test)]
-mod soak_tests;
-#[cfg(test)]
 mod tests;
-#[cfg(test)]
-mod thread_tests;

@@ -1,2 +1,0 @@
-pub mod OneServer
-pub mod FourServers
