@@ -56,40 +56,32 @@ stale() {
     -not -path '*/out/*' -not -path '*/hx_picture/*' -not -path '*/hx_*tests/*' -print -quit)" ]
 }
 
-# below: the crates that the program depends on, lowest first, a line each
-below() {
-  awk -F: '!/^#/ && NF > 1 { needs[$1] = $2 }
-    function visit(name, parts, count, i) {
-      if (name in seen || !(name in needs)) return
-      seen[name] = 1
-      count = split(needs[name], parts, " ")
-      for (i = 1; i <= count; i++) visit(parts[i])
-      print name
-    }
-    END { visit("hx_tool") }' "$top/crates.txt" | grep -v '^hx_tool$'
+# lanes: how many crates are proved side by side: one a processor, where each has 4 GB of free memory
+lanes() {
+  awk -v most="$(nproc)" '/^MemAvailable:/ { free = int($2 / 4194304) }
+    END { print free < 1 ? 1 : free < most ? free : most }' /proc/meminfo
 }
 
-# prove NAME..: proves the crates, as many side by side as there are processors, and tells of each
+# prove: proves all crates, lowest first, and tells of each when it is done
 prove() {
-  export top log
-  export count=$# started=$SECONDS begun=$(date +%s)
-  printf '%s\n' "$@" | xargs -P "$(nproc)" -I{} bash -c '
-    if ! (cd "$top/crates/{}" && rt lib) >"$log.{}" 2>&1; then
-      cat "$log.{}" >>"$log"; rm -f "$log.{}"; exit 255
-    fi
-    rm -f "$log.{}"
-    printf "." >>"$log.done"
-    spent=$(($(date +%s) - begun))
-    printf "hx: %2d of %d crates proved: %s (%d:%02d)\n" "$(wc -c <"$log.done")" "$count" "{}" $((spent / 60)) $((spent % 60)) >&2'
+  local count done=0 started=$SECONDS line spent
+  count=$(grep -c '^[a-z_0-9][^:]*:' "$top/crates.txt")
+  set -o pipefail
+  (cd "$top" && rt all check --jobs "$(lanes)") 2>&1 | tee -a "$log" | while IFS= read -r line; do
+    case $line in
+      '== '*)
+        done=$((done + 1)) spent=$((SECONDS - started))
+        printf 'hx: %2d of %d crates checked: %s (%d:%02d)\n' "$done" "$count" "${line#== }" $((spent / 60)) $((spent % 60)) >&2
+        ;;
+    esac
+  done
 }
 
 build() {
   printf 'hx: proving the program before it is built; from nothing this takes 10 to 25 minutes.\n' >&2
   printf 'hx: to see an answer in a minute, call it with --unproved as the first word.\n' >&2
-  rm -f "$log" "$log".*
-  if prove $(below) 2>&1 >/dev/null | grep --line-buffered '^hx: ' >&2 \
-    && (cd "$folder" && rt run -- --version </dev/null) >>"$log" 2>&1; then
-    rm -f "$log".*
+  rm -f "$log"
+  if prove && (cd "$folder" && rt run -- --version </dev/null) >>"$log" 2>&1; then
     touch "$program"
     return 0
   fi
@@ -112,6 +104,35 @@ draw() {
   return "$status"
 }
 
+# at_work: tells from the second second on, on standard error, for how long a run has been at work
+at_work() {
+  sleep 2
+  while :; do
+    printf '\rhx: at work, %d s' "$SECONDS" >&2
+    sleep 1
+  done
+}
+
+# watched WORD..: the program, with a line that tells that it is at work until it writes or ends
+watched() {
+  local status first=''
+  errors=$(mktemp) || return 1
+  SECONDS=0
+  at_work &
+  ticker=$!
+  trap 'kill "$ticker" 2>/dev/null; rm -f "$errors"' EXIT
+  "$program" "$@" 2>"$errors" | {
+    IFS= read -r first && first=$first$'\n'
+    kill "$ticker" 2>/dev/null
+    printf '\r\033[K' >&2
+    printf '%s' "$first"
+    cat
+  }
+  status=${PIPESTATUS[0]}
+  cat "$errors" >&2
+  return "$status"
+}
+
 if [ "${1-}" = --unproved ]; then
   shift
   commands "$@" || { printf 'usage: hx replay or run or soak or plan\n' >&2; exit 2; }
@@ -125,4 +146,5 @@ fi
 command -v rt >/dev/null || { printf 'hx: the Rattle toolchain (rt) is not on the path\n' >&2; exit 1; }
 if stale; then build || exit 1; fi
 if [ "$*" = picture ]; then draw; exit; fi
+if [ -t 2 ]; then watched "$@"; exit; fi
 exec "$program" "$@"
