@@ -1,18 +1,42 @@
-//! Faults in every place where one can come: each read and each write of a run that fails, and a script
-//! that ends after each of its lines.
+//! Faults in every place where one can come: each read and each write of a run that fails.
 use crate::alone::hyperstore_alone;
-use crate::outcomes::Outcome;
-use crate::tests::{FIRST, FIRST_REPORT, run, words};
+use crate::outcomes::{Done, Outcome};
 use hx_io::{MemorySink, MemorySource};
-use hx_script::Reason;
 use std::alloc::Global;
 use std::test::Fail;
 
-/// A day of a library, whose first ten lines are its head.
-const LIBRARY: &str =
-    "hx 1\nspace library\nkey title 4\nstring author\nstring shelf\nint year 1450 2049\nsubspace author 4\nsubspace shelf 2, year 4\nservers 5\ntolerate 1\nsession 1\nput \"Odyssee\" author=\"Homer\" shelf=\"Antike\" year=1488\nput \"Die Verwandlung\" author=\"Kafka\" shelf=\"Moderne\" year=1915\nstop 2\nput \"Žert\" author=\"Kundera\" shelf=\"Moderne\" year=1967\nsession 2\nsearch author=\"Kafka\"\ncput \"Die Verwandlung\" if shelf=\"Moderne\" set shelf=\"Ausleihe\"\nsearch shelf=\"Moderne\" year=1900..1999\nadd 5 0\nsession 3\nget \"Die Verwandlung\"\ndel \"Odyssee\"\nsearch\nsteps\ntick u1\ndeliver 1.0\nhalt s3\n";
+/// A put and a get on one server.
+const FIRST: &str =
+    "hx 1\nspace one\nkey k 1\nstring v\nservers 1\ntolerate 0\nsession 1\nput \"a\" v=\"x\"\nget \"a\"\n";
 
-const HEAD_LINES: u64 = 10;
+const FIRST_REPORT: &str =
+    "report 1\nspace one\nkey k 1\nstring v\nservers 1\ntolerate 0\ncall u1.1 begin 1 end 3 put \"a\" v=\"x\" -> done version 1\ncall u1.2 begin 4 end 6 get \"a\" -> found version 1 v=\"x\"\nhistory \"a\"\nitem 1 u1.1 done present v=\"x\"\nitem 1 u1.2 found present v=\"x\"\nepoch 1 servers 1 lost -\nend\n";
+
+/// The words of a line.
+pub fn words(alloc: Global, line: &str) -> Result<Vec<String>, Fail> {
+    let mut words = Vec::new(alloc);
+    for word in line.split_whitespace() {
+        words.push(String::from_str(alloc, word)?)?;
+    }
+    Ok(words)
+}
+
+/// Replays the text of a put and a get.
+fn replay_first(alloc: Global, sink: &mut MemorySink) -> Result<Done, Fail> {
+    let words = words(alloc, "replay")?;
+    let text = FIRST.as_bytes().to_vec(alloc)?;
+    let mut source = MemorySource::new(alloc, text, 7, Vec::new(alloc));
+    Ok(hyperstore_alone(alloc, words.as_slice(), &mut source, sink))
+}
+
+#[test]
+fn a_put_and_a_get_are_reported(rt: HostRuntime) -> Result<(), Fail> {
+    let mut sink = MemorySink::new(rt.alloc(), 4096, 16, Vec::new(rt.alloc()))?;
+    let done = replay_first(rt.alloc(), &mut sink)?;
+    assert!(rt; done.outcome == Outcome::Fine && done.status == 0 && done.trace.len() == 6);
+    assert_eq!(rt; sink.bytes(), FIRST_REPORT.as_bytes());
+    Ok(())
+}
 
 /// Whether a replay whose read of that number fails, a byte at each read, tells a fault of reading and
 /// writes nothing.
@@ -44,7 +68,7 @@ fn fails_to_write(alloc: Global, written: usize) -> Result<bool, Fail> {
         1,
         vec![in alloc; (written as u64).saturating_add(1)]?,
     )?;
-    let done = run(alloc, "replay", FIRST.as_bytes(), &mut sink)?;
+    let done = replay_first(alloc, &mut sink)?;
     let told = done.outcome == Outcome::WriteFault && done.status == 5;
     Ok(told && FIRST_REPORT.as_bytes().get(..written) == Some(sink.bytes()))
 }
@@ -54,39 +78,5 @@ fn each_write_may_fail(rt: HostRuntime) -> Result<(), Fail> {
     for written in 0..FIRST_REPORT.len() {
         assert!(rt; fails_to_write(rt.alloc(), written)?);
     }
-    Ok(())
-}
-
-/// Whether a replay of the first lines of a script, so many of them, ends as it must: without the whole
-/// head the line that is missing is refused.
-fn ends_after(alloc: Global, text: &str, lines: u64) -> Result<bool, Fail> {
-    let mut sink = MemorySink::new(alloc, 4096, 4096, Vec::new(alloc))?;
-    let done = run(alloc, "replay", text.as_bytes(), &mut sink)?;
-    if lines >= HEAD_LINES {
-        return Ok(done.outcome == Outcome::Fine && done.status == 0);
-    }
-    let missing = Outcome::Refused {
-        line: lines + 1,
-        reason: Reason::Order,
-    };
-    Ok(done.outcome == missing && done.status == 3 && sink.bytes().is_empty())
-}
-
-#[test]
-fn a_script_may_end_after_each_line(rt: HostRuntime) -> Result<(), Fail> {
-    let alloc = rt.alloc();
-    let mut text = String::new(alloc);
-    for (lines, line) in LIBRARY.lines().enumerate() {
-        assert!(rt; ends_after(alloc, text.as_str(), lines as u64)?);
-        text.push_str(line)?;
-        text.push('\n')?;
-    }
-    let done = run(
-        alloc,
-        "replay",
-        text.as_bytes(),
-        &mut MemorySink::new(alloc, 4096, 4096, Vec::new(alloc))?,
-    )?;
-    assert!(rt; done.outcome == Outcome::Fine);
     Ok(())
 }

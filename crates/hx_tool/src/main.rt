@@ -35,5 +35,3 @@ fn main(rt: HostRuntime) -> ExitCode {
 
 #[cfg(test)]
 mod fault_tables;
-#[cfg(test)]
-mod tests;

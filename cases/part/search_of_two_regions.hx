@@ -1,0 +1,42 @@
+# The object moves from one region of the search to the other while both are asked.
+hx 1
+space books
+key name 2
+string genre
+int year 1900 2099
+subspace genre 4
+subspace year 2
+servers 4
+tolerate 1
+session 1
+put "a" genre="b" year=1999
+put "a" year=2000
+session 2
+search year=1990..2010
+steps
+tick u1
+deliver 1.0
+deliver 2.0
+deliver 3.0
+deliver 4.0
+deliver 5.0
+deliver 6.0
+deliver 7.0
+deliver 8.0
+deliver 9.0
+deliver 10.0
+deliver 11.0
+deliver 12.0
+tick u1
+deliver 14.0
+deliver 15.0
+deliver 16.0
+deliver 17.0
+deliver 18.0
+deliver 19.0
+deliver 20.0
+deliver 21.0
+deliver 22.0
+tick u2
+deliver 24.0
+deliver 24.1

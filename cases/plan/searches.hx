@@ -1,0 +1,16 @@
+# Which regions each search asks.
+hx 1
+space books
+key name 2
+string genre
+int year 1900 2099
+subspace genre 4
+subspace year 2
+servers 4
+tolerate 1
+session 1
+search year=1990..2010
+search year=2099
+search genre="b"
+search name="b"
+search

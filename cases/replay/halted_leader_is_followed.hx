@@ -1,0 +1,47 @@
+# The leader gives the second put version 2 and halts before any other replica has it; the next
+# leader gives version 2 to another put.
+hx 1
+space books
+key name 2
+string genre
+int year 1900 2099
+subspace genre 4
+subspace year 2
+servers 4
+tolerate 1
+session 1
+put "a" genre="b" year=1999
+put "a" genre="d"
+session 2
+put "a" year=2000
+steps
+tick u1
+deliver 1.0
+deliver 2.0
+deliver 3.0
+deliver 4.0
+deliver 5.0
+deliver 6.0
+deliver 7.0
+deliver 8.0
+deliver 9.0
+deliver 10.0
+deliver 11.0
+deliver 12.0
+tick u1
+deliver 14.0
+halt s1
+tick u2
+deliver 16.0
+deliver 18.0
+deliver 18.1
+deliver 18.2
+deliver 19.0
+deliver 20.0
+deliver 21.0
+deliver 24.0
+deliver 24.1
+deliver 24.2
+deliver 24.4
+deliver 28.0
+deliver 15.0

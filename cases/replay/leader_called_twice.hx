@@ -1,0 +1,16 @@
+# The leader is called twice before it has committed: it waits, and the call ends an entry later.
+hx 1
+space books
+key name 2
+string genre
+int year 1900 2099
+subspace genre 4
+subspace year 2
+servers 4
+tolerate 1
+session 1
+put "a" genre="b" year=1999
+steps
+tick u1
+deliver 1.0
+deliver 1.0

@@ -1,0 +1,10 @@
+# A put and a get on one server.
+hx 1
+space one
+key k 1
+string v
+servers 1
+tolerate 0
+session 1
+put "a" v="x"
+get "a"

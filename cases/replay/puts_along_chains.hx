@@ -1,0 +1,14 @@
+# Each put goes through the key's region and the regions of the object before and after it.
+hx 1
+space books
+key name 2
+string genre
+int year 1900 2099
+subspace genre 4
+subspace year 2
+servers 4
+tolerate 1
+session 1
+put "a" genre="b" year=1999
+get "a"
+put "a" genre="d"
