@@ -4,7 +4,7 @@ ghost use Rattle.std.specs.List.{All, flat_map};
 ghost use Rattle.hx_types.specs.declared.updates.Update.{Update as Updated};
 ghost use Rattle.hx_model.specs.Neighbours.{place_number};
 ghost use Rattle.hx_model.specs.ServerSteps.{passed_on};
-ghost use Rattle.hx_model.specs.Slots.{follows, offered, taken, top_of, turns};
+ghost use Rattle.hx_model.specs.Slots.{follows, offered, pending_of, taken, top_of, turns};
 ghost use Rattle.hx_replica.specs.Made.{IsAccepted, IsComing, IsHere, IsNew, end_of, seen, spot_seen};
 
 use crate::settling::{line_of, tell_settled};
@@ -32,19 +32,59 @@ pub fn accepted(
     requires region { slot.now.region ≡ spot.now.region }
     ensures { IfOk result (λ made. IsAccepted (spot_seen spot.now) slot.now.state update.now made.posts made.ends.items) }
 {
+    if slot.early_count() == 0 && slot.pending_count() == 0 {
+        return accepted_alone(alloc, spot, slot, update);
+    }
     let taken = taken_by(alloc, spot, slot, update)?;
+    let line = line_of(alloc, slot, taken.as_slice())?;
+    take_all(alloc, spot, slot, update, taken.as_slice(), line.as_slice())
+}
+
+/// The same of a slot that holds no other update: no list of updates is made for it.
+fn accepted_alone(
+    alloc: Global,
+    spot: &Spot,
+    slot: &Slot,
+    update: &Shared<Update>,
+) -> Result<Acceptance, Memory>
+    requires coming { IsComing spot.now.region slot.now.state update.now }
+    requires region { slot.now.region ≡ spot.now.region }
+    requires early { slot.now.state.early ≡ [] }
+    requires pending { pending_of slot.now.state ≡ [] }
+    ensures { IfOk result (λ made. IsAccepted (spot_seen spot.now) slot.now.state update.now made.posts made.ends.items) }
+{
+    if is_in_turn(spot, slot, update) {
+        let only = [update];
+        take_all(alloc, spot, slot, update, &only, &only)
+    } else {
+        take_all(alloc, spot, slot, update, &[], &[])
+    }
+}
+
+/// What is posted where a slot takes these updates, behind which stands its line, and the versions
+/// whose chain ends here.
+fn take_all(
+    alloc: Global,
+    spot: &Spot,
+    slot: &Slot,
+    update: &Shared<Update>,
+    updates: &[&Shared<Update>],
+    line: &[&Shared<Update>],
+) -> Result<Acceptance, Memory>
+    requires coming { IsComing spot.now.region slot.now.state update.now }
+    requires region { slot.now.region ≡ spot.now.region }
+    requires taken { seen updates.now ≡ taken (offered spot.now.region slot.now.state update.now) }
+    requires new { All (IsNew spot.now.region slot.now.state.floor) updates.now }
+    requires line { seen line.now ≡ pending_of slot.now.state ++ seen updates.now }
+    requires here { All (IsHere spot.now.region) line.now }
+    ensures { IfOk result (λ made. IsAccepted (spot_seen spot.now) slot.now.state update.now made.posts made.ends.items) }
+{
+    // The contract alone speaks of the update that is offered.
+    let _ = update;
     let mut posts = Posts::new(alloc);
     let mut ends = Vec::new(alloc);
-    pass_on_all(alloc, spot, taken.as_slice(), &mut posts, &mut ends)?;
-    let line = line_of(alloc, slot, taken.as_slice())?;
-    tell_settled(
-        alloc,
-        spot,
-        slot,
-        line.as_slice(),
-        ends.as_slice(),
-        &mut posts,
-    )?;
+    pass_on_all(alloc, spot, updates, &mut posts, &mut ends)?;
+    tell_settled(alloc, spot, slot, line, ends.as_slice(), &mut posts)?;
     Ok(Acceptance { posts, ends })
 }
 
