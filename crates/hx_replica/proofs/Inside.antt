@@ -24,7 +24,7 @@ use Rattle.hx_replica.specs.declared.plans.Change.TheVariants as a_change
 use Rattle.hx_replica.specs.declared.replicas.Replica.{Replica}
 use Rattle.hx_replica.specs.declared.servers.Server.TheInside.{Inside}
 use Rattle.hx_replica.specs.Inside.{IsServer, value_of}
-use Rattle.hx_replica.specs.Made.{ChangeFits, HasRoomFor, IsMade, IsSlotInput, key_in, stepped, slot_step_of}
+use Rattle.hx_replica.specs.Made.{ChangeFits, HasRoomFor, IsMade, IsSlotInput, key_in, room_of, stepped, slot_step_of}
 use Rattle.hx_replica.specs.Plans.{CanStep, HasRoomAt, IsChange, IsChangeOn, IsJoinOn, IsMadeAt}
 use Rattle.hx_replica.specs.Replicas.{AreReplicas, IsReplicaIn, rooms_of, view_of, views_of}
 use Rattle.hx_replica.specs.Servers.{ServerValue}
@@ -150,20 +150,20 @@ change_within i v input number place slot seen h = within i v number seen (slice
 -- its store has room for the change, and the slot can make it
 pub record CanChange (y : Replica) (key : List ℕ) (place : ℕ) (slot : SlotChange) : Type 0 where
   pub key_is : key_at y.store place ≡ key
-  pub room : HasRoomFor (key_at y.store place) 1 place y.store.rooms
+  pub room : HasRoomFor (key_at y.store place) (room_of slot) place y.store.rooms
   pub fits : ChangeFits y.store.region (state_at y.store (key_at y.store place)) (key_at y.store place) slot
 
 pub can_change : (i : Inside) (v : ServerValue) (input : Input) (number place : ℕ) (slot : SlotChange) (y : Replica) → value_of i ≡ v → (is : IsServer i) → (h : IsChangeOn v input number place slot) → y ≡ get_or i.replicas.items number y → CanChange y h.key place slot
 can_change i v input number place slot y seen is h at =
     let l = change_within i v input number place slot seen h in
-    let room = placed_at i v number h.key 1 place y seen l at h.room in
+    let room = placed_at i v number h.key (room_of slot) place y seen l at h.room in
     let holds : IsReplicaIn i.space y = subst (IsReplicaIn i.space) (sym at) (replica_at i.space i.replicas.items number y is.replicas_are.each l) in
     let same : view_of y ≡ h.replica = same_Some (view_of y) h.replica (sym (view_there i v number y seen l at) ∙ h.found) in
     let Fits : ServerValue → ReplicaState → Type 0 = λ x z. ChangeFits z.region (state_in x.space z h.key) h.key slot in
     let fits : Fits (value_of i) (view_of y) = subst (λ (z : ReplicaState). Fits (value_of i) z) (sym same) (subst (λ (x : ServerValue). Fits x h.replica) (sym seen) h.fits) in
     record {
       key_is = room.is.key_is;
-      room = subst (λ (k : List ℕ). HasRoomFor k 1 place y.store.rooms) (sym room.is.key_is) (room_for y.store h.key 1 place room.is room.enough);
+      room = subst (λ (k : List ℕ). HasRoomFor k (room_of slot) place y.store.rooms) (sym room.is.key_is) (room_for y.store h.key (room_of slot) place room.is room.enough);
       fits = subst (λ (k : List ℕ). ChangeFits y.store.region (state_at y.store k) k slot) (sym room.is.key_is)
           (subst (λ (b : Bool). ChangeFits y.store.region (state_among b h.key y.store.states) h.key slot) (sym holds.marks)
           (subst (λ (g : RegionId). ChangeFits g (state_in i.space (view_of y) h.key) h.key slot) (sym holds.region) fits));

@@ -1,5 +1,5 @@
 -- The plan of a delivery is that of the server's step.
-use Rattle.std.proofs.Common.{◌≡◌, ℕ, List, [], Option, None, Some, refl, ap, sym, ◌∙◌, subst}
+use Rattle.std.proofs.Common.{◌≡◌, ◌≤◌, ℕ, List, [], Option, None, Some, IsSomeAnd, arith, refl, ap, sym, ◌∙◌, subst}
 use Rattle.std.specs.List.{slice_get}
 use Rattle.std.specs.Option.{option_map}
 use Rattle.std.proofs.lemmas.Bool.{cond-false}
@@ -18,6 +18,7 @@ use Rattle.hx_types.specs.declared.traces.Input.TheVariants.{Deliver}
 use Rattle.hx_model.specs.Runs.{entry_of}
 use Rattle.hx_model.specs.ServerSteps.{Replica, ServerState, ServerStep, at_slot, message_step, server_step, spot_of, state_in, unmoved, with_slot}
 use Rattle.hx_model.specs.Slots.{KeyState, Move, moved_all}
+use Rattle.hx_store.specs.Stores.{Room}
 use Rattle.hx_folds.specs.Folding.{folded, folded_server}
 use Rattle.hx_folds.proofs.Servers.{found-lean, state-lean, with-slot-lean}
 use Rattle.hx_replica.specs.declared.made.SlotChange.TheVariants.{Open, Accept, Acknowledge}
@@ -26,7 +27,7 @@ use Rattle.hx_replica.specs.declared.made.SlotMade.{SlotMade}
 use Rattle.hx_replica.specs.declared.plans.Plan.{Plan}
 use Rattle.hx_replica.specs.declared.plans.Change.TheVariants as a_change
 use Rattle.hx_replica.specs.Hearing.{IsOfOneSlot, heard}
-use Rattle.hx_replica.specs.Made.{IsMade, key_in, moves_by, slot_step_of, stepped}
+use Rattle.hx_replica.specs.Made.{HasRoomFor, IsMade, key_in, moves_by, room_of, slot_step_of, stepped}
 use Rattle.hx_replica.specs.Plans.{CanStep, HasRoomAt, IsMadeAt, IsPlanOn}
 use Rattle.hx_replica.specs.Servers.{CanTake, ServerValue}
 use Rattle.hx_replica.proofs.Hearing.{message_heard, message_unheard}
@@ -71,11 +72,26 @@ unmoved_planned v id from m plan can one none e =
     let step : server_step v.space v.state (Deliver id from m) ≡ unmoved v.state = running_step v id from m can ∙ message_unheard v.space v.state from m one none in
     subst (IsPlanOn v) (sym e) (record { entry = ap (entry_by v (Deliver id from m)) (sym step); change = ap (λ (s : ServerStep). folded_server s.state) step ∙ can.bare })
 
+-- room for fewer updates
+less_in : (key : List ℕ) (n k place : ℕ) (rooms : List Room) → k ≤ n → HasRoomFor key n place rooms → HasRoomFor key k place rooms
+less_in key n k place rooms l = at (slice_get rooms place)
+  where
+    at : (o : Option Room) → IsSomeAnd o (λ (r : Room). (r.key ≡ key) × (n ≤ r.spare)) → IsSomeAnd o (λ (r : Room). (r.key ≡ key) × (k ≤ r.spare))
+    at None h = absurd h
+    at (Some r) h = (h.0, let enough = h.1 in omega (arith, l, enough))
+
+less_room : (number : ℕ) (key : List ℕ) (n k : ℕ) (v : ServerValue) (place : ℕ) → k ≤ n → HasRoomAt number key n v place → HasRoomAt number key k v place
+less_room number key n k v place l = at (slice_get v.rooms number)
+  where
+    at : (o : Option (List Room)) → IsSomeAnd o (HasRoomFor key n place) → IsSomeAnd o (HasRoomFor key k place)
+    at None h = absurd h
+    at (Some rooms) h = less_in key n k place rooms l h
+
 -- the replica with this number hears it, and its slot makes this
-moved_planned : (v : ServerValue) (id : PostId) (from : Actor) (m : Message) (number place : ℕ) (key : List ℕ) (made : SlotMade) (plan : Plan) → CanTake v.space v.state (Deliver id from m)
-    → IsFound v.state.replicas number (heard v.space v.state m) → IsMadeAt v number from m made → HasRoomAt number key 1 v place → key ≡ key_in m
+moved_planned : (v : ServerValue) (id : PostId) (from : Actor) (m : Message) (number n place : ℕ) (key : List ℕ) (made : SlotMade) (plan : Plan) → CanTake v.space v.state (Deliver id from m)
+    → IsFound v.state.replicas number (heard v.space v.state m) → IsMadeAt v number from m made → room_of made.change ≤ n → HasRoomAt number key n v place → key ≡ key_in m
     → plan ≡ moved_plan v.state.id (Deliver id from m) number place made → IsPlanOn v plan
-moved_planned v id from m number place key made plan can at is room k e =
+moved_planned v id from m number n place key made plan can at is few room k e =
     let r : Replica = at.replica in
     let s : KeyState = state_in v.space r (key_in m) in
     let slot = slot_step_of (spot_of v.space v.state r.region) s from m in
@@ -90,7 +106,7 @@ moved_planned v id from m number place key made plan can at is room k e =
         key = key_in m;
         replica = r;
         found = at.at_place;
-        room = subst (λ (x : List ℕ). HasRoomAt number x 1 v place) k room;
+        room = less_room number (key_in m) n (room_of made.change) v place few (subst (λ (x : List ℕ). HasRoomAt number x n v place) k room);
         fits = so.fits;
         state = ap (λ (t : ServerStep). folded_server t.state) step ∙ ap (λ (moves : List Move). folded_server (with_slot v.state r (moved_all moves s))) (sym so.moves) ∙ (let here = found-lean v.state number r can.bare at.at_place in with-slot-lean v.state r (moved_all (moves_by r.region s made.change) s) (stepped made.change r.region s) can.bare here (stepped_lean made.change r.region s (state-lean v.space r (key_in m) here)));
       };
@@ -115,11 +131,11 @@ module _ (old new : ServerValue) (server : ServerId) (input : Input) (id : PostI
       unmoved_planned new id from m plan still one (sym heard_still ∙ found_nowhere (heard old.space old.state m) none)
       (e ∙ ap (unmoved_plan server) is ∙ ap (λ (s : ServerId). unmoved_plan s (Deliver id from m)) me_still)
 
-  pub move_prepared : (number place : ℕ) (key : List ℕ) (made : SlotMade) (plan : Plan) → Some (slice_get old.state.replicas number) ≡ option_map (λ (r : Replica). Some r) (heard old.space old.state m) → key ≡ key_in m
-      → IsMadeAt new number from m made → HasRoomAt number key 1 new place → plan ≡ moved_plan server input number place made → IsPlanOn new plan
-  move_prepared number place key made plan at k so room e =
-      moved_planned new id from m number place key made plan still
-      (found_there new.state.replicas number (heard new.space new.state m) (ap (λ (x : ServerState). Some (slice_get x.replicas number)) state ∙ at ∙ ap (option_map (λ (r : Replica). Some r)) heard_still)) so room k
+  pub move_prepared : (number n place : ℕ) (key : List ℕ) (made : SlotMade) (plan : Plan) → Some (slice_get old.state.replicas number) ≡ option_map (λ (r : Replica). Some r) (heard old.space old.state m) → key ≡ key_in m
+      → IsMadeAt new number from m made → room_of made.change ≤ n → HasRoomAt number key n new place → plan ≡ moved_plan server input number place made → IsPlanOn new plan
+  move_prepared number n place key made plan at k so few room e =
+      moved_planned new id from m number n place key made plan still
+      (found_there new.state.replicas number (heard new.space new.state m) (ap (λ (x : ServerState). Some (slice_get x.replicas number)) state ∙ at ∙ ap (option_map (λ (r : Replica). Some r)) heard_still)) so few room k
       (e ∙ ap (λ (i : Input). moved_plan server i number place made) is ∙ ap (λ (s : ServerId). moved_plan s (Deliver id from m) number place made) me_still)
 
   -- what can be asked before can be asked now

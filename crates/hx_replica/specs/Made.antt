@@ -59,6 +59,16 @@ stepped Open g s = s
 stepped (Accept u place ends) g s = accepted_at u ends.items g s
 stepped (Acknowledge v) g s = acknowledged_at v.0 g s
 
+-- for how many updates a change needs room
+abbrev pub room_of : SlotChange → ℕ
+room_of (Accept u place ends) = 1
+room_of other = 0
+
+-- for how many updates the step of a message needs room: an acknowledgement brings none
+abbrev pub room_by : Message → ℕ
+room_by (a_message.Ack epoch g key version) = 0
+room_by other = 1
+
 -- the place in a store is the key's, with room for n more updates at its slot
 abbrev pub HasRoomFor : List ℕ → ℕ → ℕ → List Room → Type 0
 HasRoomFor key n place rooms = IsSomeAnd (slice_get rooms place) (λ (r : Room). (r.key ≡ key) × (n ≤ r.spare))

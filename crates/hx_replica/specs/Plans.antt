@@ -14,7 +14,7 @@ use Rattle.hx_replica.specs.declared.made.SlotMade.{SlotMade}
 use Rattle.hx_replica.specs.declared.plans.Change.{Change}
 use Rattle.hx_replica.specs.declared.plans.Change.TheVariants.{Nothing, Seal, Halt, Adopt, Join, Slot}
 use Rattle.hx_replica.specs.declared.plans.Plan.{Plan}
-use Rattle.hx_replica.specs.Made.{ChangeFits, HasRoomFor, IsMade, IsSlotInput, key_in, slot_step_of, stepped}
+use Rattle.hx_replica.specs.Made.{ChangeFits, HasRoomFor, IsMade, IsSlotInput, key_in, room_of, slot_step_of, stepped}
 use Rattle.hx_replica.specs.declared.replicas.Replica.{Replica}
 use Rattle.hx_replica.specs.Adopting.{lean_with_config}
 use Rattle.hx_replica.specs.Replicas.{IsReplicaIn, new_replica, view_of}
@@ -46,7 +46,7 @@ pub record IsChangeOn (s : ServerValue) (input : Input) (number place : ℕ) (ch
   pub key : List ℕ
   pub replica : ReplicaState
   pub found : slice_get s.state.replicas number ≡ Some replica
-  pub room : HasRoomAt number key 1 s place
+  pub room : HasRoomAt number key (room_of change) s place
   pub fits : ChangeFits replica.region (state_in s.space replica key) key change
   pub state : folded_server (server_step s.space s.state input).state ≡ with_slot s.state replica (stepped change replica.region (state_in s.space replica key))
 

@@ -1,7 +1,8 @@
 ghost use Rattle.std.specs.Prelude.{◌≡◌, [], ◌∷◌, IfOk};
+ghost use Rattle.hx_replica.specs.Made.{room_by};
 ghost use Rattle.hx_replica.specs.declared.made.SlotChange.TheVariants.{Open};
 
-use hx_types::{Memory, Notes, Post, Posts, Shared, Update, Version};
+use hx_types::{Memory, Message, Notes, Post, Posts, Shared, Update, Version};
 use std::alloc::Global;
 
 /// How a slot makes its part of a step.
@@ -27,6 +28,16 @@ pub struct SlotMade {
     pub posts: Posts,
     pub notes: Notes,
     pub change: SlotChange,
+}
+
+/// For how many updates a slot needs room where a message comes: an acknowledgement brings none.
+pub fn room_by(message: &Message) -> u32
+    ensures { result ≡ room_by message.now }
+{
+    match message {
+        Message::Ack { .. } => 0,
+        _ => 1,
+    }
 }
 
 /// The slot stays, and these are the posts.

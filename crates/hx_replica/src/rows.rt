@@ -8,7 +8,7 @@ ghost use Rattle.hx_model.specs.Regions.{key_region};
 ghost use Rattle.hx_model.specs.ServerSteps.{ack_step, accepting, by_moves, by_posts, call_step, decided, get_step, known_to, update_step, waiting_doubt, write_step};
 ghost use Rattle.hx_model.specs.Slots.{offered, top_of};
 ghost use Rattle.hx_slot.specs.States.{IsPlacedIn};
-ghost use Rattle.hx_replica.specs.Made.{IsComing, IsLeading, IsMade, IsSlotInput, key_in, session_in, slot_step_of, spot_seen};
+ghost use Rattle.hx_replica.specs.Made.{IsComing, IsLeading, IsMade, IsSlotInput, key_in, room_by, room_of, session_in, slot_step_of, spot_seen};
 
 use crate::accepting::accepted;
 use crate::made::{SlotChange, SlotMade, saying, staying};
@@ -34,7 +34,8 @@ pub fn step_slot(
     requires space { IsSpace spot.now.space.now }
     requires region { slot.now.region ≡ spot.now.region }
     requires input { IsSlotInput spot.now.space.now spot.now.region slot.now.state from message.now }
-    ensures { IfOk result (λ made. IsMade spot.now.region slot.now.state (key_in message.now) (slot_step_of (spot_seen spot.now) slot.now.state from message.now) made) }
+    ensures made { IfOk result (λ made. IsMade spot.now.region slot.now.state (key_in message.now) (slot_step_of (spot_seen spot.now) slot.now.state from message.now) made) }
+    ensures room { IfOk result (λ made. room_of made.change ≤ room_by message.now) }
 {
     match message {
         Message::Call { number, op, .. } => {
@@ -226,7 +227,8 @@ fn accept(
 /// A version is acknowledged, and what can be committed is told of.
 fn settle(alloc: Global, spot: &Spot, slot: &Slot, version: Version) -> Result<SlotMade, Memory>
     requires { slot.now.region ≡ spot.now.region }
-    ensures { IfOk result (λ made. IsMade spot.now.region slot.now.state slot.now.state.base.key (ack_step (spot_seen spot.now) slot.now.state version.0) made) }
+    ensures made { IfOk result (λ made. IsMade spot.now.region slot.now.state slot.now.state.base.key (ack_step (spot_seen spot.now) slot.now.state version.0) made) }
+    ensures room { IfOk result (λ made. room_of made.change ≡ 0) }
 {
     Ok(SlotMade {
         posts: settled(alloc, spot, slot, version)?,

@@ -12,7 +12,7 @@ ghost use Rattle.hx_model.specs.Slots.{new_state};
 ghost use Rattle.hx_replica.specs.Hearing.{IsOfOneSlot, heard, leading};
 ghost use Rattle.hx_replica.specs.Installing.{IsSnapshot};
 ghost use Rattle.hx_replica.specs.Adopting.{lean_with_config};
-ghost use Rattle.hx_replica.specs.Made.{key_in};
+ghost use Rattle.hx_replica.specs.Made.{key_in, room_by, room_of};
 ghost use Rattle.hx_replica.specs.Replicas.{KeepAllRooms, new_replica};
 ghost use Rattle.hx_replica.specs.Sound.{IsSoundInput, IsSoundServer};
 ghost use Rattle.hx_store.specs.Stores.{has_slot};
@@ -22,7 +22,7 @@ ghost use Rattle.hx_replica.specs.Servers.{CanTake, server_entry};
 use crate::adopting::post_adoption;
 use crate::installing::installed;
 use crate::keeping::keep_all;
-use crate::made::SlotMade;
+use crate::made::{SlotMade, room_by};
 use crate::plans::{Change, Plan, moved, said, to_coordinator, unmoved};
 use crate::replicas::{Replica, change_slot, first_replicas, new_replicas, place_of};
 use crate::rows::step_slot;
@@ -409,7 +409,7 @@ impl Server {
         let id = self.id;
         match self.heard(message) {
             Some(heard) => {
-                let place = self.reserve(alloc, &heard)?;
+                let place = self.reserve(alloc, &heard, room_by(message))?;
                 let made = self.step(alloc, &heard, place, from, message)?;
                 moved(alloc, id, input, heard.replica, place, made)
             }
@@ -485,17 +485,17 @@ impl Server {
         place_of(self.replicas.as_slice(), region)
     }
 
-    /// Makes room for an update more at the slot to which a message goes, and gives the place of its
+    /// Makes room for n updates more at the slot to which a message goes, and gives the place of its
     /// key in the replica's store.
-    fn reserve(&mut self, alloc: Global, heard: &Heard) -> Result<usize, Memory>
+    fn reserve(&mut self, alloc: Global, heard: &Heard, n: u32) -> Result<usize, Memory>
         requires { heard.now.replica < length self.old.state.replicas }
-        ensures room { IfOk result (HasRoomAt heard.now.replica heard.now.key.now 1 self.new) }
+        ensures room { IfOk result (HasRoomAt heard.now.replica heard.now.key.now n self.new) }
         ensures rooms { KeepAllRooms self.old.rooms self.new.rooms }
         ensures space { self.new.space ≡ self.old.space }
         ensures state { self.new.state ≡ self.old.state }
     {
         let replica = &mut self.replicas[heard.replica];
-        replica.store.reserve(alloc, heard.key, 1)
+        replica.store.reserve(alloc, heard.key, n)
     }
 
     /// What a message makes of the slot to which it goes.
@@ -508,8 +508,9 @@ impl Server {
         message: &Message,
     ) -> Result<SlotMade, Memory>
         requires can { CanStep self.now.space self.now.state heard.now.replica heard.now.key.now from message.now }
-        requires room { HasRoomAt heard.now.replica heard.now.key.now 1 self.now place }
-        ensures { IfOk result (IsMadeAt self.now heard.now.replica from message.now) }
+        requires room { HasRoomAt heard.now.replica heard.now.key.now (room_by message.now) self.now place }
+        ensures made { IfOk result (IsMadeAt self.now heard.now.replica from message.now) }
+        ensures room { IfOk result (λ made. room_of made.change ≤ room_by message.now) }
     {
         let replica = &self.replicas[heard.replica];
         let spot = Spot {

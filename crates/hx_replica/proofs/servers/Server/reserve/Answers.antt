@@ -17,7 +17,7 @@ invariant_of-self c = record {
 pub returns-clause-room : goal.returns-clause-room
 returns-clause-room c =
     ok_both c.reserve.result _ _ _
-    (λ place is enough. room_there c.self.inside c.args.heard.now.replica c.args.heard.now.key.now 1 place c.index_mut-replica.result.now c.reserve.new.self c.self.invariant (within c.self.inside c.args.self.now c.args.heard.now.replica c.self.view_is c.requires) c.index_mut-replica.ensures.value is enough)
+    (λ place is enough. room_there c.self.inside c.args.heard.now.replica c.args.heard.now.key.now c.args.n place c.index_mut-replica.result.now c.reserve.new.self c.self.invariant (within c.self.inside c.args.self.now c.args.heard.now.replica c.self.view_is c.requires) c.index_mut-replica.ensures.value is enough)
     c.reserve.ensures.place c.reserve.ensures.room
 
 pub returns-clause-state : goal.returns-clause-state
