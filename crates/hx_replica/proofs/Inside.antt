@@ -1,5 +1,5 @@
 -- What contracts see of a server in which one replica's store was put in place of another.
-use Rattle.std.proofs.Common.{◌≡◌, ℕ, Bool, true, false, cond, ◌||◌, ◌∷◌, ◌<◌, ◌≤◌, List, [], length, get_or, set, Option, None, Some, Result, Ok, Err, IfOk, refl, ap, sym, ◌∙◌, subst, arith}
+use Rattle.std.proofs.Common.{◌≡◌, ℕ, Bool, Box, Global, true, false, cond, ◌||◌, ◌∷◌, ◌<◌, ◌≤◌, List, [], length, get_or, set, Option, None, Some, Result, Ok, Err, IfOk, refl, ap, sym, ◌∙◌, subst, arith}
 use Rattle.std.specs.Prelude.{IfNone, IfSome, IsSomeAnd, is_some}
 use Rattle.std.specs.List.{AllByRecursion, slice_get}
 use Rattle.std.specs.Option.{option_map}
@@ -170,7 +170,7 @@ can_change i v input number place slot y seen is h at =
     }
 
 -- a replica that was installed takes the place of the one before
-pub join_of : (v : ServerValue) (input : Input) (change : Change) (number : ℕ) (replica : Replica) → change ≡ a_change.Join number replica → IsChange v input change → IsJoinOn v input number replica
+pub join_of : (v : ServerValue) (input : Input) (change : Change) (number : ℕ) (replica : Box Replica Global) → change ≡ a_change.Join number replica → IsChange v input change → IsJoinOn v input number replica.value
 join_of v input change number replica e h = subst (IsChange v input) e h
 
 module _ (i : Inside) (v : ServerValue) (input : Input) (number : ℕ) (replica : Replica) (seen : value_of i ≡ v) (is : IsServer i) (h : IsJoinOn v input number replica) where

@@ -1,5 +1,5 @@
 -- The plan of a server that gets a snapshot.
-use Rattle.std.proofs.Common.{◌≡◌, ℕ, ◌+◌, ◌≤◌, Bool, true, false, List, [], ◌∷◌, ◌++◌, map, get_or, Option, None, Some, ap, sym, ◌∙◌, subst}
+use Rattle.std.proofs.Common.{◌≡◌, ℕ, ◌+◌, ◌≤◌, Bool, Box, Global, true, false, List, [], ◌∷◌, ◌++◌, map, get_or, Option, None, Some, ap, sym, ◌∙◌, subst}
 use Rattle.std.specs.Prelude.{IsTrue}
 use Rattle.std.specs.List.{AllByRecursion, list_all, slice_get}
 use Rattle.std.specs.Option.{option_map}
@@ -38,7 +38,7 @@ use Rattle.hx_replica.specs.declared.replicas.Replica.{Replica}
 use Rattle.hx_replica.specs.declared.servers.Server.TheInside.{Inside}
 use Rattle.hx_replica.specs.Inside.{value_of}
 use Rattle.hx_replica.specs.Installing.{CanCome, IsSnapshot}
-use Rattle.hx_replica.specs.Plans.{IsDelivery, IsPlanOn}
+use Rattle.hx_replica.specs.Plans.{IsDelivery, IsJoinOn, IsPlanOn}
 use Rattle.hx_replica.specs.Replicas.{view_of}
 use Rattle.hx_replica.specs.Servers.{CanTake, ServerValue}
 use Rattle.hx_replica.specs.Ticking.{standing}
@@ -132,10 +132,10 @@ module _ (v : ServerValue) (input : Input) (epoch : Epoch) (g : RegionId) (snaps
         })
 
     -- it is installed now
-    pub join_planned : (store : StoreState) (before joined posts : List Post) (plan : Plan) → y.installed ≡ false → before ≡ [] → joined ≡ before ++ (installed_slots (spot_of v.space s g) snapshot pending).posts
+    pub join_planned : (store : StoreState) (boxed : Box Replica Global) (before joined posts : List Post) (plan : Plan) → y.installed ≡ false → before ≡ [] → joined ≡ before ++ (installed_slots (spot_of v.space s g) snapshot pending).posts
         → posts ≡ joined ++ ready_post (standing s.config s.id) g → store.region ≡ g → store.marks ≡ is_key_region v.space g → store.states ≡ map (folded g) (installed_slots (spot_of v.space s g) snapshot pending).states
-        → plan ≡ said_plan s.id input posts (a_change.Join number (record { region = g; installed = true; store = store })) → IsPlanOn v plan
-    join_planned store before joined posts plan out none j p region marks states e =
+        → boxed.value ≡ record { region = g; installed = true; store = store } → plan ≡ said_plan s.id input posts (a_change.Join number boxed) → IsPlanOn v plan
+    join_planned store boxed before joined posts plan out none j p region marks states held e =
         let slots = installed_slots (spot_of v.space s g) snapshot pending in
         let new : ReplicaState = record { region = g; installed = true; states = slots.states } in
         let at : RegionId → ServerStep = λ h. let made = installed_slots (spot_of v.space s h) snapshot pending in
@@ -152,7 +152,7 @@ module _ (v : ServerValue) (input : Input) (epoch : Epoch) (g : RegionId) (snaps
           entry = ap (λ (ps : List Post). record { actor = Server s.id; input = input; outputs = ps; notes = [] })
               (p ∙ ap (λ (l : List Post). l ++ ready_post s g) (j ∙ ap (λ (l : List Post). l ++ slots.posts) none))
               ∙ ap (λ (t : ServerStep). record { actor = Server s.id; input = input; outputs = t.posts; notes = t.notes }) (sym step);
-          change = record {
+          change = subst (λ (r : Replica). IsJoinOn v input number r) (sym held) (record {
             before = view_of y;
             found = heard.found;
             region = sym heard.region;
@@ -165,5 +165,5 @@ module _ (v : ServerValue) (input : Input) (epoch : Epoch) (g : RegionId) (snaps
             state = ap (λ (t : ServerStep). folded_server t.state) step
                 ∙ ap (λ (l : List ReplicaState). record s { replicas = l })
                 (with-replica-folded new s.replicas ∙ ap (with_replica (folded_replica new)) (ap (λ (x : ServerState). x.replicas) bare) ∙ ap (λ (r : ReplicaState). with_replica r s.replicas) view);
-          };
+          });
         })

@@ -68,7 +68,7 @@ IsChange s input Nothing = folded_server (server_step s.space s.state input).sta
 IsChange s input Seal = folded_server (server_step s.space s.state input).state ≡ record s.state { sealed = true }
 IsChange s input Halt = folded_server (server_step s.space s.state input).state ≡ record s.state { halted = true }
 IsChange s input (Adopt config replicas) = IsAdoptionOn s input config replicas.items
-IsChange s input (Join number replica) = IsJoinOn s input number replica
+IsChange s input (Join number replica) = IsJoinOn s input number replica.value
 IsChange s input (Slot number place change) = IsChangeOn s input number place change
 
 -- the plan is that of the server's step, and there is room for its change

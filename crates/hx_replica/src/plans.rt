@@ -24,10 +24,11 @@ pub enum Change {
         config: Shared<Config>,
         replicas: Vec<Replica>,
     },
-    /// The replica with this number among the server's becomes this one, which is installed.
+    /// The replica with this number among the server's becomes this one, which is installed. It is
+    /// boxed, so that the plan of every other step is small.
     Join {
         number: usize,
-        replica: Replica,
+        replica: Box<Replica>,
     },
     /// The slot at a place of the replica with this number among the server's makes its part.
     Slot {

@@ -128,7 +128,7 @@ impl Server {
             Change::Seal => self.sealed = true,
             Change::Halt => self.halted = true,
             Change::Adopt { config, replicas } => self.adopt(config, replicas),
-            Change::Join { number, replica } => self.replicas[number] = replica,
+            Change::Join { number, replica } => self.replicas[number] = Box::into_inner(replica),
             Change::Slot {
                 replica,
                 place,
@@ -301,11 +301,12 @@ impl Server {
         }
         let store = installed(alloc, &spot, snapshot, pending, &mut posts)?;
         tell_ready(&spot, &mut posts)?;
-        let replica = Replica {
+        let joined = Replica {
             region,
             installed: true,
             store,
         };
+        let replica = Box::new(alloc, joined)?;
         said(
             alloc,
             self.id,

@@ -1,4 +1,4 @@
-use Rattle.std.proofs.Common.{ap, arith, sym, ◌∙◌}
+use Rattle.std.proofs.Common.{ap, arith, subst, sym, ◌∙◌}
 use Rattle.hx_store.specs.Stores.{after_step}
 use Rattle.hx_replica.proofs.Changing.{changed}
 use Rattle.hx_replica.proofs.Inside.{can_change, change_within, changed_state, join_of, joined_replicas, joined_server, planned}
@@ -50,19 +50,21 @@ index_mut-replica-requires c =
 
 pub invariant_of-self-in-Join : goal.invariant_of-self-in-Join
 invariant_of-self-in-Join c =
-    let h : IsJoinOn c.args.self.now c.args.plan.entry.input c.in-Join.number c.in-Join.replica =
-    join_of c.args.self.now c.args.plan.entry.input c.args.plan.change c.in-Join.number c.in-Join.replica c.in-Join.is c.requires.change in
+    let h : IsJoinOn c.args.self.now c.args.plan.entry.input c.in-Join.number c.into_inner.result =
+    subst (IsJoinOn c.args.self.now c.args.plan.entry.input c.in-Join.number) (sym c.into_inner.ensures)
+    (join_of c.args.self.now c.args.plan.entry.input c.args.plan.change c.in-Join.number c.in-Join.replica c.in-Join.is c.requires.change) in
     record {
       valid = c.self-in-Join.invariant.valid;
       map_is = c.self-in-Join.invariant.map_is;
-      replicas_are = joined_replicas c.self-in-Join.inside c.args.self.now c.args.plan.entry.input c.in-Join.number c.in-Join.replica c.self-in-Join.view_is c.self-in-Join.invariant h;
+      replicas_are = joined_replicas c.self-in-Join.inside c.args.self.now c.args.plan.entry.input c.in-Join.number c.into_inner.result c.self-in-Join.view_is c.self-in-Join.invariant h;
     }
 
 pub returns-in-Join-clause-state : goal.returns-in-Join-clause-state
 returns-in-Join-clause-state c =
-    let h : IsJoinOn c.args.self.now c.args.plan.entry.input c.in-Join.number c.in-Join.replica =
-    join_of c.args.self.now c.args.plan.entry.input c.args.plan.change c.in-Join.number c.in-Join.replica c.in-Join.is c.requires.change in
-    joined_server c.self-in-Join.inside c.args.self.now c.args.plan.entry.input c.in-Join.number c.in-Join.replica c.self-in-Join.view_is c.self-in-Join.invariant h
+    let h : IsJoinOn c.args.self.now c.args.plan.entry.input c.in-Join.number c.into_inner.result =
+    subst (IsJoinOn c.args.self.now c.args.plan.entry.input c.in-Join.number) (sym c.into_inner.ensures)
+    (join_of c.args.self.now c.args.plan.entry.input c.args.plan.change c.in-Join.number c.in-Join.replica c.in-Join.is c.requires.change) in
+    joined_server c.self-in-Join.inside c.args.self.now c.args.plan.entry.input c.in-Join.number c.into_inner.result c.self-in-Join.view_is c.self-in-Join.invariant h
 
 pub adopt-requires : goal.adopt-requires
 adopt-requires c =

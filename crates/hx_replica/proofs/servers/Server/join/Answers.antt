@@ -50,11 +50,12 @@ returns-clause-plan c =
     join_planned (value_of i) c.args.input.now c.args.epoch g snapshot pending
     (subst (λ (v : ServerValue). folded_server v.state ≡ v.state) (sym c.self.view_is) c.requires.bare)
     (subst (λ (v : ServerValue). server_step v.space v.state c.args.input.now ≡ snapped v.space v.state snapshot pending (hearing v.state c.args.epoch g)) (sym c.self.view_is) c.requires.step)
-    c.in-Some.number c.index.result.now heard c.in_ok-store.store c.new-posts.result c.installed.new.posts c.tell_ready-2.new.posts plan c.if-index.false c.new-posts.ensures
+    c.in-Some.number c.index.result.now heard c.in_ok-store.store c.in_ok-replica.replica c.new-posts.result c.installed.new.posts c.tell_ready-2.new.posts plan c.if-index.false c.new-posts.ensures
     (c.in_ok-store.ensures.posts ∙ ap (λ (k : Config). c.new-posts.result ++ (installed_slots (record { space = i.space; config = k; server = i.id; region = g }) snapshot pending).posts) c.deref.ensures)
     (c.in_ok-tell_ready-2.ensures ∙ ap (λ (k : Config). c.installed.new.posts ++ ready_post (standing k i.id) g) c.deref.ensures)
     c.in_ok-store.ensures.region c.in_ok-store.ensures.marks
     (c.in_ok-store.ensures.states ∙ ap (λ (k : Config). map (folded g) (installed_slots (record { space = i.space; config = k; server = i.id; region = g }) snapshot pending).states) c.deref.ensures)
+    c.in_ok-replica.ensures.ok
     e
     )
     )
