@@ -24,3 +24,10 @@ pub mod Joined
 pub mod Snapped
 pub mod Roomy
 pub mod Sounding
+pub mod NamedMembers
+pub mod NamedSlots
+pub mod NamedSteps
+pub mod NamedReplicas
+pub mod NamedRows
+pub mod Naming
+pub mod NamedExamples

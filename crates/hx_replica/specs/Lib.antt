@@ -9,3 +9,4 @@ pub mod Ticking
 pub mod Adopting
 pub mod Installing
 pub mod Sound
+pub mod Named

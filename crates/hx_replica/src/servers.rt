@@ -2,6 +2,7 @@ ghost use Rattle.std.specs.Prelude.{◌≡◌, ◌<◌, ◌≤◌, IfOk, IfNone,
 ghost use Rattle.std.specs.List.{All};
 ghost use Rattle.std.specs.Option.{option_map};
 ghost use Rattle.hx_types.specs.Effects.{key_of};
+ghost use Rattle.hx_types.specs.Posted.{NameOnly};
 ghost use Rattle.hx_types.specs.Posts.{IsSoundPost};
 ghost use Rattle.hx_types.specs.Spaces.{IsConfigOf, IsServerOf, IsSpace};
 ghost use Rattle.hx_types.specs.Subspaces.{is_key_region};
@@ -13,6 +14,7 @@ ghost use Rattle.hx_replica.specs.Hearing.{IsOfOneSlot, heard, leading};
 ghost use Rattle.hx_replica.specs.Installing.{IsSnapshot};
 ghost use Rattle.hx_replica.specs.Adopting.{lean_with_config};
 ghost use Rattle.hx_replica.specs.Made.{key_in, room_by, room_of};
+ghost use Rattle.hx_replica.specs.Named.{known_to};
 ghost use Rattle.hx_replica.specs.Replicas.{KeepAllRooms, new_replica};
 ghost use Rattle.hx_replica.specs.Sound.{IsSoundInput, IsSoundServer};
 ghost use Rattle.hx_store.specs.Stores.{has_slot};
@@ -95,14 +97,17 @@ impl Server {
     }
 
     /// Computes the step that this input makes, and takes all memory that it needs. Nothing but
-    /// the room for further updates changes, and none falls. Where all that the server holds and the
-    /// post that it gets are of the space, exist and have no epoch and no version above a bound, that
-    /// is so of what it posts, and no epoch and no version of it is above the bound by more than 1.
+    /// the room for further updates changes, and none falls. What the server posts names only the
+    /// coordinator and actors that its configuration, its slots or the input name. Where all that the
+    /// server holds and the post that it gets are of the space, exist and have no epoch and no version
+    /// above a bound, that is so of what it posts, and no epoch and no version of it is above the bound
+    /// by more than 1.
     #[tactic(auto, using(crate::proofs::Roomy::all_same))]
     pub fn prepare(&mut self, alloc: Global, input: &Input) -> Result<Plan, Memory>
         requires { CanTake self.old.space self.old.state input.now }
         ensures plan { IfOk result (IsPlanOn self.new) }
         ensures input { IfOk result (λ plan. plan.entry.input ≡ input.now) }
+        ensures named { IfOk result (λ plan. NameOnly (known_to self.old.state input.now) plan.entry.outputs) }
         ensures sound { IfOk result (λ plan. (sessions n : ℕ) → IsSoundServer self.old.space sessions n self.old.state → IsSoundInput self.old.space sessions n self.old.state.id input.now → All (IsSoundPost self.old.space sessions (n + 1)) plan.entry.outputs) }
         ensures rooms { KeepAllRooms self.old.rooms self.new.rooms }
         ensures space { self.new.space ≡ self.old.space }

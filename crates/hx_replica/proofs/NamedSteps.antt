@@ -1,0 +1,100 @@
+-- A step of one slot: where its sessions and the configuration's members are known, what is posted names known actors alone.
+use Rattle.std.proofs.Common.{◌≡◌, ℕ, inl, inr, [], ◌∷◌, Option, Some, None, refl, sym, subst, leb}
+use Rattle.std.specs.List.{filter}
+use Rattle.std.proofs.lemmas.Bool.{cond_both}
+use Rattle.hx_types.specs.declared.calls.Caller.{Caller}
+use Rattle.hx_types.specs.declared.calls.Op.{Op}
+use Rattle.hx_types.specs.declared.configs.Config.{Config}
+use Rattle.hx_types.specs.declared.ids.Actor.{Actor}
+use Rattle.hx_types.specs.declared.ids.Actor.TheVariants.{Session}
+use Rattle.hx_types.specs.declared.ids.RegionId.{RegionId}
+use Rattle.hx_types.specs.declared.ids.Version.{Version}
+use Rattle.hx_types.specs.declared.outcomes.Decision.{Decision}
+use Rattle.hx_types.specs.declared.outcomes.Decision.TheVariants as a_decision
+use Rattle.hx_types.specs.declared.calls.Answer.TheVariants as an_answer
+use Rattle.hx_types.specs.declared.spaces.Space.{Space}
+use Rattle.hx_types.specs.declared.updates.Update.{Update}
+use Rattle.hx_types.specs.Configs.{leads}
+use Rattle.hx_types.specs.Effects.{effect_of, is_write}
+use Rattle.hx_model.specs.Leading.{StuckAt, assigned, decide, first_lost, granted, refusal, stuck_of}
+use Rattle.hx_model.specs.Places.{places_of}
+use Rattle.hx_model.specs.ServerSteps.{SlotStep, Spot, accepting, ack_step, by_moves, by_posts, call_step, decided, doubt_in, doubts_from, get_answer, get_step, known_to, leader_doubts, update_step, waiting_doubt, write_step}
+use Rattle.hx_model.specs.Slots.{KeyState, acknowledged, latest_of, object_in, object_of, offered, pending_of, top_of, touches_of}
+use Rattle.hx_law_lemmas.proofs.Decisions.{decides}
+use Rattle.hx_law_lemmas.proofs.KnownUpdates.{accepting-known, acknowledged-known, offered-known}
+use Rattle.hx_law_lemmas.proofs.Lists.{in-filter, when_some_both}
+use Rattle.hx_posts.proofs.Slots.{held-together, together}
+use Rattle.hx_replica.proofs.NamedMembers.{KnowsMembers}
+use Rattle.hx_replica.proofs.NamedSlots.{AreGood, IsGood, KnowsCaller, KnowsSlot, ack_to-good, mapped-good, moves-good, none-good, one-good, pending-known, provided-good, reply-good, together-known}
+
+-- an update that is assigned is of its caller
+assigned-caller : (space : Space) (config : Config) (g : RegionId) (t : KeyState) (caller : Caller) (op : Op) → (assigned space config g t caller op).caller ≡ caller
+assigned-caller space config g t caller op =
+    let old = latest_of g t in
+    let e = effect_of space old op in
+    let places = places_of space t.base.key old e.object e.changes (top_of t) (touches_of t) in
+    when_some_both (first_lost config places) (granted t caller e places)
+    (λ (h : RegionId). let r = refusal space config t old h in granted t caller r.0 r.1) (λ (u : Update). u.caller ≡ caller)
+    (λ q. refl)
+    (λ h q. refl)
+
+module _ (Known : Actor → Type 0) where
+  module _ (spot : Spot) (members : KnowsMembers Known spot.config) (t : KeyState) (h : KnowsSlot Known t) where
+    -- what is posted in the step names known actors alone
+    abbrev IsGoodStep : SlotStep → Type 0
+    IsGoodStep step = AreGood Known step.posts
+
+    doubt-good : (caller : Caller) (version : Version) (g : RegionId) → Known (Session caller.session) → IsGood Known (doubt_in spot caller version g)
+    doubt-good caller version g known = reply-good Known spot caller version (an_answer.Doubt g spot.config.epoch) known
+
+    pub leader-good : AreGood Known (leader_doubts spot t)
+    leader-good = provided-good Known (leads spot.space spot.config spot.server spot.region) (doubts_from spot t (stuck_of spot.config t)) (by (stuck_of spot.config t))
+      where
+        by : (o : Option StuckAt) → AreGood Known (doubts_from spot t o)
+        by None = none-good Known
+        by (Some x) =
+            let late = filter (λ (u : Update). leb x.version.0 u.version.0) (pending_of t) in
+            mapped-good Known (λ (u : Update). doubt_in spot u.caller u.version x.region) late
+            (λ u i. doubt-good u.caller u.version x.region (pending-known Known t h u (in-filter (λ (w : Update). leb x.version.0 w.version.0) (pending_of t) u i).0))
+
+    accept-good : (u : Update) → KnowsCaller Known u → IsGoodStep (by_moves spot (accepting spot t (offered spot.region t u)))
+    accept-good u known =
+        let us = u ∷ [] in
+        let line = together us t in
+        let held = held-together us t in
+        moves-good Known spot members line (together-known Known us (λ w j. elim j [ inl e ↦ subst (KnowsCaller Known) (sym e) known | inr k ↦ absurd k ]) t h)
+        (accepting spot t (offered spot.region t u)) (accepting-known line spot t (offered spot.region t u) held (offered-known line spot.region t u held (inl refl)))
+
+    pub update-good : (u : Update) → KnowsCaller Known u → IsGoodStep (update_step spot t u)
+    update-good u known =
+        cond_both (leb u.version.0 (top_of t)) (by_posts (known_to spot t u)) (by_moves spot (accepting spot t (offered spot.region t u))) IsGoodStep
+        (λ b. provided-good Known (leb u.version.0 t.floor) _ (ack_to-good Known spot members u))
+        (λ b. accept-good u known)
+
+    pub ack-good : (v : ℕ) → IsGoodStep (ack_step spot t v)
+    ack-good v =
+        moves-good Known spot members (together [] t) (together-known Known [] (λ u i. absurd i) t h) (acknowledged t v)
+        (acknowledged-known (together [] t) t v (held-together [] t))
+
+    module _ (caller : Caller) (known : Known (Session caller.session)) where
+      waiting-good : (v : Version) (o : Option StuckAt) → AreGood Known (waiting_doubt spot caller v o)
+      waiting-good v None = none-good Known
+      waiting-good v (Some x) = provided-good Known (leb x.version.0 v.0) _ (one-good Known _ (doubt-good caller v x.region known))
+
+      decided-good : (d : Decision) → ((u : Update) → d ≡ a_decision.Assign u → u.caller ≡ caller) → IsGoodStep (decided spot t caller d)
+      decided-good a_decision.Old f = none-good Known
+      decided-good (a_decision.Again v answer) f = one-good Known _ (reply-good Known spot caller v answer known)
+      decided-good (a_decision.Wait v) f = waiting-good v (stuck_of spot.config t)
+      decided-good (a_decision.Stuck g) f = one-good Known _ (doubt-good caller (record { 0 = 0 }) g known)
+      decided-good (a_decision.Assign u) f = accept-good u (subst (λ (c : Caller). Known (Session c.session)) (sym (f u refl)) known)
+
+      write-good : (op : Op) → IsGoodStep (write_step spot t caller op)
+      write-good op =
+          decided-good (decide spot.space spot.config spot.region t caller op)
+          (λ u e. subst (λ (w : Update). w.caller ≡ caller) (sym (decides spot.space spot.config spot.region t caller op u e)) (assigned-caller spot.space spot.config spot.region t caller op))
+
+      pub call-good : (op : Op) → IsGoodStep (call_step spot t caller op)
+      call-good op =
+          cond_both (is_write op) (write_step spot t caller op) (get_step spot t caller) IsGoodStep
+          (λ w. write-good op)
+          (λ w. one-good Known _ (reply-good Known spot caller (record { 0 = t.floor }) (get_answer (object_in (object_of spot.region t))) known))
