@@ -78,7 +78,7 @@ prove() {
 }
 
 build() {
-  printf 'hx: proving the program before it is built; from nothing this takes 10 to 25 minutes.\n' >&2
+  printf 'hx: proving the program before it is built; from nothing this takes half an hour to an hour.\n' >&2
   printf 'hx: to see an answer in a minute, call it with --unproved as the first word.\n' >&2
   rm -f "$log"
   if prove && (cd "$folder" && rt run -- --version </dev/null) >>"$log" 2>&1; then
