@@ -17,7 +17,7 @@ IsSplit p zero (j ∷ rest) = p j ≡ false
 IsSplit p (suc k) [] = ⊥
 IsSplit p (suc k) (j ∷ rest) = (p j ≡ true) × IsSplit p k rest
 
--- the slot stands before another in the order of an attribute
+-- a number stands before another in the order of an attribute
 abbrev pub stands_before : (ℕ → Option Row) → ℕ → ℕ → ℕ → Bool
 stands_before rows attribute id j = is_lt (compare_at rows attribute j id)
 

@@ -1,6 +1,6 @@
--- How looks at objects are counted.
-use Rattle.std.specs.Prelude.{ℕ, zero, suc, ◌+◌, ◌/◌, ◌==◌, List, if◌then◌else◌}
-use Rattle.hx_slot.specs.States.{SlotState}
+-- How looks at rows are counted.
+use Rattle.std.specs.Prelude.{ℕ, zero, suc, ◌+◌, ◌/◌, ◌==◌, List, if◌then◌else◌, Option}
+use Rattle.hx_types.specs.declared.calls.Row.{Row}
 
 -- one look more; the count stays at the greatest `u64`
 abbrev pub raised : ℕ → ℕ
@@ -15,7 +15,7 @@ digits_within (suc most) n = if n == 0 then 0 else suc (digits_within most (n / 
 abbrev pub digits_of : ℕ → ℕ
 digits_of n = digits_within n n
 
--- a look at slots: their kept objects, and the number of looks so far
+-- a look at rows by their numbers, and the number of looks so far
 pub record ViewState : Type 0 where
-  pub slots : List SlotState
+  pub rows : List (Option Row)
   pub looks : ℕ

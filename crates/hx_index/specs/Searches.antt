@@ -26,7 +26,7 @@ least_run index rows least [] = least
 least_run index rows least (term ∷ rest) =
     least_run index rows (if is_indexed index term then min (run_length index rows term) least else least) rest
 
--- the shortest run, or all indexed slots, and the searches for the ends of the runs
+-- the shortest run, or all indexed rows, and the searches for the ends of the runs
 abbrev pub most_looks : IndexState → (ℕ → Option Row) → List Term → ℕ
 most_looks index rows terms =
     least_run index rows (count_of index) terms + 2 * indexed_count index terms * digits_of (count_of index)

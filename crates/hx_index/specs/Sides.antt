@@ -29,15 +29,15 @@ abbrev pub side_of_value : Term → Value → Side
 side_of_value (a_term.Equal attribute value) x = side_by (compare_values x value)
 side_of_value (a_term.Range attribute lo hi) x = side_in lo hi x
 
--- an object without a value lies below
+-- a row without a value lies below
 abbrev pub side_of : Term → Option Value → Side
 side_of term found = when_some found Below (side_of_value term)
 
--- of the kept object of a slot
+-- of the row at a number
 abbrev pub side_at : (ℕ → Option Row) → Term → ℕ → Side
 side_at rows term i = when_some (rows i) Below (λ (r : Row). side_of term (value_of (attribute_of term) r))
 
--- the term holds of the kept object of a slot
+-- the term holds of the row at a number
 abbrev pub meets_at : (ℕ → Option Row) → Term → ℕ → Bool
 meets_at rows term i = when_some (rows i) false (λ (r : Row). term_holds r.key r.object term)
 

@@ -1,13 +1,11 @@
 ghost use Rattle.std.specs.Prelude.{◌≡◌, Some};
 ghost use Rattle.std.specs.Option.{option_cmp, option_copied};
 ghost use Rattle.std.specs.Ordering.{is_lt};
-ghost use Rattle.hx_slot.specs.Updates.{row_seen};
-ghost use Rattle.hx_index.specs.Orders.{compare_at, compare_rows, compare_values, row_lent, rows_at, rows_with};
+ghost use Rattle.hx_index.specs.Orders.{compare_at, compare_rows, compare_values, rows_at, rows_with};
 ghost use Rattle.hx_index.specs.Sides.{side_in, side_of, side_of_value};
 
 use crate::looking::Side;
-use hx_slot::{RowRef, Slot};
-use hx_types::{Term, Value};
+use hx_types::{Row, Term, Value};
 use std::cmp::Ordering;
 
 /// Texts by bytes, then numbers by size.
@@ -35,38 +33,38 @@ pub fn compare_found(one: Option<&Value>, other: Option<&Value>) -> Ordering
 }
 
 /// Rows by an attribute, then by their keys.
-fn compare_rows(attribute: u32, one: RowRef<'_>, other: RowRef<'_>) -> Ordering
-    ensures { result ≡ compare_rows attribute (row_lent one.entry) (row_lent other.entry) }
+fn compare_rows(attribute: u32, one: &Row, other: &Row) -> Ordering
+    ensures { result ≡ compare_rows attribute one.now other.now }
 {
     if attribute == 0 {
-        return one.key.cmp(other.key);
+        return one.key.cmp(&other.key);
     }
     let number = attribute as usize - 1;
     match compare_found(one.object.get(number), other.object.get(number)) {
         Ordering::Less => Ordering::Less,
-        Ordering::Equal => one.key.cmp(other.key),
+        Ordering::Equal => one.key.cmp(&other.key),
         Ordering::Greater => Ordering::Greater,
     }
 }
 
-/// The kept object of a slot.
-pub fn row_at(slots: &[Slot], id: u32) -> Option<RowRef<'_>>
-    ensures { row_seen result ≡ rows_at slots.now id }
+/// The row at a number.
+pub fn row_at(rows: &[Option<Row>], id: u32) -> Option<&Row>
+    ensures { option_copied result ≡ rows_at rows.now id }
 {
-    match slots.get(id as usize) {
-        Some(slot) => slot.row(),
+    match rows.get(id as usize) {
+        Some(row) => row.as_ref(),
         None => None,
     }
 }
 
-/// Whether a slot stands before another, which has this row, in the order of an attribute.
-pub fn is_before(slots: &[Slot], attribute: u32, one: u32, other: u32, row: RowRef<'_>) -> bool
-    ensures { result ≡ is_lt (compare_at (rows_with other (Some (row_lent row.entry)) (rows_at slots.now)) attribute one other) }
+/// Whether a number stands before another, at which this row is, in the order of an attribute.
+pub fn is_before(rows: &[Option<Row>], attribute: u32, one: u32, other: u32, row: &Row) -> bool
+    ensures { result ≡ is_lt (compare_at (rows_with other (Some row.now) (rows_at rows.now)) attribute one other) }
 {
     if one == other {
         return false;
     }
-    let Some(found) = row_at(slots, one) else {
+    let Some(found) = row_at(rows, one) else {
         return true;
     };
     match compare_rows(attribute, found, row) {

@@ -8,21 +8,17 @@ ghost use Rattle.hx_index.specs.Runs.{IsRun};
 ghost use Rattle.hx_index.specs.Searches.{indexed_count, is_indexed, least_run, most_looks};
 ghost use Rattle.hx_index.specs.Sides.{matches_at};
 
-use crate::comparing::row_at;
 use crate::looking::{Ids, Look};
 use crate::orders::{
     empty_orders, insert_everywhere, remove_everywhere, replace_everywhere, widen_everywhere,
 };
 use crate::searching::{Span, end_of_part, matching, shorter};
-use crate::staying::lend;
-use hx_slot::Slot;
 use hx_types::{Memory, Row, Term, Terms};
 use std::alloc::Global;
 use std::marker::Model;
 
-/// Which slots keep an object, by the order of each attribute: the numbers of these slots by the
-/// value of the attribute, texts by bytes and numbers by size, and then by the key. Attribute 0 is
-/// the key.
+/// Which rows there are, by the order of each attribute: the numbers of these rows by the value of
+/// the attribute, texts by bytes and numbers by size, and then by the key. Attribute 0 is the key.
 #[derive(Drop)]
 pub struct Index {
     orders: Vec<Vec<u32>>,
@@ -42,7 +38,7 @@ impl Model for Index {
 }
 
 impl Index {
-    /// The index of no slots, with an order for the key and for each of the attributes. It has no
+    /// The index of no rows, with an order for the key and for each of the attributes. It has no
     /// room.
     pub fn new(alloc: Global, attributes: u32) -> Result<Index, Memory>
         ensures orders { IfOk result (λ index. index.orders ≡ repeat (attributes + 1) ([] ∷ [])) }
@@ -67,64 +63,47 @@ impl Index {
         Ok(())
     }
 
-    /// Puts the slot with this number, whose object isn't in the index, into every order. It takes
-    /// no memory.
-    pub fn add(&mut self, slots: &[Slot], id: u32)
-        requires others { IsIndexOf (rows_without id (rows_at slots.now)) self.old }
-        requires kept { IsSome (rows_at slots.now id) }
+    /// Puts the row at this number, which isn't in the index, into every order. It takes no memory.
+    pub fn add(&mut self, rows: &[Option<Row>], id: u32)
+        requires others { IsIndexOf (rows_without id (rows_at rows.now)) self.old }
+        requires kept { IsSome (rows_at rows.now id) }
         requires room { count_of self.old < self.old.room }
-        ensures index { IsIndexOf (rows_at slots.now) self.new }
+        ensures index { IsIndexOf (rows_at rows.now) self.new }
         ensures others { IsWithout id self.old self.new }
         ensures count { count_of self.new ≡ count_of self.old + 1 }
         ensures room { self.new.room ≡ self.old.room }
     {
-        insert_everywhere(&mut self.orders, slots, id);
+        insert_everywhere(&mut self.orders, rows, id);
     }
 
-    /// Takes the slot with this number out of every order, by the object that it has still. It
-    /// takes no memory.
-    pub fn take_out(&mut self, slots: &[Slot], id: u32)
-        requires index { IsIndexOf (rows_at slots.now) self.old }
-        requires kept { IsSome (rows_at slots.now id) }
-        ensures index { IsIndexOf (rows_without id (rows_at slots.now)) self.new }
+    /// Takes this number out of every order, by the row that was there when it came into the index.
+    /// It takes no memory.
+    pub fn forget(&mut self, rows: &[Option<Row>], id: u32, old: &Row)
+        requires index { IsIndexOf (rows_with id (Some old.now) (rows_at rows.now)) self.old }
+        ensures index { IsIndexOf (rows_without id (rows_at rows.now)) self.new }
         ensures others { IsWithout id self.new self.old }
         ensures count { count_of self.new + 1 ≡ count_of self.old }
         ensures room { self.new.room ≡ self.old.room }
     {
-        let Some(row) = row_at(slots, id) else {
-            unreachable!()
-        };
-        remove_everywhere(&mut self.orders, slots, id, row);
+        remove_everywhere(&mut self.orders, rows, id, old);
     }
 
-    /// Takes the slot with this number out of every order, by the object that it had when it came
-    /// into the index. It takes no memory.
-    pub fn forget(&mut self, slots: &[Slot], id: u32, old: &Row)
-        requires index { IsIndexOf (rows_with id (Some old.now) (rows_at slots.now)) self.old }
-        ensures index { IsIndexOf (rows_without id (rows_at slots.now)) self.new }
-        ensures others { IsWithout id self.new self.old }
-        ensures count { count_of self.new + 1 ≡ count_of self.old }
-        ensures room { self.new.room ≡ self.old.room }
-    {
-        remove_everywhere(&mut self.orders, slots, id, lend(old));
-    }
-
-    /// The slot with this number has another object than when it came into the index. It goes to
-    /// its new place in the orders of the attributes whose value changed, in every order where the
-    /// key did, and stays in the others, in which no place is sought. It takes no memory.
-    pub fn replace(&mut self, slots: &[Slot], id: u32, old: &Row)
-        requires index { IsIndexOf (rows_with id (Some old.now) (rows_at slots.now)) self.old }
-        requires kept { IsSome (rows_at slots.now id) }
-        ensures index { IsIndexOf (rows_at slots.now) self.new }
+    /// At this number is another row than when it came into the index. The number goes to its new
+    /// place in the orders of the attributes whose value changed, in every order where the key did,
+    /// and stays in the others, in which no place is sought. It takes no memory.
+    pub fn replace(&mut self, rows: &[Option<Row>], id: u32, old: &Row)
+        requires index { IsIndexOf (rows_with id (Some old.now) (rows_at rows.now)) self.old }
+        requires kept { IsSome (rows_at rows.now id) }
+        ensures index { IsIndexOf (rows_at rows.now) self.new }
         ensures attributes { length self.new.orders ≡ length self.old.orders }
         ensures count { count_of self.new ≡ count_of self.old }
         ensures room { self.new.room ≡ self.old.room }
     {
-        replace_everywhere(&mut self.orders, slots, id, lend(old));
+        replace_everywhere(&mut self.orders, rows, id, old);
     }
 
     /// The first place and the end of the run of a term: the part of the order of its attribute
-    /// whose values meet it. With n slots in the index, where n has d binary digits, it takes at
+    /// whose values meet it. With n rows in the index, where n has d binary digits, it takes at
     /// most 2 * d looks.
     pub fn run<L: Look>(&self, look: &mut L, term: &Term) -> (u32, u32)
         requires index { IsIndexOf (L.rows look.old) self.now }
@@ -141,9 +120,9 @@ impl Index {
         (first as u32, end as u32)
     }
 
-    /// The numbers of the indexed slots at whose objects every term holds, each once, in any order.
-    /// It goes through the shortest run of a term, or through all where no term is on an attribute
-    /// above 0, and looks at each object there once; a run is found by 2 * d looks at most.
+    /// The numbers of the rows of which every term holds, each once, in any order. It goes through
+    /// the shortest run of a term, or through all where no term is on an attribute above 0, and
+    /// looks at each row there once; a run is found by 2 * d looks at most.
     pub fn find<L: Look>(&self, alloc: Global, look: &mut L, terms: &Terms) -> Result<Ids, Memory>
         requires { IsIndexOf (L.rows look.old) self.now }
         ensures matching { IfOk result (λ ids. (i : ℕ) → stands_in ids.items i ≡ matches_at (L.rows look.old) terms.now i) }

@@ -1,11 +1,11 @@
-//! An index over attributes: which slots keep an object that meets a term.
+//! An index over attributes: which of the rows that a caller keeps meet a term.
 //!
-//! An [`Index`] keeps one order for each attribute: the numbers of the slots that keep an object,
-//! by the value of that attribute and then by the key. It copies no value; a search looks at the
-//! objects through a [`Look`], which counts how often.
+//! An [`Index`] keeps one order for each attribute: the numbers of the rows, by the value of that
+//! attribute and then by the key. It copies no value; a search looks at the rows through a
+//! [`Look`], which counts how often.
 //!
 //! That a search by an attribute goes to its objects without going through all is HyperDex's; orders
-//! of slot numbers, and counted looks, are this project's choice.
+//! of numbers, and counted looks, are this project's choice.
 #![tactic(auto)]
 
 mod comparing;

@@ -6,7 +6,7 @@ ghost use Rattle.hx_index.specs.Sides.{matches_at, side_at};
 
 use hx_types::{Term, Terms};
 
-/// Where the value of an object lies, seen from the values that meet a term.
+/// Where the value of a row lies, seen from the values that meet a term.
 #[derive(Clone, Copy)]
 pub enum Side {
     /// Below all of them: it stands before them in the order of the attribute.
@@ -17,21 +17,21 @@ pub enum Side {
     Above,
 }
 
-/// Numbers of slots.
+/// Numbers of rows.
 pub type Ids = Vec<u32>;
 
-/// The only way in which a search reaches the objects of an index.
+/// The only way in which a search reaches the rows of an index.
 ///
-/// A contract sees two things of it: the kept object of each slot with its key, which no call
-/// changes, and the number of looks so far. No call takes memory.
+/// A contract sees two things of it: the row at each number, which no call changes, and the number
+/// of looks so far. No call takes memory.
 pub trait Look {
-    /// The kept object of the slot with a number, where it has one.
+    /// The row at a number, where there is one.
     ghost rows: { Self → ℕ → Option Row };
 
     /// How many looks there were; the count stays at the greatest `u64`.
     ghost looks: { Self → ℕ };
 
-    /// On which side of the values that meet the term the value of the slot's object lies.
+    /// On which side of the values that meet the term the value of the row lies.
     fn side(&mut self, id: u32, term: &Term) -> Side
         requires kept { IsSome (rows self.old id) }
         requires value { 0 < attribute_of term.now }
@@ -39,7 +39,7 @@ pub trait Look {
         ensures rows { rows self.new ≡ rows self.old }
         ensures looks { looks self.new ≡ raised (looks self.old) };
 
-    /// Whether every term holds of the slot's object and its key.
+    /// Whether every term holds of the row.
     fn matches(&mut self, id: u32, terms: &Terms) -> bool
         requires { IsSome (rows self.old id) }
         ensures matches { result ≡ matches_at (rows self.old) terms.now id }

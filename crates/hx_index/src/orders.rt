@@ -3,36 +3,35 @@ ghost use Rattle.std.specs.List.{repeat};
 ghost use Rattle.std.specs.List.Sorted.{IsStrictlySortedBy};
 ghost use Rattle.hx_types.specs.declared.calls.Row.{Row};
 ghost use Rattle.hx_index.specs.Invariant.{AreOrders, EachMoves, HaveRoom, HaveRoomFor, IsAdded, IsRemoved, IsReplaced, IsSplit, IsWidened, items_of, stands_before};
-ghost use Rattle.hx_index.specs.Orders.{IsOrder, compare_at, key_of, row_lent, rows_at, rows_with, rows_without, without};
+ghost use Rattle.hx_index.specs.Orders.{IsOrder, compare_at, key_of, rows_at, rows_with, rows_without, without};
 
 use crate::comparing::{is_before, row_at};
 use crate::staying::{has_key, stays};
-use hx_slot::{RowRef, Slot};
-use hx_types::Memory;
+use hx_types::{Memory, Row};
 use std::alloc::Global;
 
-/// How many numbers stand before that of a slot, which has this row, in the order of an attribute.
-fn place_of(order: &[u32], slots: &[Slot], attribute: u32, id: u32, row: RowRef<'_>) -> usize
-    requires { IsStrictlySortedBy (compare_at (rows_with id (Some (row_lent row)) (rows_at slots.now)) attribute) order.now }
-    ensures { IsSplit (stands_before (rows_with id (Some (row_lent row.entry)) (rows_at slots.now)) attribute id) result order.now }
+/// How many numbers stand before one, at which this row is, in the order of an attribute.
+fn place_of(order: &[u32], rows: &[Option<Row>], attribute: u32, id: u32, row: &Row) -> usize
+    requires { IsStrictlySortedBy (compare_at (rows_with id (Some row.now) (rows_at rows.now)) attribute) order.now }
+    ensures { IsSplit (stands_before (rows_with id (Some row.now) (rows_at rows.now)) attribute id) result order.now }
 {
-    order.partition_point(|other| is_before(slots, attribute, *other, id, row))
+    order.partition_point(|other| is_before(rows, attribute, *other, id, row))
 }
 
-/// Puts the number of a slot into the order of an attribute. There is room, so it takes no memory.
-pub fn insert_number(order: &mut Vec<u32>, slots: &[Slot], attribute: u32, id: u32)
-    requires others { IsOrder (rows_without id (rows_at slots.now)) attribute order.old.items }
-    requires kept { IsSome (rows_at slots.now id) }
+/// Puts the number of a row into the order of an attribute. There is room, so it takes no memory.
+pub fn insert_number(order: &mut Vec<u32>, rows: &[Option<Row>], attribute: u32, id: u32)
+    requires others { IsOrder (rows_without id (rows_at rows.now)) attribute order.old.items }
+    requires kept { IsSome (rows_at rows.now id) }
     requires room { vec_len order.old < vec_capacity order.old }
-    ensures order { IsOrder (rows_at slots.now) attribute order.new.items }
+    ensures order { IsOrder (rows_at rows.now) attribute order.new.items }
     ensures others { order.old.items ≡ without id order.new.items }
     ensures len { vec_len order.new ≡ vec_len order.old + 1 }
     ensures capacity { vec_capacity order.old ≤ vec_capacity order.new }
 {
-    let Some(row) = row_at(slots, id) else {
+    let Some(row) = row_at(rows, id) else {
         unreachable!()
     };
-    let place = place_of(order.as_slice(), slots, attribute, id, row);
+    let place = place_of(order.as_slice(), rows, attribute, id, row);
     insert_within(order, place, id);
 }
 
@@ -47,78 +46,79 @@ fn insert_within(order: &mut Vec<u32>, place: usize, id: u32)
     let _ = order.insert(place, id);
 }
 
-/// Takes the number of a slot, which stands by this row, out of the order of an attribute.
-pub fn remove_number(order: &mut Vec<u32>, slots: &[Slot], attribute: u32, id: u32, row: RowRef<'_>)
-    requires order { IsOrder (rows_with id (Some (row_lent row)) (rows_at slots.now)) attribute order.old.items }
-    ensures order { IsOrder (rows_without id (rows_at slots.now)) attribute order.new.items }
+/// Takes a number, which stands by this row, out of the order of an attribute.
+pub fn remove_number(order: &mut Vec<u32>, rows: &[Option<Row>], attribute: u32, id: u32, row: &Row)
+    requires order { IsOrder (rows_with id (Some row.now) (rows_at rows.now)) attribute order.old.items }
+    ensures order { IsOrder (rows_without id (rows_at rows.now)) attribute order.new.items }
     ensures others { order.new.items ≡ without id order.old.items }
     ensures len { vec_len order.new + 1 ≡ vec_len order.old }
     ensures capacity { vec_capacity order.new ≡ vec_capacity order.old }
 {
-    let place = place_of(order.as_slice(), slots, attribute, id, row);
+    let place = place_of(order.as_slice(), rows, attribute, id, row);
     let _ = order.remove(place);
 }
 
-/// The number of a slot, which stands by this row in the order of an attribute, goes to the place
-/// of its object. It stays where the value and the key are the same.
+/// A number, which stands by this old row in the order of an attribute, goes to the place of the
+/// row that is there now. It stays where the value and the key are the same.
 pub fn replace_number(
     order: &mut Vec<u32>,
-    slots: &[Slot],
+    rows: &[Option<Row>],
     attribute: u32,
     id: u32,
-    old: RowRef<'_>,
+    old: &Row,
     keeps_key: bool,
 )
-    requires order { IsOrder (rows_with id (Some (row_lent old)) (rows_at slots.now)) attribute order.old.items }
-    requires kept { IsSome (rows_at slots.now id) }
-    requires key { IsTrue keeps_key → IsSomeAnd (rows_at slots.now id) (λ (r : Row). key_of r ≡ key_of (row_lent old)) }
-    ensures order { IsOrder (rows_at slots.now) attribute order.new.items }
+    requires order { IsOrder (rows_with id (Some old.now) (rows_at rows.now)) attribute order.old.items }
+    requires kept { IsSome (rows_at rows.now id) }
+    requires key { IsTrue keeps_key → IsSomeAnd (rows_at rows.now id) (λ (r : Row). key_of r ≡ key_of old.now) }
+    ensures order { IsOrder (rows_at rows.now) attribute order.new.items }
     ensures len { vec_len order.new ≡ vec_len order.old }
     ensures capacity { vec_capacity order.old ≤ vec_capacity order.new }
 {
-    if stays(slots, attribute, id, old, keeps_key) {
+    if stays(rows, attribute, id, old, keeps_key) {
         return;
     }
-    remove_number(order, slots, attribute, id, old);
-    insert_number(order, slots, attribute, id);
+    remove_number(order, rows, attribute, id, old);
+    insert_number(order, rows, attribute, id);
 }
 
-/// Puts the number of a slot into every order. There is room, so it takes no memory.
-pub fn insert_everywhere(orders: &mut Vec<Vec<u32>>, slots: &[Slot], id: u32)
-    requires others { AreOrders (rows_without id (rows_at slots.now)) orders.old.items }
-    requires kept { IsSome (rows_at slots.now id) }
+/// Puts the number of a row into every order. There is room, so it takes no memory.
+pub fn insert_everywhere(orders: &mut Vec<Vec<u32>>, rows: &[Option<Row>], id: u32)
+    requires others { AreOrders (rows_without id (rows_at rows.now)) orders.old.items }
+    requires kept { IsSome (rows_at rows.now id) }
     requires room { HaveRoom orders.old.items }
     requires few { vec_len orders.old ≤ 2 ^ 32 }
-    ensures { EachMoves (IsAdded (rows_at slots.now) id) orders.old.items orders.new.items }
+    ensures { EachMoves (IsAdded (rows_at rows.now) id) orders.old.items orders.new.items }
 {
     for attribute in 0..orders.len() {
-        insert_number(&mut orders[attribute], slots, attribute as u32, id);
+        insert_number(&mut orders[attribute], rows, attribute as u32, id);
     }
 }
 
-/// Takes the number of a slot, which stands by this row, out of every order.
-pub fn remove_everywhere(orders: &mut Vec<Vec<u32>>, slots: &[Slot], id: u32, row: RowRef<'_>)
-    requires orders { AreOrders (rows_with id (Some (row_lent row)) (rows_at slots.now)) orders.old.items }
+/// Takes a number, which stands by this row, out of every order.
+pub fn remove_everywhere(orders: &mut Vec<Vec<u32>>, rows: &[Option<Row>], id: u32, row: &Row)
+    requires orders { AreOrders (rows_with id (Some row.now) (rows_at rows.now)) orders.old.items }
     requires few { vec_len orders.old ≤ 2 ^ 32 }
-    ensures { EachMoves (IsRemoved (rows_at slots.now) id) orders.old.items orders.new.items }
+    ensures { EachMoves (IsRemoved (rows_at rows.now) id) orders.old.items orders.new.items }
 {
     for attribute in 0..orders.len() {
-        remove_number(&mut orders[attribute], slots, attribute as u32, id, row);
+        remove_number(&mut orders[attribute], rows, attribute as u32, id, row);
     }
 }
 
-/// The number of a slot, which stands by this row, goes to the place of its object in every order.
-pub fn replace_everywhere(orders: &mut Vec<Vec<u32>>, slots: &[Slot], id: u32, old: RowRef<'_>)
-    requires orders { AreOrders (rows_with id (Some (row_lent old)) (rows_at slots.now)) orders.old.items }
-    requires kept { IsSome (rows_at slots.now id) }
+/// A number, which stands by this old row, goes to the place of the row that is there now in every
+/// order.
+pub fn replace_everywhere(orders: &mut Vec<Vec<u32>>, rows: &[Option<Row>], id: u32, old: &Row)
+    requires orders { AreOrders (rows_with id (Some old.now) (rows_at rows.now)) orders.old.items }
+    requires kept { IsSome (rows_at rows.now id) }
     requires few { vec_len orders.old ≤ 2 ^ 32 }
-    ensures { EachMoves (IsReplaced (rows_at slots.now)) orders.old.items orders.new.items }
+    ensures { EachMoves (IsReplaced (rows_at rows.now)) orders.old.items orders.new.items }
 {
-    let keeps_key = has_key(slots, id, old.key);
+    let keeps_key = has_key(rows, id, &old.key);
     for attribute in 0..orders.len() {
         replace_number(
             &mut orders[attribute],
-            slots,
+            rows,
             attribute as u32,
             id,
             old,

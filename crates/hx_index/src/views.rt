@@ -1,7 +1,6 @@
 ghost use Rattle.std.specs.Prelude.{◌≡◌, ◌<◌, IsSome};
 ghost use Rattle.std.specs.Option.{option_copied};
 ghost use Rattle.hx_types.specs.Spaces.{attribute_of};
-ghost use Rattle.hx_slot.specs.Updates.{row_seen};
 ghost use Rattle.hx_index.specs.Looks.{raised};
 ghost use Rattle.hx_index.specs.Orders.{rows_at};
 ghost use Rattle.hx_index.specs.Sides.{matches_at, side_at};
@@ -9,14 +8,13 @@ ghost use Rattle.hx_index.specs.Sides.{matches_at, side_at};
 use crate::comparing::{row_at, side_of};
 use crate::looking::{Look, Side};
 use hx_query::matches;
-use hx_slot::Slot;
-use hx_types::{Term, Terms};
+use hx_types::{Row, Term, Terms};
 use std::marker::Model;
 
-/// The look at the kept objects of slots, by their numbers from 0.
+/// The look at rows, by their numbers from 0.
 #[derive(Drop)]
 pub struct View<'a> {
-    slots: &'a [Slot],
+    rows: &'a [Option<Row>],
     looks: u64,
 }
 
@@ -25,15 +23,15 @@ impl<'a> Model for View<'a> {
 
     ghost Value = { ViewState };
 
-    ghost view = { λ v. record { slots = v.slots.now; looks = v.looks } };
+    ghost view = { λ v. record { rows = v.rows.now; looks = v.looks } };
 }
 
 impl<'a> View<'a> {
-    /// A look at these slots, whose count of looks starts at a number.
-    pub fn new(slots: &'a [Slot], looks: u64) -> View<'a>
-        ensures { result ≡ record { slots = slots.entry.now; looks = looks } }
+    /// A look at these rows, whose count of looks starts at a number.
+    pub fn new(rows: &'a [Option<Row>], looks: u64) -> View<'a>
+        ensures { result ≡ record { rows = rows.entry.now; looks = looks } }
     {
-        View { slots, looks }
+        View { rows, looks }
     }
 
     /// How many looks there were, those before it among them.
@@ -45,7 +43,7 @@ impl<'a> View<'a> {
 
     /// Counts a look.
     fn count(&mut self)
-        ensures slots { self.new.slots ≡ self.old.slots }
+        ensures rows { self.new.rows ≡ self.old.rows }
         ensures looks { self.new.looks ≡ raised self.old.looks }
     {
         if self.looks != u64::MAX {
@@ -57,13 +55,13 @@ impl<'a> View<'a> {
 impl<'a> Look for View<'a> {
     ghost use Rattle.hx_index.specs.Orders.{rows_at};
 
-    ghost rows = { λ v. rows_at v.slots };
+    ghost rows = { λ v. rows_at v.rows };
 
     ghost looks = { λ v. v.looks };
 
     fn side(&mut self, id: u32, term: &Term) -> Side {
         self.count();
-        match row_at(self.slots, id) {
+        match row_at(self.rows, id) {
             Some(row) => side_of(term, row.object.get(term.attribute() as usize - 1)),
             None => unreachable!(),
         }
@@ -71,8 +69,8 @@ impl<'a> Look for View<'a> {
 
     fn matches(&mut self, id: u32, terms: &Terms) -> bool {
         self.count();
-        match row_at(self.slots, id) {
-            Some(row) => matches(terms, row.key, row.object),
+        match row_at(self.rows, id) {
+            Some(row) => matches(terms, &row.key, &row.object),
             None => unreachable!(),
         }
     }

@@ -1,7 +1,8 @@
 -- What a server answers to a search in a region, where one of its replicas hears it.
-use Rattle.std.proofs.Common.{◌≡◌, ℕ, true, false, List, [], ◌∷◌, get_or, Option, Some, ap, sym, ◌∙◌, subst}
+use Rattle.std.proofs.Common.{◌≡◌, ℕ, zero, suc, ◌<◌, true, false, List, [], ◌∷◌, get_or, length, set, IfOk, Option, Result, Ok, Err, Some, refl, ap, sym, ◌∙◌, subst, arith}
 use Rattle.std.specs.List.{slice_get}
-use Rattle.std.specs.Option.{option_map}
+use Rattle.std.specs.Option.{IsSomeAnd, option_map}
+use Rattle.hx_types.specs.declared.calls.Row.{Row}
 use Rattle.hx_types.specs.declared.messages.Post.{Post}
 use Rattle.hx_types.specs.declared.ids.Actor.{Actor}
 use Rattle.hx_types.specs.declared.ids.Epoch.{Epoch}
@@ -18,7 +19,8 @@ use Rattle.hx_replica.specs.declared.servers.Server.TheInside.{Inside}
 use Rattle.hx_replica.specs.Inside.{IsServer, value_of}
 use Rattle.hx_replica.specs.Replicas.{IsReplicaIn, view_of, views_of}
 use Rattle.hx_replica.specs.Servers.{ServerValue}
-use Rattle.hx_replica.proofs.Changing.{below_views, replica_at, view_at}
+use Rattle.hx_store.specs.Stores.{StoreState}
+use Rattle.hx_replica.proofs.Changing.{replica_at}
 use Rattle.hx_replica.proofs.Hearing.{found_region, hearing_found, installed_some}
 use Rattle.hx_replica.proofs.Planning.{IsFound, found_there}
 
@@ -44,15 +46,36 @@ module _ (i : Inside) (v : ServerValue) (from : Actor) (epoch : Epoch) (number :
   not_ready out = posts_are ∙ ap (λ t. provided t (post (Server i.id) from (a_message.Found epoch number g (found_in g terms there.replica.states)) ∷ [])) out
 
   -- it is one
-  pub ready : IsServer i → (y : Replica) → y ≡ get_or i.replicas.items place y → lists_ready i.config g i.id ≡ true
-      → (asked v.state from epoch number terms (if_installed (hearing v.state epoch g))).posts ≡ post (Server i.id) from (a_message.Found epoch number g (found_in y.store.region terms y.store.states)) ∷ []
-  ready is y at_place listed =
-      let rs = i.replicas.items in
-      let in_views : slice_get (views_of rs) place ≡ Some there.replica = ap (λ (x : ServerValue). slice_get x.state.replicas place) seen ∙ there.at_place in
-      let same : view_of y ≡ there.replica = ap view_of at_place ∙ view_at rs place y there.replica in_views in
-      let holds : IsReplicaIn i.space y = subst (IsReplicaIn i.space) (sym at_place) (replica_at i.space rs place y is.replicas_are.each (below_views rs place there.replica in_views)) in
-      let store : y.store.region ≡ g = holds.region ∙ ap (λ (r : ReplicaState). r.region) same ∙ region in
+  pub ready : (rows : List Row) → IsSomeAnd (slice_get v.state.replicas place) (λ (r : ReplicaState). rows ≡ found_in r.region terms r.states) → lists_ready i.config g i.id ≡ true
+      → (asked v.state from epoch number terms (if_installed (hearing v.state epoch g))).posts ≡ post (Server i.id) from (a_message.Found epoch number g rows) ∷ []
+  ready rows is listed =
+      let here : rows ≡ found_in there.replica.region terms there.replica.states = subst (λ (o : Option ReplicaState). IsSomeAnd o (λ (r : ReplicaState). rows ≡ found_in r.region terms r.states)) there.at_place is in
       posts_are
-      ∙ ap (λ (r : ReplicaState). answer (value_of i).state g g r.states) (sym same)
-      ∙ ap (λ (x : RegionId). answer (value_of i).state g x y.store.states) (sym store)
-      ∙ ap (λ t. provided t (post (Server i.id) from (a_message.Found epoch number g (found_in y.store.region terms y.store.states)) ∷ [])) listed
+      ∙ ap (λ t. provided t (post (Server i.id) from (a_message.Found epoch number g (found_in g terms there.replica.states)) ∷ [])) listed
+      ∙ ap (λ (found : List Row). post (Server i.id) from (a_message.Found epoch number g found) ∷ []) (sym (here ∙ ap (λ (x : RegionId). found_in x terms there.replica.states) region))
+
+-- what holds of what is found
+pub if_found : {A E : Type 0} {P Q : A → Type 0} (r : Result A E) → ((x : A) → P x → Q x) → IfOk r P → IfOk r Q
+if_found (Ok x) f h = f x h
+if_found (Err e) f h = tt
+
+view_there : (rs : List Replica) (place : ℕ) (y : Replica) → place < length rs → y ≡ get_or rs place y → slice_get (views_of rs) place ≡ Some (view_of y)
+view_there [] place y l e = absurd (omega arith)
+view_there (r ∷ rs) zero y l e = ap (λ (x : Replica). Some (view_of x)) (sym e)
+view_there (r ∷ rs) (suc place) y l e = view_there rs place y (omega (arith, l)) e
+
+-- what a search finds in a replica
+pub rows_there : (i : Inside) (v : ServerValue) (place : ℕ) (y : Replica) (terms : List Term) (rows : List Row) → value_of i ≡ v → IsServer i → place < length i.replicas.items → y ≡ get_or i.replicas.items place y → rows ≡ found_in y.store.region terms y.store.states
+    → IsSomeAnd (slice_get v.state.replicas place) (λ (r : ReplicaState). rows ≡ found_in r.region terms r.states)
+rows_there i v place y terms rows seen is l at found =
+    let rs = i.replicas.items in
+    let there : slice_get (views_of rs) place ≡ Some (view_of y) = view_there rs place y l at in
+    let holds : IsReplicaIn i.space y = subst (IsReplicaIn i.space) (sym at) (replica_at i.space rs place y is.replicas_are.each l) in
+    subst (λ (o : Option ReplicaState). IsSomeAnd o (λ (r : ReplicaState). rows ≡ found_in r.region terms r.states)) (sym there ∙ ap (λ (x : ServerValue). slice_get x.state.replicas place) seen)
+    (found ∙ ap (λ (x : RegionId). found_in x terms y.store.states) holds.region)
+
+-- a replica that comes in its own place
+pub set_same : (rs : List Replica) (place : ℕ) (y : Replica) (store : StoreState) → place < length rs → y ≡ get_or rs place y → store ≡ y.store → set rs place (record { region = y.region; installed = y.installed; store = store }) ≡ rs
+set_same [] place y store l at e = refl
+set_same (r ∷ rs) zero y store l at e = ap (λ (x : StoreState). record { region = y.region; installed = y.installed; store = x } ∷ rs) e ∙ ap (λ (x : Replica). x ∷ rs) at
+set_same (r ∷ rs) (suc place) y store l at e = ap (λ (xs : List Replica). r ∷ xs) (set_same rs place y store (omega (arith, l)) at e)

@@ -9,7 +9,7 @@ ghost use Rattle.hx_types.specs.Subspaces.{is_key_region};
 ghost use Rattle.hx_types.specs.Words.{when_some};
 ghost use Rattle.hx_folds.specs.Folding.{folded_server};
 ghost use Rattle.hx_model.specs.ServerSteps.{Replica as ReplicaState, asked, halting, hearing, if_installed, install_at, listed_regions, replica_of, seal_at, server_at_start, server_step, snapped, state_in, tick_step};
-ghost use Rattle.hx_model.specs.Slots.{new_state};
+ghost use Rattle.hx_model.specs.Slots.{found_in, new_state};
 ghost use Rattle.hx_replica.specs.Hearing.{IsOfOneSlot, heard, leading};
 ghost use Rattle.hx_replica.specs.Installing.{IsSnapshot};
 ghost use Rattle.hx_replica.specs.Adopting.{lean_with_config};
@@ -33,7 +33,7 @@ use crate::ticking::{tell_ready, tick_all};
 use hx_region::RegionMap;
 use hx_slot::Slot;
 use hx_types::{
-    Actor, Config, Entry, Epoch, Exact, Input, Memory, Message, Op, Post, Posts, RegionId,
+    Actor, Config, Entry, Epoch, Exact, Input, Memory, Message, Op, Post, Posts, RegionId, Rows,
     ServerId, Shared, Snapshot, Space, Terms, Text, Updates, first_config,
 };
 use std::alloc::Global;
@@ -361,9 +361,10 @@ impl Server {
         }
     }
 
-    /// What a search finds in a region, where this server is a ready member of it.
+    /// What a search finds in a region, where this server is a ready member of it. All of the server
+    /// stays, whatever comes: only the index of the region's store is brought up to date.
     fn found(
-        &self,
+        &mut self,
         alloc: Global,
         from: Actor,
         epoch: Epoch,
@@ -371,27 +372,40 @@ impl Server {
         region: RegionId,
         terms: &Terms,
     ) -> Result<Posts, Memory>
-        ensures { IfOk result (λ posts. posts ≡ (asked self.now.state from epoch number terms.now (if_installed (hearing self.now.state epoch region))).posts) }
+        ensures posts { IfOk result (λ posts. posts ≡ (asked self.old.state from epoch number terms.now (if_installed (hearing self.old.state epoch region))).posts) }
+        ensures stays { self.new ≡ self.old }
     {
         let mut posts = Posts::new(alloc);
         let Some(place) = self.installed_at(epoch, region) else {
             return Ok(posts);
         };
-        if self.config.lists_ready(region, self.id) {
-            let mut looks = 0;
-            let rows = self.replicas[place].store.find(alloc, terms, &mut looks)?;
-            posts.push(Post {
-                from: Actor::Server(self.id),
-                to: from,
-                message: Message::Found {
-                    epoch,
-                    number,
-                    region,
-                    rows,
-                },
-            })?;
+        if !self.config.lists_ready(region, self.id) {
+            return Ok(posts);
         }
+        let from_here = Actor::Server(self.id);
+        let rows = self.rows_of(alloc, place, terms)?;
+        posts.push(Post {
+            from: from_here,
+            to: from,
+            message: Message::Found {
+                epoch,
+                number,
+                region,
+                rows,
+            },
+        })?;
         Ok(posts)
+    }
+
+    /// What a search finds in the replica at a place.
+    fn rows_of(&mut self, alloc: Global, place: usize, terms: &Terms) -> Result<Rows, Memory>
+        requires { place < length self.old.state.replicas }
+        ensures rows { IfOk result (λ rows. IsSomeAnd (slice_get self.old.state.replicas place) (λ (r : ReplicaState). rows ≡ found_in r.region terms.now r.states)) }
+        ensures stays { self.new ≡ self.old }
+    {
+        let mut looks = 0;
+        let replica = &mut self.replicas[place];
+        replica.store.find(alloc, terms, &mut looks)
     }
 
     /// The step of the slot to which a message goes; where none hears it, nothing moves.

@@ -1,9 +1,9 @@
 -- Keys and their slots as entries.
-use Rattle.std.proofs.Common.{◌≡◌, ℕ, zero, suc, ◌+◌, ◌^◌, ◌<◌, ◌≤◌, Bool, true, false, List, [], ◌∷◌, ◌++◌, length, is_some, Option, None, Some, IfNone, refl, ap, sym, ◌∙◌, subst, arith, cond}
+use Rattle.std.proofs.Common.{◌≡◌, ℕ, zero, suc, ◌+◌, ◌<◌, ◌≤◌, Bool, true, false, List, [], ◌∷◌, ◌++◌, length, is_some, Option, None, Some, refl, ap, sym, ◌∙◌, subst, arith, cond, inl, inr}
 use Rattle.std.specs.List.{list_any, slice_get, slice_set}
 use Rattle.std.specs.Map.{keys_of, lookup, values_of}
 use Rattle.std.specs.Option.{IsSomeAnd}
-use Rattle.std.proofs.lemmas.Bool.{false≢true}
+use Rattle.std.proofs.lemmas.Bool.{cases_eq, false≢true}
 use Rattle.std.proofs.lemmas.Option.{same_Some}
 use Rattle.indexmap.specs.IndexMap.{set_value_at}
 use Rattle.hx_types.specs.declared.calls.Row.{Row}
@@ -11,12 +11,13 @@ use Rattle.hx_types.specs.declared.ids.RegionId.{RegionId}
 use Rattle.hx_types.specs.Words.{same_text, when_some}
 use Rattle.hx_model.specs.Slots.{KeyState, object_of}
 use Rattle.hx_slot.specs.States.{SlotState}
-use Rattle.hx_index.specs.Orders.{IndexState, IsIndexOf, rows_at}
-use Rattle.hx_index.proofs.Looping.{set-here, set-length}
+use Rattle.hx_index.specs.Orders.{rows_at}
+use Rattle.hx_index.proofs.Looping.{set-elsewhere, set-here, set-length}
+use Rattle.hx_store.specs.Indexed.{IndexedState, IsWider, is_marked, kept_at}
 use Rattle.hx_store.specs.Invariant.{HasMoved, is_listed, key_in, stored_at}
-use Rattle.hx_store.specs.Slots.{AreSlots, Entry, IsKept, IsStepped, StoreSlot, entries_of, kept_count, one_kept, rows_in}
+use Rattle.hx_store.specs.Slots.{AreSlots, Entry, IsStepped, StoreSlot, entries_of, rows_in}
 use Rattle.hx_store.proofs.Finding.{none-lookup}
-use Rattle.hx_store.proofs.Indexed.{row, same-set}
+use Rattle.hx_store.proofs.Following.{set-marked, set-unmarked}
 
 abbrev Key : Type 0
 Key = List ℕ × Bool
@@ -55,10 +56,10 @@ listed-at (k ∷ ks) [] i e = absurd (omega (arith, e))
 listed-at (k ∷ ks) (s ∷ ss) zero e = refl
 listed-at (k ∷ ks) (s ∷ ss) (suc i) e = listed-at ks ss i (omega (arith, e))
 
-pub rows-are : (ks : List Key) (ss : List SlotState) → length ks ≡ length ss → rows_in (entries_of ks ss) ≡ rows_at ss
+pub rows-are : (ks : List Key) (ss : List SlotState) → length ks ≡ length ss → rows_in (entries_of ks ss) ≡ kept_at ss
 rows-are ks ss e = λ k i. at ks ss e i k
   where
-    at : (ks : List Key) (ss : List SlotState) → length ks ≡ length ss → (i : ℕ) → rows_in (entries_of ks ss) i ≡ rows_at ss i
+    at : (ks : List Key) (ss : List SlotState) → length ks ≡ length ss → (i : ℕ) → rows_in (entries_of ks ss) i ≡ kept_at ss i
     at [] [] e i = refl
     at [] (s ∷ ss) e i = absurd (omega (arith, e))
     at (k ∷ ks) [] e i = absurd (omega (arith, e))
@@ -136,7 +137,7 @@ module _ (ks : List Key) (ss : List SlotState) (es : List Entry) (e : length ks 
   pub listed-seen : (i : ℕ) → is_listed es i ≡ when_some (slice_get ks i) false (λ (k : Key). k.1)
   listed-seen i = ap (λ (xs : List Entry). is_listed xs i) (sym view) ∙ listed-at ks ss i e
 
-  pub rows-seen : rows_in es ≡ rows_at ss
+  pub rows-seen : rows_in es ≡ kept_at ss
   rows-seen = ap rows_in (sym view) ∙ rows-are ks ss e
 
   pub moved-seen : (i fall : ℕ) (step : RegionId → KeyState → KeyState) (new : List SlotState) → IsStepped i step fall ss new → HasMoved i step fall es (entries_of ks new)
@@ -157,9 +158,50 @@ module _ (ks : List Key) (ss : List SlotState) (es : List Entry) (e : length ks 
   pub looked-seen : (p : List ℕ → Bool) → is_some (lookup p ks) ≡ is_some (lookup p es)
   looked-seen p = sym (looked-up p ks ss e) ∙ ap (λ (xs : List Entry). is_some (lookup p xs)) view
 
+abbrev row : SlotState → Option Row
+row s = object_of s.region s.state
+
+abbrev row-in : Option SlotState → Option Row
+row-in o = when_some o None row
+
 -- a slot that keeps its object is set
-pub are-set : (ks : List Key) (ss : List SlotState) (index : IndexState) (i : ℕ) (s w : SlotState) → AreSlots ks ss index → slice_get ss i ≡ Some s → row w ≡ row s → AreSlots ks (slice_set ss i w) index
-are-set ks ss index i s w h at e = record { count = h.count ∙ sym (set-length ss i w); kept = same-set ss i s at w index h.kept e }
+pub are-set : (ks : List Key) (ss : List SlotState) (x : IndexedState) (i : ℕ) (s w : SlotState) → AreSlots ks ss x → i < length ss → slice_get ss i ≡ Some s → row w ≡ row s → AreSlots ks (slice_set ss i w) x
+are-set ks ss x i s w h l at e = record {
+  count = h.count ∙ sym (set-length ss i w);
+  kept = record {
+    count = (let c = h.kept.count in let n = set-length ss i w in omega (arith, c, n));
+    fresh = λ k f. h.kept.fresh k f ∙ same k;
+  };
+}
+  where
+    same : (k : ℕ) → kept_at ss k ≡ kept_at (slice_set ss i w) k
+    same k = elim (cases_eq k i) [
+      | inl p ↦ ap (kept_at ss) p ∙ ap row-in at ∙ sym e ∙ sym (ap row-in (set-here ss i w l)) ∙ ap (kept_at (slice_set ss i w)) (sym p)
+      | inr n ↦ sym (ap row-in (set-elsewhere ss i k w n))
+    ]
+
+-- any slot is set at a place that is marked
+pub set-stale : (ks : List Key) (ss : List SlotState) (x y : IndexedState) (i : ℕ) (w : SlotState) → AreSlots ks ss x → i < length ss → y.rows ≡ x.rows → y.stale ≡ slice_set x.stale i true → AreSlots ks (slice_set ss i w) y
+set-stale ks ss x y i w h l rs ms = record {
+  count = h.count ∙ sym (set-length ss i w);
+  kept = record {
+    count = (let c = h.kept.count in let n = set-length ss i w in let q = ap length ms in let m = set-length x.stale i true in omega (arith, c, n, q, m));
+    fresh = λ k f. elim (cases_eq k i) [
+      | inl p ↦ absurd (false≢true (sym f ∙ (λ j. is_marked (ms j) (p j)) ∙ set-marked x.stale i true (let c = h.kept.count in omega (arith, c, l))))
+      | inr n ↦ ap (λ (rows : List (Option Row)). rows_at rows k) rs ∙ h.kept.fresh k (sym (ap (λ (m : List Bool). is_marked m k) ms ∙ set-unmarked x.stale i k true n) ∙ f) ∙ sym (ap row-in (set-elsewhere ss i k w n))
+    ];
+  };
+}
+
+-- the index got places
+pub wider-slots : (ks : List Key) (ss : List SlotState) (x y : IndexedState) → AreSlots ks ss x → IsWider x y → AreSlots ks ss y
+wider-slots ks ss x y h more = record {
+  count = h.count;
+  kept = record {
+    count = (let c = h.kept.count in let m = more.count in omega (arith, c, m));
+    fresh = λ i f. more.rows i ∙ h.kept.fresh i (sym (more.stale i) ∙ f);
+  };
+}
 
 pub value-there : (ks : List Key) (i : ℕ) → i < length ks → None ≡ slice_get (values_of ks) i → ⊥
 value-there [] i l e = omega arith
@@ -179,37 +221,23 @@ no-key ks ss es e view key n = none-there (lookup (same_text key) ks) (looked-se
 
 -- a slot without an object comes last
 module _ (ss : List SlotState) (s : SlotState) (none : row s ≡ None) where
-  rows-added : (xs : List SlotState) (i : ℕ) → rows_at (xs ++ s ∷ []) i ≡ rows_at xs i
+  rows-added : (xs : List SlotState) (i : ℕ) → kept_at (xs ++ s ∷ []) i ≡ kept_at xs i
   rows-added [] zero = none
   rows-added [] (suc i) = refl
   rows-added (x ∷ xs) zero = refl
   rows-added (x ∷ xs) (suc i) = rows-added xs i
 
-  count-added : (xs : List SlotState) → kept_count (xs ++ s ∷ []) ≡ kept_count xs
-  count-added [] = let z = ap one_kept none in omega (arith, z)
-  count-added (x ∷ xs) = let more = count-added xs in omega (arith, more)
-
   length-added : (xs : List SlotState) → length (xs ++ s ∷ []) ≡ length xs + 1
   length-added [] = refl
   length-added (x ∷ xs) = let more = length-added xs in omega (arith, more)
 
-  pub kept-added : (old new : IndexState) → IsKept ss old → new.orders ≡ old.orders → length ss + 1 ≤ new.room → length ss + 1 < 2 ^ 32 → IsKept (ss ++ s ∷ []) new
-  kept-added old new h same room few = record {
-    index_is =
-        subst (λ (rows : ℕ → Option Row). IsIndexOf rows new) (λ k i. sym (rows-added ss i) k)
-        (subst (λ (os : List (List ℕ)). IsIndexOf (rows_at ss) (record { orders = os; room = new.room })) (sym same) (seen-room h.index_is));
-    count = (let c = h.count in let q = ap (λ (os : List (List ℕ)). length (when_some (slice_get os 0) [] (λ (o : List ℕ). o))) same in let r = count-added ss in omega (arith, c, q, r));
-    room = (let l = length-added ss in omega (arith, l, room));
-    few = (let l = length-added ss in omega (arith, l, few));
-  }
-    where
-      seen-room : IsIndexOf (rows_at ss) old → IsIndexOf (rows_at ss) (record { orders = old.orders; room = new.room })
-      seen-room is = is
-
-  pub slots-added : (ks : List Key) (key : List ℕ) (old new : IndexState) → AreSlots ks ss old → new.orders ≡ old.orders → length ss + 1 ≤ new.room → length ss + 1 < 2 ^ 32 → AreSlots (ks ++ (key, false) ∷ []) (ss ++ s ∷ []) new
-  slots-added ks key old new h same room few = record {
+  pub slots-added : (ks : List Key) (key : List ℕ) (x y : IndexedState) → AreSlots ks ss x → IsWider x y → length ss + 1 ≤ length y.stale → AreSlots (ks ++ (key, false) ∷ []) (ss ++ s ∷ []) y
+  slots-added ks key x y h more room = record {
     count = (let a = keys-added ks in let b = length-added ss in let c = h.count in omega (arith, a, b, c));
-    kept = kept-added old new h.kept same room few;
+    kept = record {
+      count = (let l = length-added ss in omega (arith, l, room));
+      fresh = λ i f. more.rows i ∙ h.kept.fresh i (sym (more.stale i) ∙ f) ∙ sym (rows-added ss i);
+    };
   }
     where
       keys-added : (ks : List Key) → length (ks ++ (key, false) ∷ []) ≡ length ks + 1

@@ -1,16 +1,14 @@
 -- What a look-up of a key says of its place.
 use Rattle.std.proofs.Common.{◌≡◌, ℕ, zero, suc, ◌<◌, ◌≤◌, Bool, true, false, ◌||◌, List, [], ◌∷◌, Option, None, Some, IfNone, IfSome, refl, ap, sym, ◌∙◌, arith, get_or, length, position, is_some}
-use Rattle.std.specs.List.{AllByRecursion, list_any, slice_get}
-use Rattle.std.specs.Map.{keys_of, lookup, values_of}
+use Rattle.std.specs.List.{AllByRecursion, list_any}
+use Rattle.std.specs.Map.{keys_of, lookup}
 use Rattle.std.proofs.lemmas.Bool.{cond_both, cond-false, false≢true, false_from_ne_true, or_left, or_right}
 use Rattle.std.proofs.lemmas.List.Quantifiers.{position-Some}
 use Rattle.std.proofs.lemmas.Option.{same_Some, slice_get-get_or}
 use Rattle.hx_types.specs.Words.{same_text, text_below, when_some}
-use Rattle.indexmap.specs.IndexMap.{set_value_at}
 use Rattle.hx_model.proofs.States.{eq_of_same_text}
 use Rattle.hx_folds.proofs.Texts.{below-trans}
-use Rattle.hx_store.specs.Slots.{StoreSlot}
-use Rattle.hx_store.specs.Invariant.{AscendAt, IsSplit, key_in, stored_at}
+use Rattle.hx_store.specs.Invariant.{AscendAt, IsSplit, key_in}
 use Rattle.hx_store.specs.Slots.{Entry}
 use Rattle.hx_store.proofs.Lists.{at-map, at-within, length-of-map}
 use Rattle.hx_store.proofs.Order.{differ-back}

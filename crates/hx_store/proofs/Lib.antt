@@ -1,8 +1,7 @@
 pub mod Moves
 pub mod Acknowledging
 pub mod Texts
-pub mod Objects
-pub mod Indexed
+pub mod Following
 pub mod Entries
 pub mod Sorting
 pub mod Matching

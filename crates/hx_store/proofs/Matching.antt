@@ -1,5 +1,5 @@
 -- What a search by the index finds: the objects that match, in byte order of keys, within a number of looks.
-use Rattle.std.proofs.Common.{◌≡◌, ℕ, zero, suc, ◌+◌, ◌*◌, ◌<◌, ◌≤◌, nat_lt, Bool, true, false, ◌&&◌, cond, List, [], ◌∷◌, ◌++◌, length, is_some, Option, None, Some, min, refl, ap, sym, ◌∙◌, subst, arith, eqb}
+use Rattle.std.proofs.Common.{◌≡◌, ℕ, zero, suc, ◌+◌, ◌*◌, ◌<◌, ◌≤◌, nat_lt, Bool, true, false, ◌&&◌, cond, List, [], ◌∷◌, ◌++◌, length, is_some, Option, None, Some, min, refl, ap, sym, ◌∙◌, arith, eqb}
 use Rattle.std.specs.List.{AllByRecursion, IsDistinct, filter, flat_map, slice_get}
 use Rattle.std.specs.List.Sorted.{IsStrictlySortedBy}
 use Rattle.std.specs.declared.cmp.Ordering.TheVariants.{Less}
@@ -15,17 +15,18 @@ use Rattle.hx_types.specs.declared.values.Term.{Term}
 use Rattle.hx_types.specs.Spaces.{attribute_of}
 use Rattle.hx_types.specs.Words.{list_of, when_some}
 use Rattle.hx_model.specs.Matching.{matches, term_holds}
-use Rattle.hx_model.specs.Slots.{KeyState, found_in, new_state, object_of, rows_of}
+use Rattle.hx_model.specs.Slots.{found_in, new_state, object_of, rows_of}
 use Rattle.hx_index.specs.Looks.{digits_of}
 use Rattle.hx_index.specs.Orders.{IndexState, IsIndexOf, IsOrder, compare_at, count_of, order_of, stands_in}
 use Rattle.hx_index.specs.Searches as index
-use Rattle.hx_index.specs.Sides.{matches_at, meets_at}
+use Rattle.hx_index.specs.Sides.{matches_at}
 use Rattle.hx_store.specs.Invariant.{AscendAt, IsStoreSlot, is_listed, state_in, states_in}
 use Rattle.hx_store.specs.Looks.{indexed_count, is_indexed, least_count, meeting_count, most_looks_at}
 use Rattle.hx_store.specs.Slots.{Entry, rows_in}
 use Rattle.hx_store.proofs.Lists.{all-at}
 use Rattle.hx_store.proofs.Order.{listed-there}
-use Rattle.hx_store.proofs.Sorting.{ascend-times, distinct-times, filter-ascends, same-list, same-numbers, stands-filter, times}
+use Rattle.hx_store.specs.Indexed.{times}
+use Rattle.hx_store.proofs.Sorting.{ascend-times, distinct-times, filter-ascends, same-list, same-numbers, stands-filter}
 
 second : (a b : Bool) → (a && b) ≡ true → b ≡ true
 second true b e = e

@@ -5,7 +5,7 @@ use Rattle.hx_folds.specs.Folding.{folded}
 use Rattle.hx_types.specs.declared.ids.RegionId.{RegionId}
 use Rattle.hx_types.specs.declared.ids.Version.{Version}
 use Rattle.hx_types.specs.declared.updates.Update.{Update}
-use Rattle.hx_model.specs.Slots.{Acknowledge, Commit, Forget, Hold, KeyState, Move, Take, is_pending, moved, moved_all, offered, settled}
+use Rattle.hx_model.specs.Slots.{Acknowledge, Commit, Forget, Hold, KeyState, Move, Take, moved, moved_all, offered, settled}
 use Rattle.hx_store.specs.Stores.{accepted, acknowledging}
 
 pub moved_parts : (m : Move) (s : KeyState) → ((moved m s).base ≡ s.base) × ((moved m s).marks ≡ s.marks)

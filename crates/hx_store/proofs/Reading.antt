@@ -3,16 +3,13 @@ use Rattle.std.proofs.Common.{◌≡◌, ℕ, zero, suc, ◌+◌, ◌==◌, nat_
 use Rattle.std.specs.List.{AllByRecursion, filter, slice_get}
 use Rattle.std.proofs.lemmas.Bool.{cond-true, cond-false, lt-ltb, ne_eqb}
 use Rattle.std.proofs.lemmas.List.Elements.{filter-append}
-use Rattle.hx_types.specs.declared.calls.Row.{Row}
 use Rattle.hx_types.specs.declared.ids.RegionId.{RegionId}
 use Rattle.hx_types.specs.declared.snapshots.Kept.{Kept}
 use Rattle.hx_types.specs.declared.updates.Update.{Update}
-use Rattle.hx_types.specs.declared.values.Term.{Term}
 use Rattle.hx_types.specs.Words.{list_of, same_text, text_below}
 use Rattle.hx_folds.specs.Folding.{KeptsAscend, KeysAscend}
-use Rattle.hx_model.specs.Matching.{matches}
 use Rattle.hx_model.specs.ServerSteps.{state_from}
-use Rattle.hx_model.specs.Slots.{KeyState, found_in, kept_of, object_of, pending_of, pending_of_all, rows_of, snapshot_of, with_state}
+use Rattle.hx_model.specs.Slots.{KeyState, kept_of, pending_of, pending_of_all, snapshot_of, with_state}
 use Rattle.hx_folds.proofs.Texts.{below-differs}
 use Rattle.hx_slot.specs.States.{SlotState}
 use Rattle.hx_store.specs.Reading.{committed_of}

@@ -1,7 +1,7 @@
 -- Places in byte order of their keys: one list for each set of places.
 use Rattle.std.proofs.Common.{◌≡◌, ℕ, zero, suc, ◌+◌, ◌<◌, ◌≤◌, nat_lt, Bool, true, false, ◌&&◌, ◌||◌, cond, List, [], ◌∷◌, length, get_or, inl, inr, refl, ap, sym, ◌∙◌, subst, arith, eqb}
 use Rattle.std.specs.Prelude.{⊤}
-use Rattle.std.specs.List.{AllByRecursion, IsDistinct, filter, list_any, slice_get, sum_by}
+use Rattle.std.specs.List.{AllByRecursion, IsDistinct, filter, sum_by}
 use denote.Ref.{Bor}
 use denote.Param.Members.{Mut}
 use Rattle.std.specs.Cmp.{IsStrictWeakOrder}
@@ -18,17 +18,14 @@ use Rattle.hx_types.specs.Words.{same_text, text_below, when_some}
 use Rattle.hx_folds.proofs.Texts.{above, below-trans}
 use Rattle.hx_index.specs.Orders.{stands_in}
 use Rattle.hx_store.specs.Invariant.{AscendAt, KeysApart, key_in}
+use Rattle.hx_store.specs.Indexed.{one_if, times}
 use Rattle.hx_store.specs.Slots.{Entry}
 use Rattle.hx_store.proofs.Lists.{at-within}
 use Rattle.hx_store.proofs.Order.{not-below-back, not-below-self, same-place}
 
--- how often a number stands in a list
+-- whether it is this number
 abbrev pub is-it : ℕ → ℕ → ℕ
-is-it i j = cond (eqb j i) 1 0
-
-abbrev pub times : ℕ → List ℕ → ℕ
-times i [] = 0
-times i (x ∷ xs) = is-it i x + times i xs
+is-it i j = one_if (eqb j i)
 
 pub times-sum : (i : ℕ) (xs : List ℕ) → times i xs ≡ sum_by (is-it i) xs
 times-sum i [] = refl

@@ -1,14 +1,11 @@
 -- What is read of a slot.
 use Rattle.std.specs.Prelude.{◌≡◌, ℕ, Bool, List, map}
-use Rattle.std.specs.List.{AllByRecursion, filter}
-use Rattle.hx_types.specs.declared.calls.Row.{Row}
+use Rattle.std.specs.List.{AllByRecursion}
 use Rattle.hx_types.specs.declared.snapshots.Kept.{Kept}
-use Rattle.hx_types.specs.declared.values.Term.{Term}
 use Rattle.hx_types.specs.Words.{list_of}
-use Rattle.hx_model.specs.Matching.{matches}
 use Rattle.hx_folds.specs.Folding.{KeysAscend}
 use Rattle.hx_model.specs.ServerSteps.{state_from}
-use Rattle.hx_model.specs.Slots.{KeyState, kept_of, no_kept, object_of, snapshot_of, state_among}
+use Rattle.hx_model.specs.Slots.{KeyState, kept_of, no_kept, snapshot_of, state_among}
 use Rattle.hx_types.specs.declared.ids.RegionId.{RegionId}
 use Rattle.hx_slot.specs.States.{SlotState, committed_state}
 

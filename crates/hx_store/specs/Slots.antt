@@ -1,12 +1,13 @@
 -- The slots of a store by the places of their keys, and the index of their kept objects.
-use Rattle.std.specs.Prelude.{◌≡◌, ℕ, ◌+◌, ◌^◌, ◌<◌, ◌≤◌, Bool, List, [], ◌∷◌, length, is_some, if◌then◌else◌, slice_get, Option, None, Some}
+use Rattle.std.specs.Prelude.{◌≡◌, ℕ, ◌+◌, ◌≤◌, Bool, List, [], ◌∷◌, length, slice_get, Option, None, Some}
 use Rattle.std.specs.List.{slice_set}
 use Rattle.hx_types.specs.declared.calls.Row.{Row}
 use Rattle.hx_types.specs.declared.ids.RegionId.{RegionId}
 use Rattle.hx_types.specs.Words.{when_some}
 use Rattle.hx_model.specs.Slots.{KeyState, object_of}
 use Rattle.hx_slot.specs.States.{SlotState}
-use Rattle.hx_index.specs.Orders.{IndexState, IsIndexOf, count_of, rows_at, rows_with}
+use Rattle.hx_index.specs.Orders.{IndexState, rows_at}
+use Rattle.hx_store.specs.Indexed.{IndexedState, IsOf}
 
 -- a slot, and whether it is part of the store: one that isn't has had no step yet
 pub record StoreSlot : Type 0 where
@@ -23,42 +24,24 @@ entries_of [] slots = []
 entries_of (k ∷ keys) [] = []
 entries_of (k ∷ keys) (s ∷ slots) = (k.0, record { slot = s; listed = k.1 }) ∷ entries_of keys slots
 
--- entries by the places of their keys, and the index of their kept objects
+-- entries by the places of their keys, and an index of rows, those by which it has the slots
 pub record SlotsState : Type 0 where
   pub entries : List Entry
+  pub rows : List (Option Row)
   pub index : IndexState
 
 -- the kept object of the slot at a place
 abbrev pub rows_in : List Entry → ℕ → Option Row
 rows_in es i = when_some (slice_get es i) None (λ (e : Entry). object_of e.1.slot.region e.1.slot.state)
 
--- 1 for a slot that keeps an object
-abbrev pub one_kept : Option Row → ℕ
-one_kept row = if is_some row then 1 else 0
-
--- how many slots keep an object
-abbrev pub kept_count : List SlotState → ℕ
-kept_count [] = 0
-kept_count (s ∷ slots) = one_kept (object_of s.region s.state) + kept_count slots
-
--- the index is that of the slots' kept objects, with room for every slot
-pub record IsKept (slots : List SlotState) (index : IndexState) : Type 0 where
-  pub index_is : IsIndexOf (rows_at slots) index
-  pub count : count_of index ≡ kept_count slots
-  pub room : length slots ≤ index.room
-  pub few : length slots < 2 ^ 32
-
--- the index is that of the slots' kept objects, where one slot has this one or none
-pub record IsKeptAs (row : Option Row) (place : ℕ) (slots : List SlotState) (index : IndexState) : Type 0 where
-  pub index_is : IsIndexOf (rows_with place row (rows_at slots)) index
-  pub count : count_of index + one_kept (rows_at slots place) ≡ kept_count slots + one_kept row
-  pub room : length slots ≤ index.room
-  pub few : length slots < 2 ^ 32
+-- the index has each slot by its kept object
+abbrev pub IsFresh : SlotsState → Type 0
+IsFresh s = rows_at s.rows ≡ rows_in s.entries
 
 -- there is a slot for each key, and the index is theirs
-pub record AreSlots (keys : List (List ℕ × Bool)) (slots : List SlotState) (index : IndexState) : Type 0 where
+pub record AreSlots (keys : List (List ℕ × Bool)) (slots : List SlotState) (indexed : IndexedState) : Type 0 where
   pub count : length keys ≡ length slots
-  pub kept : IsKept slots index
+  pub kept : IsOf slots indexed
 
 -- the slot at a place made a step, which lowers its room by so much at most
 pub record IsStepped (i : ℕ) (step : RegionId → KeyState → KeyState) (fall : ℕ) (old new : List SlotState) : Type 0 where

@@ -6,14 +6,15 @@
 //! was made then is part of the store only once a step opens it. Snapshots go through the slots in
 //! byte order of keys.
 //!
-//! Searches go by an index of the committed objects, as in HyperDex. It follows the slots: a slot
-//! whose object may change leaves the index before its step, and comes into it again afterwards.
+//! Searches go by an index of the committed objects, as in HyperDex. It is brought up to date when a
+//! search asks: a step only marks its slot, and the next search takes the objects of the marked
+//! slots into the index first.
 //!
 //! That memory suffices no contract says: a test shows it.
 #![tactic(auto)]
 
 mod copying;
-mod following;
+mod indexed;
 mod laws;
 mod searching;
 mod slots;

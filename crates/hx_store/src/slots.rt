@@ -8,12 +8,12 @@ ghost use Rattle.hx_index.specs.Orders.{IsIndexOf, stands_in};
 ghost use Rattle.hx_index.specs.Searches.{most_looks};
 ghost use Rattle.hx_index.specs.Sides.{matches_at};
 ghost use Rattle.hx_store.specs.Invariant.{AscendAt, HasMoved, IsAdded, IsListedAt, IsReplacedAt, IsSplit, KeysApart, is_listed, key_in, stored_at};
-ghost use Rattle.hx_store.specs.Slots.{Entry, StoreSlot, rows_in};
+ghost use Rattle.hx_store.specs.Slots.{Entry, IsFresh, StoreSlot, rows_in};
 ghost use Rattle.hx_store.specs.Stores.{ArePending, CanBeOffered, accepted_at, acknowledged_at, forgotten_at, marked_at, no_moves, settled_at};
 
-use crate::following::{accept, acknowledge, replace, settle};
-use crate::searching::rows_at;
-use hx_index::{Ids, Index, View};
+use crate::indexed::Indexed;
+use crate::stepping::accept;
+use hx_index::Ids;
 use hx_slot::Slot;
 use hx_types::{Exact, Memory, RegionId, Rows, Shared, Terms, Text, Update, Version};
 use indexmap::IndexMap;
@@ -22,13 +22,13 @@ use std::cmp::Ordering;
 use std::marker::Model;
 
 /// The slot of each key, by its place: the number of the key in the order of coming. An index of
-/// the kept objects follows them.
+/// the kept objects is brought up to date when a search asks.
 #[derive(Drop)]
 pub struct Slots {
     /// Whether the slot of each key is part of the store.
     keys: IndexMap<Text, bool>,
     slots: Vec<Slot>,
-    index: Index,
+    indexed: Indexed,
 }
 
 impl Model for Slots {
@@ -36,9 +36,9 @@ impl Model for Slots {
 
     ghost Value = { SlotsState };
 
-    ghost view = { λ x. record { entries = entries_of x.keys.entries x.slots.items; index = x.index } };
+    ghost view = { λ x. record { entries = entries_of x.keys.entries x.slots.items; rows = x.indexed.rows; index = x.indexed.index } };
 
-    ghost invariant = { λ x. AreSlots x.keys.entries x.slots.items x.index };
+    ghost invariant = { λ x. AreSlots x.keys.entries x.slots.items x.indexed };
 }
 
 impl Slots {
@@ -47,11 +47,11 @@ impl Slots {
         ensures entries { IfOk result (λ slots. slots.entries ≡ []) }
         ensures attributes { IfOk result (λ slots. length slots.index.orders ≡ attributes + 1) }
     {
-        let index = Index::new(alloc, attributes)?;
+        let indexed = Indexed::new(alloc, attributes)?;
         Ok(Slots {
             keys: IndexMap::new(alloc),
             slots: Vec::new(alloc),
-            index,
+            indexed,
         })
     }
 
@@ -115,7 +115,7 @@ impl Slots {
         order.partition_point(|place| self.is_below(*place, key))
     }
 
-    /// The key of a place goes last, with an empty slot that isn't listed. The index has room for
+    /// The key of a place goes last, with an empty slot that isn't listed. The index has a place for
     /// it. Of more than 4,294,967,295 slots there is no index, and that is [`Memory`] too.
     pub fn add(
         &mut self,
@@ -133,7 +133,7 @@ impl Slots {
         if count >= u32::MAX as usize {
             return Err(Memory);
         }
-        self.index.reserve(alloc, count as u32 + 1)?;
+        self.indexed.widen(alloc, count as u32 + 1)?;
         self.slots.reserve(1)?;
         let slot = Slot::new(alloc, region, key.copy(alloc)?, marks);
         self.keys.insert(key.copy(alloc)?, false)?;
@@ -159,7 +159,8 @@ impl Slots {
         ensures replaced { IsReplacedAt place slot self.old.entries self.new.entries }
         ensures attributes { length self.new.index.orders ≡ length self.old.index.orders }
     {
-        replace(&mut self.index, &mut self.slots, place, slot);
+        self.indexed.mark(place);
+        self.slots[place] = slot;
     }
 
     /// Makes room for n more updates of the slot at a place.
@@ -181,14 +182,8 @@ impl Slots {
         ensures moved { HasMoved place (accepted_at update ends.now) 1 self.old.entries self.new.entries }
         ensures attributes { length self.new.index.orders ≡ length self.old.index.orders }
     {
-        accept(
-            &mut self.index,
-            &mut self.slots,
-            place,
-            update,
-            number,
-            ends,
-        );
+        self.indexed.mark(place);
+        accept(&mut self.slots[place], update, number, ends);
     }
 
     /// A version is acknowledged at the slot at a place, and what can be committed is.
@@ -197,7 +192,8 @@ impl Slots {
         ensures moved { HasMoved place (acknowledged_at version.0) 0 self.old.entries self.new.entries }
         ensures attributes { length self.new.index.orders ≡ length self.old.index.orders }
     {
-        acknowledge(&mut self.index, &mut self.slots, place, version);
+        self.indexed.mark(place);
+        let _ = self.slots[place].ack(version);
     }
 
     /// The slot at a place forgets which pending updates are acknowledged, and all early updates.
@@ -224,42 +220,43 @@ impl Slots {
         ensures moved { HasMoved place settled_at 0 self.old.entries self.new.entries }
         ensures attributes { length self.new.index.orders ≡ length self.old.index.orders }
     {
-        settle(&mut self.index, &mut self.slots, place);
+        self.indexed.mark(place);
+        let _ = self.slots[place].settle();
     }
 
-    /// The places of the slots at whose objects every term holds, in byte order of their keys.
+    /// Brings the index up to date. The slots stay; after an error those that it has not reached are
+    /// still marked.
+    pub fn refresh(&mut self, alloc: Global) -> Result<(), Memory>
+        ensures entries { self.new.entries ≡ self.old.entries }
+        ensures fresh { OnOk result (IsFresh self.new) }
+        ensures attributes { length self.new.index.orders ≡ length self.old.index.orders }
+    {
+        self.indexed.refresh(alloc, self.slots.as_slice())
+    }
+
+    /// The places of the slots at whose objects every term holds, in byte order of their keys. The
+    /// index is up to date.
     pub fn find(&self, alloc: Global, terms: &Terms, looks: &mut u64) -> Result<Ids, Memory>
-        requires { KeysApart self.now.entries }
+        requires apart { KeysApart self.now.entries }
+        requires fresh { IsFresh self.now }
         ensures matching { IfOk result (λ ids. (i : ℕ) → stands_in ids.items i ≡ matches_at (rows_in self.now.entries) terms.now i) }
         ensures ascend { IfOk result (λ ids. AscendAt self.now.entries ids.items) }
         ensures index { IsIndexOf (rows_in self.now.entries) self.now.index }
         ensures counted { looks.old ≤ looks.new }
         ensures looks { looks.new ≤ looks.old + most_looks self.now.index (rows_in self.now.entries) terms.now }
     {
-        let mut ids = self.matching(alloc, terms, looks)?;
+        let mut ids = self.indexed.find(alloc, terms, looks)?;
         self.sort_by_keys(&mut ids);
         Ok(ids)
     }
 
-    /// Copies of the committed objects of the slots at these places, one after another.
+    /// Copies of the committed objects of the slots at these places, one after another. The index is
+    /// up to date.
     pub fn rows(&self, alloc: Global, places: &[u32]) -> Result<Rows, Memory>
+        requires { IsFresh self.now }
         ensures { IfOk result (λ rows. rows ≡ flat_map (λ i. list_of (rows_in self.now.entries i)) places.now) }
     {
-        rows_at(alloc, self.slots.as_slice(), places)
-    }
-
-    /// The places of the slots at whose objects every term holds, each once, in any order.
-    fn matching(&self, alloc: Global, terms: &Terms, looks: &mut u64) -> Result<Ids, Memory>
-        ensures matching { IfOk result (λ ids. (i : ℕ) → stands_in ids.items i ≡ matches_at (rows_in self.now.entries) terms.now i) }
-        ensures once { IfOk result (λ ids. IsDistinct nat_eq ids.items) }
-        ensures index { IsIndexOf (rows_in self.now.entries) self.now.index }
-        ensures counted { looks.old ≤ looks.new }
-        ensures looks { looks.new ≤ looks.old + most_looks self.now.index (rows_in self.now.entries) terms.now }
-    {
-        let mut view = View::new(self.slots.as_slice(), *looks);
-        let found = self.index.find(alloc, &mut view, terms);
-        *looks = view.looks();
-        found
+        self.indexed.rows(alloc, places)
     }
 
     /// Puts places of slots into byte order of their keys. Each stands there once.

@@ -1,10 +1,10 @@
-ghost use Rattle.std.specs.Prelude.{◌≡◌, ◌<◌, ◌≤◌, ◌++◌, length, nat_lt};
+ghost use Rattle.std.specs.Prelude.{◌≡◌, ◌+◌, ◌<◌, ◌≤◌, ◌++◌};
 ghost use Rattle.hx_folds.specs.Folding.{folded};
-ghost use Rattle.hx_model.specs.Slots.{moved_all, settled, top_of};
-ghost use Rattle.hx_store.specs.Stores.{ArePending, acknowledging};
+ghost use Rattle.hx_model.specs.Slots.{moved_all, offered, settled};
+ghost use Rattle.hx_store.specs.Stores.{ArePending, CanBeOffered, accepted_at, acknowledging};
 
 use hx_slot::Slot;
-use hx_types::Version;
+use hx_types::{Shared, Update, Version};
 
 /// Pending versions of a slot are acknowledged, and what can be committed is.
 pub fn settle_all(slot: &mut Slot, versions: &[Version])
@@ -29,21 +29,17 @@ pub fn acknowledge_all(slot: &mut Slot, versions: &[Version])
     }
 }
 
-/// Whether a slot holds an early update. The floor is never above the top.
-pub fn holds_early(slot: &Slot) -> bool
-    ensures early { result ≡ nat_lt 0 (length slot.now.state.early) }
-    ensures floor { slot.now.state.floor ≤ top_of slot.now.state }
+/// A slot is offered an update, whose place in the region has this number; then these versions,
+/// whose chain ends here, are acknowledged, and what can be committed is.
+pub fn accept(slot: &mut Slot, update: Shared<Update>, number: u32, ends: &[Version])
+    requires room { 0 < slot.old.spare }
+    requires offer { CanBeOffered slot.old.region update number }
+    requires pending { ArePending (moved_all (offered slot.old.region slot.old.state update) slot.old.state) ends.now }
+    ensures state { slot.new.state ≡ accepted_at update ends.now slot.old.region slot.old.state }
+    ensures region { slot.new.region ≡ slot.old.region }
+    ensures spare { slot.old.spare ≤ slot.new.spare + 1 }
 {
-    let _floor = slot.floor();
-    slot.early_count() > 0
-}
-
-/// Whether the lowest pending update is acknowledged, so that it can be committed.
-pub fn can_settle(slot: &Slot) -> bool
-    ensures { result ≡ nat_lt 0 (length (settled slot.now.state)) }
-{
-    match slot.pending(0) {
-        Some(update) => slot.is_acknowledged(update.version),
-        None => false,
-    }
+    let _ = slot.offer(update, number);
+    acknowledge_all(slot, ends);
+    let _ = slot.settle();
 }

@@ -116,13 +116,18 @@ impl Store {
 
     /// The committed objects of which every term holds, in byte order of keys: what a search finds
     /// in the region, as in HyperDex. It goes through the objects that meet the term which fewest
-    /// meet, and counts each look at an object.
-    pub fn find(&self, alloc: Global, terms: &Terms, looks: &mut u64) -> Result<Rows, Memory>
-        ensures rows { IfOk result (λ rows. rows ≡ found_in self.now.region terms.now self.now.states) }
-        ensures ascend { KeysAscend self.now.states }
+    /// meet, and counts each look at an object. The store stays, whatever comes.
+    ///
+    /// Its index is brought up to date first, which is not counted: for each slot that was changed
+    /// since the last search two binary searches in each order whose value is another one.
+    pub fn find(&mut self, alloc: Global, terms: &Terms, looks: &mut u64) -> Result<Rows, Memory>
+        ensures rows { IfOk result (λ rows. rows ≡ found_in self.old.region terms.now self.old.states) }
+        ensures ascend { KeysAscend self.old.states }
         ensures counted { looks.old ≤ looks.new }
-        ensures looks { looks.new ≤ looks.old + most_looks_at self.now.attributes (rows_of self.now.region self.now.states) terms.now }
+        ensures looks { looks.new ≤ looks.old + most_looks_at self.old.attributes (rows_of self.old.region self.old.states) terms.now }
+        ensures stays { self.new ≡ self.old }
     {
+        self.slots.refresh(alloc)?;
         let places = self.slots.find(alloc, terms, looks)?;
         self.slots.rows(alloc, places.as_slice())
     }

@@ -60,7 +60,7 @@ fn two_keys(alloc: Global) -> Result<Store, Memory>
 #[test]
 fn keys_stand_in_byte_order(rt: HostRuntime) -> Result<(), Memory> {
     let alloc = rt.alloc();
-    let store = two_keys(alloc)?;
+    let mut store = two_keys(alloc)?;
     let first = store.nth(0).map(|slot| slot.key().as_str());
     let mut looks = 0;
     assert_eq!(rt; first, Some("a"));
@@ -75,22 +75,30 @@ fn keys_stand_in_byte_order(rt: HostRuntime) -> Result<(), Memory> {
     Ok(())
 }
 
-/// A slot of a key, whose object of version 1 has this number.
+/// A slot whose key has this number, as its object has.
 fn numbered(alloc: Global, number: i64) -> Result<Slot, Memory>
     ensures region { IfOk result (λ (slot : SlotState). slot.region ≡ record { 0 = 3 }) }
     ensures marks { IfOk result (λ (slot : SlotState). slot.state.marks ≡ false) }
 {
     let key = format!(in alloc; "k{number}")?;
+    keyed(alloc, &key, number)
+}
+
+/// A slot of a key, whose object of version 1 has this number.
+fn keyed(alloc: Global, key: &str, number: i64) -> Result<Slot, Memory>
+    ensures region { IfOk result (λ (slot : SlotState). slot.region ≡ record { 0 = 3 }) }
+    ensures marks { IfOk result (λ (slot : SlotState). slot.state.marks ≡ false) }
+{
     let mut object = Object::new(alloc);
     object.push(Value::Text(Text::from_str(alloc, "")?))?;
     object.push(Value::Int(number))?;
     let row = Row {
-        key: Text::from_str(alloc, &key)?,
+        key: Text::from_str(alloc, key)?,
         version: Version(1),
         object,
     };
     let kept = Kept {
-        key: Text::from_str(alloc, &key)?,
+        key: Text::from_str(alloc, key)?,
         floor: Version(1),
         object: Some(row),
         marks: Marks::new(alloc),
@@ -132,7 +140,7 @@ fn between(alloc: Global, lo: i64, hi: i64) -> Result<Terms, Memory> {
 #[test]
 fn a_search_goes_by_the_index(rt: HostRuntime) -> Result<(), Memory> {
     let alloc = rt.alloc();
-    let store = thousand(alloc)?;
+    let mut store = thousand(alloc)?;
     let mut looks = 0;
     let rows = store.find(alloc, &between(alloc, 500, 500)?, &mut looks)?;
     assert!(rt; rows.len() == 1);
@@ -144,7 +152,7 @@ fn a_search_goes_by_the_index(rt: HostRuntime) -> Result<(), Memory> {
 #[test]
 fn rows_stand_in_byte_order(rt: HostRuntime) -> Result<(), Memory> {
     let alloc = rt.alloc();
-    let store = thousand(alloc)?;
+    let mut store = thousand(alloc)?;
     let mut looks = 0;
     let rows = store.find(alloc, &between(alloc, 9, 10)?, &mut looks)?;
     assert!(rt; rows.len() == 2);
@@ -170,5 +178,27 @@ fn an_object_that_is_replaced_is_found_no_more(rt: HostRuntime) -> Result<(), Me
             .is_empty()
     );
     assert!(rt; looks == 0);
+    Ok(())
+}
+
+/// Whether a store has exactly one object with a number from a lower to an upper end.
+fn has_one(alloc: Global, store: &mut Store, lo: i64, hi: i64) -> Result<bool, Memory>
+    ensures { store.new ≡ store.old }
+{
+    let mut looks = 0;
+    let rows = store.find(alloc, &between(alloc, lo, hi)?, &mut looks)?;
+    Ok(rows.len() == 1)
+}
+
+#[test]
+fn an_object_is_found_by_its_last_value(rt: HostRuntime) -> Result<(), Memory> {
+    let alloc = rt.alloc();
+    let mut store = Store::new(alloc, &space(alloc)?, RegionId(3), false)?;
+    store.put(alloc, keyed(alloc, "k", 100)?)?;
+    assert!(rt; has_one(alloc, &mut store, 100, 100)?);
+    store.put(alloc, keyed(alloc, "k", 200)?)?;
+    store.put(alloc, keyed(alloc, "k", 300)?)?;
+    assert!(rt; has_one(alloc, &mut store, 300, 300)?);
+    assert!(rt; !has_one(alloc, &mut store, 0, 299)?);
     Ok(())
 }

@@ -1,14 +1,14 @@
 use Rattle.std.proofs.Common.{Some, rules, arith}
 use Rattle.std.proofs.lemmas.List.Sorted.{IsPartitionPoint-from_clause}
 use Rattle.hx_index.specs.Invariant.{stands_before}
-use Rattle.hx_index.specs.Orders.{compare_at, row_lent, rows_at, rows_with}
+use Rattle.hx_index.specs.Orders.{compare_at, rows_at, rows_with}
 use Rattle.hx_index.proofs.Totals.{slots-total}
 use Rattle.hx_index.proofs.Inserting.{partitioned, split-at}
 use Rattle.hx_index.proofs.orders.place_of.Goals as goal
 
 pub returns : goal.returns
 returns c =
-    let rows = rows_with c.args.id (Some (row_lent c.args.row)) (rows_at c.args.slots.now) in
+    let rows = rows_with c.args.id (Some c.args.row.now) (rows_at c.args.rows.now) in
     let attribute = c.args.attribute in
     let test = stands_before rows attribute c.args.id in
     let count = c.partition_point.result in

@@ -4,4 +4,4 @@ use Rattle.hx_index.proofs.Looping.{HaveMoved}
 use Rattle.hx_index.proofs.orders.replace_everywhere.Given as goal
 
 abbrev pub invariant-loop-attribute : goal.invariant-loop-attribute
-invariant-loop-attribute l = HaveMoved (IsReplaced (rows_at l.slots)) l.attribute l.initial.orders.items l.orders.items
+invariant-loop-attribute l = HaveMoved (IsReplaced (rows_at l.rows)) l.attribute l.initial.orders.items l.orders.items

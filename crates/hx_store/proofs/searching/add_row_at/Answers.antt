@@ -1,8 +1,8 @@
 use Rattle.std.proofs.Common.{◌++◌, Option, append-nil, ap, sym, ◌∙◌}
 use Rattle.hx_types.specs.declared.calls.Row.{Row}
 use Rattle.hx_types.specs.Words.{list_of}
-use Rattle.hx_store.proofs.Indexed.{rows-past}
+use Rattle.hx_store.proofs.Following.{rows-past}
 use Rattle.hx_store.proofs.searching.add_row_at.Goals as goal
 
 pub returns-in-None : goal.returns-in-None
-returns-in-None c = sym (append-nil c.args.rows.now) ∙ ap (λ (o : Option Row). c.args.rows.now ++ list_of o) (sym (rows-past c.args.slots.now c.args.place c.in-None.ensures.lookup.3))
+returns-in-None c = sym (append-nil c.args.found.now) ∙ ap (λ (o : Option Row). c.args.found.now ++ list_of o) (sym (rows-past c.args.rows.now c.args.place c.in-None.ensures.lookup.3))

@@ -10,5 +10,5 @@ pub loop-place-preserved : goal.loop-place-preserved
 loop-place-preserved c =
     let place = get_or c.args.places.now c.loop-place.place-index 0 in
     c.in_ok-add_row_at.ensures
-    ∙ ap (λ (l : List Row). l ++ list_of (rows_at c.args.slots.now place)) c.loop-place.invariant
-    ∙ flat-next (λ i. list_of (rows_at c.args.slots.now i)) c.args.places.now c.loop-place.place-index place (slice_get-get_or c.args.places.now c.loop-place.place-index 0 c.loop-place-test.true)
+    ∙ ap (λ (l : List Row). l ++ list_of (rows_at c.args.rows.now place)) c.loop-place.invariant
+    ∙ flat-next (λ i. list_of (rows_at c.args.rows.now i)) c.args.places.now c.loop-place.place-index place (slice_get-get_or c.args.places.now c.loop-place.place-index 0 c.loop-place-test.true)

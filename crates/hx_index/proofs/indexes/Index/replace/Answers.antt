@@ -1,21 +1,18 @@
 use Rattle.std.proofs.Common.{Some, ap, sym, subst, ◌∙◌, length}
-use Rattle.hx_types.specs.declared.calls.Row.{Row}
-use Rattle.hx_index.specs.Invariant.{AreOrders}
 use Rattle.hx_index.specs.Orders.{IndexState, IsIndexOf, count_of, rows_at, rows_with}
 use Rattle.hx_index.proofs.Showing.{are-orders, items-length, replaced-count, replaced-index, replaced-orders}
 use Rattle.hx_index.proofs.indexes.Index.replace.Goals as goal
 
 pub replace_everywhere-requires-clause-orders : goal.replace_everywhere-requires-clause-orders
 replace_everywhere-requires-clause-orders c =
-    let rows = λ (r : Row). rows_with c.args.id (Some r) (rows_at c.args.slots.now) in
-    subst (λ (r : Row). AreOrders (rows r) c.self.inside.orders.items) (sym c.lend.ensures)
-    (are-orders (rows c.args.old.now) c.self.inside.orders.items c.self.inside.room (subst (IsIndexOf (rows c.args.old.now)) (sym c.self.view_is) c.requires.index))
+    let rows = rows_with c.args.id (Some c.args.old.now) (rows_at c.args.rows.now) in
+    are-orders rows c.self.inside.orders.items c.self.inside.room (subst (IsIndexOf rows) (sym c.self.view_is) c.requires.index)
 
 pub invariant_of-self : goal.invariant_of-self
-invariant_of-self c = replaced-orders c.self.inside.orders.items c.self.inside.room c.self.invariant (rows_at c.args.slots.now) c.args.id c.replace_everywhere.new.orders.items c.replace_everywhere.ensures
+invariant_of-self c = replaced-orders c.self.inside.orders.items c.self.inside.room c.self.invariant (rows_at c.args.rows.now) c.args.id c.replace_everywhere.new.orders.items c.replace_everywhere.ensures
 
 pub returns-clause-index : goal.returns-clause-index
-returns-clause-index c = replaced-index c.self.inside.orders.items c.self.inside.room c.self.invariant (rows_at c.args.slots.now) c.args.id c.replace_everywhere.new.orders.items c.replace_everywhere.ensures
+returns-clause-index c = replaced-index c.self.inside.orders.items c.self.inside.room c.self.invariant (rows_at c.args.rows.now) c.args.id c.replace_everywhere.new.orders.items c.replace_everywhere.ensures
 
 pub returns-clause-attributes : goal.returns-clause-attributes
 returns-clause-attributes c =
@@ -23,4 +20,4 @@ returns-clause-attributes c =
 
 pub returns-clause-count : goal.returns-clause-count
 returns-clause-count c =
-    replaced-count c.self.inside.orders.items c.self.inside.room c.self.invariant (rows_at c.args.slots.now) c.args.id c.replace_everywhere.new.orders.items c.replace_everywhere.ensures ∙ ap count_of c.self.view_is
+    replaced-count c.self.inside.orders.items c.self.inside.room c.self.invariant (rows_at c.args.rows.now) c.args.id c.replace_everywhere.new.orders.items c.replace_everywhere.ensures ∙ ap count_of c.self.view_is

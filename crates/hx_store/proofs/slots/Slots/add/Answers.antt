@@ -1,4 +1,4 @@
-use Rattle.std.proofs.Common.{◌≡◌, ◌++◌, ◌∷◌, [], ℕ, Bool, List, false, ap, arith, subst, sym, ◌∙◌}
+use Rattle.std.proofs.Common.{◌++◌, ◌∷◌, [], ℕ, Bool, List, false, ap, arith, subst, sym, ◌∙◌}
 use Rattle.indexmap.specs.IndexMap.{insert_entry}
 use Rattle.indexmap.proofs.CallerLemmas.{insert_entry-new}
 use Rattle.hx_types.specs.Words.{same_text}
@@ -11,15 +11,14 @@ use Rattle.hx_store.proofs.slots.Slots.add.Goals as goal
 pub invariant_of-self-2 : goal.invariant_of-self-2
 invariant_of-self-2 c =
     let keys = (c.in_ok-insert.ensures.entries ∙ ap (λ (k : List ℕ). insert_entry same_text c.self.inside.keys.entries k false) c.in_ok-copy-2.ensures ∙ insert_entry-new same_text c.self.inside.keys c.args.key.now false (no-key c.self.inside.keys.entries c.self.inside.slots.items c.args.self.now.entries c.self.invariant.count (ap (λ (s : SlotsState). s.entries) c.self.view_is) c.args.key.now c.requires)) in
-    let items = (c.push_reserved.ensures.items ∙ ap (λ (xs : List SlotState). xs ++ c.new-slot.result ∷ []) c.in_ok-reserve-2.ensures.items) in
+    let items = (c.push_reserved.ensures.items ∙ ap (λ (xs : List SlotState). xs ++ c.new-slot.result ∷ []) c.in_ok-reserve.ensures.items) in
     let n = c.len-count.ensures in
     let ok = c.self.inside.slots.ok.0 in
-    let few = c.if-count.false in
-    let room = c.in_ok-reserve.ensures.room in
-    subst (λ (ks : List (List ℕ × Bool)). AreSlots ks c.push_reserved.new.self.items c.reserve.new.self) (sym keys)
+    let room = c.in_ok-widen.ensures.places in
+    subst (λ (ks : List (List ℕ × Bool)). AreSlots ks c.push_reserved.new.self.items c.widen.new.self) (sym keys)
     (
-    subst (λ (xs : List SlotState). AreSlots (c.self.inside.keys.entries ++ (c.args.key.now, false) ∷ []) xs c.reserve.new.self) (sym items)
-    (slots-added c.self.inside.slots.items c.new-slot.result ((λ k. object_of (c.new-slot.ensures.region k) (c.new-slot.ensures.state k))) c.self.inside.keys.entries c.args.key.now c.self.inside.index c.reserve.new.self c.self.invariant c.reserve.ensures.orders (omega (arith, n, ok, room)) (omega (arith, n, ok, few)))
+    subst (λ (xs : List SlotState). AreSlots (c.self.inside.keys.entries ++ (c.args.key.now, false) ∷ []) xs c.widen.new.self) (sym items)
+    (slots-added c.self.inside.slots.items c.new-slot.result (λ k. object_of (c.new-slot.ensures.region k) (c.new-slot.ensures.state k)) c.self.inside.keys.entries c.args.key.now c.self.inside.indexed c.widen.new.self c.self.invariant c.widen.ensures.wider (omega (arith, n, ok, room)))
     )
 
 pub returns-clause-ok : goal.returns-clause-ok
@@ -27,7 +26,7 @@ returns-clause-ok c = record {
   slot = c.new-slot.result;
   region = c.new-slot.ensures.region;
   state = c.new-slot.ensures.state ∙ ap (new_state c.args.marks) c.in_ok-copy.ensures;
-  set = (λ k. entries_of ((c.in_ok-insert.ensures.entries ∙ ap (λ (k : List ℕ). insert_entry same_text c.self.inside.keys.entries k false) c.in_ok-copy-2.ensures ∙ insert_entry-new same_text c.self.inside.keys c.args.key.now false (no-key c.self.inside.keys.entries c.self.inside.slots.items c.args.self.now.entries c.self.invariant.count (ap (λ (s : SlotsState). s.entries) c.self.view_is) c.args.key.now c.requires)) k) ((c.push_reserved.ensures.items ∙ ap (λ (xs : List SlotState). xs ++ c.new-slot.result ∷ []) c.in_ok-reserve-2.ensures.items) k))
+  set = (λ k. entries_of ((c.in_ok-insert.ensures.entries ∙ ap (λ (k : List ℕ). insert_entry same_text c.self.inside.keys.entries k false) c.in_ok-copy-2.ensures ∙ insert_entry-new same_text c.self.inside.keys c.args.key.now false (no-key c.self.inside.keys.entries c.self.inside.slots.items c.args.self.now.entries c.self.invariant.count (ap (λ (s : SlotsState). s.entries) c.self.view_is) c.args.key.now c.requires)) k) ((c.push_reserved.ensures.items ∙ ap (λ (xs : List SlotState). xs ++ c.new-slot.result ∷ []) c.in_ok-reserve.ensures.items) k))
       ∙ entry-added c.self.inside.keys.entries c.self.inside.slots.items (c.args.key.now, false) c.new-slot.result c.self.invariant.count
       ∙ ap (λ (xs : List Entry). xs ++ (c.args.key.now, record { slot = c.new-slot.result; listed = false }) ∷ []) (ap (λ (s : SlotsState). s.entries) c.self.view_is);
 }

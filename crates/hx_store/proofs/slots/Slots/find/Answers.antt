@@ -1,6 +1,44 @@
-use Rattle.std.proofs.Common.{sym, ◌∙◌}
+use Rattle.std.proofs.Common.{◌≡◌, ℕ, Option, ap, arith, subst, sym, ◌∙◌}
+use Rattle.hx_types.specs.declared.calls.Row.{Row}
+use Rattle.hx_index.specs.Orders.{IndexState, IsIndexOf, rows_at}
+use Rattle.hx_index.specs.Searches.{most_looks}
+use Rattle.hx_index.specs.Sides.{matches_at}
+use Rattle.hx_store.specs.Slots.{SlotsState, rows_in}
 use Rattle.hx_store.proofs.Matching.{match-within}
 use Rattle.hx_store.proofs.slots.Slots.find.Goals as goal
 
 pub sort_by_keys-requires-clause-within : goal.sort_by_keys-requires-clause-within
-sort_by_keys-requires-clause-within c = λ i t. match-within c.args.self.now.entries c.args.terms.now i (sym (c.in_ok-ids.ensures.matching i) ∙ t)
+sort_by_keys-requires-clause-within c =
+    let seen : rows_at c.self.inside.indexed.rows ≡ rows_in c.args.self.now.entries = ap (λ (s : SlotsState). rows_at s.rows) c.self.view_is ∙ c.requires.fresh in
+    λ i t. match-within c.args.self.now.entries c.args.terms.now i (sym (c.in_ok-ids.ensures.matching i ∙ (λ k. matches_at (seen k) c.args.terms.now i)) ∙ t)
+
+pub returns-in_err-ids-clause-index : goal.returns-in_err-ids-clause-index
+returns-in_err-ids-clause-index c =
+    let seen : rows_at c.self.inside.indexed.rows ≡ rows_in c.args.self.now.entries = ap (λ (s : SlotsState). rows_at s.rows) c.self.view_is ∙ c.requires.fresh in
+    subst (λ (rows : ℕ → Option Row). IsIndexOf rows c.args.self.now.index) seen
+    (subst (λ (x : IndexState). IsIndexOf (rows_at c.self.inside.indexed.rows) x) (ap (λ (s : SlotsState). s.index) c.self.view_is) c.find.ensures.index)
+
+pub returns-in_err-ids-clause-looks : goal.returns-in_err-ids-clause-looks
+returns-in_err-ids-clause-looks c =
+    let seen : rows_at c.self.inside.indexed.rows ≡ rows_in c.args.self.now.entries = ap (λ (s : SlotsState). rows_at s.rows) c.self.view_is ∙ c.requires.fresh in
+    let most = c.find.ensures.looks in
+    let same : most_looks c.self.inside.indexed.index (rows_at c.self.inside.indexed.rows) c.args.terms.now ≡ most_looks c.args.self.now.index (rows_in c.args.self.now.entries) c.args.terms.now = (λ k. most_looks (ap (λ (s : SlotsState). s.index) c.self.view_is k) (seen k) c.args.terms.now) in
+    omega (arith, most, same)
+
+pub returns-clause-matching : goal.returns-clause-matching
+returns-clause-matching c =
+    let seen : rows_at c.self.inside.indexed.rows ≡ rows_in c.args.self.now.entries = ap (λ (s : SlotsState). rows_at s.rows) c.self.view_is ∙ c.requires.fresh in
+    λ i. c.sort_by_keys.ensures.same i ∙ c.in_ok-ids.ensures.matching i ∙ (λ k. matches_at (seen k) c.args.terms.now i)
+
+pub returns-clause-index : goal.returns-clause-index
+returns-clause-index c =
+    let seen : rows_at c.self.inside.indexed.rows ≡ rows_in c.args.self.now.entries = ap (λ (s : SlotsState). rows_at s.rows) c.self.view_is ∙ c.requires.fresh in
+    subst (λ (rows : ℕ → Option Row). IsIndexOf rows c.args.self.now.index) seen
+    (subst (λ (x : IndexState). IsIndexOf (rows_at c.self.inside.indexed.rows) x) (ap (λ (s : SlotsState). s.index) c.self.view_is) c.find.ensures.index)
+
+pub returns-clause-looks : goal.returns-clause-looks
+returns-clause-looks c =
+    let seen : rows_at c.self.inside.indexed.rows ≡ rows_in c.args.self.now.entries = ap (λ (s : SlotsState). rows_at s.rows) c.self.view_is ∙ c.requires.fresh in
+    let most = c.find.ensures.looks in
+    let same : most_looks c.self.inside.indexed.index (rows_at c.self.inside.indexed.rows) c.args.terms.now ≡ most_looks c.args.self.now.index (rows_in c.args.self.now.entries) c.args.terms.now = (λ k. most_looks (ap (λ (s : SlotsState). s.index) c.self.view_is k) (seen k) c.args.terms.now) in
+    omega (arith, most, same)

@@ -1,4 +1,4 @@
-use Rattle.std.proofs.Common.{ap, arith, true, sym, ◌∙◌}
+use Rattle.std.proofs.Common.{ap, arith, true, ◌∙◌}
 use Rattle.hx_store.specs.Slots.{SlotsState}
 use Rattle.hx_store.specs.Invariant.{is_listed}
 use Rattle.hx_store.proofs.Entries.{key-length, listed-set, stored-seen, value-there, within-slots}

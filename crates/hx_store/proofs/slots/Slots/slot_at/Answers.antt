@@ -1,7 +1,7 @@
 use Rattle.std.proofs.Common.{ap, arith}
 use Rattle.hx_store.specs.Slots.{SlotsState}
 use Rattle.hx_store.proofs.Entries.{stored-seen, within-slots}
-use Rattle.hx_store.proofs.Indexed.{at-item}
+use Rattle.hx_store.proofs.Following.{at-item}
 use Rattle.hx_store.proofs.slots.Slots.slot_at.Goals as goal
 
 pub index-requires : goal.index-requires

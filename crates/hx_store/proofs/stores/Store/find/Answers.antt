@@ -1,10 +1,11 @@
-use Rattle.std.proofs.Common.{◌≡◌, ℕ, List, ap, arith, sym, ◌∙◌, vec_capacity}
+use Rattle.std.proofs.Common.{◌≡◌, ℕ, List, ap, arith, length, subst, sym, ◌∙◌, vec_capacity}
 use Rattle.std.specs.List.{flat_map}
 use Rattle.hx_types.specs.Words.{list_of}
 use Rattle.hx_model.specs.Slots.{found_in, rows_of}
 use Rattle.hx_index.proofs.Matched.{if-ok}
+use Rattle.hx_store.specs.Invariant.{IsStore, rooms_in, states_in}
 use Rattle.hx_store.specs.Looks.{most_looks_at}
-use Rattle.hx_store.specs.Slots.{rows_in}
+use Rattle.hx_store.specs.Slots.{Entry, rows_in}
 use Rattle.hx_store.specs.Stores.{StoreState}
 use Rattle.hx_store.proofs.Matching.{found-rows, looks-most}
 use Rattle.hx_store.proofs.Setting.{are-there}
@@ -13,20 +14,35 @@ use Rattle.hx_store.proofs.stores.Store.find.Goals as goal
 
 pub returns-clause-rows : goal.returns-clause-rows
 returns-clause-rows c =
+    let same = c.refresh.ensures.entries in
+    let order = c.self.inside.order.items in
+    let store = subst (λ (es : List Entry). IsStore c.self.inside.region c.self.inside.marks es order (vec_capacity c.self.inside.order)) (sym same) c.self.invariant in
+    let view : record { region = c.self.inside.region; marks = c.self.inside.marks; attributes = length c.refresh.new.self.index.orders; states = states_in c.refresh.new.self.entries order; rooms = rooms_in c.refresh.new.self.entries } ≡ c.args.self.now =
+    (λ k. record { region = c.self.inside.region; marks = c.self.inside.marks; attributes = c.refresh.ensures.attributes k; states = states_in (same k) order; rooms = rooms_in (same k) }) ∙ c.self.view_is in
     if-ok c.rows.result
-    (λ rows h. h ∙ ap (λ (xs : List ℕ). flat_map (λ i. list_of (rows_in c.self.inside.slots.entries i)) xs) c.as_slice.ensures.value ∙ found-rows c.self.inside.region c.self.inside.marks c.self.inside.slots.entries c.self.invariant.each c.self.inside.order.items c.self.invariant.listed (are-there c.self.invariant) (order-ascends c.self.inside.region c.self.inside.marks c.self.inside.slots.entries c.self.inside.order.items (vec_capacity c.self.inside.order) c.args.self.now c.self.view_is c.self.invariant) c.args.terms.now c.in_ok-places.places.items c.in_ok-places.ensures.ascend c.in_ok-places.ensures.matching ∙ ap (λ (s : StoreState). found_in s.region c.args.terms.now s.states) c.self.view_is)
+    (λ rows h. h ∙ ap (λ (xs : List ℕ). flat_map (λ i. list_of (rows_in c.refresh.new.self.entries i)) xs) c.as_slice.ensures.value ∙ found-rows c.self.inside.region c.self.inside.marks c.refresh.new.self.entries store.each order store.listed (are-there store) (order-ascends c.self.inside.region c.self.inside.marks c.refresh.new.self.entries order (vec_capacity c.self.inside.order) c.args.self.now view store) c.args.terms.now c.in_ok-places.places.items c.in_ok-places.ensures.ascend c.in_ok-places.ensures.matching ∙ ap (λ (s : StoreState). found_in s.region c.args.terms.now s.states) view)
     c.rows.ensures
 
 pub returns-clause-looks : goal.returns-clause-looks
 returns-clause-looks c =
+    let same = c.refresh.ensures.entries in
+    let order = c.self.inside.order.items in
+    let store = subst (λ (es : List Entry). IsStore c.self.inside.region c.self.inside.marks es order (vec_capacity c.self.inside.order)) (sym same) c.self.invariant in
+    let view : record { region = c.self.inside.region; marks = c.self.inside.marks; attributes = length c.refresh.new.self.index.orders; states = states_in c.refresh.new.self.entries order; rooms = rooms_in c.refresh.new.self.entries } ≡ c.args.self.now =
+    (λ k. record { region = c.self.inside.region; marks = c.self.inside.marks; attributes = c.refresh.ensures.attributes k; states = states_in (same k) order; rooms = rooms_in (same k) }) ∙ c.self.view_is in
     let most = c.find.ensures.looks in
-    let bound = looks-most c.self.inside.region c.self.inside.marks c.self.inside.slots.entries c.self.invariant.each c.self.inside.order.items c.self.invariant.listed (are-there c.self.invariant) (order-ascends c.self.inside.region c.self.inside.marks c.self.inside.slots.entries c.self.inside.order.items (vec_capacity c.self.inside.order) c.args.self.now c.self.view_is c.self.invariant) c.self.inside.slots.index c.find.ensures.index c.args.terms.now in
-    let seen = ap (λ (s : StoreState). most_looks_at s.attributes (rows_of s.region s.states) c.args.terms.now) c.self.view_is in
+    let bound = looks-most c.self.inside.region c.self.inside.marks c.refresh.new.self.entries store.each order store.listed (are-there store) (order-ascends c.self.inside.region c.self.inside.marks c.refresh.new.self.entries order (vec_capacity c.self.inside.order) c.args.self.now view store) c.refresh.new.self.index c.find.ensures.index c.args.terms.now in
+    let seen = ap (λ (s : StoreState). most_looks_at s.attributes (rows_of s.region s.states) c.args.terms.now) view in
     omega (arith, most, bound, seen)
 
 pub returns-in_err-places-clause-looks : goal.returns-in_err-places-clause-looks
 returns-in_err-places-clause-looks c =
+    let same = c.refresh.ensures.entries in
+    let order = c.self.inside.order.items in
+    let store = subst (λ (es : List Entry). IsStore c.self.inside.region c.self.inside.marks es order (vec_capacity c.self.inside.order)) (sym same) c.self.invariant in
+    let view : record { region = c.self.inside.region; marks = c.self.inside.marks; attributes = length c.refresh.new.self.index.orders; states = states_in c.refresh.new.self.entries order; rooms = rooms_in c.refresh.new.self.entries } ≡ c.args.self.now =
+    (λ k. record { region = c.self.inside.region; marks = c.self.inside.marks; attributes = c.refresh.ensures.attributes k; states = states_in (same k) order; rooms = rooms_in (same k) }) ∙ c.self.view_is in
     let most = c.find.ensures.looks in
-    let bound = looks-most c.self.inside.region c.self.inside.marks c.self.inside.slots.entries c.self.invariant.each c.self.inside.order.items c.self.invariant.listed (are-there c.self.invariant) (order-ascends c.self.inside.region c.self.inside.marks c.self.inside.slots.entries c.self.inside.order.items (vec_capacity c.self.inside.order) c.args.self.now c.self.view_is c.self.invariant) c.self.inside.slots.index c.find.ensures.index c.args.terms.now in
-    let seen = ap (λ (s : StoreState). most_looks_at s.attributes (rows_of s.region s.states) c.args.terms.now) c.self.view_is in
+    let bound = looks-most c.self.inside.region c.self.inside.marks c.refresh.new.self.entries store.each order store.listed (are-there store) (order-ascends c.self.inside.region c.self.inside.marks c.refresh.new.self.entries order (vec_capacity c.self.inside.order) c.args.self.now view store) c.refresh.new.self.index c.find.ensures.index c.args.terms.now in
+    let seen = ap (λ (s : StoreState). most_looks_at s.attributes (rows_of s.region s.states) c.args.terms.now) view in
     omega (arith, most, bound, seen)

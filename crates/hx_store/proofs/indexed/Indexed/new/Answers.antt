@@ -1,6 +1,6 @@
 use Rattle.std.proofs.Common.{◌+◌, ℕ, List, ap, length, ◌∙◌}
 use Rattle.hx_index.proofs.Showing.{length-repeat}
-use Rattle.hx_store.proofs.slots.Slots.new.Goals as goal
+use Rattle.hx_store.proofs.indexed.Indexed.new.Goals as goal
 
 pub returns-clause-attributes : goal.returns-clause-attributes
 returns-clause-attributes c = ap (λ (os : List (List ℕ)). length os) c.in_ok-index.ensures.orders ∙ length-repeat (c.args.attributes + 1)

@@ -1,0 +1,181 @@
+ghost use Rattle.std.specs.Prelude.{◌≡◌, ℕ, ◌<◌, ◌≤◌, ◌+◌, [], IfOk, OnErr, OnOk, length, nat_eq, slice_set, true};
+ghost use Rattle.std.specs.List.{IsDistinct, flat_map};
+ghost use Rattle.hx_types.specs.Words.{list_of};
+ghost use Rattle.hx_index.specs.Orders.{IsIndexOf, rows_at, stands_in};
+ghost use Rattle.hx_index.specs.Searches.{most_looks};
+ghost use Rattle.hx_index.specs.Sides.{matches_at};
+ghost use Rattle.hx_store.specs.Indexed.{IndexedState, IsKept, IsKeptAs, IsOf, IsWider, kept_at, marked_count};
+
+use crate::copying::copy_row;
+use crate::searching::rows_at;
+use hx_index::{Ids, Index, View};
+use hx_slot::Slot;
+use hx_types::{Memory, Row, Rows, Terms};
+use std::alloc::Global;
+use std::marker::Model;
+use std::mem;
+
+/// An index of the committed objects of slots, which is brought up to date when a search asks: it
+/// keeps the row by which it has each slot, and which slots may have another object since.
+#[derive(Drop)]
+pub struct Indexed {
+    index: Index,
+    /// The row by which the index has the slot at each place.
+    rows: Vec<Option<Row>>,
+    /// The places of the slots that may have another object, each once.
+    stale: Vec<u32>,
+    /// Whether each place stands there.
+    is_stale: Vec<bool>,
+}
+
+impl Model for Indexed {
+    ghost use Rattle.std.specs.Prelude.{vec_capacity};
+    ghost use Rattle.hx_store.specs.Indexed.{AreIndexed, IndexedState};
+
+    ghost Value = { IndexedState };
+
+    ghost view = { λ x. record { index = x.index; rows = x.rows.items; stale = x.is_stale.items } };
+
+    ghost invariant = { λ x. AreIndexed x.index x.rows.items x.is_stale.items x.stale.items (vec_capacity x.stale) };
+}
+
+impl Indexed {
+    /// The index of no slots, of objects with so many attributes besides the key.
+    pub fn new(alloc: Global, attributes: u32) -> Result<Indexed, Memory>
+        ensures rows { IfOk result (λ (x : IndexedState). x.rows ≡ []) }
+        ensures stale { IfOk result (λ (x : IndexedState). x.stale ≡ []) }
+        ensures attributes { IfOk result (λ (x : IndexedState). length x.index.orders ≡ attributes + 1) }
+    {
+        let index = Index::new(alloc, attributes)?;
+        Ok(Indexed {
+            index,
+            rows: Vec::new(alloc),
+            stale: Vec::new(alloc),
+            is_stale: Vec::new(alloc),
+        })
+    }
+
+    /// Makes a place for one slot more, so that there are n. What is there stays, whatever comes.
+    pub fn widen(&mut self, alloc: Global, n: u32) -> Result<(), Memory>
+        requires { n ≤ length self.old.stale + 1 }
+        ensures wider { IsWider self.old self.new }
+        ensures places { OnOk result (n ≤ length self.new.stale) }
+        ensures attributes { length self.new.index.orders ≡ length self.old.index.orders }
+    {
+        if n as usize <= self.rows.len() {
+            return Ok(());
+        }
+        self.index.reserve(alloc, n)?;
+        self.rows.reserve(1)?;
+        self.is_stale.reserve(1)?;
+        self.stale.reserve(n as usize - self.stale.len())?;
+        self.rows.push_reserved(None);
+        self.is_stale.push_reserved(false);
+        Ok(())
+    }
+
+    /// The slot at a place may have another object from now on. It takes no memory.
+    pub fn mark(&mut self, place: usize)
+        requires { place < length self.old.stale }
+        ensures stale { self.new.stale ≡ slice_set self.old.stale place true }
+        ensures rows { self.new.rows ≡ self.old.rows }
+        ensures index { self.new.index ≡ self.old.index }
+    {
+        if self.is_stale[place] {
+            return;
+        }
+        self.is_stale[place] = true;
+        self.stale.push_reserved(place as u32);
+    }
+
+    /// Brings the index up to date: it has each slot by its committed object. After an error it has
+    /// some of them so, and the others are still marked.
+    pub fn refresh(&mut self, alloc: Global, slots: &[Slot]) -> Result<(), Memory>
+        requires { IsOf slots.now self.old }
+        ensures kept { IsOf slots.now self.new }
+        ensures fresh { OnOk result (rows_at self.new.rows ≡ kept_at slots.now) }
+        ensures attributes { length self.new.index.orders ≡ length self.old.index.orders }
+    {
+        for _ in 0..self.stale_count() {
+            self.refresh_last(alloc, slots)?;
+        }
+        Ok(())
+    }
+
+    /// How many slots may have another object.
+    fn stale_count(&self) -> usize
+        ensures { result ≡ marked_count self.now.stale }
+    {
+        self.stale.len()
+    }
+
+    /// Brings the index up to date at the place that was marked last. Where a count of owners is
+    /// full, it stays as it was.
+    fn refresh_last(&mut self, alloc: Global, slots: &[Slot]) -> Result<(), Memory>
+        requires of { IsOf slots.now self.old }
+        requires some { 0 < marked_count self.old.stale }
+        ensures kept { IsOf slots.now self.new }
+        ensures count { OnOk result (marked_count self.new.stale + 1 ≡ marked_count self.old.stale) }
+        ensures attributes { length self.new.index.orders ≡ length self.old.index.orders }
+    {
+        let Some(place) = self.stale.last() else {
+            unreachable!()
+        };
+        let place = *place;
+        let row = row_of(alloc, slots, place)?;
+        let old = mem::replace(&mut self.rows[place as usize], row);
+        follow(&mut self.index, self.rows.as_slice(), place, old);
+        self.is_stale[place as usize] = false;
+        let _ = self.stale.pop();
+        Ok(())
+    }
+
+    /// The places at whose rows every term holds, each once, in any order.
+    pub fn find(&self, alloc: Global, terms: &Terms, looks: &mut u64) -> Result<Ids, Memory>
+        ensures matching { IfOk result (λ ids. (i : ℕ) → stands_in ids.items i ≡ matches_at (rows_at self.now.rows) terms.now i) }
+        ensures once { IfOk result (λ ids. IsDistinct nat_eq ids.items) }
+        ensures index { IsIndexOf (rows_at self.now.rows) self.now.index }
+        ensures counted { looks.old ≤ looks.new }
+        ensures looks { looks.new ≤ looks.old + most_looks self.now.index (rows_at self.now.rows) terms.now }
+    {
+        let mut view = View::new(self.rows.as_slice(), *looks);
+        let found = self.index.find(alloc, &mut view, terms);
+        *looks = view.looks();
+        found
+    }
+
+    /// Copies of the rows at these places, one after another.
+    pub fn rows(&self, alloc: Global, places: &[u32]) -> Result<Rows, Memory>
+        ensures { IfOk result (λ rows. rows ≡ flat_map (λ i. list_of (rows_at self.now.rows i)) places.now) }
+    {
+        rows_at(alloc, self.rows.as_slice(), places)
+    }
+}
+
+/// A copy of the committed object of the slot at a place, if there is one. It takes no memory: there
+/// is none only where a count of owners is full.
+fn row_of(alloc: Global, slots: &[Slot], place: u32) -> Result<Option<Row>, Memory>
+    ensures { IfOk result (λ row. row ≡ kept_at slots.now place) }
+{
+    match slots.get(place as usize) {
+        Some(slot) => copy_row(alloc, slot),
+        None => Ok(None),
+    }
+}
+
+/// The index follows a change of the row at a place. It has the place by the row that was there
+/// before, or not. It takes no memory.
+fn follow(index: &mut Index, rows: &[Option<Row>], place: u32, before: Option<Row>)
+    requires kept { IsKeptAs before place rows.now index.old }
+    requires place { place < length rows.now }
+    ensures kept { IsKept rows.now index.new }
+    ensures attributes { length index.new.orders ≡ length index.old.orders }
+{
+    let keeps = rows[place as usize].is_some();
+    match before {
+        Some(row) if keeps => index.replace(rows, place, &row),
+        Some(row) => index.forget(rows, place, &row),
+        None if keeps => index.add(rows, place),
+        None => {}
+    }
+}
