@@ -105,7 +105,10 @@ pub(crate) fn settle<R: Wait, G: Gate>(
             );
             Ok(())
         }
-        Err(_) => Err(Fault::Memory),
+        Err(_) => {
+            drop(plan);
+            Err(Fault::Memory)
+        }
     }
 }
 

@@ -16,6 +16,3 @@ mod fates;
 pub use every_nth::EveryNth;
 pub use faithful::Faithful;
 pub use fates::{Choice, Fate};
-
-#[cfg(test)]
-mod tests;

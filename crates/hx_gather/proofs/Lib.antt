@@ -1,4 +1,3 @@
 pub mod Sources
 pub mod Seated
 pub mod Gathers
-pub mod Examples

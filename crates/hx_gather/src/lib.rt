@@ -9,8 +9,3 @@ mod merging;
 pub use gathering::{SeatedPart, gather};
 pub use hx_clock::{Part, Parts, Stamped};
 pub use merging::merge;
-
-#[cfg(test)]
-mod small_run;
-#[cfg(test)]
-mod tests;

@@ -1,6 +1,6 @@
 //! The script of a seed.
 
-ghost use Rattle.std.specs.Prelude.{◌≡◌, ◌≤◌, ◌∷◌, [], IfOk};
+ghost use Rattle.std.specs.Prelude.{◌≡◌, ◌≤◌, ◌++◌, ◌∷◌, [], IfOk, OnOk};
 ghost use Rattle.hx_types.specs.declared.spaces.Kind.TheVariants as a_kind;
 ghost use Rattle.hx_types.specs.declared.limits.TheConstants.{MOST_CALLS};
 ghost use Rattle.hx_types.specs.Fitting.{IsScript};
@@ -26,17 +26,38 @@ pub fn script_of(alloc: Global, seed: u64, calls: u32) -> Result<Script, Memory>
     ensures valid { IfOk result IsScript }
     ensures owned { IfOk result KeysAreOwned }
 {
-    let space = soak(alloc)?;
-    let mut sessions = Sessions::new(alloc);
-    sessions.push(calls_drawn(alloc, seed, calls, 1)?)?;
-    sessions.push(calls_drawn(alloc, seed, calls, 2)?)?;
-    sessions.push(calls_drawn(alloc, seed, calls, 3)?)?;
-    sessions.push(calls_drawn(alloc, seed, calls, 4)?)?;
+    let sessions = sessions_drawn(alloc, seed, calls)?;
     Ok(Script {
-        space,
+        space: soak(alloc)?,
         sessions,
         steps: Steps::new(alloc),
     })
+}
+
+/// The calls of the four sessions.
+fn sessions_drawn(alloc: Global, seed: u64, calls: u32) -> Result<Sessions, Memory>
+    ensures { IfOk result (λ made. made ≡ (script_drawn seed calls).sessions) }
+{
+    let mut sessions = Sessions::new(alloc);
+    deal(alloc, &mut sessions, seed, calls, 1)?;
+    deal(alloc, &mut sessions, seed, calls, 2)?;
+    deal(alloc, &mut sessions, seed, calls, 3)?;
+    deal(alloc, &mut sessions, seed, calls, 4)?;
+    Ok(sessions)
+}
+
+/// Adds the calls of a session.
+fn deal(
+    alloc: Global,
+    sessions: &mut Sessions,
+    seed: u64,
+    calls: u32,
+    session: u32,
+) -> Result<(), Memory>
+    ensures { OnOk result (sessions.new ≡ sessions.old ++ calls_drawn seed calls session ∷ []) }
+{
+    let made = calls_drawn(alloc, seed, calls, session)?;
+    sessions.push(made)
 }
 
 /// The calls of a session: of all that are drawn, those of its turns.

@@ -2,4 +2,3 @@ pub mod Lists
 pub mod Steps
 pub mod Keeping
 pub mod Once
-pub mod Examples

@@ -1,4 +1,3 @@
 pub mod Ports
 pub mod Boxes
 pub mod Rule
-pub mod Examples

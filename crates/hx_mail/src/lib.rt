@@ -22,6 +22,3 @@ pub use envelopes::{Envelope, Letter};
 pub use mailboxes::{Full, Mailbox};
 pub use ports::Port;
 pub use views::{BoxNames, Mailed, PortLists, PortView, Sent};
-
-#[cfg(test)]
-mod tests;

@@ -29,6 +29,26 @@ pub struct Left {
     pub ports: Vec<Port>,
 }
 
+/// What is left of an actor: its part with its seat, and its first port.
+fn parted(desk: Desk) -> (SeatedPart, Taker)
+    ensures { (result.0 ≡ seated_of desk) × (result.1 ≡ taker_of desk) }
+{
+    let Desk {
+        actor,
+        part,
+        seat,
+        inbox,
+        machine,
+        kept,
+        heard,
+    } = desk;
+    drop(machine);
+    drop(kept);
+    drop(heard);
+    let part = Part::from_vec(part);
+    (SeatedPart { actor, part, seat }, Taker { actor, inbox })
+}
+
 /// What is left of an actor.
 fn take_desk(
     actors: &mut Vec<SeatedPart>,
@@ -38,16 +58,9 @@ fn take_desk(
     ensures actors { OnOk result (actors.new.items ≡ actors.old.items ++ seated_of desk ∷ []) }
     ensures takers { OnOk result (takers.new.items ≡ takers.old.items ++ taker_of desk ∷ []) }
 {
-    let Desk {
-        actor,
-        part,
-        seat,
-        inbox,
-        ..
-    } = desk;
-    let part = Part::from_vec(part);
-    actors.push(SeatedPart { actor, part, seat })?;
-    takers.push(Taker { actor, inbox })?;
+    let (seated, taker) = parted(desk);
+    actors.push(seated)?;
+    takers.push(taker)?;
     Ok(())
 }
 

@@ -6,11 +6,11 @@ ghost use Rattle.hx_model.specs.Runs.{IsRun};
 ghost use Rattle.hx_clock.specs.declared.parts.Stamped.{Stamped};
 ghost use Rattle.hx_clock.specs.Parts.{stamped, DeliveryMeets, Posted};
 ghost use Rattle.hx_clock.specs.Views.{Knows, Owns};
-ghost use Rattle.hx_gather.specs.Examples.{answering, asking, call_of_get, ended, first_server, first_session, no_object, one_get, HasMade};
+ghost use Rattle.hx_thread_tests.specs.Gathered.{answering, asking, call_of_get, ended, first_server, first_session, no_object, one_get, HasMade};
 ghost use Rattle.hx_gather.specs.Gathered.{IsSeated};
 
-use super::*;
-use hx_clock::{Clock, Seat};
+use hx_clock::{Clock, Part, Seat, Stamped};
+use hx_gather::{SeatedPart, gather};
 use hx_types::{
     Actor, Answer, Entry, Epoch, Input, Memory, Message, Note, Notes, Op, Post, PostId, Posts,
     ServerId, SessionId, Shared, Text, Trace, Version,

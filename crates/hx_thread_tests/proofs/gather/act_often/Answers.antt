@@ -1,6 +1,6 @@
 use Rattle.std.proofs.Common.{ap, ◌∙◌, ◌∷◌, [], ◌++◌, ◌+◌, length-append}
 use Rattle.hx_clock.specs.Parts.{stamped}
-use Rattle.hx_gather.proofs.tests.act_often.Goals as goal
+use Rattle.hx_thread_tests.proofs.gather.act_often.Goals as goal
 
 pub loop-turn-preserved : goal.loop-turn-preserved
 loop-turn-preserved c =

@@ -3,10 +3,10 @@ use Rattle.hx_types.specs.declared.traces.Entry.{Entry}
 use Rattle.hx_clock.specs.Parts.{stamped, DeliveryMeets}
 use Rattle.hx_clock.specs.Views.{Knows}
 use Rattle.hx_clock.specs.declared.view.View.{View}
-use Rattle.hx_gather.specs.Examples.{one_get}
-use Rattle.hx_gather.proofs.Examples.{both_here, both_own, made_post, post_known}
+use Rattle.hx_thread_tests.specs.Gathered.{one_get}
+use Rattle.hx_thread_tests.proofs.Gathered.{both_here, both_own, made_post, post_known}
 use Rattle.hx_gather.proofs.Gathers.{part_of_it}
-use Rattle.hx_gather.proofs.small_run.small_run.Goals as goal
+use Rattle.hx_thread_tests.proofs.small_run.small_run.Goals as goal
 
 pub pass-requires-clause-posted : goal.pass-requires-clause-posted
 pass-requires-clause-posted c =

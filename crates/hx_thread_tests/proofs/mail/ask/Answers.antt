@@ -1,7 +1,7 @@
 use Rattle.std.proofs.Common.{rules, refl}
-use Rattle.hx_mail.specs.Examples.{halting}
-use Rattle.hx_mail.proofs.Examples.{asked}
-use Rattle.hx_mail.proofs.tests.ask.Goals as goal
+use Rattle.hx_thread_tests.specs.Mailed.{halting}
+use Rattle.hx_thread_tests.proofs.Mailed.{asked}
+use Rattle.hx_thread_tests.proofs.mail.ask.Goals as goal
 
 pub tell-pass-requires-clause-made : goal.tell-pass-requires-clause-made
 tell-pass-requires-clause-made c =

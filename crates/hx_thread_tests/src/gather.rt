@@ -2,10 +2,10 @@ ghost use Rattle.std.specs.Prelude.{ℕ, ◌≡◌, ◌≤◌, ◌∷◌, [], If
 ghost use Rattle.hx_clock.specs.declared.parts.Stamped.{Stamped};
 ghost use Rattle.hx_clock.specs.Parts.{stamped, Posted};
 ghost use Rattle.hx_clock.specs.Views.{Carries, Knows, Owns};
-ghost use Rattle.hx_gather.specs.Examples.{halting, idle, turns};
+ghost use Rattle.hx_thread_tests.specs.Gathered.{halting, idle, turns};
 
-use super::*;
-use hx_clock::{Clock, Seat};
+use hx_clock::{Clock, Part, Parts, Seat, Stamped};
+use hx_gather::merge;
 use hx_types::{Actor, Entry, Input, Memory, Message, Notes, Post, PostId, Posts, ServerId, Stamp};
 use std::alloc::Global;
 use std::collections::BTreeSet;

@@ -1,7 +1,7 @@
 use Rattle.std.proofs.Common.{ap}
 use Rattle.hx_mail.specs.declared.views.PortView.{PortView}
-use Rattle.hx_mail.proofs.Examples.{split_later}
-use Rattle.hx_mail.proofs.tests.a_box_of_one_place_is_empty_then_full.Goals as goal
+use Rattle.hx_thread_tests.proofs.Mailed.{split_later}
+use Rattle.hx_thread_tests.proofs.mail.a_box_of_one_place_is_empty_then_full.Goals as goal
 
 pub join-requires-clause-later : goal.join-requires-clause-later
 join-requires-clause-later g c =

@@ -1,4 +1,4 @@
-use super::*;
+use hx_fate::*;
 use hx_types::{Actor, ServerId};
 use std::test::Fail;
 

@@ -15,7 +15,7 @@ use Rattle.hx_gather.specs.declared.gathering.SeatedPart.{SeatedPart}
 use Rattle.hx_gather.specs.Gathered.{parts_by}
 use Rattle.hx_types.specs.declared.ids.Actor.{Actor}
 use Rattle.hx_law_threads.specs.Merged.{ActorPart, AreOwnParts}
-use Rattle.hx_gather.specs.Examples.{answering, asking, ended, first_server, first_session, halting, one_get, turns, HasMade}
+use Rattle.hx_thread_tests.specs.Gathered.{answering, asking, ended, first_server, first_session, halting, one_get, turns, HasMade}
 
 two_rise : (a b : ℕ) → a < b → IsStrictlyIncreasing (a ∷ b ∷ [])
 two_rise a b lt zero k = lt

@@ -1,5 +1,5 @@
-use Rattle.hx_gather.proofs.Examples.{owned}
-use Rattle.hx_gather.proofs.small_run.pass.Goals as goal
+use Rattle.hx_thread_tests.proofs.Gathered.{owned}
+use Rattle.hx_thread_tests.proofs.small_run.pass.Goals as goal
 
 pub tell-told-requires-clause-made : goal.tell-told-requires-clause-made
 tell-told-requires-clause-made c =

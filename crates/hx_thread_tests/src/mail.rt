@@ -3,10 +3,10 @@ ghost use Rattle.hx_clock.specs.declared.parts.Stamped.{Stamped};
 ghost use Rattle.hx_clock.specs.Views.{Owns};
 ghost use Rattle.hx_mail.specs.Boxes.{IsAddressed, IsPortOf};
 ghost use Rattle.hx_mail.specs.Ports.{CarriesName};
-ghost use Rattle.hx_mail.specs.Examples.{halting, of_first_server, small};
+ghost use Rattle.hx_thread_tests.specs.Mailed.{halting, of_first_server, small};
 
-use super::*;
 use hx_clock::{Clock, Seat};
+use hx_mail::{Envelope, Mailbox, Port};
 use hx_types::{
     Actor, Attributes, Entry, Input, Memory, Message, Notes, Post, PostId, Posts, ServerId, Space,
     Subspaces, Text,

@@ -1,7 +1,7 @@
 use Rattle.std.proofs.Common.{subst, sym}
 use Rattle.hx_clock.specs.Parts.{IsCausal}
-use Rattle.hx_gather.proofs.Examples.{turns_causal}
-use Rattle.hx_gather.proofs.tests.parts_are_merged_by_stamp.Goals as goal
+use Rattle.hx_thread_tests.proofs.Gathered.{turns_causal}
+use Rattle.hx_thread_tests.proofs.gather.parts_are_merged_by_stamp.Goals as goal
 
 pub merge-requires : goal.merge-requires
 merge-requires g c = record { causal = subst IsCausal (sym c.in_ok-turns.ensures) turns_causal }

@@ -1,5 +1,5 @@
 use Rattle.std.proofs.Common.{sym, ◌∙◌}
-use Rattle.hx_gather.proofs.tests.two_threads_draw_different_stamps.Goals as goal
+use Rattle.hx_thread_tests.proofs.gather.two_threads_draw_different_stamps.Goals as goal
 
 pub join-first-requires-after_bounds : goal.join-first-requires-after_bounds
 join-first-requires-after_bounds g c lifetimes =

@@ -1,0 +1,12 @@
+//! Tests of fates, of mailboxes and of what is gathered from several threads: a module for each crate that
+//! they are of, and a run that is gathered from parts made by hand.
+#![tactic(auto)]
+
+#[cfg(test)]
+mod fate;
+#[cfg(test)]
+mod gather;
+#[cfg(test)]
+mod mail;
+#[cfg(test)]
+mod small_run;
