@@ -5,6 +5,7 @@ ghost use Rattle.hx_driver.specs.Crews.{IsCrew, IsPosted};
 ghost use Rattle.hx_driver.specs.Slices.{HaveNoRetry, HaveRetried, IsLaterCrew};
 
 use crate::crews::Crew;
+use crate::lulls::AtWork;
 use crate::retrying::retry_each;
 use crate::turning::rounds;
 use hx_clock::Clock;
@@ -30,8 +31,8 @@ impl Driver {
         self.crew.fault
     }
 
-    /// Each actor has so many turns, in rounds, in each of which every actor has one, in order. After
-    /// a fault nothing more is done.
+    /// The actors have turns, in rounds, in each of which every actor has a few in order, until no driver
+    /// that shares `at_work` finds anything to do. After a fault nothing more is done.
     pub fn slice<R: Wait, G: Gate>(
         &mut self,
         rt: &R,
@@ -40,7 +41,7 @@ impl Driver {
         clock: &Clock,
         boxes: &[Mailbox<'_>],
         gate: &G,
-        turns: u32,
+        at_work: &AtWork,
     )
         requires script { IsScript script.now }
         requires boxes { AreBoxes script.now clock.now boxes.now }
@@ -59,7 +60,7 @@ impl Driver {
             gate,
             &mut self.crew,
             &mut self.fate,
-            turns,
+            at_work,
         );
     }
 

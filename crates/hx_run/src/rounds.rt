@@ -10,7 +10,7 @@ ghost use Rattle.hx_run.specs.Rounds.{counted, first_fault, Advance, AreOver, St
 
 use crate::resting::{all_ended, at_rest};
 use hx_clock::Clock;
-use hx_driver::{Driver, Fault, Gate};
+use hx_driver::{AtWork, Driver, Fault, Gate};
 use hx_mail::Mailbox;
 use hx_types::Script;
 use std::alloc::Global;
@@ -21,20 +21,7 @@ use std::thread::Threads;
 /// How many drivers are moved side by side at most.
 const MOST_DRIVERS: usize = 16;
 
-/// How many turns an actor has in the first slice, and in the first one after a retry.
-const FEWEST_TURNS: u32 = 256;
-
-/// How many turns an actor has in a slice at most.
-const MOST_TURNS: u32 = 16_384;
-
-/// How many turns an actor has in the next slice: twice as many, up to the most. So a run without losses
-/// soon has slices in which what one driver posts is taken and answered by others, beside which starting
-/// the threads costs little; and where much is lost, drivers don't wait long for nothing.
-fn more_turns(turns: u32) -> u32 {
-    if turns < MOST_TURNS { turns * 2 } else { turns }
-}
-
-/// A slice of one driver, in which each actor has so many turns.
+/// A slice of one driver.
 fn slice_one<R: Wait, G: Gate>(
     rt: &R,
     alloc: Global,
@@ -43,7 +30,7 @@ fn slice_one<R: Wait, G: Gate>(
     boxes: &[Mailbox<'_>],
     gate: &G,
     driver: &mut Driver,
-    turns: u32,
+    at_work: &AtWork,
 )
     requires script { IsScript script.now }
     requires boxes { AreBoxes script.now clock.now boxes.now }
@@ -52,10 +39,10 @@ fn slice_one<R: Wait, G: Gate>(
     ensures sliced { IsSliced driver.old.crew driver.new.crew }
     ensures posted { IsPosted driver.old.crew driver.new.crew (counted (choices (driver.old.fate.vtable, driver.old.fate.value)) (losses (driver.old.fate.vtable, driver.old.fate.value)) (repeats (driver.old.fate.vtable, driver.old.fate.value))) (counted (choices (driver.new.fate.vtable, driver.new.fate.value)) (losses (driver.new.fate.vtable, driver.new.fate.value)) (repeats (driver.new.fate.vtable, driver.new.fate.value))) }
 {
-    driver.slice(rt, alloc, script, clock, boxes, gate, turns);
+    driver.slice(rt, alloc, script, clock, boxes, gate, at_work);
 }
 
-/// A slice of each driver, side by side, in which each actor has so many turns.
+/// A slice of each driver, side by side, until none of them finds anything to do.
 fn slice_all<R: Threads + Wait + Sync, G: Gate + Sync>(
     rt: &R,
     alloc: Global,
@@ -64,7 +51,6 @@ fn slice_all<R: Threads + Wait + Sync, G: Gate + Sync>(
     boxes: &[Mailbox<'_>],
     gate: &G,
     drivers: &mut [Driver],
-    turns: u32,
 )
     requires script { IsScript script.now }
     requires boxes { AreBoxes script.now clock.now boxes.now }
@@ -73,6 +59,8 @@ fn slice_all<R: Threads + Wait + Sync, G: Gate + Sync>(
     ensures sliced { AreSliced (map (λ d. d.crew) drivers.old) (map (λ d. d.crew) drivers.new) }
     ensures posted { Both (λ d d'. IsPosted d.crew d'.crew (counted (choices (d.fate.vtable, d.fate.value)) (losses (d.fate.vtable, d.fate.value)) (repeats (d.fate.vtable, d.fate.value))) (counted (choices (d'.fate.vtable, d'.fate.value)) (losses (d'.fate.vtable, d'.fate.value)) (repeats (d'.fate.vtable, d'.fate.value)))) drivers.old drivers.new }
 {
+    let at_work = AtWork::new(drivers.len());
+    let shared = &at_work;
     thread::for_each_mut(
         rt,
         drivers,
@@ -84,7 +72,7 @@ fn slice_all<R: Threads + Wait + Sync, G: Gate + Sync>(
             ensures crew { StaysCrew script.entry.now clock.entry.now boxes.entry.now driver.entry.now.crew driver.exit.now.crew }
             ensures sliced { IsSliced driver.entry.now.crew driver.exit.now.crew }
             ensures posted { IsPosted driver.entry.now.crew driver.exit.now.crew (counted (choices (driver.entry.now.fate.vtable, driver.entry.now.fate.value)) (losses (driver.entry.now.fate.vtable, driver.entry.now.fate.value)) (repeats (driver.entry.now.fate.vtable, driver.entry.now.fate.value))) (counted (choices (driver.exit.now.fate.vtable, driver.exit.now.fate.value)) (losses (driver.exit.now.fate.vtable, driver.exit.now.fate.value)) (repeats (driver.exit.now.fate.vtable, driver.exit.now.fate.value))) }
-        { slice_one(rt, alloc, script, clock, boxes, gate, driver, turns) },
+        { slice_one(rt, alloc, script, clock, boxes, gate, driver, shared) },
     );
 }
 
@@ -135,7 +123,6 @@ fn advance<R: Threads + Wait + Sync, G: Gate + Sync>(
     boxes: &[Mailbox<'_>],
     gate: &G,
     drivers: &mut [Driver],
-    turns: &mut u32,
 ) -> Option<Option<Fault>>
     requires script { IsScript script.now }
     requires boxes { AreBoxes script.now clock.now boxes.now }
@@ -149,15 +136,13 @@ fn advance<R: Threads + Wait + Sync, G: Gate + Sync>(
         return Some(fault);
     }
     if !at_rest(script, drivers) {
-        slice_all(rt, alloc, script, clock, boxes, gate, drivers, *turns);
-        *turns = more_turns(*turns);
+        slice_all(rt, alloc, script, clock, boxes, gate, drivers);
         return None;
     }
     if all_ended(script, drivers) {
         return Some(None);
     }
     retry_all(rt, alloc, script, clock, boxes, gate, drivers);
-    *turns = FEWEST_TURNS;
     None
 }
 
@@ -181,9 +166,8 @@ pub fn run_rounds<R: Threads + Wait + Sync, G: Gate + Sync>(
     ensures over { AreOver script.now (map (λ d. d.crew) drivers.new) result }
     ensures posted { Both (λ d d'. IsPosted d.crew d'.crew (counted (choices (d.fate.vtable, d.fate.value)) (losses (d.fate.vtable, d.fate.value)) (repeats (d.fate.vtable, d.fate.value))) (counted (choices (d'.fate.vtable, d'.fate.value)) (losses (d'.fate.vtable, d'.fate.value)) (repeats (d'.fate.vtable, d'.fate.value)))) drivers.old drivers.new }
 {
-    let mut turns = FEWEST_TURNS;
     for _round in rt.forever() {
-        match advance(rt, alloc, script, clock, boxes, gate, drivers, &mut turns) {
+        match advance(rt, alloc, script, clock, boxes, gate, drivers) {
             Some(fault) => return fault,
             None => {}
         }

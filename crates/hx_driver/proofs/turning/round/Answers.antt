@@ -8,19 +8,19 @@ use Rattle.hx_driver.proofs.turning.round.Goals as goal
 pub loop-at-init : goal.loop-at-init
 loop-at-init g c = ((λ w h. h), crew-later-refl c.args.crew.now, posted-none c.args.crew.now _, none-retried-refl c.args.crew.now)
 
-pub turn_unless_fault-requires-clause-crew : goal.turn_unless_fault-requires-clause-crew
-turn_unless_fault-requires-clause-crew g c = (c.requires.crew.0, c.loop-at.invariant.0 c.requires.crew.0 c.requires.crew.1)
+pub turns_of-worked-requires-clause-crew : goal.turns_of-worked-requires-clause-crew
+turns_of-worked-requires-clause-crew g c = (c.requires.crew.0, c.loop-at.invariant.0 c.requires.crew.0 c.requires.crew.1)
 
 pub loop-at-preserved : goal.loop-at-preserved
 loop-at-preserved g c =
     let i = c.loop-at.invariant in
-    let n = c.turn_unless_fault.ensures in (
+    let n = c.turns_of-worked.ensures in (
       (λ w h. n.crew w (i.0 w h)),
-      crew-later-trans c.args.crew.now c.loop-at.crew c.turn_unless_fault.new.crew i.1 n.later,
-      posted-trans c.args.crew.now c.loop-at.crew c.turn_unless_fault.new.crew _ _ _ i.2 n.posted,
-      none-retried-trans c.args.crew.now c.loop-at.crew c.turn_unless_fault.new.crew i.3 n.later n.retries,
+      crew-later-trans c.args.crew.now c.loop-at.crew c.turns_of-worked.new.crew i.1 n.later,
+      posted-trans c.args.crew.now c.loop-at.crew c.turns_of-worked.new.crew _ _ _ i.2 n.posted,
+      none-retried-trans c.args.crew.now c.loop-at.crew c.turns_of-worked.new.crew i.3 n.later n.retries,
     )
 
-pub turn_unless_fault-requires-clause-at : goal.turn_unless_fault-requires-clause-at
-turn_unless_fault-requires-clause-at g c =
+pub turns_of-worked-requires-clause-at : goal.turns_of-worked-requires-clause-at
+turns_of-worked-requires-clause-at g c =
     grind (arith, both-length IsLater c.args.crew.now.desks.items c.loop-at.crew.desks.items c.loop-at.invariant.1.desks, c.loop-at-test.true, c.len-at-end.ensures)

@@ -3,8 +3,8 @@ use Rattle.hx_driver.specs.Crews.{IsCrew, IsPosted}
 use Rattle.hx_driver.specs.Slices.{HaveNoRetry, IsLaterCrew}
 use Rattle.hx_driver.proofs.turning.rounds.Given as goal
 
-abbrev pub invariant-loop-number : goal.invariant-loop-number
-invariant-loop-number g l =
+abbrev pub invariant-loop-round : goal.invariant-loop-round
+invariant-loop-round g l =
     ((w : ℕ) → IsCrew l.script l.clock l.boxes w l.initial.crew → IsCrew l.script l.clock l.boxes w l.crew)
     × IsLaterCrew l.initial.crew l.crew
     × IsPosted l.initial.crew l.crew

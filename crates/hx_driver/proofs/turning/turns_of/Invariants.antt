@@ -1,0 +1,13 @@
+use Rattle.std.proofs.Common.{ℕ}
+use Rattle.hx_driver.specs.Crews.{IsCrew, IsPosted}
+use Rattle.hx_driver.specs.Slices.{HaveNoRetry, IsLaterCrew}
+use Rattle.hx_driver.proofs.turning.turns_of.Given as goal
+
+abbrev pub invariant-loop-turn : goal.invariant-loop-turn
+invariant-loop-turn g l =
+    ((w : ℕ) → IsCrew l.script l.clock l.boxes w l.initial.crew → IsCrew l.script l.clock l.boxes w l.crew)
+    × IsLaterCrew l.initial.crew l.crew
+    × IsPosted l.initial.crew l.crew
+    (record { chosen = (g.dyn-1.0.entry l.initial.fate.vtable).1.choices l.initial.fate.value; lost = (g.dyn-1.0.entry l.initial.fate.vtable).1.losses l.initial.fate.value; doubled = (g.dyn-1.0.entry l.initial.fate.vtable).1.repeats l.initial.fate.value })
+    (record { chosen = (g.dyn-1.0.entry l.fate.vtable).1.choices l.fate.value; lost = (g.dyn-1.0.entry l.fate.vtable).1.losses l.fate.value; doubled = (g.dyn-1.0.entry l.fate.vtable).1.repeats l.fate.value })
+    × HaveNoRetry l.initial.crew l.crew
