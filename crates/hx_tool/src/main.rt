@@ -1,8 +1,8 @@
 //! The program `hx`: it reads a script, runs it or plans its searches, and writes what came of it.
 //!
 //! `top::hyperstore` is the call that `main` makes, and its contract the theorem. No contract says
-//! that there is memory, so a program that always ended for want of it would be proved: a test shows
-//! a report being written. `program::run` says of any source and sinks what the status tells; that
+//! that there is memory, so a program that always ended for want of it would be proved: the gate
+//! runs it on scripts whose reports are known. `program::run` says of any source and sinks what the status tells; that
 //! the words are those of the process, and the streams its standard ones, is what `main` adds.
 #![tactic(auto)]
 
@@ -32,6 +32,3 @@ fn main(rt: HostRuntime) -> ExitCode {
     let mut errors = StdSink::new(rt.stderr());
     ExitCode::from(program::run(&rt, &mut source, &mut sink, &mut errors))
 }
-
-#[cfg(test)]
-mod fault_tables;
