@@ -1,4 +1,4 @@
-ghost use Rattle.std.specs.Prelude.{◌≡◌, ℕ, ◌<◌, ◌≤◌, ◌+◌, [], IfOk, OnErr, OnOk, length, nat_eq, slice_set, true};
+ghost use Rattle.std.specs.Prelude.{◌≡◌, ℕ, ◌<◌, ◌≤◌, ◌+◌, [], IfOk, OnOk, length, nat_eq, slice_set, true};
 ghost use Rattle.std.specs.List.{IsDistinct, flat_map};
 ghost use Rattle.hx_types.specs.Words.{list_of};
 ghost use Rattle.hx_index.specs.Orders.{IsIndexOf, rows_at, stands_in};

@@ -181,24 +181,35 @@ fn an_object_that_is_replaced_is_found_no_more(rt: HostRuntime) -> Result<(), Me
     Ok(())
 }
 
-/// Whether a store has exactly one object with a number from a lower to an upper end.
-fn has_one(alloc: Global, store: &mut Store, lo: i64, hi: i64) -> Result<bool, Memory>
+/// Puts an object with this number at the key "k" of a store.
+fn put_one(alloc: Global, store: &mut Store, number: i64) -> Result<(), Memory>
+    requires region { store.old.region ≡ record { 0 = 3 } }
+    requires marks { store.old.marks ≡ false }
+    ensures region { store.new.region ≡ record { 0 = 3 } }
+    ensures marks { store.new.marks ≡ false }
+{
+    store.put(alloc, keyed(alloc, "k", number)?)
+}
+
+/// How many objects of a store have a number from a lower to an upper end.
+fn count_between(alloc: Global, store: &mut Store, lo: i64, hi: i64) -> Result<usize, Memory>
     ensures { store.new ≡ store.old }
 {
     let mut looks = 0;
     let rows = store.find(alloc, &between(alloc, lo, hi)?, &mut looks)?;
-    Ok(rows.len() == 1)
+    Ok(rows.len())
 }
 
 #[test]
 fn an_object_is_found_by_its_last_value(rt: HostRuntime) -> Result<(), Memory> {
     let alloc = rt.alloc();
     let mut store = Store::new(alloc, &space(alloc)?, RegionId(3), false)?;
-    store.put(alloc, keyed(alloc, "k", 100)?)?;
-    assert!(rt; has_one(alloc, &mut store, 100, 100)?);
-    store.put(alloc, keyed(alloc, "k", 200)?)?;
-    store.put(alloc, keyed(alloc, "k", 300)?)?;
-    assert!(rt; has_one(alloc, &mut store, 300, 300)?);
-    assert!(rt; !has_one(alloc, &mut store, 0, 299)?);
+    put_one(alloc, &mut store, 100)?;
+    let first = count_between(alloc, &mut store, 100, 100)?;
+    put_one(alloc, &mut store, 200)?;
+    put_one(alloc, &mut store, 300)?;
+    let others = count_between(alloc, &mut store, 0, 299)?;
+    let last = count_between(alloc, &mut store, 300, 300)?;
+    assert!(rt; first == 1 && others == 0 && last == 1);
     Ok(())
 }
