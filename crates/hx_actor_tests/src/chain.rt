@@ -78,10 +78,10 @@ fn is_at(hop: Hop, wanted: (u32, u32)) -> bool {
     matches!(hop, Hop::At { server, place } if server.0 == wanted.0 && place == wanted.1)
 }
 
-fn follows(config: &Config, update: &Update, from: (u32, u32), to: (u32, u32)) -> bool
-    requires { from.1 < 3 }
-{
-    is_at(next(config, update, from.1, ServerId(from.0)), to)
+/// Whether the second server and place come next after the first, and the first before the second.
+fn follows(config: &Config, update: &Update, from: (u32, u32), to: (u32, u32)) -> bool {
+    from.1 < 3
+        && is_at(next(config, update, from.1, ServerId(from.0)), to)
         && is_at(prev(config, update, to.1, ServerId(to.0)), from)
 }
 
@@ -89,12 +89,11 @@ fn follows(config: &Config, update: &Update, from: (u32, u32), to: (u32, u32)) -
 fn goes_from_member_to_member_and_place_to_place(rt: HostRuntime) -> Result<(), Memory> {
     let config = config(rt.alloc(), &[1, 2, 3, 4])?;
     let update = update(rt.alloc())?;
+    let way = [(1, 0), (2, 0), (1, 1), (2, 1), (3, 2), (4, 2)];
+    for (from, to) in way.iter().zip(way.iter().skip(1)) {
+        assert!(rt; follows(&config, &update, *from, *to));
+    }
     assert!(rt; matches!(prev(&config, &update, 0, ServerId(1)), Hop::End));
-    assert!(rt; follows(&config, &update, (1, 0), (2, 0)));
-    assert!(rt; follows(&config, &update, (2, 0), (1, 1)));
-    assert!(rt; follows(&config, &update, (1, 1), (2, 1)));
-    assert!(rt; follows(&config, &update, (2, 1), (3, 2)));
-    assert!(rt; follows(&config, &update, (3, 2), (4, 2)));
     assert!(rt; matches!(next(&config, &update, 2, ServerId(4)), Hop::End));
     Ok(())
 }

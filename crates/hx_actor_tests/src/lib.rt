@@ -1,8 +1,12 @@
-//! Tests of slots and of the places and neighbours of their updates: a module for each crate that they
-//! are of.
+//! Tests of slots, of the places and neighbours of their updates, of the coordinator and of sessions: a
+//! module for each crate that they are of.
 #![tactic(auto)]
 
 #[cfg(test)]
 mod chain;
+#[cfg(test)]
+mod coord;
+#[cfg(test)]
+mod session;
 #[cfg(test)]
 mod slot;

@@ -177,47 +177,6 @@ fn places_of_a_move(alloc: Global) -> Result<Places, Memory>
     Ok(made)
 }
 
-/// The places of `del "a"` as the second update.
-fn places_of_2(alloc: Global) -> Result<Places, Memory>
-    ensures { IfOk result (λ made. made ≡ record { region = record { 0 = 0 }; after = record { 0 = 1 }; keeps = false }
-        ∷ record { region = record { 0 = 4 }; after = record { 0 = 1 }; keeps = false }
-        ∷ record { region = record { 0 = 6 }; after = record { 0 = 1 }; keeps = false } ∷ []) }
-{
-    let mut made = Places::new(alloc);
-    made.push(at(0, 1, false))?;
-    made.push(at(4, 1, false))?;
-    made.push(at(6, 1, false))?;
-    Ok(made)
-}
-
-/// The places of `put "a" genre="d" year=1999` as the third update.
-fn places_of_3(alloc: Global) -> Result<Places, Memory>
-    ensures { IfOk result (λ made. made ≡ record { region = record { 0 = 0 }; after = record { 0 = 2 }; keeps = true }
-        ∷ record { region = record { 0 = 5 }; after = record { 0 = 0 }; keeps = true }
-        ∷ record { region = record { 0 = 6 }; after = record { 0 = 2 }; keeps = true } ∷ []) }
-{
-    let mut made = Places::new(alloc);
-    made.push(at(0, 2, true))?;
-    made.push(at(5, 0, true))?;
-    made.push(at(6, 2, true))?;
-    Ok(made)
-}
-
-/// The places of `put "a" genre="b"` as the fourth update: region 5 keeps the object no longer.
-fn places_of_4(alloc: Global) -> Result<Places, Memory>
-    ensures { IfOk result (λ made. made ≡ record { region = record { 0 = 0 }; after = record { 0 = 3 }; keeps = true }
-        ∷ record { region = record { 0 = 5 }; after = record { 0 = 3 }; keeps = false }
-        ∷ record { region = record { 0 = 4 }; after = record { 0 = 2 }; keeps = true }
-        ∷ record { region = record { 0 = 6 }; after = record { 0 = 3 }; keeps = true } ∷ []) }
-{
-    let mut made = Places::new(alloc);
-    made.push(at(0, 3, true))?;
-    made.push(at(5, 3, false))?;
-    made.push(at(4, 2, true))?;
-    made.push(at(6, 3, true))?;
-    Ok(made)
-}
-
 /// The update with this version of a call, with an object of genre "b" or "d", or none.
 fn change(
     alloc: Global,
@@ -296,21 +255,6 @@ fn an_object_that_moves_away_leaves(rt: HostRuntime) -> Result<(), Memory> {
     Ok(())
 }
 
-#[test]
-fn an_overtaking_update_waits(rt: HostRuntime) -> Result<(), Memory> {
-    let alloc = rt.alloc();
-    let mut slot = genre_slot(alloc)?;
-    let fourth = change(alloc, 4, (3, 1), Some("b"), places_of_4(alloc)?)?;
-    let early = give(alloc, &mut slot, fourth, 2)?;
-    assert!(rt; matches!(early, Offer::Early));
-    assert_eq!(rt; (slot.top().0, slot.early_count()), (1, 1));
-    let second = change(alloc, 2, (1, 2), None, places_of_2(alloc)?)?;
-    let both = give(alloc, &mut slot, second, 1)?;
-    assert!(rt; matches!(both, Offer::Accepted(2)));
-    assert_eq!(rt; (slot.top().0, slot.early_count()), (4, 0));
-    Ok(())
-}
-
 /// The slot of "a" at its leader, which has accepted the first update.
 fn leader_slot(alloc: Global) -> Result<Slot, Memory>
     ensures { IfOk result (λ slot. slot.region ≡ record { 0 = 0 }) }
@@ -320,65 +264,6 @@ fn leader_slot(alloc: Global) -> Result<Slot, Memory>
     let first = change(alloc, 1, (1, 1), Some("b"), places_of_1(alloc)?)?;
     give(alloc, &mut slot, first, 0)?;
     Ok(slot)
-}
-
-/// The same with the updates up to the fourth, of which two are committed.
-fn busy_slot(alloc: Global) -> Result<Slot, Memory> {
-    let mut slot = leader_slot(alloc)?;
-    let second = change(alloc, 2, (1, 2), None, places_of_2(alloc)?)?;
-    give(alloc, &mut slot, second, 0)?;
-    let third = change(alloc, 3, (2, 1), Some("d"), places_of_3(alloc)?)?;
-    give(alloc, &mut slot, third, 0)?;
-    let fourth = change(alloc, 4, (3, 1), Some("b"), places_of_4(alloc)?)?;
-    give(alloc, &mut slot, fourth, 0)?;
-    slot.ack(Version(1));
-    slot.ack(Version(2));
-    Ok(slot)
-}
-
-/// Whether the last call of a session has this number and version.
-fn is_last(slot: &Slot, session: u32, number: u32, version: u64) -> bool {
-    match last_call(slot, session) {
-        Some(call) => call.0 == number && call.1 == version,
-        None => false,
-    }
-}
-
-#[test]
-fn pending_updates_have_marks(rt: HostRuntime) -> Result<(), Memory> {
-    let slot = busy_slot(rt.alloc())?;
-    assert!(rt; is_last(&slot, 1, 2, 2));
-    assert!(rt; is_last(&slot, 2, 1, 3));
-    assert!(rt; is_last(&slot, 3, 1, 4));
-    Ok(())
-}
-
-#[test]
-fn pending_updates_have_touches(rt: HostRuntime) -> Result<(), Memory> {
-    let slot = busy_slot(rt.alloc())?;
-    assert_eq!(rt; slot.pending_count(), 2);
-    assert_eq!(rt; touched(&slot, 4), 4);
-    assert_eq!(rt; touched(&slot, 6), 4);
-    assert_eq!(rt; touched(&slot, 7), 0);
-    Ok(())
-}
-
-#[test]
-fn committed_marks_and_touches_are_kept(rt: HostRuntime) -> Result<(), Memory> {
-    let slot = busy_slot(rt.alloc())?;
-    let Ok(Some(kept)) = slot.into_kept() else {
-        panic!(rt; "nothing committed");
-    };
-    assert!(rt; kept.object.is_none());
-    assert!(rt; has_one_mark(kept.marks.as_slice(), (1, 2, 2)));
-    assert!(rt; are(kept.touches.as_slice(), &[(0, 2), (4, 2), (6, 2)]));
-    Ok(())
-}
-
-/// Whether there is one mark, of this session, call number and version.
-fn has_one_mark(marks: &[Mark], wanted: (u32, u32, u64)) -> bool {
-    let same = marks.iter().all(|mark| (mark.session.0, mark.number, mark.version.0) == wanted);
-    marks.len() == 1 && same
 }
 
 /// Whether the touches are of these regions with these versions.

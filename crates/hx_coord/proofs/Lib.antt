@@ -1,6 +1,5 @@
 pub mod Lists
 pub mod Steps
 pub mod Heard
-pub mod Examples
 pub mod Making
 pub mod Posted

@@ -4,4 +4,3 @@ pub mod Leaving
 pub mod Numbers
 pub mod Tasks
 pub mod Inside
-pub mod Examples

@@ -22,6 +22,3 @@ mod turns;
 
 pub use coordinators::Coordinator;
 pub use plans::Plan;
-
-#[cfg(test)]
-mod tests;

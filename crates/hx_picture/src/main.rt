@@ -63,6 +63,3 @@ fn picture_of(alloc: Global, bytes: &[u8]) -> Result<String, PictureError> {
     let run = runs::read_run(alloc, text)?;
     drawing::picture(alloc, &run)
 }
-
-#[cfg(test)]
-mod tests;

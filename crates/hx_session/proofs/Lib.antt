@@ -5,6 +5,5 @@ pub mod Kept
 pub mod Finding
 pub mod Staying
 pub mod Order
-pub mod Examples
 pub mod Making
 pub mod Posted

@@ -3,4 +3,3 @@ pub mod Sessions
 pub mod Changes
 pub mod Joined
 pub mod Inside
-pub mod Examples

@@ -13,6 +13,3 @@ mod sessions;
 
 pub use plans::Plan;
 pub use sessions::Session;
-
-#[cfg(test)]
-mod tests;

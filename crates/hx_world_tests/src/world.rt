@@ -2,8 +2,6 @@ ghost use Rattle.std.specs.Prelude.{◌≡◌, [], ◌∷◌, IfOk, length};
 ghost use Rattle.hx_types.specs.Fitting.{IsScript};
 ghost use Rattle.hx_world_tests.specs.Examples.{axis_of, books, genre_is, one, one_call, put_a, script_in, search_b, three_calls, year_is};
 
-use hx_history::history;
-use hx_legal::legal;
 use hx_types::{
     Actor, Answer, Assign, Assigns, Attribute, Attributes, Axes, Axis, Calls, Entry, Kind, Memory,
     Note, Object, Op, Place, PostId, Row, Script, ServerId, SessionId, Sessions, Space, Step,
@@ -298,32 +296,6 @@ fn calls_end_with_their_answers(rt: HostRuntime) -> Result<(), Fail> {
     Ok(())
 }
 
-#[test]
-fn the_history_of_a_key_is_legal(rt: HostRuntime) -> Result<(), Fail> {
-    let alloc = rt.alloc();
-    let script = three_calls_script(alloc)?;
-    let trace = drained(alloc, &script, 20)?;
-    let key = Text::from_str(alloc, "a")?;
-    let items = history(alloc, &script, &trace, &key)?;
-    assert_eq!(rt; items.len(), 3);
-    assert!(rt; legal(&script.space, items.as_slice()));
-    Ok(())
-}
-
-#[test]
-fn a_put_without_values_writes_defaults(rt: HostRuntime) -> Result<(), Fail> {
-    let alloc = rt.alloc();
-    let script = one_call_script(alloc)?;
-    let trace = drained(alloc, &script, 2)?;
-    assert_eq!(rt; trace.len(), 13);
-    let update = assigned(&trace, 1);
-    assert!(rt; goes_through(update, 1, &[(0, 0, true), (4, 0, true), (6, 0, true)]));
-    assert!(rt;
-        matches!(update.and_then(|u| u.object.as_ref()), Some(book) if is_book(book, "", 1900))
-    );
-    Ok(())
-}
-
 /// Whether there is one row: that of the first update of "a", with this genre.
 fn is_row(rows: &[Row], genre: &str) -> bool {
     match rows.first() {
@@ -430,17 +402,6 @@ fn a_halted_server_takes_no_step(rt: HostRuntime) -> Result<(), Fail> {
     let session = Step::Halt(Actor::Session(SessionId(1)));
     assert!(rt; matches!(world.step(alloc, &session), Err(StepError::NotServer)));
     assert_eq!(rt; world.trace().len(), 2);
-    Ok(())
-}
-
-#[test]
-fn a_post_to_a_halted_server_is_not_next(rt: HostRuntime) -> Result<(), Fail> {
-    let alloc = rt.alloc();
-    let script = one_call_script(alloc)?;
-    let mut world = halted_leader(alloc, &script)?;
-    assert!(rt; matches!(world.drain(alloc, 1), Ok(Drained::Spent)));
-    let third = world.trace().get(2);
-    assert!(rt; matches!(third, Some(entry) if matches!(entry.actor, Actor::Coordinator)));
     Ok(())
 }
 

@@ -4,7 +4,7 @@ use Rattle.std.specs.Prelude.{◌≢◌}
 use Rattle.std.proofs.lemmas.List.Elements.{All-from_recursion}
 use Rattle.hx_types.specs.declared.spaces.Attribute.{Attribute}
 use Rattle.hx_types.specs.Spaces.{IsKind, IsName, IsSpace, IsSubspaceOf, is_letter}
-use Rattle.hx_coord.specs.Examples.{small}
+use Rattle.hx_actor_tests.specs.SmallSpace.{small}
 
 letter : (b : ℕ) → is_letter b ≡ true → IsName (b ∷ [])
 letter b e = record {

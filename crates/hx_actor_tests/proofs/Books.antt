@@ -6,7 +6,7 @@ use Rattle.hx_types.specs.declared.calls.Op.{Op}
 use Rattle.hx_types.specs.declared.spaces.Space.{Space}
 use Rattle.hx_types.specs.Spaces.{AssignFits, Fits, IsSpace}
 use Rattle.hx_law_lemmas.proofs.SmallBooks.{small_books_are}
-use Rattle.hx_session.specs.Examples.{books, puts}
+use Rattle.hx_actor_tests.specs.Books.{books, puts}
 
 books_are_space : IsSpace books
 books_are_space = small_books_are (98 ∷ []) (110 ∷ []) books.attributes books.subspaces refl refl refl refl

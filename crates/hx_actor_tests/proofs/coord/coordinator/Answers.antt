@@ -1,7 +1,7 @@
 use Rattle.std.proofs.Common.{subst, sym}
 use Rattle.hx_types.specs.Spaces.{IsSpace}
-use Rattle.hx_coord.proofs.Examples.{small_is_space}
-use Rattle.hx_coord.proofs.tests.coordinator.Goals as goal
+use Rattle.hx_actor_tests.proofs.SmallSpace.{small_is_space}
+use Rattle.hx_actor_tests.proofs.coord.coordinator.Goals as goal
 
 pub start-requires : goal.start-requires
 start-requires c = subst IsSpace (sym c.in_ok-space.ensures) small_is_space

@@ -1,13 +1,11 @@
 ghost use Rattle.std.specs.Prelude.{◌≡◌, ◌∷◌, [], IfOk, pos};
 ghost use Rattle.hx_types.specs.declared.spaces.Kind.TheVariants as a_kind;
-ghost use Rattle.hx_session.specs.Examples.{books, puts};
+ghost use Rattle.hx_actor_tests.specs.Books.{books, puts};
 
-use super::*;
-use crate::parts::{Part, Parts};
-use crate::rows::merged;
+use hx_session::Session;
 use hx_types::{
-    Assigns, Attribute, Attributes, Axes, Axis, Calls, Input, Kind, Memory, Object, Op, RegionId,
-    Row, Rows, SessionId, Space, Subspaces, Text, Value, Version,
+    Assigns, Attribute, Attributes, Axes, Axis, Calls, Input, Kind, Memory, Op, SessionId, Space,
+    Subspaces, Text,
 };
 use std::alloc::Global;
 use std::test::Fail;
@@ -64,61 +62,32 @@ fn calls(alloc: Global) -> Result<Calls, Memory>
     Ok(calls)
 }
 
-/// The rows of a region where one book was found.
-fn book(alloc: Global, version: u64, year: i64) -> Result<Rows, Memory> {
-    let mut object = Object::new(alloc);
-    object.push(Value::Text(Text::from_str(alloc, "b")?))?;
-    object.push(Value::Int(year))?;
-    let mut rows = Rows::new(alloc);
-    rows.push(Row {
-        key: Text::from_str(alloc, "a")?,
-        version: Version(version),
-        object,
-    })?;
-    Ok(rows)
+/// Session 1 of the space of books.
+fn started(alloc: Global, space: &Space) -> Result<Session, Memory>
+    requires { space.now ≡ books }
+{
+    let calls = calls(alloc)?;
+    Session::start(alloc, space, SessionId(1), calls)
 }
 
-/// How many posts and notes a session makes of its first turn, where its call is a put.
-fn made_of_put(alloc: Global) -> Result<(usize, usize), Memory> {
-    let space = space(alloc)?;
-    let calls = calls(alloc)?;
-    let mut session = Session::start(alloc, &space, SessionId(1), calls)?;
+/// How many posts and notes a session makes on its turn.
+fn turn(alloc: Global, session: &mut Session) -> Result<(usize, usize), Memory> {
     let plan = session.prepare(alloc, &Input::Tick)?;
     let entry = session.apply(plan);
     Ok((entry.outputs.len(), entry.notes.len()))
 }
 
-/// Region 6 gave the book as it was, and region 7 gives it as it is.
-fn joined(alloc: Global) -> Result<Rows, Memory> {
-    let mut parts = Parts::new(alloc);
-    parts.push(Part {
-        region: RegionId(6),
-        rows: Some(book(alloc, 1, 1999)?),
-    })?;
-    parts.push(Part {
-        region: RegionId(7),
-        rows: None,
-    })?;
-    let found = book(alloc, 2, 2000)?;
-    merged(alloc, parts.as_slice(), RegionId(7), &found)
-}
-
-fn first_version(rows: &Rows) -> u64 {
-    match rows.get(0) {
-        Some(row) => row.version.0,
-        None => 0,
-    }
+/// How many it makes of its first turn, where its call is a put.
+fn made_of_put(alloc: Global) -> Result<(usize, usize), Memory> {
+    let space = space(alloc)?;
+    let mut session = started(alloc, &space)?;
+    let made = turn(alloc, &mut session);
+    drop(session);
+    made
 }
 
 #[test]
 fn a_put_begins_and_is_posted(rt: HostRuntime) -> Result<(), Fail> {
     assert_eq!(rt; made_of_put(rt.alloc())?, (1, 1));
-    Ok(())
-}
-
-#[test]
-fn a_search_gives_the_highest_version(rt: HostRuntime) -> Result<(), Fail> {
-    let rows = joined(rt.alloc())?;
-    assert_eq!(rt; (rows.len(), first_version(&rows)), (1, 2));
     Ok(())
 }

@@ -1,0 +1,2 @@
+pub mod SmallSpace
+pub mod Books
