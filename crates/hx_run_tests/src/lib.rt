@@ -1,0 +1,15 @@
+//! Tests of runs on several threads: whatever is lost and however small the boxes are, every call is
+//! answered and every history legal; each post that may be lost is chosen about once, and a fate is
+//! dropped once; drivers overlap; actors are dealt to drivers; and what a load adds up to.
+#![tactic(auto)]
+
+#[cfg(test)]
+mod dealing;
+#[cfg(test)]
+mod losing;
+#[cfg(test)]
+mod overlapping;
+#[cfg(test)]
+mod running;
+#[cfg(test)]
+mod soaking;

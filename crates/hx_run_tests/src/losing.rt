@@ -1,0 +1,178 @@
+//! Lost posts, small boxes, and what fates are asked.
+ghost use Rattle.std.specs.Prelude.{◌≡◌};
+
+use crate::running::{LIBRARY, answers, script_of};
+use hx_desk::Open;
+use hx_fate::{Choice, Faithful, Fate};
+use hx_run::{Ran, run};
+use hx_types::{Actor, Message};
+use std::alloc::Global;
+use std::sync::Arc;
+use std::sync::atomic::{AtomicU64, Ordering};
+use std::test::Fail;
+
+/// A put, a get and a put that moves the object.
+const MOVED: &str =
+    "hx 1\nspace books\nkey name 2\nstring genre\nint year 1900 2099\nsubspace genre 4\nsubspace year 2\nservers 4\ntolerate 1\nsession 1\nput \"a\" genre=\"b\" year=1999\nget \"a\"\nput \"a\" genre=\"d\"\n";
+
+/// Loses every post on which the draw of SplitMix64 is odd.
+#[derive(Drop)]
+struct Coin {
+    state: u64,
+    chosen: u64,
+    lost: u64,
+}
+
+impl Coin {
+    fn new(state: u64) -> Coin {
+        Coin {
+            state,
+            chosen: 0,
+            lost: 0,
+        }
+    }
+
+    /// The next draw.
+    fn draw(&mut self) -> u64
+        ensures chosen { self.new.chosen ≡ self.old.chosen }
+        ensures lost { self.new.lost ≡ self.old.lost }
+    {
+        self.state = self.state.wrapping_add(0x9e37_79b9_7f4a_7c15);
+        let once = (self.state ^ (self.state >> 30)).wrapping_mul(0xbf58_476d_1ce4_e5b9);
+        let twice = (once ^ (once >> 27)).wrapping_mul(0x94d0_49bb_1331_11eb);
+        twice ^ (twice >> 31)
+    }
+}
+
+impl Fate for Coin {
+    ghost choices = { λ c. c.chosen };
+
+    ghost losses = { λ c. c.lost };
+
+    ghost repeats = { λ _. 0 };
+
+    fn choose(&mut self, _from: Actor, _to: Actor) -> Choice {
+        let draw = self.draw();
+        self.chosen = self.chosen.saturating_add(1);
+        if draw % 2 == 0 {
+            return Choice::Deliver;
+        }
+        self.lost = self.lost.saturating_add(1);
+        Choice::Lose
+    }
+
+    fn tune(&mut self, _lose_every: u32, _repeat_every: u32) {}
+
+    fn chosen(&self) -> u64 {
+        self.chosen
+    }
+
+    fn lost(&self) -> u64 {
+        self.lost
+    }
+
+    fn doubled(&self) -> u64 {
+        0
+    }
+}
+
+/// Each fate draws from a state of its own: 1, 2 and 3.
+#[test]
+fn half_of_all_posts_may_be_lost(rt: HostRuntime) -> Result<(), Fail> {
+    let alloc = rt.alloc();
+    let mut fates: Vec<Box<dyn Fate + Send>> = Vec::new(alloc);
+    fates.push(Box::new(alloc, Coin::new(1))?)?;
+    fates.push(Box::new(alloc, Coin::new(2))?)?;
+    fates.push(Box::new(alloc, Coin::new(3))?)?;
+    let answered = answers(&rt, alloc, LIBRARY, 3, 1024, fates, &Open)?;
+    assert_eq!(rt; answered, Some(13));
+    Ok(())
+}
+
+#[test]
+fn boxes_of_one_place_lose_nothing(rt: HostRuntime) -> Result<(), Fail> {
+    let alloc = rt.alloc();
+    let mut fates: Vec<Box<dyn Fate + Send>> = Vec::new(alloc);
+    fates.push(Box::new(alloc, Faithful::new())?)?;
+    let answered = answers(&rt, alloc, MOVED, 1, 1, fates, &Open)?;
+    assert_eq!(rt; answered, Some(3));
+    Ok(())
+}
+
+/// Delivers all, and tells others how often it was asked and dropped.
+struct Counted {
+    chosen: u64,
+    asked: Arc<AtomicU64, Global>,
+    dropped: Arc<AtomicU64, Global>,
+}
+
+impl Drop for Counted {
+    fn drop(self) {
+        self.dropped.fetch_add(1, Ordering::SeqCst);
+        let Counted {
+            chosen: _,
+            asked: _,
+            dropped: _,
+        } = self;
+    }
+}
+
+impl Fate for Counted {
+    ghost choices = { λ c. c.chosen };
+
+    ghost losses = { λ _. 0 };
+
+    ghost repeats = { λ _. 0 };
+
+    fn choose(&mut self, _from: Actor, _to: Actor) -> Choice {
+        self.asked.fetch_add(1, Ordering::SeqCst);
+        self.chosen = self.chosen.saturating_add(1);
+        Choice::Deliver
+    }
+
+    fn tune(&mut self, _lose_every: u32, _repeat_every: u32) {}
+
+    fn chosen(&self) -> u64 {
+        self.chosen
+    }
+
+    fn lost(&self) -> u64 {
+        0
+    }
+
+    fn doubled(&self) -> u64 {
+        0
+    }
+}
+
+/// How many posts of a run may be lost: all but servers' words that they have halted.
+fn posts_to_lose(ran: &Ran) -> usize {
+    let mut count: usize = 0;
+    for entry in ran.trace.as_slice() {
+        let posts = entry.outputs.as_slice().iter();
+        let to_lose = posts.filter(|post| !matches!(post.message, Message::Gone));
+        count = count.saturating_add(to_lose.count());
+    }
+    count
+}
+
+#[test]
+fn a_fate_is_asked_of_each_post_and_dropped_once(rt: HostRuntime) -> Result<(), Fail> {
+    let alloc = rt.alloc();
+    let script = script_of(alloc, LIBRARY)?;
+    let asked = Arc::new(alloc, AtomicU64::new(0))?;
+    let dropped = Arc::new(alloc, AtomicU64::new(0))?;
+    let fate = Counted {
+        chosen: 0,
+        asked: Arc::try_clone(&asked)?,
+        dropped: Arc::try_clone(&dropped)?,
+    };
+    let mut fates: Vec<Box<dyn Fate + Send>> = Vec::new(alloc);
+    fates.push(Box::new(alloc, fate)?)?;
+    let ran = run(&rt, alloc, &script, 1, 1024, fates, &Open)?;
+    assert_eq!(rt; asked.load(Ordering::SeqCst), posts_to_lose(&ran) as u64);
+    assert_eq!(rt; dropped.load(Ordering::SeqCst), 0);
+    drop(ran);
+    assert_eq!(rt; dropped.load(Ordering::SeqCst), 1);
+    Ok(())
+}
