@@ -11,6 +11,3 @@ mod drawing;
 mod scripts;
 
 pub use scripts::script_of;
-
-#[cfg(test)]
-mod tests;

@@ -59,6 +59,3 @@ pub fn summary(alloc: Global, script: &Script, trace: &Trace) -> Result<Vec<u8>,
     let histories = histories(alloc, script, trace)?;
     text(alloc, &script.space, &records, &histories)
 }
-
-#[cfg(test)]
-mod tests;

@@ -1,6 +1,8 @@
-//! Tests of scripts, reports and bytes: a module for each crate that they are of.
+//! Tests of scripts, reports, bytes, words, drawn scripts and summaries: a module for each crate that they are of.
 #![tactic(auto)]
 
+#[cfg(test)]
+mod drawn;
 #[cfg(test)]
 mod io;
 #[cfg(test)]
@@ -13,3 +15,7 @@ mod read_back;
 mod report;
 #[cfg(test)]
 mod script;
+#[cfg(test)]
+mod summary;
+#[cfg(test)]
+mod words;

@@ -41,121 +41,90 @@ fn script(rt: &HostRuntime, lines: &str) -> Option<Script> {
 
 #[test]
 fn refuses_the_head(rt: HostRuntime) {
-    assert_eq!(rt; refusal(&rt, ""), Some((1, Reason::Order)));
-    assert_eq!(rt; refusal(&rt, "hx 2"), Some((1, Reason::Bounds)));
-    assert_eq!(rt;
-        refusal(&rt, "hx 01\r\nspace b\n"),
-        Some((3, Reason::Order))
-    );
-    assert_eq!(rt;
-        refusal(&rt, "hx 1\n\n# note\nspace if"),
-        Some((4, Reason::Order))
-    );
-    assert_eq!(rt; refusal(&rt, "hx 1\nspace \"b\""), Some((2, Reason::Order)));
-    assert_eq!(rt;
-        refusal(&rt, "hx 1\nspace b\nkey k 257"),
-        Some((3, Reason::Bounds))
-    );
-    let long = "hx 1\nspace abcdefghijklmnopqrstuvwxyzabcdefg";
-    assert_eq!(rt; refusal(&rt, long), Some((2, Reason::Limit)));
-    let key_again = "hx 1\nspace k\nkey k 1\nstring k";
-    assert_eq!(rt; refusal(&rt, key_again), Some((4, Reason::Twice)));
-    let bounds = "hx 1\nspace k\nkey k 1\nint v 2 1";
-    assert_eq!(rt; refusal(&rt, bounds), Some((4, Reason::Bounds)));
-    assert_eq!(rt; ninth(&rt, "tolerate 4"), Some((9, Reason::Bounds)));
-    assert_eq!(rt; ninth(&rt, "servers 4"), Some((9, Reason::Order)));
-    assert_eq!(rt; ninth(&rt, "tolerate 3"), None);
-    assert_eq!(rt; ninth(&rt, ""), Some((9, Reason::Order)));
+    for (text, line, reason) in [
+        ("", 1, Reason::Order),
+        ("hx 2", 1, Reason::Bounds),
+        ("hx 01\r\nspace b\n", 3, Reason::Order),
+        ("hx 1\n\n# note\nspace if", 4, Reason::Order),
+        ("hx 1\nspace \"b\"", 2, Reason::Order),
+        ("hx 1\nspace b\nkey k 257", 3, Reason::Bounds),
+        (
+            "hx 1\nspace abcdefghijklmnopqrstuvwxyzabcdefg",
+            2,
+            Reason::Limit,
+        ),
+        ("hx 1\nspace k\nkey k 1\nstring k", 4, Reason::Twice),
+        ("hx 1\nspace k\nkey k 1\nint v 2 1", 4, Reason::Bounds),
+    ] {
+        assert_eq!(rt; refusal(&rt, text), Some((line, reason)), "{text}");
+    }
+}
+
+#[test]
+fn refuses_the_end_of_the_head(rt: HostRuntime) {
+    for (line, refused) in [
+        ("tolerate 4", Some((9, Reason::Bounds))),
+        ("servers 4", Some((9, Reason::Order))),
+        ("tolerate 3", None),
+        ("", Some((9, Reason::Order))),
+    ] {
+        assert_eq!(rt; ninth(&rt, line), refused, "{line}");
+    }
 }
 
 #[test]
 fn refuses_subspaces(rt: HostRuntime) {
     let head = "hx 1\nspace b\nkey k 256\nint a 0 9\nint b 0 9\nint c 0 9\nint d 0 9\nint e 0 9\n";
-    let seventh = |line: &str| -> Option<(u64, Reason)> {
-        let text = format!(in rt.alloc(); "{head}{line}").ok()?;
-        refusal(&rt, text.as_str())
-    };
-    assert_eq!(rt; seventh("subspace k 1"), Some((9, Reason::Unknown)));
-    assert_eq!(rt; seventh("subspace"), Some((9, Reason::Order)));
-    assert_eq!(rt; seventh("subspace a 1, b 1,"), Some((9, Reason::Order)));
-    assert_eq!(rt; seventh("subspace a 1 b 1"), Some((9, Reason::Order)));
-    assert_eq!(rt; seventh("subspace a 1, a 1"), Some((9, Reason::Twice)));
-    assert_eq!(rt; seventh("subspace a 0"), Some((9, Reason::Bounds)));
-    assert_eq!(rt;
-        seventh("subspace a 1, b 1, c 1, d 1, e"),
-        Some((9, Reason::Limit))
-    );
-    assert_eq!(rt;
-        seventh("subspace a 256, b 16, c \"x\""),
-        Some((9, Reason::Limit))
-    );
-    assert_eq!(rt; seventh("subspace a 256, b 15"), Some((10, Reason::Order)));
-    assert_eq!(rt;
-        seventh("subspace a 256, b 15\nsubspace c 1"),
-        Some((10, Reason::Limit))
-    );
     let nine =
         "subspace a 1\nsubspace a 1\nsubspace a 1\nsubspace a 1\nsubspace a 1\nsubspace a 1\nsubspace a 1\nsubspace a 1\nsubspace x 9999";
-    assert_eq!(rt; seventh(nine), Some((17, Reason::Limit)));
+    for (lines, number, reason) in [
+        ("subspace k 1", 9, Reason::Unknown),
+        ("subspace", 9, Reason::Order),
+        ("subspace a 1, b 1,", 9, Reason::Order),
+        ("subspace a 1 b 1", 9, Reason::Order),
+        ("subspace a 1, a 1", 9, Reason::Twice),
+        ("subspace a 0", 9, Reason::Bounds),
+        ("subspace a 1, b 1, c 1, d 1, e", 9, Reason::Limit),
+        ("subspace a 256, b 16, c \"x\"", 9, Reason::Limit),
+        ("subspace a 256, b 15", 10, Reason::Order),
+        ("subspace a 256, b 15\nsubspace c 1", 10, Reason::Limit),
+        (nine, 17, Reason::Limit),
+    ] {
+        let text = format!(in rt.alloc(); "{head}{lines}").ok();
+        let refused = text.and_then(|text| refusal(&rt, text.as_str()));
+        assert_eq!(rt; refused, Some((number, reason)), "{lines}");
+    }
 }
 
 #[test]
 fn refuses_calls(rt: HostRuntime) {
-    assert_eq!(rt;
-        call(&rt, "put \"a\" year=\"x\""),
-        Some((11, Reason::TypeOf))
-    );
-    assert_eq!(rt;
-        call(&rt, "put \"a\" genre=\"b\" genre=\"d\""),
-        Some((11, Reason::Twice))
-    );
-    assert_eq!(rt;
-        call(&rt, "put \"a\" colour=\"b\""),
-        Some((11, Reason::Unknown))
-    );
-    assert_eq!(rt;
-        call(&rt, "put \"a\" name=\"b\""),
-        Some((11, Reason::Unknown))
-    );
-    assert_eq!(rt;
-        call(&rt, "search year=2010..1990"),
-        Some((11, Reason::Bounds))
-    );
-    assert_eq!(rt; call(&rt, "search genre=1..2"), Some((11, Reason::TypeOf)));
-    assert_eq!(rt;
-        call(&rt, "search name=\"a\"..\"b\""),
-        Some((11, Reason::Order))
-    );
-    assert_eq!(rt;
-        call(&rt, "search name=\"a\" name=\"b\""),
-        Some((11, Reason::Twice))
-    );
-    assert_eq!(rt; call(&rt, "get \"a"), Some((11, Reason::Token)));
-    assert_eq!(rt; call(&rt, "add 5 0"), Some((11, Reason::Bounds)));
-    assert_eq!(rt; call(&rt, "add 4 8"), Some((11, Reason::Bounds)));
-    assert_eq!(rt; call(&rt, "add 4 7 1"), Some((11, Reason::Order)));
-    assert_eq!(rt; call(&rt, "add 4 7"), None);
-    assert_eq!(rt; call(&rt, "stop 0"), Some((11, Reason::Bounds)));
-    assert_eq!(rt; call(&rt, "get a"), Some((11, Reason::Order)));
-    assert_eq!(rt; call(&rt, "session 3"), Some((11, Reason::Bounds)));
-    assert_eq!(rt; call(&rt, "tick c"), Some((11, Reason::Order)));
-    assert_eq!(rt;
-        call(&rt, "cput \"a\" if set year=1"),
-        Some((11, Reason::Order))
-    );
-    assert_eq!(rt;
-        call(&rt, "cput \"a\" if year=1"),
-        Some((11, Reason::Order))
-    );
-    assert_eq!(rt;
-        call(&rt, "cput \"a\" if year=1 set"),
-        Some((11, Reason::Order))
-    );
-    assert_eq!(rt;
-        call(&rt, "cput \"a\" if year=1 set year=2 set"),
-        Some((11, Reason::Order))
-    );
-    assert_eq!(rt; call(&rt, "cput \"a\" if year=1 set year=2"), None);
+    for (line, reason) in [
+        ("put \"a\" year=\"x\"", Reason::TypeOf),
+        ("put \"a\" genre=\"b\" genre=\"d\"", Reason::Twice),
+        ("put \"a\" colour=\"b\"", Reason::Unknown),
+        ("put \"a\" name=\"b\"", Reason::Unknown),
+        ("search year=2010..1990", Reason::Bounds),
+        ("search genre=1..2", Reason::TypeOf),
+        ("search name=\"a\"..\"b\"", Reason::Order),
+        ("search name=\"a\" name=\"b\"", Reason::Twice),
+        ("get \"a", Reason::Token),
+        ("add 5 0", Reason::Bounds),
+        ("add 4 8", Reason::Bounds),
+        ("add 4 7 1", Reason::Order),
+        ("stop 0", Reason::Bounds),
+        ("get a", Reason::Order),
+        ("session 3", Reason::Bounds),
+        ("tick c", Reason::Order),
+        ("cput \"a\" if set year=1", Reason::Order),
+        ("cput \"a\" if year=1", Reason::Order),
+        ("cput \"a\" if year=1 set", Reason::Order),
+        ("cput \"a\" if year=1 set year=2 set", Reason::Order),
+    ] {
+        assert_eq!(rt; call(&rt, line), Some((11, reason)), "{line}");
+    }
+    for line in ["add 4 7", "cput \"a\" if year=1 set year=2"] {
+        assert_eq!(rt; call(&rt, line), None, "{line}");
+    }
 }
 
 #[test]
@@ -174,25 +143,23 @@ fn refuses_long_texts(rt: HostRuntime) {
 
 #[test]
 fn refuses_steps(rt: HostRuntime) {
-    assert_eq!(rt; step(&rt, "deliver -1.0"), Some((11, Reason::Bounds)));
-    assert_eq!(rt;
-        step(&rt, "deliver 1.4294967296"),
-        Some((11, Reason::Bounds))
-    );
-    assert_eq!(rt; step(&rt, "deliver 1..0"), Some((11, Reason::Order)));
+    for (line, reason) in [
+        ("deliver -1.0", Reason::Bounds),
+        ("deliver 1.4294967296", Reason::Bounds),
+        ("deliver 1..0", Reason::Order),
+        ("tick s0", Reason::Bounds),
+        ("tick s5", Reason::Bounds),
+        ("tick u1", Reason::Bounds),
+        ("halt s99999999999999999999999", Reason::Bounds),
+        ("halt s01", Reason::Order),
+        ("halt s", Reason::Order),
+        ("halt s1x", Reason::Order),
+        ("halt c1", Reason::Order),
+        ("steps", Reason::Order),
+    ] {
+        assert_eq!(rt; step(&rt, line), Some((11, reason)), "{line}");
+    }
     assert_eq!(rt; step(&rt, "deliver 1 . 4294967295"), None);
-    assert_eq!(rt; step(&rt, "tick s0"), Some((11, Reason::Bounds)));
-    assert_eq!(rt; step(&rt, "tick s5"), Some((11, Reason::Bounds)));
-    assert_eq!(rt; step(&rt, "tick u1"), Some((11, Reason::Bounds)));
-    assert_eq!(rt;
-        step(&rt, "halt s99999999999999999999999"),
-        Some((11, Reason::Bounds))
-    );
-    assert_eq!(rt; step(&rt, "halt s01"), Some((11, Reason::Order)));
-    assert_eq!(rt; step(&rt, "halt s"), Some((11, Reason::Order)));
-    assert_eq!(rt; step(&rt, "halt s1x"), Some((11, Reason::Order)));
-    assert_eq!(rt; step(&rt, "halt c1"), Some((11, Reason::Order)));
-    assert_eq!(rt; step(&rt, "steps"), Some((11, Reason::Order)));
     assert_eq!(rt; step(&rt, "halt c\nget \"a\""), Some((12, Reason::Order)));
 }
 
@@ -217,48 +184,63 @@ fn reads_a_space(rt: HostRuntime) {
     assert!(rt; matches!(second.as_slice(), [axis] if axis.attribute == 2 && axis.parts == 2));
 }
 
+const SESSIONS: &str =
+    "tolerate 1\nsession 1\nput \"a\" genre=\"b\\n\" year=1999\nget \"a\"\nsession 2\ncput \"a\" if genre=\"b\" set year=2000\ndel \"a\"\nsearch name=\"a\" year=1990..2010\nstop 3\nadd 4 7\nsteps\ntick u2\ndeliver 1.0\n\nhalt s4";
+
+/// Whether it is the put of session 1.
+fn is_put(call: &Op) -> bool {
+    let Op::Put { key, sets } = call else {
+        return false;
+    };
+    let [genre, year] = sets.as_slice() else {
+        return false;
+    };
+    key.as_str() == "a"
+        && matches!(&genre.value, Value::Text(text) if text.as_str() == "b\n")
+        && matches!(year.value, Value::Int(1999))
+        && (genre.attribute, year.attribute) == (1, 2)
+}
+
+/// Whether it is the search of session 2.
+fn is_search(call: &Op) -> bool {
+    let Op::Search { terms } = call else {
+        return false;
+    };
+    let range = Some((2, 1990, 2010));
+    match terms.as_slice() {
+        [
+            Term::Equal { attribute: 0, .. },
+            Term::Range { attribute, lo, hi },
+        ] => { Some((*attribute, *lo, *hi)) == range }
+        _ => false,
+    }
+}
+
 #[test]
-fn reads_calls_and_steps(rt: HostRuntime) {
-    let lines =
-        "tolerate 1\nsession 1\nput \"a\" genre=\"b\\n\" year=1999\nget \"a\"\nsession 2\ncput \"a\" if genre=\"b\" set year=2000\ndel \"a\"\nsearch name=\"a\" year=1990..2010\nstop 3\nadd 4 7\nsteps\ntick u2\ndeliver 1.0\n\nhalt s4";
-    let Some(script) = script(&rt, lines) else {
+fn reads_calls(rt: HostRuntime) {
+    let Some(script) = script(&rt, SESSIONS) else {
         panic!(rt; "refused");
     };
     let [first, second] = script.sessions.as_slice() else {
         panic!(rt; "sessions");
     };
-    let [Op::Put { key, sets }, Op::Get { .. }] = first.as_slice() else {
-        panic!(rt; "calls of session 1");
-    };
-    assert_eq!(rt; key.as_str(), "a");
-    let [genre, year] = sets.as_slice() else {
-        panic!(rt; "assignments");
-    };
-    assert!(rt;
-        genre.attribute == 1 && matches!(&genre.value, Value::Text(text) if text.as_str() == "b\n")
-    );
-    assert!(rt; year.attribute == 2 && matches!(year.value, Value::Int(1999)));
-    let [cput, Op::Del { .. }, Op::Search { terms }, stop, add] = second.as_slice() else {
+    assert!(rt; matches!(first.as_slice(), [put, Op::Get { .. }] if is_put(put)));
+    let [cput, Op::Del { .. }, search, stop, add] = second.as_slice() else {
         panic!(rt; "calls of session 2");
     };
     assert!(rt;
         matches!(cput, Op::Cput { tests, sets, .. } if tests.len() == 1 && sets.len() == 1)
     );
-    let [Term::Equal { attribute: 0, .. }, range] = terms.as_slice() else {
-        panic!(rt; "terms");
-    };
-    assert!(rt;
-        matches!(
-            range,
-            Term::Range {
-                attribute: 2,
-                lo: 1990,
-                hi: 2010
-            }
-        )
-    );
+    assert!(rt; is_search(search));
     assert!(rt; matches!(stop, Op::Stop { server } if server.0 == 3));
     assert!(rt; matches!(add, Op::Add { server, region } if server.0 == 4 && region.0 == 7));
+}
+
+#[test]
+fn reads_steps(rt: HostRuntime) {
+    let Some(script) = script(&rt, SESSIONS) else {
+        panic!(rt; "refused");
+    };
     let [tick, deliver, halt] = script.steps.as_slice() else {
         panic!(rt; "steps");
     };

@@ -18,6 +18,3 @@ mod numbers;
 mod options;
 
 pub use commands::{Run, Soak, run_of, soak_of};
-
-#[cfg(test)]
-mod tests;

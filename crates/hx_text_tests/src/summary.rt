@@ -1,9 +1,10 @@
-use super::*;
+use hx_summary::summary;
 use hx_types::{
-    Actor, Answer, Assigns, Attribute, Attributes, Caller, Calls, Entry, Epoch, Input, Kind, Note,
-    Notes, Object, Op, Places, Posts, RegionId, Rows, ServerId, SessionId, Sessions, Shared, Space,
-    Steps, Subspaces, Terms, Text, Update, Value, Version,
+    Actor, Answer, Assigns, Attribute, Attributes, Caller, Calls, Entry, Epoch, Input, Kind,
+    Memory, Note, Notes, Object, Op, Places, Posts, RegionId, Rows, Script, ServerId, SessionId,
+    Sessions, Shared, Space, Steps, Subspaces, Terms, Text, Trace, Update, Value, Version,
 };
+use std::alloc::Global;
 use std::test::Fail;
 
 fn attributes(alloc: Global) -> Result<Attributes, Memory> {

@@ -1,4 +1,4 @@
-use super::*;
+use hx_words::{Run, Soak, run_of, soak_of};
 use std::alloc::Global;
 use std::test::Fail;
 

@@ -1,4 +1,4 @@
-use super::*;
+use hx_gen::script_of;
 use hx_types::{Caller, Op, Script, SessionId};
 use std::test::Fail;
 
