@@ -10,11 +10,12 @@ use std::alloc::Global;
 pub fn rows_at(alloc: Global, rows: &[Option<Row>], places: &[u32]) -> Result<Rows, Memory>
     ensures { IfOk result (λ found. found ≡ flat_map (λ i. list_of (rows_at rows.now i)) places.now) }
 {
-    let mut found = Rows::new(alloc);
+    let mut found = Vec::new(alloc);
+    found.reserve_exact(places.len())?;
     for place in places {
         add_row_at(alloc, rows, *place, &mut found)?;
     }
-    Ok(found)
+    Rows::from_vec(alloc, found)
 }
 
 /// Adds a copy of the row at a place, if there is one.
@@ -22,9 +23,9 @@ fn add_row_at(
     alloc: Global,
     rows: &[Option<Row>],
     place: u32,
-    found: &mut Rows,
+    found: &mut Vec<Row>,
 ) -> Result<(), Memory>
-    ensures { OnOk result (found.new ≡ found.old ++ list_of (rows_at rows.now place)) }
+    ensures { OnOk result (found.new.items ≡ found.old.items ++ list_of (rows_at rows.now place)) }
 {
     match rows.get(place as usize) {
         Some(row) => add_row(alloc, row, found),
@@ -33,8 +34,8 @@ fn add_row_at(
 }
 
 /// Adds a copy of a row, if it is there.
-fn add_row(alloc: Global, row: &Option<Row>, found: &mut Rows) -> Result<(), Memory>
-    ensures { OnOk result (found.new ≡ found.old ++ list_of row.now) }
+fn add_row(alloc: Global, row: &Option<Row>, found: &mut Vec<Row>) -> Result<(), Memory>
+    ensures { OnOk result (found.new.items ≡ found.old.items ++ list_of row.now) }
 {
     if let Some(row) = row {
         found.push(row.copy(alloc)?)?;
