@@ -3,6 +3,5 @@ pub mod Boxing
 pub mod ByPlace
 pub mod Deals
 pub mod Everyone
-pub mod Examples
 pub mod Opens
 pub mod Zips

@@ -3,4 +3,3 @@ pub mod Everyone
 pub mod Clusters
 pub mod Actors
 pub mod Dealt
-pub mod Examples

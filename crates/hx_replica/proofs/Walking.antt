@@ -1,14 +1,11 @@
 -- The slots of a store one after another, and those that are made of them.
-use Rattle.std.proofs.Common.{◌≡◌, ℕ, zero, suc, ◌+◌, ◌<◌, true, false, List, [], ◌∷◌, ◌++◌, drop, map, take, length, None, Some, refl, add-one, ap, sym, ◌∙◌, append_assoc, append-nil, subst, arith}
+use Rattle.std.proofs.Common.{◌≡◌, ℕ, zero, suc, ◌+◌, ◌<◌, true, false, List, [], ◌∷◌, ◌++◌, drop, take, length, None, Some, add-one, ap, sym, ◌∙◌, append_assoc, append-nil, subst, arith}
 use Rattle.std.specs.List.{AllByRecursion, flat_map, slice_get}
-use Rattle.std.proofs.lemmas.Bool.{cond-false, false_from_ne_true, false≢true}
+use Rattle.std.proofs.lemmas.Bool.{false_from_ne_true, false≢true}
 use Rattle.std.proofs.lemmas.Grind.{flat_map-append}
-use Rattle.std.proofs.lemmas.List.{map_push}
 use Rattle.std.proofs.lemmas.Option.{same_Some}
 use Rattle.hx_types.specs.Words.{same_text, text_below}
 use Rattle.hx_model.proofs.States.{eq_of_same_text, same_text_self}
-use Rattle.hx_model.specs.Slots.{KeyState, with_state}
-use Rattle.hx_folds.specs.Folding.{KeysAscend}
 use Rattle.hx_folds.proofs.Texts.{below-differs, below-trans}
 use Rattle.hx_replica.proofs.Turns.{take_next}
 
@@ -43,31 +40,7 @@ not_above a b e = false_from_ne_true (text_below b a) (λ f. not_below_itself a 
 pub lower_differs : (a b : List ℕ) → text_below a b ≡ true → same_text a b ≡ false
 lower_differs a b e = false_from_ne_true (same_text a b) (λ s. not_below_itself a (ap (text_below a) (eq_of_same_text a b s) ∙ e))
 
--- a slot above all others stands at their end
-pub put_last : (s : KeyState) (states : List KeyState) → AllByRecursion (λ (t : KeyState). text_below t.base.key s.base.key ≡ true) states → with_state s states ≡ states ++ s ∷ []
-put_last s [] h = refl
-put_last s (x ∷ rest) h =
-    cond-false (same_text x.base.key s.base.key) _ _ (lower_differs x.base.key s.base.key h.0)
-    ∙ cond-false (text_below s.base.key x.base.key) _ _ (not_above x.base.key s.base.key h.0)
-    ∙ ap (λ states. x ∷ states) (put_last s rest h.1)
-
 pub each_at : {A : Type 0} (P : A → Type 0) (xs : List A) (i : ℕ) (x : A) → AllByRecursion P xs → slice_get xs i ≡ Some x → P x
 each_at P [] i x h e = absurd cc
 each_at P (y ∷ ys) zero x h e = subst P (same_Some y x e) h.0
 each_at P (y ∷ ys) (suc i) x h e = each_at P ys i x h.1 e
-
-module _ (f : KeyState → KeyState) (keeps : (s : KeyState) → (f s).base.key ≡ s.base.key) where
-  below_next : (states : List KeyState) (i : ℕ) (s : KeyState) → KeysAscend states → slice_get states i ≡ Some s → AllByRecursion (λ (t : KeyState). text_below t.base.key (f s).base.key ≡ true) (map f (take i states))
-  below_next [] i s h e = absurd cc
-  below_next (x ∷ rest) zero s h e = tt
-  below_next (x ∷ rest) (suc i) s h e = (
-    ap (λ (k : List ℕ). text_below k (f s).base.key) (keeps x) ∙ ap (text_below x.base.key) (keeps s) ∙ each_at (λ (t : KeyState). text_below x.base.key t.base.key ≡ true) rest i s h.0 e,
-    below_next rest i s h.1 e,
-  )
-
-  -- what is made of the next slot is put at the end
-  pub put_next : (states : List KeyState) (i : ℕ) (s : KeyState) → KeysAscend states → slice_get states i ≡ Some s → with_state (f s) (map f (take i states)) ≡ map f (take (i + 1) states)
-  put_next states i s h e =
-      put_last (f s) (map f (take i states)) (below_next states i s h e)
-      ∙ sym (map_push f (take i states) s)
-      ∙ ap (map f) (sym (take_next states i s e))

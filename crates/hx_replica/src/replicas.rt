@@ -86,6 +86,14 @@ pub fn place_of(replicas: &[Replica], region: RegionId) -> Option<usize>
     }
 }
 
+/// A replica takes the place of another. It is moved in a function of its own, so that the steps of
+/// slots, which are nearly all, have no room for a whole replica.
+pub fn put_replica(place: &mut Replica, replica: Box<Replica>)
+    ensures { place.new ≡ replica.value }
+{
+    *place = Box::into_inner(replica);
+}
+
 /// The slot at a place makes its part of a step. It takes no memory.
 pub fn change_slot(store: &mut Store, place: usize, change: SlotChange)
     requires room { HasRoomFor (key_at store.old place) (room_of change) place store.old.rooms }

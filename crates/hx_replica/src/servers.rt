@@ -26,7 +26,7 @@ use crate::installing::installed;
 use crate::keeping::keep_all;
 use crate::made::{SlotMade, room_by};
 use crate::plans::{Change, Plan, moved, said, to_coordinator, unmoved};
-use crate::replicas::{Replica, change_slot, first_replicas, new_replicas, place_of};
+use crate::replicas::{Replica, change_slot, first_replicas, new_replicas, place_of, put_replica};
 use crate::rows::step_slot;
 use crate::spots::Spot;
 use crate::ticking::{tell_ready, tick_all};
@@ -133,7 +133,7 @@ impl Server {
             Change::Seal => self.sealed = true,
             Change::Halt => self.halted = true,
             Change::Adopt { config, replicas } => self.adopt(config, replicas),
-            Change::Join { number, replica } => self.replicas[number] = Box::into_inner(replica),
+            Change::Join { number, replica } => put_replica(&mut self.replicas[number], replica),
             Change::Slot {
                 replica,
                 place,

@@ -7,7 +7,7 @@ use Rattle.std.specs.List.Sorted.{IsStrictlySortedBy}
 use Rattle.std.specs.Map.{lookup, values_of}
 use Rattle.std.specs.declared.cmp.Ordering.{Ordering}
 use Rattle.std.specs.declared.cmp.Ordering.TheVariants.{Less, Equal, Greater}
-use Rattle.std.specs.Ordering.{is_eq, is_lt, match_ordering}
+use Rattle.std.specs.Ordering.{is_eq, is_lt, match_ordering, ordering_reverse}
 use Rattle.std.proofs.lemmas.Bool.{cond_both, cond-true, cond-false}
 use Rattle.std.proofs.lemmas.Cmp.{nat_list_cmp_total}
 use Rattle.std.proofs.lemmas.Map.Keys.{sorted_head, sorted_tail}
@@ -75,6 +75,47 @@ joined_rows key row (e ∷ es) k a s =
     by Greater h rest =
         ap (λ (rows : List Row). e.1.now ∷ rows) rest
         ∙ sym (cond-false (same_text row.now.key e.1.now.key) _ _ (same Greater h) ∙ cond-false (text_below row.now.key e.1.now.key) _ _ (below Greater h))
+
+-- a key compares to itself as an equal
+self_equal : (key : Bor (List ℕ)) → by_key key key ≡ Equal
+self_equal key = by (by_key key key) (nat_list_cmp_total.antisymm key.now key.now)
+  where
+    by : (o : Ordering) → o ≡ ordering_reverse o → o ≡ Equal
+    by Less e = absurd cc
+    by Equal e = refl
+    by Greater e = absurd cc
+
+-- of two rows that go in at a key the second one stays
+inserted_again : (key : Bor (List ℕ)) (first second : Bor Row) (es : List Entry) → insert_entry by_key (insert_entry by_key es key first) key second ≡ insert_entry by_key es key second
+inserted_again key first second [] = ap (λ (o : Ordering). match_ordering o ((key, second) ∷ (key, first) ∷ []) ((key, second) ∷ []) ((key, first) ∷ (key, second) ∷ [])) (self_equal key)
+inserted_again key first second (e ∷ es) = by (by_key key e.0) refl (inserted_again key first second es)
+  where
+    by : (o : Ordering) → by_key key e.0 ≡ o → insert_entry by_key (insert_entry by_key es key first) key second ≡ insert_entry by_key es key second
+        → insert_entry by_key (match_ordering o ((key, first) ∷ e ∷ es) ((e.0, first) ∷ es) (e ∷ insert_entry by_key es key first)) key second
+        ≡ match_ordering o ((key, second) ∷ e ∷ es) ((e.0, second) ∷ es) (e ∷ insert_entry by_key es key second)
+    by Less h rest = ap (λ (o : Ordering). match_ordering o ((key, second) ∷ (key, first) ∷ e ∷ es) ((key, second) ∷ e ∷ es) ((key, first) ∷ insert_entry by_key (e ∷ es) key second)) (self_equal key)
+    by Equal h rest = ap (λ (o : Ordering). match_ordering o ((key, second) ∷ (e.0, first) ∷ es) ((e.0, second) ∷ es) ((e.0, first) ∷ insert_entry by_key es key second)) h
+    by Greater h rest =
+        ap (λ (o : Ordering). match_ordering o ((key, second) ∷ e ∷ insert_entry by_key es key first) ((e.0, second) ∷ insert_entry by_key es key first) (e ∷ insert_entry by_key (insert_entry by_key es key first) key second)) h
+        ∙ ap (λ (rest : List Entry). e ∷ rest) rest
+
+-- the row goes in; where the one that was found at the key has no lower version, that one comes back
+pub goes_in : (key : Bor (List ℕ)) (row : Bor Row) (es : List Entry) → found_at key es ≡ None
+    → insert_entry by_key es key row ≡ insert_entry by_key es key (higher_of (found_at key es) row)
+goes_in key row es n = ap (λ (found : Option (Bor Row)). insert_entry by_key es key (higher_of found row)) (sym n)
+
+pub replaces : (key : Bor (List ℕ)) (row found : Bor Row) (es : List Entry) → found_at key es ≡ Some found → nat_lt found.now.version.0 row.now.version.0 ≡ true
+    → insert_entry by_key es key row ≡ insert_entry by_key es key (higher_of (found_at key es) row)
+replaces key row found es f l =
+    ap (insert_entry by_key es key) (sym (cond-true (nat_lt found.now.version.0 row.now.version.0) row found l))
+    ∙ ap (λ (o : Option (Bor Row)). insert_entry by_key es key (higher_of o row)) (sym f)
+
+pub comes_back : (key : Bor (List ℕ)) (row found : Bor Row) (es : List Entry) → found_at key es ≡ Some found → nat_lt found.now.version.0 row.now.version.0 ≡ false
+    → insert_entry by_key (insert_entry by_key es key row) key found ≡ insert_entry by_key es key (higher_of (found_at key es) row)
+comes_back key row found es f l =
+    inserted_again key row found es
+    ∙ ap (insert_entry by_key es key) (sym (cond-false (nat_lt found.now.version.0 row.now.version.0) row found l))
+    ∙ ap (λ (o : Option (Bor Row)). insert_entry by_key es key (higher_of o row)) (sym f)
 
 -- what is kept of a key is of that key
 found_key : (key : Bor (List ℕ)) (row : Bor Row) (es : List Entry) → row.now.key ≡ key.now → AreKeyed es → (higher_of (found_at key es) row).now.key ≡ key.now

@@ -2,7 +2,7 @@ ghost use Rattle.std.specs.Prelude.{◌≡◌, [], IfOk, OnOk, map};
 ghost use Rattle.hx_types.specs.Words.{when_some};
 ghost use Rattle.hx_model.specs.SessionSteps.{merged_parts, rows_joined, with_part, with_row};
 ghost use Rattle.hx_session.specs.Changes.{part_seen};
-ghost use Rattle.hx_session.specs.Joined.{AreKeyed, higher_of, rows_in};
+ghost use Rattle.hx_session.specs.Joined.{AreKeyed, rows_in};
 
 use crate::parts::Part;
 use hx_types::{Exact, Memory, RegionId, Row, Rows};
@@ -56,27 +56,21 @@ fn join_row<'a>(joined: &mut Joined<'a>, row: &'a Row) -> Result<(), Memory>
     ensures rows { OnOk result (rows_in joined.new.entries ≡ with_row row.now (rows_in joined.old.entries)) }
 {
     let key = row.key.as_str();
-    let row = higher(joined.get(key).copied(), row);
-    joined.insert(key, row)?;
-    Ok(())
-}
-
-/// The row that was found, unless the other has a higher version.
-fn higher<'a>(found: Option<&'a Row>, row: &'a Row) -> &'a Row
-    ensures { result ≡ higher_of found.entry row.entry }
-{
-    match found {
-        Some(found) if found.version.0 >= row.version.0 => found,
-        _ => row,
+    if let Some(found) = joined.insert(key, row)?
+        && found.version.0 >= row.version.0
+    {
+        joined.insert(key, found)?;
     }
+    Ok(())
 }
 
 fn listed(alloc: Global, joined: &Joined) -> Result<Rows, Memory>
     ensures { IfOk result (λ rows. rows ≡ rows_in joined.now.entries) }
 {
-    let mut rows = Rows::new(alloc);
+    let mut rows = Vec::new(alloc);
+    rows.reserve_exact(joined.len())?;
     for row in joined.values() {
         rows.push(row.copy(alloc)?)?;
     }
-    Ok(rows)
+    Rows::from_vec(alloc, rows)
 }

@@ -37,7 +37,9 @@ pub fn coordinator_takes(
     ensures same_log { OnErr result (IsSameLog log.old log.new) }
     ensures same { OnErr result (IsSameCoordinator counted.old counted.new) }
 {
-    let plan = counted.coordinator.prepare(alloc, input)?;
+    let Ok(plan) = counted.coordinator.prepare(alloc, input) else {
+        return Err(StepError::Memory);
+    };
     admit(plan.entry(), counted.entries)?;
     let entries = open(alloc, log, plan.entry())?;
     let entry = counted.coordinator.apply(plan);

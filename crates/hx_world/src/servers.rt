@@ -37,7 +37,9 @@ pub fn server_takes(
     ensures same_log { OnErr result (IsSameLog log.old log.new) }
     ensures same { OnErr result (IsSameServer counted.old counted.new) }
 {
-    let plan = counted.server.prepare(alloc, input)?;
+    let Ok(plan) = counted.server.prepare(alloc, input) else {
+        return Err(StepError::Memory);
+    };
     admit(plan.entry(), counted.entries)?;
     let entries = open(alloc, log, plan.entry())?;
     let entry = counted.server.apply(plan);

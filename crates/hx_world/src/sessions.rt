@@ -37,7 +37,9 @@ pub fn session_takes(
     ensures same_log { OnErr result (IsSameLog log.old log.new) }
     ensures same { OnErr result (IsSameSession counted.old counted.new) }
 {
-    let plan = counted.session.prepare(alloc, input)?;
+    let Ok(plan) = counted.session.prepare(alloc, input) else {
+        return Err(StepError::Memory);
+    };
     admit(plan.entry(), counted.entries)?;
     let entries = open(alloc, log, plan.entry())?;
     let entry = counted.session.apply(plan);

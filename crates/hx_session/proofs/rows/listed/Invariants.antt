@@ -5,4 +5,4 @@ use Rattle.hx_session.specs.Joined.{rows_in}
 use Rattle.hx_session.proofs.rows.listed.Given as goal
 
 abbrev pub invariant-loop-row : goal.invariant-loop-row
-invariant-loop-row l = l.rows ++ map (λ (b : Bor Row). b.now) l.row-iterator ≡ rows_in l.joined.entries
+invariant-loop-row l = l.rows.items ++ map (λ (b : Bor Row). b.now) l.row-iterator ≡ rows_in l.joined.entries

@@ -50,21 +50,21 @@ index_mut-replica-requires c =
 
 pub invariant_of-self-in-Join : goal.invariant_of-self-in-Join
 invariant_of-self-in-Join c =
-    let h : IsJoinOn c.args.self.now c.args.plan.entry.input c.in-Join.number c.into_inner.result =
-    subst (IsJoinOn c.args.self.now c.args.plan.entry.input c.in-Join.number) (sym c.into_inner.ensures)
+    let h : IsJoinOn c.args.self.now c.args.plan.entry.input c.in-Join.number c.put_replica.new.place =
+    subst (IsJoinOn c.args.self.now c.args.plan.entry.input c.in-Join.number) (sym c.put_replica.ensures)
     (join_of c.args.self.now c.args.plan.entry.input c.args.plan.change c.in-Join.number c.in-Join.replica c.in-Join.is c.requires.change) in
     record {
       valid = c.self-in-Join.invariant.valid;
       map_is = c.self-in-Join.invariant.map_is;
-      replicas_are = joined_replicas c.self-in-Join.inside c.args.self.now c.args.plan.entry.input c.in-Join.number c.into_inner.result c.self-in-Join.view_is c.self-in-Join.invariant h;
+      replicas_are = joined_replicas c.self-in-Join.inside c.args.self.now c.args.plan.entry.input c.in-Join.number c.put_replica.new.place c.self-in-Join.view_is c.self-in-Join.invariant h;
     }
 
 pub returns-in-Join-clause-state : goal.returns-in-Join-clause-state
 returns-in-Join-clause-state c =
-    let h : IsJoinOn c.args.self.now c.args.plan.entry.input c.in-Join.number c.into_inner.result =
-    subst (IsJoinOn c.args.self.now c.args.plan.entry.input c.in-Join.number) (sym c.into_inner.ensures)
+    let h : IsJoinOn c.args.self.now c.args.plan.entry.input c.in-Join.number c.put_replica.new.place =
+    subst (IsJoinOn c.args.self.now c.args.plan.entry.input c.in-Join.number) (sym c.put_replica.ensures)
     (join_of c.args.self.now c.args.plan.entry.input c.args.plan.change c.in-Join.number c.in-Join.replica c.in-Join.is c.requires.change) in
-    joined_server c.self-in-Join.inside c.args.self.now c.args.plan.entry.input c.in-Join.number c.into_inner.result c.self-in-Join.view_is c.self-in-Join.invariant h
+    joined_server c.self-in-Join.inside c.args.self.now c.args.plan.entry.input c.in-Join.number c.put_replica.new.place c.self-in-Join.view_is c.self-in-Join.invariant h
 
 pub adopt-requires : goal.adopt-requires
 adopt-requires c =
