@@ -7,3 +7,4 @@ pub mod Repeats
 pub mod Paced
 pub mod Ended
 pub mod Shown
+pub mod Same
