@@ -8,3 +8,4 @@ pub mod Paced
 pub mod Ended
 pub mod Shown
 pub mod Same
+pub mod Next
