@@ -6,3 +6,4 @@ pub mod Made
 pub mod Turned
 pub mod Waiting
 pub mod Same
+pub mod Worn

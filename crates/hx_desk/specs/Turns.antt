@@ -1,7 +1,11 @@
 -- What a turn of an actor does: which entries came, what was posted for them, and why a turn may fail.
-use Rattle.std.specs.Prelude.{ℕ, ◌≡◌, ◌+◌, ◌≤◌, ◌<◌, ◌^◌, List, ◌++◌, length, ⊤}
+use Rattle.std.specs.Prelude.{ℕ, ◌≡◌, ◌≢◌, ◌+◌, ◌≤◌, ◌<◌, ◌^◌, true, false, List, ◌++◌, length, map, ⊤}
 use Rattle.hx_types.specs.declared.limits.TheConstants.{MOST_ENTRIES}
 use Rattle.hx_types.specs.declared.totals.Totals.{Totals}
+use Rattle.hx_types.specs.declared.traces.Input.{Input}
+use Rattle.hx_types.specs.declared.traces.Script.{Script}
+use Rattle.hx_types.specs.declared.traces.Input.TheVariants.{Halt}
+use Rattle.hx_model.specs.Runs.{has_halted, made_of, makes_enough}
 use Rattle.hx_clock.specs.declared.parts.Stamped.{Stamped}
 use Rattle.hx_mail.specs.declared.views.Mailed.{Mailed}
 use Rattle.hx_mail.specs.Boxes.{Boxed}
@@ -11,7 +15,9 @@ use Rattle.hx_outbox.specs.Offers.{FateCounts, IsOffered, IsTotal}
 use Rattle.hx_desk.specs.declared.desks.Desk.{Desk}
 use Rattle.hx_desk.specs.declared.faults.Fault.{Fault}
 use Rattle.hx_desk.specs.declared.faults.Fault.TheVariants.{Memory, Worn}
-use Rattle.hx_desk.specs.Desks.{IsLater, made_by}
+use Rattle.hx_desk.specs.Desks.{IsLater, entries_before, made_by, told}
+use Rattle.hx_desk.specs.Inboxes.{ins_of}
+use Rattle.hx_desk.specs.Told.{told_by}
 
 -- h of all that the actor's driver put, or keeps for the actor
 abbrev pub weight_of : (Mailed → ℕ) → Outbox → Desk → ℕ
@@ -35,7 +41,16 @@ pub record HasRoom (out : Outbox) (d : Desk) (t : Totals) : Type 0 where
   pub posts : t.posts < 2 ^ 61
   pub total : IsTotal t
 
--- an actor is worn that has made the most entries that it may make
-abbrev pub IsFaultOf : Desk → Fault → Type 0
-IsFaultOf d Memory = ⊤
-IsFaultOf d (Worn a) = (a ≡ d.actor) × (length d.part.items ≡ MOST_ENTRIES)
+-- the actor has one more entry to make: of what was taken for it and not delivered, or of a tick, where that makes something
+pub record HasMoreToMake (script : Script) (d : Desk) : Type 0 where
+  pub input : Input
+  pub no_halt : input ≢ Halt
+  pub running : has_halted script (entries_before d.part.items) d.actor ≡ false
+  -- it was told of all that was taken but for this
+  pub told : told d.part.items ++ told_by d.actor input ≡ map (λ s. s.mailed) (ins_of d.inbox)
+  pub enough : makes_enough input (made_of script (entries_before d.part.items) d.actor input) ≡ true
+
+-- an actor is worn that has made the most entries that it may make, and has one more to make
+abbrev pub IsFaultOf : Script → Desk → Fault → Type 0
+IsFaultOf script d Memory = ⊤
+IsFaultOf script d (Worn a) = (a ≡ d.actor) × (length d.part.items ≡ MOST_ENTRIES) × HasMoreToMake script d

@@ -172,7 +172,7 @@ pub(crate) fn enter<R: Wait, G: Gate>(
     requires room { HasRoom out.old desk.old totals.old }
     ensures desk { MatchResult result (λ _. (w : ℕ) → IsDesk script.now clock.now boxes.now w (told_by desk.old.actor input) desk.old → IsDesk script.now clock.now boxes.now w [] desk.new) (λ _. (w : ℕ) (rest : List Mailed) → IsDesk script.now clock.now boxes.now w rest desk.old → IsDesk script.now clock.now boxes.now w rest desk.new) }
     ensures turn { MatchResult result (λ _. (x : Stamped) × IsMadeOf script.now desk.old input x × IsTurn boxes.now desk.old desk.new out.old out.new totals.old totals.new (record { chosen = choices fate.old; lost = losses fate.old; doubled = repeats fate.old }) (record { chosen = choices fate.new; lost = losses fate.new; doubled = repeats fate.new }) (x ∷ [])) (λ _. IsTurn boxes.now desk.old desk.new out.old out.new totals.old totals.new (record { chosen = choices fate.old; lost = losses fate.old; doubled = repeats fate.old }) (record { chosen = choices fate.new; lost = losses fate.new; doubled = repeats fate.new }) []) }
-    ensures fault { MatchResult result (λ _. ⊤) (λ fault. IsFaultOf desk.new fault) }
+    ensures fault { MatchResult result (λ _. ⊤) (λ fault. IsFaultOf script.now desk.new fault) }
 {
     if is_worn(desk) {
         Err(Fault::Worn(desk.actor))

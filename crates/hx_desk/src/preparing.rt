@@ -7,10 +7,8 @@ ghost use Rattle.hx_mail.specs.declared.views.Mailed.{Mailed};
 ghost use Rattle.hx_mail.specs.Boxes.{Boxed};
 ghost use Rattle.hx_machine.specs.Machines.{IsMachine, entry_in};
 ghost use Rattle.hx_outbox.specs.Offers.{firsts_of};
-ghost use Rattle.hx_desk.specs.declared.faults.Fault.TheVariants as a_fault;
 ghost use Rattle.hx_desk.specs.Desks.{IsDesk, IsSame, entries_before};
 ghost use Rattle.hx_desk.specs.Givings.{CanBeGiven, HasPlaces, IsReady};
-ghost use Rattle.hx_desk.specs.Turns.{IsFaultOf};
 
 use crate::desks::Desk;
 use hx_clock::Clock;
@@ -23,7 +21,7 @@ use std::alloc::Global;
 pub(crate) fn is_worn(desk: &Desk) -> bool
     requires few { length desk.now.part.items ≤ MOST_ENTRIES }
     ensures worn { result ≡ false → length desk.now.part.items < MOST_ENTRIES }
-    ensures fault { result ≡ true → IsFaultOf desk.now (a_fault.Worn desk.now.actor) }
+    ensures most { result ≡ true → length desk.now.part.items ≡ MOST_ENTRIES }
 {
     desk.part.len() >= MOST_ENTRIES as usize
 }

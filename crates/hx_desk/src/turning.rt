@@ -96,7 +96,7 @@ fn begin<R: Wait, G: Gate>(
     requires out { IsOutbox boxes.now out.old }
     requires room { HasRoom out.old desk.old totals.old }
     ensures desk { MatchResult result (λ _. (w : ℕ) → IsDesk script.now clock.now boxes.now w [] desk.old → IsDesk script.now clock.now boxes.now w [] desk.new) (λ _. (w : ℕ) → IsDesk script.now clock.now boxes.now w [] desk.old → IsBrokenDesk script.now clock.now boxes.now w desk.new) }
-    ensures fault { MatchResult result (λ _. ⊤) (λ fault. IsFaultOf desk.new fault) }
+    ensures fault { MatchResult result (λ _. ⊤) (λ fault. IsFaultOf script.now desk.new fault) }
     ensures turn { (xs : List Stamped) × IsTurn boxes.now desk.old desk.new out.old out.new totals.old totals.new (record { chosen = choices fate.old; lost = losses fate.old; doubled = repeats fate.old }) (record { chosen = choices fate.new; lost = losses fate.new; doubled = repeats fate.new }) xs }
     ensures retries { HasNoRetry desk.old desk.new }
 {
@@ -140,7 +140,7 @@ fn answer<R: Wait, G: Gate>(
     requires out { IsOutbox boxes.now out.old }
     requires room { HasRoom out.old desk.old totals.old }
     ensures desk { MatchResult result (λ _. (w : ℕ) → IsDesk script.now clock.now boxes.now w [] desk.old → IsDesk script.now clock.now boxes.now w [] desk.new) (λ _. (w : ℕ) → IsDesk script.now clock.now boxes.now w [] desk.old → IsBrokenDesk script.now clock.now boxes.now w desk.new) }
-    ensures fault { MatchResult result (λ _. ⊤) (λ fault. IsFaultOf desk.new fault) }
+    ensures fault { MatchResult result (λ _. ⊤) (λ fault. IsFaultOf script.now desk.new fault) }
     ensures turn { (xs : List Stamped) × IsTurn boxes.now desk.old desk.new out.old out.new totals.old totals.new (record { chosen = choices fate.old; lost = losses fate.old; doubled = repeats fate.old }) (record { chosen = choices fate.new; lost = losses fate.new; doubled = repeats fate.new }) xs }
     ensures retries { HasNoRetry desk.old desk.new }
 {
@@ -175,7 +175,7 @@ pub fn turn<R: Wait, G: Gate>(
     requires out { IsOutbox boxes.now out.old }
     requires room { HasRoom out.old desk.old totals.old }
     ensures desk { MatchResult result (λ _. (w : ℕ) → IsWholeDesk script.now clock.now boxes.now w desk.old → IsWholeDesk script.now clock.now boxes.now w desk.new) (λ _. (w : ℕ) → IsWholeDesk script.now clock.now boxes.now w desk.old → IsBrokenDesk script.now clock.now boxes.now w desk.new) }
-    ensures fault { MatchResult result (λ _. ⊤) (λ fault. IsFaultOf desk.new fault) }
+    ensures fault { MatchResult result (λ _. ⊤) (λ fault. IsFaultOf script.now desk.new fault) }
     ensures turn { (xs : List Stamped) × IsTurn boxes.now desk.old desk.new out.old out.new totals.old totals.new (record { chosen = choices fate.old; lost = losses fate.old; doubled = repeats fate.old }) (record { chosen = choices fate.new; lost = losses fate.new; doubled = repeats fate.new }) xs }
     ensures retries { HasNoRetry desk.old desk.new }
 {

@@ -35,7 +35,7 @@ module _ (script : Script) (clock : TableId) (boxes : List Boxed) (w : ℕ) (c c
   same-desk : (e : Desk) → IsDeskOf script clock boxes w c e → IsDeskOf script clock boxes w c' e
   same-desk e g = record { broken = g.broken; whole = λ n. g.whole calm }
 
-  moved : IsDeskOf script clock boxes w c' d' → HasFault c' → IsCrew script clock boxes w c'
+  moved : IsDeskOf script clock boxes w c' d' → HasFault script c' → IsCrew script clock boxes w c'
   moved here fault = record {
     out = k.turn.out.0;
     desks =
@@ -50,18 +50,19 @@ module _ (script : Script) (clock : TableId) (boxes : List Boxed) (w : ℕ) (c c
   pub moved-calm : c'.fault ≡ None → IsWholeDesk script clock boxes w d' → IsCrew script clock boxes w c'
   moved-calm none whole = moved (record { broken = record { rest = whole.rest; desk = whole.desk }; whole = λ n. whole }) (inl none)
 
-  fault-of : (fault : Fault) → c'.fault ≡ Some fault → IsFaultOf d' fault → HasFault c'
+  fault-of : (fault : Fault) → c'.fault ≡ Some fault → IsFaultOf script d' fault → HasFault script c'
   fault-of a_fault.Memory e why = inr (inl e)
   fault-of (a_fault.Worn a) e why =
       inr
-      (inr (
-        d',
-        subst (IsIn d') (sym k.desks) (in-set c.desks.items at d' k.within),
-        e ∙ ap (λ b. Some (a_fault.Worn b)) why.0,
-        why.1,
-      ))
+      (inr (record {
+        desk = d';
+        is = subst (IsIn d') (sym k.desks) (in-set c.desks.items at d' k.within);
+        fault = e ∙ ap (λ b. Some (a_fault.Worn b)) why.0;
+        most = why.1;
+        more = why.2;
+      }))
 
-  pub moved-fault : (fault : Fault) → c'.fault ≡ Some fault → IsFaultOf d' fault → IsBrokenDesk script clock boxes w d' → IsCrew script clock boxes w c'
+  pub moved-fault : (fault : Fault) → c'.fault ≡ Some fault → IsFaultOf script d' fault → IsBrokenDesk script clock boxes w d' → IsCrew script clock boxes w c'
   moved-fault fault e why broken = moved (record { broken = broken; whole = λ n. absurd (none-some fault (sym n ∙ e)) }) (fault-of fault e why)
 
 -- the crew is the same later

@@ -15,6 +15,7 @@ use Rattle.hx_outbox.specs.Offers.{FateCounts, IsOffered, IsTotal}
 use Rattle.hx_desk.specs.declared.desks.Desk.{Desk}
 use Rattle.hx_desk.specs.declared.faults.Fault.TheVariants as a_fault
 use Rattle.hx_desk.specs.Desks.{IsBrokenDesk, IsWholeDesk, made_by}
+use Rattle.hx_desk.specs.Turns.{HasMoreToMake}
 use Rattle.hx_driver.specs.declared.crews.Crew.{Crew}
 
 -- h of all that the driver put, or keeps for one of its actors
@@ -49,12 +50,17 @@ pub record IsDeskOf (script : Script) (clock : TableId) (boxes : List Boxed) (w 
   pub broken : IsBrokenDesk script clock boxes w d
   pub whole : c.fault ≡ None → IsWholeDesk script clock boxes w d
 
+-- one of the actors is worn: it has made the most entries that it may make, and has one more to make
+pub record HasWorn (script : Script) (c : Crew) : Type 0 where
+  pub desk : Desk
+  pub is : IsIn desk c.desks.items
+  pub fault : c.fault ≡ Some (a_fault.Worn desk.actor)
+  pub most : length desk.part.items ≡ MOST_ENTRIES
+  pub more : HasMoreToMake script desk
+
 -- the fault is a want of memory, or one of the actors is worn
-abbrev pub HasFault : Crew → Type 0
-HasFault c =
-    (c.fault ≡ None)
-    ⊎ ((c.fault ≡ Some a_fault.Memory)
-    ⊎ ((d : Desk) × IsIn d c.desks.items × (c.fault ≡ Some (a_fault.Worn d.actor)) × (length d.part.items ≡ MOST_ENTRIES)))
+abbrev pub HasFault : Script → Crew → Type 0
+HasFault script c = (c.fault ≡ None) ⊎ ((c.fault ≡ Some a_fault.Memory) ⊎ HasWorn script c)
 
 pub record IsCrew (script : Script) (clock : TableId) (boxes : List Boxed) (w : ℕ) (c : Crew) : Type 0 where
   pub out : IsOutbox boxes c.out
@@ -62,4 +68,4 @@ pub record IsCrew (script : Script) (clock : TableId) (boxes : List Boxed) (w : 
   pub many : length c.desks.items ≤ MOST_ACTORS
   pub booked : IsBooked c
   pub total : IsTotal c.totals
-  pub fault : HasFault c
+  pub fault : HasFault script c

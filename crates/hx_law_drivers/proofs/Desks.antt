@@ -1,5 +1,5 @@
 -- All desks of some crews, and the same desks later.
-use Rattle.std.proofs.Common.{◌≡◌, ◌≢◌, ◌≤◌, inl, inr, false, cond, List, [], ◌∷◌, map, length, None, refl, ap, sym, subst, ◌∙◌, arith}
+use Rattle.std.proofs.Common.{◌≡◌, ◌≢◌, ◌≤◌, inl, inr, false, cond, List, [], ◌∷◌, map, length, None, refl, ap, sym, subst, ◌∙◌, arith, true≢false}
 use Rattle.std.specs.List.{AllByRecursion, IsDistinct}
 use Rattle.std.proofs.lemmas.Bool.{cond_both}
 use Rattle.hx_types.specs.declared.ids.Actor.{Actor}
@@ -116,6 +116,19 @@ entries_of_desk (c ∷ ds) d apart (inl e) =
 entries_of_desk (c ∷ ds) d apart (inr i) =
     ap (λ b. cond b (length c.part.items) (entries_at ds d.actor)) (each_in (λ a. same_actor c.actor a ≡ false) (map (λ (x : Desk). x.actor) ds) d.actor apart.0 (in_map (λ (x : Desk). x.actor) ds d i))
     ∙ entries_of_desk ds d apart.1 i
+
+-- each actor has one desk
+apart_from : (c d : Desk) (ds : List Desk) → AllByRecursion (λ a. same_actor c.actor a ≡ false) (map (λ (x : Desk). x.actor) ds) → IsIn d ds → c.actor ≡ d.actor → ⊥
+apart_from c d ds h i e =
+    true≢false (sym (ap (same_actor c.actor) (sym e) ∙ same_as_itself c.actor) ∙ each_in (λ a. same_actor c.actor a ≡ false) (map (λ (x : Desk). x.actor) ds) d.actor h (in_map (λ (x : Desk). x.actor) ds d i))
+
+pub one_desk : (ds : List Desk) (d e : Desk) → IsDistinct same_actor (map (λ (x : Desk). x.actor) ds) → IsIn d ds → IsIn e ds → d.actor ≡ e.actor → d ≡ e
+unfolding IsDistinct
+one_desk [] d e apart i j same = absurd i
+one_desk (c ∷ ds) d e apart (inl p) (inl q) same = p ∙ sym q
+one_desk (c ∷ ds) d e apart (inl p) (inr j) same = absurd (apart_from c e ds apart.0 j (ap (λ (x : Desk). x.actor) (sym p) ∙ same))
+one_desk (c ∷ ds) d e apart (inr i) (inl q) same = absurd (apart_from c d ds apart.0 i (ap (λ (x : Desk). x.actor) (sym q) ∙ sym same))
+one_desk (c ∷ ds) d e apart (inr i) (inr j) same = one_desk ds d e apart.1 i j same
 
 -- none is larger before
 pub fewer_before : (ds es : List Desk) → Both IsLater ds es → (a : Actor) → entries_at ds a ≤ entries_at es a

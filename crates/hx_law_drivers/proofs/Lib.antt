@@ -7,3 +7,5 @@ pub mod Repeats
 pub mod Paced
 pub mod Ended
 pub mod Shown
+pub mod Same
+pub mod Next

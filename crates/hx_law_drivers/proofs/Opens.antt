@@ -158,19 +158,25 @@ one_true false le = absurd (omega (arith, le))
 desk_in : (crews : List Crew) (d : Desk) → IsIn d (desks_of crews) → (c : Crew) × IsIn c crews × IsIn d c.desks.items
 desk_in crews d i = of_flat (λ (c : Crew). c.desks.items) crews d i
 
+-- where something that a crew put counts, something counts that one of its actors made
+pub put_counts : (c : Crew) → IsBooked c → (h : Mailed → ℕ) → 1 ≤ out_weight h c.out.ports.items
+    → (d : Desk) × IsIn d c.desks.items × ((x : Mailed) × IsIn x (made_by d.part.items) × (1 ≤ h x))
+put_counts c booked h some =
+    let b = booked.offered in
+    let put : 1 ≤ put_weight h b.offers = omega (arith, some, b.put h) in
+    let posts : total h booked.posts ≡ total (λ (o : Offer). h o.mailed) b.offers = ap (total h) (sym b.are) ∙ total_of_map (λ (o : Offer). o.mailed) h b.offers in
+    let made : 1 ≤ made_weight h c.desks.items = omega (arith, offered_some h b.offers put, posts, booked.made h) in
+    let d = total_some (λ (d : Desk). total h (made_by d.part.items)) c.desks.items made in
+    (d.0, d.1, total_some h (made_by d.0.part.items) d.2)
+
 -- what a crew put is of the name and for the receiver of a post that one of its actors made
 put_was_made : (c : Crew) → IsBooked c → (m : Mailed) (n : ℕ) → IsIn m (outs_at n c.out.ports.items)
     → (d : Desk) × IsIn d c.desks.items × ((x : Mailed) × IsIn x (made_by d.part.items) × (x.id ≡ m.id) × (x.post.to ≡ m.post.to))
 put_was_made c booked m n i =
     let h : Mailed → ℕ = λ x. one (same_name x.id m.id && same_actor x.post.to m.post.to) in
-    let b = booked.offered in
     let self : h m ≡ 1 = ap one (and_from (same_name m.id m.id) (same_actor m.post.to m.post.to) (same_self m.id) (same_as_itself m.post.to)) in
-    let one_put : 1 ≤ out_weight h c.out.ports.items = omega (arith, self, total_least h (outs_at n c.out.ports.items) m i, outs_least h n c.out.ports.items) in
-    let put : 1 ≤ put_weight h b.offers = omega (arith, one_put, b.put h) in
-    let posts : total h booked.posts ≡ total (λ (o : Offer). h o.mailed) b.offers = ap (total h) (sym b.are) ∙ total_of_map (λ (o : Offer). o.mailed) h b.offers in
-    let made : 1 ≤ made_weight h c.desks.items = omega (arith, offered_some h b.offers put, posts, booked.made h) in
-    let d = total_some (λ (d : Desk). total h (made_by d.part.items)) c.desks.items made in
-    let x = total_some h (made_by d.0.part.items) d.2 in
+    let d = put_counts c booked h (omega (arith, self, total_least h (outs_at n c.out.ports.items) m i, outs_least h n c.out.ports.items)) in
+    let x = d.2 in
     let both = and_parts (same_name x.0.id m.id) (same_actor x.0.post.to m.post.to) (one_true (same_name x.0.id m.id && same_actor x.0.post.to m.post.to) x.2) in
     (d.0, d.1, (x.0, x.1, name_is x.0.id m.id both.0, same_actor_is x.0.post.to m.post.to both.1))
 

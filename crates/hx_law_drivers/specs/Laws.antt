@@ -1,5 +1,5 @@
 -- The laws on a run of drivers: its trace is paced.
-use Rattle.std.specs.Prelude.{ℕ, ◌≡◌, ◌≢◌, List, [], length}
+use Rattle.std.specs.Prelude.{ℕ, ◌≡◌, ◌≢◌, List, [], ◌∷◌, ◌++◌, length, map}
 use Rattle.std.specs.List.{AllByRecursion}
 use Rattle.atomic_table.specs.Seated.{TableId}
 use Rattle.hx_types.specs.declared.calls.Caller.{Caller}
@@ -19,6 +19,10 @@ use Rattle.hx_law_threads.specs.Pacing.{IsPaced, IsPacedToEnd}
 use Rattle.hx_mail.specs.Boxes.{Boxed}
 use Rattle.hx_outbox.specs.Places.{AreBoxes}
 use Rattle.hx_desk.specs.declared.desks.Desk.{Desk}
+use Rattle.hx_desk.specs.Desks.{told}
+use Rattle.hx_desk.specs.Inboxes.{ins_of}
+use Rattle.hx_desk.specs.Told.{told_by}
+use Rattle.hx_desk.specs.Turns.{HasMoreToMake}
 use Rattle.hx_driver.specs.declared.crews.Crew.{Crew}
 use Rattle.hx_driver.specs.Crews.{IsCrew}
 use Rattle.hx_law_drivers.specs.Crews.{AreNumbered, HaveAllActors, desks_of, doubled_by, lost_by, parts_of}
@@ -71,6 +75,21 @@ RunsArePaced =
     (script : Script) (clock : TableId) (boxes : List Boxed) (w : ℕ) (start now : List Crew) → HaveRun script clock boxes w start now
     → (trace : List Entry) → IsTraceOf now trace
     → IsPaced script trace (lost_by now) (doubled_by now)
+
+-- an entry that the actor of a desk may make next: no halt, and it delivers, if anything, what was taken for the actor and not delivered
+pub record MayComeNext (script : Script) (trace : List Entry) (d : Desk) (x : Entry) : Type 0 where
+  pub actor : x.actor ≡ d.actor
+  pub no_halt : x.input ≢ Halt
+  pub told : told d.part.items ++ told_by d.actor x.input ≡ map (λ s. s.mailed) (ins_of d.inbox)
+  pub run : IsRun script (x ∷ trace)
+
+-- where an actor has one more entry to make, the trace with it is still a run
+abbrev pub TracesGoOn : Type 0
+TracesGoOn =
+    (script : Script) (clock : TableId) (boxes : List Boxed) (w : ℕ) (start now : List Crew) → HaveRun script clock boxes w start now
+    → (d : Desk) → IsIn d (desks_of now) → HasMoreToMake script d
+    → (trace : List Entry) → IsTraceOf now trace
+    → (x : Entry) × MayComeNext script trace d x
 
 -- where they came to rest it is paced to its end
 abbrev pub RestedRunsArePacedToEnd : Type 0

@@ -2,12 +2,18 @@
 //! an actor retries only where nothing else can go on but for what was lost.
 #![tactic(auto)]
 
-ghost use Rattle.hx_law_drivers.specs.Laws.{EndedRunsEndCalls, PartsAreOwn, RestedRunsArePacedToEnd, RunsArePaced, TracesShowDesks};
+ghost use Rattle.hx_law_drivers.specs.Laws.{EndedRunsEndCalls, PartsAreOwn, RestedRunsArePacedToEnd, RunsArePaced, TracesGoOn, TracesShowDesks};
 
 /// The parts of all desks of drivers, merged by their stamps, are a run of the script in which no entry
 /// is a halt, and each actor's entries in it are those of its desk.
 pub fn traces_show_desks()
     ensures shown { TracesShowDesks }
+{}
+
+/// Where an actor has one more entry to make, of what was taken for it and not delivered or of a tick
+/// that makes something, there is an entry of it with which the trace of all parts is still a run.
+pub fn traces_go_on()
+    ensures more { TracesGoOn }
 {}
 
 /// What drivers made between retries that came all together, each where the drivers were at rest, is a

@@ -22,7 +22,7 @@ use Rattle.hx_driver.specs.Slices.{IsLaterCrew}
 use Rattle.hx_law_drivers.specs.Crews.{parts_of, AreNumbered, HaveAllActors}
 use Rattle.hx_law_drivers.specs.Courses.{IsCourse}
 use Rattle.hx_law_drivers.specs.Joined.{AreInOrder, AreOnce}
-use Rattle.hx_law_drivers.specs.Laws.{EndedRunsEndCalls, PartsAreOwn, RestedRunsArePacedToEnd, RunsArePaced}
+use Rattle.hx_law_drivers.specs.Laws.{EndedRunsEndCalls, PartsAreOwn, RestedRunsArePacedToEnd, RunsArePaced, TracesGoOn}
 use Rattle.hx_cluster.specs.Clusters.{actors_dealt, AreNewCrews}
 use Rattle.hx_cluster.specs.Everyone.{actors_of}
 use Rattle.hx_gather.specs.declared.gathering.SeatedPart.{SeatedPart}
@@ -88,7 +88,7 @@ same-parts [] = refl
 same-parts (p ∷ actors) = ap (λ l. p.part ∷ l) (same-parts actors)
 
 module _ (script : Script) (clock : TableId) (w : ℕ) (start now : List Crew) (fault : Option Fault) (closed : AreClosed script clock w start now fault)
-    (own : PartsAreOwn) (paced : RunsArePaced) (rested : RestedRunsArePacedToEnd) (ended : EndedRunsEndCalls)
+    (own : PartsAreOwn) (paced : RunsArePaced) (rested : RestedRunsArePacedToEnd) (ended : EndedRunsEndCalls) (goes-on : TracesGoOn)
     (actors : List SeatedPart) (totals : List Totals) (ports : List Ported) (left : IsLeft script clock now actors totals ports)
     (trace : List Entry) (made : (merged : List Stamped) × IsMerged (gathered.parts_of actors) merged × HasStampsAsPlaces merged × (trace ≡ map (λ (x : Stamped). x.entry) merged))
     (whole : AreWholeParts (gathered.parts_of actors)) where
@@ -111,10 +111,10 @@ module _ (script : Script) (clock : TableId) (w : ℕ) (start now : List Crew) (
   many = sym (map-length (λ (c : Crew). c.out) now) ∙ (have-indexes w now (later-numbered w start now later closed.new.numbered)).0
 
   pub ran-of : (worn : Option Actor) → fault ≡ fault_of worn → IsRan script w trace totals ports worn
-  ran-of worn e = is-ran script clock w start now fault closed own paced rested ended trace made.0 is-whole is-merged made.3 totals left.totals_are dealt many worn e ports left.ports_are
+  ran-of worn e = is-ran script clock w start now fault closed own paced rested ended goes-on trace made.0 is-whole is-merged made.3 totals left.totals_are dealt many worn e ports left.ports_are
 
   pub risen-of : (i : ℕ) (t : Totals) (f f' : FateCounts) → ((c : Crew) → slice_get now i ≡ Some c → HasPosted c f f') → slice_get totals i ≡ Some t → HasRisen script w trace i t f f'
-  risen-of i t f f' posted g = has-risen script clock w start now fault closed own paced rested ended trace made.0 is-whole is-merged made.3 totals left.totals_are dealt many i t f f' posted g
+  risen-of i t f f' posted g = has-risen script clock w start now fault closed own paced rested ended goes-on trace made.0 is-whole is-merged made.3 totals left.totals_are dealt many i t f f' posted g
 
 -- as many actors are counted as there are
 pub left-counts : (script : Script) (n k : ℕ) → n ≡ 1 + script.space.servers + length script.sessions → k < n → k < length (actors_of script)

@@ -1,10 +1,11 @@
 -- What a trace of drivers that ran to their end tells.
-use Rattle.std.proofs.Common.{◌≡◌, ℕ, zero, suc, ◌+◌, ◌%◌, ◌<◌, ◌⊎◌, ⊎_elim, inl, inr, Bool, true, false, cond, List, [], ◌∷◌, ◌++◌, map, length, slice_get, Option, Some, None, refl, ap, sym, subst, ◌∙◌, arith, append_assoc, append-nil, length-append}
+use Rattle.std.proofs.Common.{◌≡◌, ◌≢◌, ℕ, zero, suc, ◌+◌, ◌%◌, ◌<◌, ◌⊎◌, ⊎_elim, inl, inr, Bool, true, false, cond, List, [], ◌∷◌, ◌++◌, map, length, slice_get, Option, Some, None, refl, ap, sym, subst, ◌∙◌, arith, append_assoc, append-nil, length-append}
 use Rattle.std.specs.Prelude.{reverse, IsSome}
 use Rattle.std.specs.List.{flat_map, filter, AllByRecursion}
 use Rattle.std.proofs.lemmas.Bool.{cond_both}
 use Rattle.std.proofs.lemmas.List.{reverse-append}
 use Rattle.std.proofs.lemmas.List.Sorted.{IsPermutation-sym}
+use mathlib.Core.List.{IsPrefix}
 use Rattle.atomic_table.specs.Seated.{TableId}
 use Rattle.hx_types.specs.declared.calls.Caller.{Caller}
 use Rattle.hx_types.specs.declared.ids.Actor.{Actor}
@@ -27,6 +28,7 @@ use Rattle.hx_law_threads.specs.Own.{own_entries, past_of, IsOwn}
 use Rattle.hx_law_threads.specs.Merged.{parts_in, ActorPart, AreOwnParts, AreWholeParts, HasOwnParts, IsMerged}
 use Rattle.hx_law_threads.specs.Laws.{IsRunOfParts}
 use Rattle.hx_law_threads.specs.Pacing.{IsPaced, IsPacedToEnd}
+use Rattle.hx_law_threads.proofs.Actors.{same_actor_is}
 use Rattle.hx_law_threads.proofs.Lists.{in_append, in_permuted, in_map, in_reverse, map_reverse, of_map, reverse_cons, reverse_snoc}
 use Rattle.hx_law_threads.proofs.Runs.{merged_run}
 use Rattle.hx_law_own.specs.Feeding.{IsFed, IsFedBy}
@@ -45,12 +47,14 @@ use Rattle.hx_desk.specs.Desks.{entries_before, told, IsDesk}
 use Rattle.hx_desk.specs.Told.{told_by}
 use Rattle.hx_desk.specs.Inboxes.{ins_of}
 use Rattle.hx_driver.specs.declared.crews.Crew.{Crew}
-use Rattle.hx_driver.specs.Crews.{HasFault, IsCrew}
+use Rattle.hx_driver.specs.Crews.{HasFault, HasWorn, IsCrew}
 use Rattle.hx_law_drivers.specs.Crews.{desks_of, doubled_by, lost_by, part_of, parts_of}
-use Rattle.hx_law_drivers.specs.Laws.{EndedRunsEndCalls, HaveRun, IsTraceOf, PartsAreOwn, RestedRunsArePacedToEnd, RunsArePaced}
+use Rattle.hx_law_drivers.specs.Laws.{EndedRunsEndCalls, HaveRun, IsTraceOf, MayComeNext, PartsAreOwn, RestedRunsArePacedToEnd, RunsArePaced, TracesGoOn}
+use Rattle.hx_law_drivers.proofs.Desks.{one_desk}
+use Rattle.hx_law_drivers.proofs.Paced.{actors_now}
 use Rattle.hx_cluster.specs.Everyone.{actors_of}
 use Rattle.hx_run.specs.Closed.{fault_of, AreClosed, HasPosted, IsFirstPort, IsLeft}
-use Rattle.hx_run.specs.Ran.{delivered_to, doubled_in, is_any, is_asked, is_halt, lost_in, posts_by, taken_under, ArePortsOfActors, AreTotalsOf, HasEnd, HasNoHalts, HasRisen, HaveCallsEnded, IsPortOfActor, IsRan, IsTotalOf}
+use Rattle.hx_run.specs.Ran.{delivered_to, doubled_in, is_any, is_asked, is_halt, lost_in, posts_by, taken_under, ArePortsOfActors, AreTotalsOf, HasEnd, HasNoHalts, HasOneMore, HasRisen, HaveCallsEnded, IsPortOfActor, IsRan, IsTotalOf}
 use Rattle.hx_run.specs.Rounds.{first_fault, AreOver}
 use Rattle.hx_run.proofs.Counted.{booked-posts, part-actor, posted-risen, posts-of-crew, worth, AreDealtFrom}
 use Rattle.hx_run.proofs.Leaving.{all-desks, total-map, IsSome as IsADesk}
@@ -140,11 +144,10 @@ first-in (c ∷ crews) f e = by c.fault refl e (λ q. first-in crews f q)
 desk-in : (crews : List Crew) (c : Crew) (d : Desk) → IsIn c crews → IsIn d c.desks.items → IsIn d (desks_of crews)
 desk-in crews c d i j = in-flat (λ (k : Crew). k.desks.items) crews c d i j
 
-worn-desk : (c : Crew) (a : Actor) → HasFault c → c.fault ≡ Some (Worn a) → (d : Desk) × IsIn d c.desks.items × (d.actor ≡ a) × (length d.part.items ≡ MOST_ENTRIES)
-worn-desk c a h e =
+worn-desk : (script : Script) (c : Crew) (a : Actor) → HasFault script c → c.fault ≡ Some (Worn a) → (k : HasWorn script c) × (k.desk.actor ≡ a)
+worn-desk script c a h e =
     ⊎_elim (λ (n : c.fault ≡ None). absurd (some-none c.fault e n))
-    (λ (r : _).
-    ⊎_elim (λ (m : c.fault ≡ Some Memory). absurd (not-memory c.fault e m)) (λ (d : (d : Desk) × IsIn d c.desks.items × (c.fault ≡ Some (Worn d.actor)) × (length d.part.items ≡ MOST_ENTRIES)). (d.0, d.1, same d.0.actor c.fault d.2 e, d.3)) r) h
+    (λ (r : _). ⊎_elim (λ (m : c.fault ≡ Some Memory). absurd (not-memory c.fault e m)) (λ (k : HasWorn script c). (k, same k.desk.actor c.fault k.fault e)) r) h
   where
     some-none : (o : Option Fault) → o ≡ Some (Worn a) → o ≡ None → ⊥
     some-none o p q = cc
@@ -155,8 +158,20 @@ worn-desk c a h e =
     same : (b : Actor) (o : Option Fault) → o ≡ Some (Worn b) → o ≡ Some (Worn a) → b ≡ a
     same b o p q = cc
 
+-- ---- one more entry
+no-halt : (input : Input) → input ≢ Halt → is_halt input ≡ false
+no-halt Tick n = refl
+no-halt Halt n = absurd (n refl)
+no-halt (Deliver id from message) n = refl
+
+delivered-next : (a : Actor) (trace : List Entry) (x : Entry) → delivered_to a (trace ++ x ∷ []) ≡ delivered_to a trace ++ cond (same_actor x.actor a) (told_by a x.input) []
+delivered-next a [] x = append-nil (cond (same_actor x.actor a) (told_by a x.input) [])
+delivered-next a (y ∷ trace) x =
+    let here = cond (same_actor y.actor a) (told_by a y.input) [] in
+    ap (λ l. here ++ l) (delivered-next a trace x) ∙ sym (append_assoc here (delivered_to a trace) (cond (same_actor x.actor a) (told_by a x.input) []))
+
 module _ (script : Script) (clock : TableId) (w : ℕ) (start now : List Crew) (fault : Option Fault) (closed : AreClosed script clock w start now fault)
-    (own : PartsAreOwn) (paced : RunsArePaced) (rested : RestedRunsArePacedToEnd) (ended : EndedRunsEndCalls)
+    (own : PartsAreOwn) (paced : RunsArePaced) (rested : RestedRunsArePacedToEnd) (ended : EndedRunsEndCalls) (goes-on : TracesGoOn)
     (trace : List Entry) (merged : List Stamped) (whole : AreWholeParts (parts_in (parts_of now))) (is : IsMerged (parts_in (parts_of now)) merged) (made : trace ≡ map (λ (x : Stamped). x.entry) merged)
     (totals : List Totals) (totals-are : totals ≡ map (λ (c : Crew). c.totals) now) where
   abbrev boxes : List Boxed
@@ -201,21 +216,75 @@ module _ (script : Script) (clock : TableId) (w : ℕ) (start now : List Crew) (
   doubled-is : doubled_by now ≡ doubled_in totals
   doubled-is = sym (total-map (λ (t : Totals). t.twice) (λ (c : Crew). c.totals) now) ∙ ap (total (λ (t : Totals). t.twice)) (sym totals-are)
 
-  worn-count : (a : Actor) → fault ≡ Some (Worn a) → entries_of a (reverse trace) ≡ MOST_ENTRIES
-  worn-count a e =
-      let c = first-in now (Worn a) (sym closed.over.first ∙ e) in
-      let d = worn-desk c.0 a (each_in (IsCrew script clock boxes w) now c.0 run-is.crews c.1).fault c.2 in
-      let i = desk-in now c.0 d.0 c.1 d.1 in
-      let n : length (past_of d.0.part.items) ≡ length d.0.part.items = length-reverse (map (λ (x : Stamped). x.entry) d.0.part.items) ∙ map-length (λ (x : Stamped). x.entry) d.0.part.items in
-      subst (λ b. entries_of b (reverse trace) ≡ MOST_ENTRIES) d.2 (count-own d.0.actor (reverse trace) ∙ ap length (own-of d.0 i) ∙ n ∙ d.3)
+  -- what the actor's entries deliver is what its desk was told
+  came : (a : Actor) (d : Desk) → IsIn d (desks_of now) → d.actor ≡ a → delivered_to a trace ≡ told d.part.items
+  came a d i e =
+      let mine : own_entries a trace ≡ map (λ (x : Stamped). x.entry) d.part.items =
+      sym (reverse-twice (own_entries a trace)) ∙ ap reverse (sym (filter-reverse (λ (x : Entry). same_actor x.actor a) trace))
+      ∙ ap reverse (subst (λ b. own_entries b (reverse trace) ≡ past_of d.part.items) e (own-of d i)) ∙ reverse-twice (map (λ (x : Stamped). x.entry) d.part.items) in
+      flat-filter (λ (x : Entry). same_actor x.actor a) (λ (x : Entry). told_by a x.input) trace ∙ ap (flat_map (λ (x : Entry). told_by a x.input)) mine
+      ∙ told-flat a d.part.items (λ z j. part-actor script d.actor d.part.items z (desk-of d i).1.own j ∙ e)
 
-  ends : (worn : Option Actor) → fault ≡ fault_of worn → HasEnd script trace totals worn
-  ends None e = (
+  port-of : (more : List Entry) (a : Actor) (p : Ported) → IsFirstPort now a p → IsPrefix (delivered_to a more) (map (λ (s : Sent). s.mailed) (taken_under 0 p.view.lists)) → IsPortOfActor more a p
+  port-of more a p h begins = record { names = h.names; of_box = h.of_box; owner = h.owner; all = h.all; alone = h.alone; delivered = begins }
+
+  port-begins : (a : Actor) (p : Ported) → IsFirstPort now a p → IsPrefix (delivered_to a trace) (map (λ (s : Sent). s.mailed) (taken_under 0 p.view.lists))
+  port-begins a p h = let d = desk-of h.desk h.is in (d.0, ap (λ l. l ++ d.0) (came a h.desk h.is h.actor) ∙ d.1.told ∙ ap (map (λ (s : Sent). s.mailed)) (sym h.taken))
+
+  port-one : (a : Actor) (p : Ported) → IsFirstPort now a p → IsPortOfActor trace a p
+  port-one a p h = port-of trace a p h (port-begins a p h)
+
+  -- with one more entry of a desk's actor
+  port-next : (d : Desk) → IsIn d (desks_of now) → (x : Entry) → MayComeNext script (reverse trace) d x → (a : Actor) (p : Ported) → IsFirstPort now a p → IsPortOfActor (trace ++ x ∷ []) a p
+  port-next d i x next a p h = port-of (trace ++ x ∷ []) a p h (subst (λ l. IsPrefix l (map (λ (s : Sent). s.mailed) (taken_under 0 p.view.lists))) (sym (delivered-next a trace x)) (by (same_actor x.actor a) refl))
+    where
+      by : (b : Bool) → same_actor x.actor a ≡ b → IsPrefix (delivered_to a trace ++ cond b (told_by a x.input) []) (map (λ (s : Sent). s.mailed) (taken_under 0 p.view.lists))
+      by false e = subst (λ l. IsPrefix l (map (λ (s : Sent). s.mailed) (taken_under 0 p.view.lists))) (sym (append-nil (delivered_to a trace))) (port-begins a p h)
+      by true e =
+          let same : h.desk ≡ d = one_desk (desks_of now) h.desk d (actors_now script clock boxes w start now run-is).apart h.is i (h.actor ∙ sym (same_actor_is x.actor a e) ∙ next.actor) in
+          let all : told h.desk.part.items ++ told_by h.desk.actor x.input ≡ map (λ (s : Sent). s.mailed) (ins_of h.desk.inbox) =
+          subst (λ (k : Desk). told k.part.items ++ told_by k.actor x.input ≡ map (λ (s : Sent). s.mailed) (ins_of k.inbox)) (sym same) next.told in (
+            [],
+            append-nil (delivered_to a trace ++ told_by a x.input) ∙ ap (λ l. l ++ told_by a x.input) (came a h.desk h.is h.actor)
+                ∙ ap (λ b. told h.desk.part.items ++ told_by b x.input) (sym h.actor) ∙ all ∙ ap (map (λ (s : Sent). s.mailed)) (sym h.taken),
+          )
+
+  module _ (a : Actor) (is-worn : fault ≡ Some (Worn a)) where
+    the-crew : (c : Crew) × IsIn c now × (c.fault ≡ Some (Worn a))
+    the-crew = first-in now (Worn a) (sym closed.over.first ∙ is-worn)
+
+    the-worn : (k : HasWorn script the-crew.0) × (k.desk.actor ≡ a)
+    the-worn = worn-desk script the-crew.0 a (each_in (IsCrew script clock boxes w) now the-crew.0 run-is.crews the-crew.1).fault the-crew.2
+
+    in-desks : IsIn the-worn.0.desk (desks_of now)
+    in-desks = desk-in now the-crew.0 the-worn.0.desk the-crew.1 the-worn.0.is
+
+    worn-count : entries_of a (reverse trace) ≡ MOST_ENTRIES
+    worn-count =
+        let d : Desk = the-worn.0.desk in
+        let n : length (past_of d.part.items) ≡ length d.part.items = length-reverse (map (λ (x : Stamped). x.entry) d.part.items) ∙ map-length (λ (x : Stamped). x.entry) d.part.items in
+        subst (λ b. entries_of b (reverse trace) ≡ MOST_ENTRIES) the-worn.1 (count-own d.actor (reverse trace) ∙ ap length (own-of d in-desks) ∙ n ∙ the-worn.0.most)
+
+    worn-more : (ports : List Ported) → Both (IsFirstPort now) (actors_of script) ports → HasOneMore script trace ports a
+    worn-more ports p =
+        let d : Desk = the-worn.0.desk in
+        let next = goes-on script clock boxes w start now run-is d in-desks the-worn.0.more (reverse trace) traced in
+        record {
+          entry = next.0;
+          actor = next.1.actor ∙ the-worn.1;
+          no_halt = no-halt next.0.input next.1.no_halt;
+          run = next.1.run;
+          ports_are = both-map (IsFirstPort now) (IsPortOfActor (trace ++ next.0 ∷ [])) (port-next d in-desks next.0 next.1) (actors_of script) ports p;
+        }
+
+  ends : (worn : Option Actor) → fault ≡ fault_of worn → (ports : List Ported) → Both (IsFirstPort now) (actors_of script) ports → HasEnd script trace totals ports worn
+  ends None e ports p = (
     ended script clock boxes w start now run-is (closed.over.ended e) (reverse trace) traced,
     subst (λ n. IsPacedToEnd script (reverse trace) n (doubled_in totals)) lost-is (subst (λ n. IsPacedToEnd script (reverse trace) (lost_by now) n) doubled-is (rested script clock boxes w start now run-is (closed.over.rest e) (reverse trace) traced)),
   )
-  ends (Some a) e = (
+  ends (Some a) e ports p = (
     worn-count a e,
+    worn-more a e ports p,
     subst (λ n. IsPaced script (reverse trace) n (doubled_in totals)) lost-is (subst (λ n. IsPaced script (reverse trace) (lost_by now) n) doubled-is (paced script clock boxes w start now run-is (reverse trace) traced)),
   )
 
@@ -235,29 +304,11 @@ module _ (script : Script) (clock : TableId) (w : ℕ) (start now : List Crew) (
     all-totals : AreTotalsOf script w trace totals
     all-totals = record { count = ap length totals-are ∙ map-length (λ (c : Crew). c.totals) now ∙ many; each = total-one }
 
-    port-one : (a : Actor) (p : Ported) → IsFirstPort now a p → IsPortOfActor trace a p
-    port-one a p h =
-        let d = desk-of h.desk h.is in
-        let mine : own_entries a trace ≡ map (λ (x : Stamped). x.entry) h.desk.part.items =
-        sym (reverse-twice (own_entries a trace)) ∙ ap reverse (sym (filter-reverse (λ (x : Entry). same_actor x.actor a) trace))
-        ∙ ap reverse (subst (λ b. own_entries b (reverse trace) ≡ past_of h.desk.part.items) h.actor (own-of h.desk h.is)) ∙ reverse-twice (map (λ (x : Stamped). x.entry) h.desk.part.items) in
-        let came : delivered_to a trace ≡ told h.desk.part.items =
-        flat-filter (λ (x : Entry). same_actor x.actor a) (λ (x : Entry). told_by a x.input) trace ∙ ap (flat_map (λ (x : Entry). told_by a x.input)) mine
-        ∙ told-flat a h.desk.part.items (λ z i. part-actor script h.desk.actor h.desk.part.items z d.1.own i ∙ h.actor) in
-        record {
-          names = h.names;
-          of_box = h.of_box;
-          owner = h.owner;
-          all = h.all;
-          alone = h.alone;
-          delivered = (d.0, ap (λ l. l ++ d.0) came ∙ d.1.told ∙ ap (map (λ (s : Sent). s.mailed)) (sym h.taken));
-        }
-
     pub is-ran : (worn : Option Actor) → fault ≡ fault_of worn → (ports : List Ported) → Both (IsFirstPort now) (actors_of script) ports → IsRan script w trace totals ports worn
     is-ran worn e ports p = record {
       run = subst (IsRun script) (sym back) runs.run;
       no_halts = no-halts;
-      end = ends worn e;
+      end = ends worn e ports p;
       totals_are = all-totals;
       ports_are = both-map (IsFirstPort now) (IsPortOfActor trace) port-one (actors_of script) ports p;
     }

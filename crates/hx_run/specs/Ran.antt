@@ -108,17 +108,25 @@ ArePortsOfActors script trace ports = Both (IsPortOfActor trace) (actors_of scri
 
 -- ---- all of it
 
--- where no actor was worn, every call ended, and the trace is paced to its end; a worn actor made all the entries that it may make
-abbrev pub HasEnd : Script → List Entry → List Totals → Option Actor → Type 0
-HasEnd script trace totals None =
+-- with one more entry of the actor, which is no halt, the trace is still a run, and what its entries deliver is still a prefix of what was taken
+pub record HasOneMore (script : Script) (trace : List Entry) (ports : List Ported) (a : Actor) : Type 0 where
+  pub entry : Entry
+  pub actor : entry.actor ≡ a
+  pub no_halt : is_halt entry.input ≡ false
+  pub run : IsRun script (entry ∷ reverse trace)
+  pub ports_are : ArePortsOfActors script (trace ++ entry ∷ []) ports
+
+-- where no actor was worn, every call ended, and the trace is paced to its end; a worn actor made all the entries that it may make, and has one more to make
+abbrev pub HasEnd : Script → List Entry → List Totals → List Ported → Option Actor → Type 0
+HasEnd script trace totals ports None =
     HaveCallsEnded script trace × IsPacedToEnd script (reverse trace) (lost_in totals) (doubled_in totals)
-HasEnd script trace totals (Some a) =
-    (entries_of a (reverse trace) ≡ MOST_ENTRIES) × IsPaced script (reverse trace) (lost_in totals) (doubled_in totals)
+HasEnd script trace totals ports (Some a) =
+    (entries_of a (reverse trace) ≡ MOST_ENTRIES) × HasOneMore script trace ports a × IsPaced script (reverse trace) (lost_in totals) (doubled_in totals)
 
 -- what drivers of w threads made of a script
 pub record IsRan (script : Script) (w : ℕ) (trace : List Entry) (totals : List Totals) (ports : List Ported) (worn : Option Actor) : Type 0 where
   pub run : IsRun script (reverse trace)
   pub no_halts : HasNoHalts trace
-  pub end : HasEnd script trace totals worn
+  pub end : HasEnd script trace totals ports worn
   pub totals_are : AreTotalsOf script w trace totals
   pub ports_are : ArePortsOfActors script trace ports

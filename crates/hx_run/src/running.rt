@@ -14,7 +14,7 @@ use hx_cluster::{deal, enrol_all, open_boxes};
 use hx_desk::{Fault, Gate};
 use hx_fate::Fate;
 use hx_gather::gather;
-use hx_law_drivers::runs_of_drivers_are_paced;
+use hx_law_drivers::{runs_of_drivers_are_paced, traces_go_on};
 use hx_mail::Port;
 use hx_types::{Actor, Memory, Script, Totals, Trace};
 use std::alloc::Global;
@@ -110,6 +110,7 @@ pub fn run<R: Threads + Wait + Sync, G: Gate + Sync>(
     } = left;
     let trace = gather(alloc, clock, seat, actors)?;
     runs_of_drivers_are_paced();
+    traces_go_on();
     Ok(Ran {
         trace,
         totals,

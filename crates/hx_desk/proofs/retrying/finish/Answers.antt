@@ -1,9 +1,10 @@
-use Rattle.std.proofs.Common.{◌∙◌, sym, [], ◌∷◌, append-nil}
+use Rattle.std.proofs.Common.{◌∙◌, refl, sym, [], ◌∷◌, append-nil}
 use Rattle.hx_types.specs.declared.traces.Input.TheVariants.{Tick}
 use Rattle.hx_desk.proofs.Results.{match-elim, match-map}
 use Rattle.hx_desk.proofs.Same.{desk-input}
 use Rattle.hx_desk.proofs.Turned.{turn-self}
 use Rattle.hx_desk.proofs.Waiting.{plan-enough, retried-one}
+use Rattle.hx_desk.proofs.Worn.{more-to-make}
 use Rattle.hx_desk.proofs.retrying.finish.Goals as goal
 
 pub returns-then-not-makes_anything-clause-turn : goal.returns-then-not-makes_anything-clause-turn
@@ -11,6 +12,12 @@ returns-then-not-makes_anything-clause-turn g c = ([], turn-self c.args.boxes.no
 
 pub returns-then-is_worn-clause-turn : goal.returns-then-is_worn-clause-turn
 returns-then-is_worn-clause-turn g c = ([], turn-self c.args.boxes.now c.args.desk.now c.args.out.now c.args.totals.now _ c.requires.out c.requires.room.total)
+
+pub returns-then-is_worn-clause-fault : goal.returns-then-is_worn-clause-fault
+returns-then-is_worn-clause-fault g c =
+    let d = c.args.desk.now in
+    let enough = sym (plan-enough c.args.script.now d c.args.plan c.requires.ready) ∙ sym c.makes_anything.ensures ∙ c.if-not-makes_anything.false in
+    (refl, c.is_worn.ensures.most c.if-is_worn.true, more-to-make c.args.script.now c.args.clock.now c.args.boxes.now c.requires.desk.0 d Tick c.requires.desk.1 c.requires.running tt enough)
 
 pub returns-else-is_worn-clause-desk : goal.returns-else-is_worn-clause-desk
 returns-else-is_worn-clause-desk g c w h =
