@@ -77,9 +77,12 @@ pub fn said(
 ) -> Result<Plan, Memory>
     ensures { IfOk result (λ plan. plan ≡ record { entry = record { actor = an_actor.Server server; input = input.now; outputs = posts; notes = [] }; change = change }) }
 {
+    let Ok(input) = input.copy(alloc) else {
+        return Err(Memory);
+    };
     let entry = Entry {
         actor: Actor::Server(server),
-        input: input.copy(alloc)?,
+        input,
         outputs: posts,
         notes: Notes::new(alloc),
     };
@@ -104,9 +107,12 @@ pub fn moved(
 ) -> Result<Plan, Memory>
     ensures { IfOk result (λ plan. plan ≡ record { entry = record { actor = an_actor.Server server; input = input.now; outputs = made.posts; notes = made.notes }; change = a_change.Slot replica place made.change }) }
 {
+    let Ok(input) = input.copy(alloc) else {
+        return Err(Memory);
+    };
     let entry = Entry {
         actor: Actor::Server(server),
-        input: input.copy(alloc)?,
+        input,
         outputs: made.posts,
         notes: made.notes,
     };

@@ -430,7 +430,9 @@ impl Server {
         match self.heard(message) {
             Some(heard) => {
                 let place = self.reserve(alloc, &heard, room_by(message))?;
-                let made = self.step(alloc, &heard, place, from, message)?;
+                let Ok(made) = self.step(alloc, &heard, place, from, message) else {
+                    return Err(Memory);
+                };
                 moved(alloc, id, input, heard.replica, place, made)
             }
             None => unmoved(alloc, id, input),

@@ -41,7 +41,9 @@ pub fn coordinator_takes(
         return Err(StepError::Memory);
     };
     admit(plan.entry(), counted.entries)?;
-    let entries = open(alloc, log, plan.entry())?;
+    let Ok(entries) = open(alloc, log, plan.entry()) else {
+        return Err(StepError::Memory);
+    };
     let entry = counted.coordinator.apply(plan);
     close(log, entries, entry);
     counted.entries += 1;

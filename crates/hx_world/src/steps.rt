@@ -42,7 +42,9 @@ fn deliver(alloc: Global, cluster: &mut Cluster, id: PostId) -> Result<(), StepE
         return Err(StepError::Unsent);
     };
     let to = post.to;
-    let input = delivery(alloc, id, post)?;
+    let Ok(input) = delivery(alloc, id, post) else {
+        return Err(StepError::Memory);
+    };
     actor_takes(alloc, cluster, to, &input)?;
     Ok(())
 }

@@ -27,14 +27,14 @@ made_room m n v number key place e = subst (λ (k : ℕ). HasRoomAt number key k
 pub step-requires-clause-room : goal.step-requires-clause-room
 step-requires-clause-room c = made_room c.args.message.now c.room_by.result c.reserve.new.self c.in-Some.heard.replica c.in-Some.heard.key.now c.in_ok-place-in-Some.place c.room_by.ensures c.in_ok-place-in-Some.ensures.room
 
-pub returns-in_ok-made-in-Some-clause-plan : goal.returns-in_ok-made-in-Some-clause-plan
-returns-in_ok-made-in-Some-clause-plan c =
+pub returns-in-Ok-clause-plan : goal.returns-in-Ok-clause-plan
+returns-in-Ok-clause-plan c =
     IfOk-weaker c.moved.result _ _
     (
     λ plan e. move_prepared c.args.self.now c.reserve.new.self c.self.inside.id c.args.input.now c.requires.delivery.id c.args.from c.args.message.now c.requires.can c.requires.delivery.is
     (ap (λ (v : ServerValue). v.state.id) c.self.view_is) c.reserve.ensures.space c.reserve.ensures.state
-    c.in-Some.heard.replica (room_by c.args.message.now) c.in_ok-place-in-Some.place c.in-Some.heard.key.now c.in_ok-made-in-Some.made plan c.in-Some.ensures.replica c.in-Some.ensures.key
-    c.in_ok-made-in-Some.ensures.made c.in_ok-made-in-Some.ensures.room (made_room c.args.message.now c.room_by.result c.reserve.new.self c.in-Some.heard.replica c.in-Some.heard.key.now c.in_ok-place-in-Some.place c.room_by.ensures c.in_ok-place-in-Some.ensures.room) e
+    c.in-Some.heard.replica (room_by c.args.message.now) c.in_ok-place-in-Some.place c.in-Some.heard.key.now c.in-Ok.made plan c.in-Some.ensures.replica c.in-Some.ensures.key
+    c.in-Ok.ensures.made c.in-Ok.ensures.room (made_room c.args.message.now c.room_by.result c.reserve.new.self c.in-Some.heard.replica c.in-Some.heard.key.now c.in_ok-place-in-Some.place c.room_by.ensures c.in_ok-place-in-Some.ensures.room) e
     )
     c.moved.ensures
 
