@@ -6,7 +6,7 @@ use Rattle.hx_types.specs.declared.spaces.Attribute.{Attribute}
 use Rattle.hx_types.specs.Spaces.{IsKind, IsName, IsSpace, IsSubspaceOf, is_letter}
 use Rattle.hx_actor_tests.specs.SmallSpace.{small}
 
-letter : (b : ℕ) → is_letter b ≡ true → IsName (b ∷ [])
+pub letter : (b : ℕ) → is_letter b ≡ true → IsName (b ∷ [])
 letter b e = record {
   word = ap (λ t. t && true) e;
   short = omega arith;

@@ -1,5 +1,5 @@
-//! Tests of slots, of the places and neighbours of their updates, of the coordinator and of sessions: a
-//! module for each crate that they are of.
+//! Tests of slots, of the places and neighbours of their updates, of indexes and stores, of servers, of
+//! the coordinator and of sessions: a module for each crate that they are of.
 #![tactic(auto)]
 
 #[cfg(test)]
@@ -7,6 +7,12 @@ mod chain;
 #[cfg(test)]
 mod coord;
 #[cfg(test)]
+mod index;
+#[cfg(test)]
+mod replica;
+#[cfg(test)]
 mod session;
 #[cfg(test)]
 mod slot;
+#[cfg(test)]
+mod store;
