@@ -19,6 +19,3 @@ mod views;
 pub use indexes::Index;
 pub use looking::{Ids, Look, Side};
 pub use views::View;
-
-#[cfg(test)]
-mod tests;

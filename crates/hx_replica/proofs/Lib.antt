@@ -12,7 +12,6 @@ pub mod Planning
 pub mod Asking
 pub mod Changing
 pub mod Inside
-pub mod Examples
 pub mod Sending
 pub mod Searching
 pub mod Committing

@@ -20,6 +20,3 @@ mod ticking;
 
 pub use plans::Plan;
 pub use servers::Server;
-
-#[cfg(test)]
-mod tests;

@@ -24,6 +24,3 @@ mod stores;
 pub use laws::snapshots_come_back;
 pub use stepping::settle_all;
 pub use stores::Store;
-
-#[cfg(test)]
-mod tests;

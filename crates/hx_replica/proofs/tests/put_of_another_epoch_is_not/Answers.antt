@@ -1,6 +1,0 @@
-use Rattle.std.proofs.Common.{arith}
-use Rattle.hx_replica.proofs.Examples.{can_put}
-use Rattle.hx_replica.proofs.tests.put_of_another_epoch_is_not.Goals as goal
-
-pub made_of-requires : goal.made_of-requires
-made_of-requires g c = can_put c.in_ok-server.server.space c.in_ok-server.server.state c.in_ok-later.later 2 c.in_ok-server.ensures.space c.in_ok-server.ensures.state c.in_ok-later.ensures (omega arith)
