@@ -1,4 +1,4 @@
-ghost use Rattle.std.specs.Prelude.{◌≡◌, ◌≤◌, IfOk};
+ghost use Rattle.std.specs.Prelude.{◌≡◌, IfOk};
 ghost use Rattle.hx_replica.specs.Examples.{ask_of, first, from_coordinator, put_of, small};
 ghost use Rattle.hx_replica.specs.Servers.{CanTake};
 ghost use Rattle.hx_model.specs.ServerSteps.{server_at_start};
