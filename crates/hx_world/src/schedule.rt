@@ -3,7 +3,7 @@ ghost use Rattle.hx_model.specs.Schedule.{first_delivery, next_entry, next_input
 ghost use Rattle.hx_world.specs.Idle.{IsFirstIdle, IsNextStep, IsNoneIdle, IsPostedFirst};
 ghost use Rattle.hx_world.specs.Invariant.{IsWorld};
 ghost use Rattle.hx_world.specs.Names.{can_receive};
-ghost use Rattle.hx_world.specs.Worlds.{Advances, Fails};
+ghost use Rattle.hx_world.specs.Worlds.{Advances, Fails, drain_error};
 
 use crate::actors::has_halted;
 use crate::clusters::Cluster;
@@ -29,9 +29,22 @@ pub fn advance(alloc: Global, cluster: &mut Cluster) -> Result<bool, DrainError>
     };
     match take_step(alloc, cluster, &next) {
         Ok(()) => Ok(true),
-        Err(StepError::Memory) => Err(DrainError::Memory),
-        Err(StepError::Worn(actor)) => Err(DrainError::Worn(actor)),
-        Err(_) => unreachable!(),
+        Err(error) => match drain_error(error) {
+            Some(error) => Err(error),
+            None => unreachable!(),
+        },
+    }
+}
+
+/// The error of a drain whose next step failed so: a step of the schedule fails for want of memory,
+/// or since its actor is worn.
+fn drain_error(error: StepError) -> Option<DrainError>
+    ensures { result ≡ drain_error error }
+{
+    match error {
+        StepError::Memory => Some(DrainError::Memory),
+        StepError::Worn(actor) => Some(DrainError::Worn(actor)),
+        _ => None,
     }
 }
 

@@ -1,4 +1,5 @@
-ghost use Rattle.std.specs.Prelude.{◌≡◌, IfErr, OnOk, not};
+ghost use Rattle.std.specs.Prelude.{◌≡◌, ◌≢◌, IfErr, OnOk, not};
+ghost use Rattle.hx_world.specs.declared.ends.StepError.TheVariants.{Memory};
 ghost use Rattle.hx_world.specs.Turns.{IsAdmitted, IsBarred, is_enough};
 
 use crate::ends::StepError;
@@ -8,10 +9,11 @@ use hx_types::{Entry, Input};
 const MOST_ENTRIES: u32 = 1_048_576;
 
 /// Whether an actor that has made so many entries may make this one: a tick has to make something,
-/// and no actor makes more than 1,048,576 entries.
+/// and no actor makes more than 1,048,576 entries. It takes no memory.
 pub fn admit(entry: &Entry, entries: u32) -> Result<(), StepError>
     ensures ok { OnOk result (IsAdmitted entry.now entries) }
     ensures err { IfErr result (IsBarred entry.now entries) }
+    ensures told { IfErr result (λ e. e ≢ Memory) }
 {
     if is_idle(entry) {
         return Err(StepError::Idle);
