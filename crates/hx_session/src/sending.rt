@@ -40,15 +40,15 @@ pub fn send(alloc: Global, sender: &Sender, op: &Op) -> Result<Made, Memory>
     match op {
         Op::Put { key, .. } | Op::Get { key } | Op::Del { key } | Op::Cput { key, .. } => {
             let region = sender.map.of_key(key);
-            Ok(send_to(alloc, sender, op, region)?)
+            send_to(alloc, sender, op, region)
         }
-        Op::Search { terms } => Ok(search(alloc, sender, terms)?),
+        Op::Search { terms } => search(alloc, sender, terms),
         Op::Stop { server } => {
             let message = Message::StopServer {
                 number: sender.progress.begun,
                 server: *server,
             };
-            Ok(to_coordinator(alloc, sender, message)?)
+            to_coordinator(alloc, sender, message)
         }
         Op::Add { server, region } => {
             let message = Message::AddReplica {
@@ -56,7 +56,7 @@ pub fn send(alloc: Global, sender: &Sender, op: &Op) -> Result<Made, Memory>
                 server: *server,
                 region: *region,
             };
-            Ok(to_coordinator(alloc, sender, message)?)
+            to_coordinator(alloc, sender, message)
         }
     }
 }
@@ -146,11 +146,11 @@ fn search(alloc: Global, sender: &Sender, terms: &Terms) -> Result<Made, Memory>
     ensures config { IfOk result (λ made. made.change.config ≡ None) }
 {
     match plan(alloc, sender.map, sender.config, terms)? {
-        Planned::Regions { regions, .. } => Ok(ask_regions(alloc, sender, terms, &regions)?),
+        Planned::Regions { regions, .. } => ask_regions(alloc, sender, terms, &regions),
         Planned::Lost(region) => {
             let epoch = sender.config.epoch;
             let answer = Answer::Refused { region, epoch };
-            Ok(ended(alloc, sender.progress, Version(0), answer)?)
+            ended(alloc, sender.progress, Version(0), answer)
         }
     }
 }

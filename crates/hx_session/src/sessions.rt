@@ -149,8 +149,8 @@ impl Session {
         ensures { IfOk result (IsMade self.now.state (session_step self.now.space self.now.state input.now)) }
     {
         match input {
-            Input::Tick => Ok(self.tick(alloc)?),
-            Input::Deliver { message, .. } => Ok(self.hear(alloc, message)?),
+            Input::Tick => self.tick(alloc),
+            Input::Deliver { message, .. } => self.hear(alloc, message),
             Input::Halt => unreachable!(),
         }
     }
@@ -160,9 +160,9 @@ impl Session {
         ensures { IfOk result (IsMade self.now.state (session_tick self.now.space self.now.state)) }
     {
         if self.progress.under_way {
-            Ok(self.send_again(alloc)?)
+            self.send_again(alloc)
         } else {
-            Ok(self.begin_next(alloc)?)
+            self.begin_next(alloc)
         }
     }
 
@@ -175,7 +175,7 @@ impl Session {
             Some(op) => {
                 let sender = self.sender(&self.config, self.progress);
                 let made = send(alloc, &sender, op)?;
-                Ok(polled(self.id, self.config.epoch, made)?)
+                polled(self.id, self.config.epoch, made)
             }
             None => Ok(unmoved(alloc, self.progress)),
         }
@@ -188,7 +188,7 @@ impl Session {
     {
         let number = self.progress.begun + 1;
         match self.call(number) {
-            Some(op) => Ok(self.begin(alloc, number, op)?),
+            Some(op) => self.begin(alloc, number, op),
             None => Ok(unmoved(alloc, self.progress)),
         }
     }
@@ -205,7 +205,7 @@ impl Session {
         };
         let sender = self.sender(&self.config, progress);
         let made = send(alloc, &sender, op)?;
-        Ok(begun(alloc, number, made)?)
+        begun(alloc, number, made)
     }
 
     /// What a message makes.
@@ -217,17 +217,17 @@ impl Session {
                 number,
                 version,
                 answer,
-            } => Ok(self.answered(alloc, *number, CallKind::OnKey, *version, answer)?),
+            } => self.answered(alloc, *number, CallKind::OnKey, *version, answer),
             Message::Outcome { number, answer } => {
-                Ok(self.answered(alloc, *number, CallKind::Administrative, Version(0), answer)?)
+                self.answered(alloc, *number, CallKind::Administrative, Version(0), answer)
             }
             Message::Found {
                 epoch,
                 number,
                 region,
                 rows,
-            } => Ok(self.found(alloc, *epoch, *number, *region, rows)?),
-            Message::Install { config } => Ok(self.install(alloc, config)?),
+            } => self.found(alloc, *epoch, *number, *region, rows),
+            Message::Install { config } => self.install(alloc, config),
             _ => Ok(unmoved(alloc, self.progress)),
         }
     }
@@ -247,7 +247,7 @@ impl Session {
             return Ok(unmoved(alloc, self.progress));
         }
         match lacking(self.parts.as_slice(), region) {
-            Some(place) => Ok(self.keep(alloc, place, region, rows)?),
+            Some(place) => self.keep(alloc, place, region, rows),
             None => Ok(unmoved(alloc, self.progress)),
         }
     }
@@ -284,7 +284,7 @@ impl Session {
             return Ok(unmoved(alloc, self.progress));
         }
         let made = self.send_anew(alloc, config)?;
-        Ok(adopting(alloc, config, made)?)
+        adopting(alloc, config, made)
     }
 
     /// A call on a key or a search is sent in another configuration.
@@ -295,7 +295,7 @@ impl Session {
         match self.call_under_way() {
             Some(op) if !is_of(CallKind::Administrative, op) => {
                 let sender = self.sender(config, self.progress);
-                Ok(send(alloc, &sender, op)?)
+                send(alloc, &sender, op)
             }
             _ => Ok(unmoved(alloc, self.progress)),
         }
@@ -316,7 +316,7 @@ impl Session {
             return Ok(unmoved(alloc, self.progress));
         }
         let answer = answer.copy(alloc)?;
-        Ok(ended(alloc, self.progress, version, answer)?)
+        ended(alloc, self.progress, version, answer)
     }
 
     /// Whether the call under way has this number and is of this kind.

@@ -1,11 +1,15 @@
 use Rattle.std.proofs.Common.{ap, sym, ◌∙◌}
+use Rattle.std.proofs.lemmas.Result.{IfOk-weaker}
 use Rattle.hx_types.specs.declared.spaces.Space.{Space}
 use Rattle.hx_model.specs.Planning.{plan_of}
 use Rattle.hx_session.proofs.Sent.{asked_made}
 use Rattle.hx_session.proofs.sending.search.Goals as goal
 
-pub returns-in_ok-ask_regions-in-Regions-clause-made : goal.returns-in_ok-ask_regions-in-Regions-clause-made
-returns-in_ok-ask_regions-in-Regions-clause-made c =
-    asked_made c.args.sender.now c.args.terms.now c.in-Regions.subspace c.in-Regions.regions _ _
-    (ap (λ (x : Space). plan_of x c.args.sender.now.config.now c.args.terms.now) (sym c.requires) ∙ sym c.in_ok-regions.ensures.exact ∙ c.in-Regions.is)
-    c.in_ok-ask_regions-in-Regions.ensures
+pub returns-in-Regions-clause-made : goal.returns-in-Regions-clause-made
+returns-in-Regions-clause-made c =
+    IfOk-weaker c.ask_regions.result _ _
+    (
+    λ made e. asked_made c.args.sender.now c.args.terms.now c.in-Regions.subspace c.in-Regions.regions _ made
+    (ap (λ (x : Space). plan_of x c.args.sender.now.config.now c.args.terms.now) (sym c.requires) ∙ sym c.in_ok-regions.ensures.exact ∙ c.in-Regions.is) e
+    )
+    c.ask_regions.ensures
