@@ -1,6 +1,7 @@
 ghost use Rattle.std.specs.Prelude.{◌≡◌, ℕ, ◌≤◌, ◌+◌, true, false, length, slice_get, IfOk, IsSomeAnd, None, if◌then◌else◌};
 ghost use Rattle.std.specs.List.{All};
 ghost use Rattle.std.specs.Option.{option_copied};
+ghost use Rattle.hx_types.specs.Configs.{first_config};
 ghost use Rattle.hx_types.specs.Fitting.{numbered};
 ghost use Rattle.hx_types.specs.Spaces.{Fits, IsSpace};
 ghost use Rattle.hx_model.specs.Schedule.{is_idle};
@@ -51,6 +52,36 @@ impl Model for Session {
     ghost invariant = { IsSession };
 }
 
+/// What all sessions of a space have in common at the start.
+#[derive(Drop)]
+struct Surroundings {
+    space: Space,
+    map: RegionMap,
+    config: Shared<Config>,
+}
+
+/// The first configuration of a space, shared.
+fn shared_config(alloc: Global, space: &Space) -> Result<Shared<Config>, Memory>
+    requires { IsSpace space.now }
+    ensures { IfOk result (λ config. config ≡ first_config space.now) }
+{
+    let config = first_config(alloc, space)?;
+    Shared::new(alloc, config)
+}
+
+/// A space, its regions, and its first configuration.
+fn surroundings_of(alloc: Global, space: &Space) -> Result<Surroundings, Memory>
+    requires { IsSpace space.now }
+    ensures space { IfOk result (λ around. around.space ≡ space.now) }
+    ensures map { IfOk result (λ around. around.map ≡ space.now) }
+    ensures config { IfOk result (λ around. around.config ≡ first_config space.now) }
+{
+    let config = shared_config(alloc, space)?;
+    let map = RegionMap::new(alloc, space)?;
+    let space = space.copy(alloc)?;
+    Ok(Surroundings { space, map, config })
+}
+
 impl Session {
     /// The session of a number at the start: in the configuration of epoch 1, with no call begun.
     pub fn start(
@@ -65,15 +96,15 @@ impl Session {
         ensures space { IfOk result (λ session. session.space ≡ space.now) }
         ensures state { IfOk result (λ session. session.state ≡ session_at_start space.now id calls) }
     {
-        let map = RegionMap::new(alloc, space)?;
-        let config = Shared::new(alloc, first_config(alloc, space)?)?;
-        let space = space.copy(alloc)?;
+        let Ok(around) = surroundings_of(alloc, space) else {
+            return Err(Memory);
+        };
         Ok(Session {
             id,
-            space,
-            map,
+            space: around.space,
+            map: around.map,
             calls,
-            config,
+            config: around.config,
             progress: Progress {
                 begun: 0,
                 under_way: false,
