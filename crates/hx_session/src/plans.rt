@@ -163,14 +163,7 @@ pub fn kept(alloc: Global, progress: Progress, place: usize, part: Part) -> Made
 pub fn adopting(alloc: Global, config: &Shared<Config>, made: Made) -> Result<Made, Memory>
     ensures { IfOk result (λ after. after ≡ adopting_as config.now made) }
 {
-    let config = config.copy(alloc)?;
-    Ok(Made {
-        posts: made.posts,
-        notes: made.notes,
-        change: Change {
-            config: Some(config),
-            progress: made.change.progress,
-            parts: made.change.parts,
-        },
-    })
+    let mut made = made;
+    made.change.config = Some(config.copy(alloc)?);
+    Ok(made)
 }
