@@ -1,6 +1,6 @@
 //! How a subspace cuts the values of some attributes.
 
-ghost use Rattle.std.specs.Prelude.{◌≡◌, ◌≤◌, ◌+◌, ◌*◌, IfOk, length};
+ghost use Rattle.std.specs.Prelude.{◌≡◌, ◌≤◌, ◌+◌, ◌*◌, IfOk, OnOk, length};
 ghost use Rattle.hx_script.specs.Readers.{Reads};
 ghost use Rattle.hx_script.specs.Cuts.{has_axis, free_axis, parts, axis, next_axis, more_axes, subspace};
 
@@ -58,25 +58,24 @@ fn parts(regions: u32, size: u32, line: &mut Line<'_>) -> Result<u32, Stop>
 
 /// One more axis.
 #[tactic(auto, unfolding(crate::specs::Cuts::axis))]
-fn axis(space: &Space, regions: u32, cut: Cut, line: &mut Line<'_>) -> Result<Cut, Stop>
+fn axis(space: &Space, regions: u32, cut: &mut Cut, line: &mut Line<'_>) -> Result<(), Stop>
     requires few { length space.now.attributes ≤ 16 }
-    ensures reads { Reads (λ c. c) result line.new (axis space.now regions cut line.old) }
-    ensures within { IfOk result (λ c. regions + c.size ≤ 4096) }
+    ensures reads { Reads (λ _. cut.new) result line.new (axis space.now regions cut.old line.old) }
+    ensures within { OnOk result (regions + cut.new.size ≤ 4096) }
 {
-    let Cut { mut axes, size } = cut;
-    let attribute = free_axis(space, &axes, line)?;
-    let parts = parts(regions, size, line)?;
-    axes.push(Axis { attribute, parts })?;
-    let size = size * parts;
-    Ok(Cut { axes, size })
+    let attribute = free_axis(space, &cut.axes, line)?;
+    let parts = parts(regions, cut.size, line)?;
+    cut.axes.push(Axis { attribute, parts })?;
+    cut.size *= parts;
+    Ok(())
 }
 
 /// One more axis behind a comma.
 #[tactic(auto, unfolding(crate::specs::Cuts::next_axis))]
-fn next_axis(space: &Space, regions: u32, cut: Cut, line: &mut Line<'_>) -> Result<Cut, Stop>
+fn next_axis(space: &Space, regions: u32, cut: &mut Cut, line: &mut Line<'_>) -> Result<(), Stop>
     requires few { length space.now.attributes ≤ 16 }
-    ensures reads { Reads (λ c. c) result line.new (next_axis space.now regions cut line.old) }
-    ensures within { IfOk result (λ c. regions + c.size ≤ 4096) }
+    ensures reads { Reads (λ _. cut.new) result line.new (next_axis space.now regions cut.old line.old) }
+    ensures within { OnOk result (regions + cut.new.size ≤ 4096) }
 {
     line.sign(b",")?;
     axis(space, regions, cut, line)
@@ -84,17 +83,16 @@ fn next_axis(space: &Space, regions: u32, cut: Cut, line: &mut Line<'_>) -> Resu
 
 /// More axes behind those that are there, up to the end of the line.
 #[tactic(auto, using(crate::proofs::Cutting::cut_goes_on, crate::proofs::Cutting::axis_shrinks, crate::proofs::Cutting::cut_ends))]
-fn more_axes(space: &Space, regions: u32, before: Cut, line: &mut Line<'_>) -> Result<Cut, Stop>
+fn more_axes(space: &Space, regions: u32, cut: &mut Cut, line: &mut Line<'_>) -> Result<(), Stop>
     requires few { length space.now.attributes ≤ 16 }
-    requires room { regions + before.size ≤ 4096 }
-    ensures reads { Reads (λ c. c) result line.new (more_axes space.now regions before line.old) }
-    ensures within { IfOk result (λ c. regions + c.size ≤ 4096) }
+    requires room { regions + cut.old.size ≤ 4096 }
+    ensures reads { Reads (λ _. cut.new) result line.new (more_axes space.now regions cut.old line.old) }
+    ensures within { OnOk result (regions + cut.new.size ≤ 4096) }
 {
-    let mut cut = before;
     'axes: while !line.is_at(Until::End) {
-        cut = next_axis(space, regions, cut, line)?;
+        next_axis(space, regions, cut, line)?;
     }
-    Ok(cut)
+    Ok(())
 }
 
 /// All axes of a subspace, in a space that has so many regions before it.
@@ -109,10 +107,11 @@ pub(crate) fn subspace(
     ensures reads { Reads (λ c. c) result line.new (subspace space.now regions line.old) }
     ensures within { IfOk result (λ c. regions + c.size ≤ 4096) }
 {
-    let none = Cut {
+    let mut cut = Cut {
         axes: Axes::new(alloc),
         size: 1,
     };
-    let first = axis(space, regions, none, line)?;
-    more_axes(space, regions, first, line)
+    axis(space, regions, &mut cut, line)?;
+    more_axes(space, regions, &mut cut, line)?;
+    Ok(cut)
 }

@@ -3,7 +3,7 @@
 ghost use Rattle.std.specs.Prelude.{◌≡◌, OnOk, ◌≤◌, length};
 ghost use Rattle.hx_script.specs.Readers.{Reads, Gives};
 ghost use Rattle.hx_script.specs.Grammar.{hx_line, space_line, key_line, string_attribute, int_attribute, attribute_line, subspace_line, servers_line, tolerate_line, session_line, steps_line, push_to_last, call_line, step_line, heading_line, command, line_of};
-ghost use Rattle.hx_script.specs.Texts.{empty_draft, finished};
+ghost use Rattle.hx_script.specs.Texts.{empty_draft, finished, may_end};
 
 use crate::cuts::subspace;
 use crate::errors::{Reason, ScriptError, Stop};
@@ -16,10 +16,9 @@ use hx_types::{
     Attribute, Attributes, Calls, Kind, Memory, Op, Script, Sessions, Space, Steps, Subspaces, Text,
 };
 use std::alloc::Global;
-use std::mem;
 
 /// Which lines may come next.
-#[derive(Clone, Copy, Debug, PartialEq, Eq)]
+#[derive(Clone, Copy)]
 pub enum Section {
     Start,
     Naming,
@@ -72,16 +71,15 @@ fn int_attribute(alloc: Global, space: &Space, line: &mut Line<'_>) -> Result<At
 }
 
 /// Puts an item at the end of the last list.
-#[tactic(auto, using(crate::proofs::Lists::push_to_last_is))]
-fn push_to_last(alloc: Global, sessions: &mut Sessions, op: Op) -> Result<(), Memory>
+#[tactic(auto, using(crate::proofs::Lists::push_to_last_is, crate::proofs::Lists::no_last))]
+fn push_to_last(sessions: &mut Sessions, op: Op) -> Result<(), Memory>
     ensures { OnOk result (sessions.new ≡ push_to_last sessions.old op) }
 {
-    let mut lists = mem::replace(sessions, Sessions::new(alloc)).into_vec();
-    if let Some(mut last) = lists.pop() {
-        last.push(op)?;
-        lists.push(last)?;
-    }
-    *sessions = Sessions::from_vec(lists);
+    let Some(last) = sessions.last_mut() else {
+        drop(op);
+        return Ok(());
+    };
+    last.push(op)?;
     Ok(())
 }
 
@@ -218,7 +216,7 @@ impl Draft {
             return Err(Stop::Fault(Reason::Limit));
         }
         let op = call(alloc, &self.space, self.regions, word, line)?;
-        push_to_last(alloc, &mut self.sessions, op)?;
+        push_to_last(&mut self.sessions, op)?;
         self.calls += 1;
         Ok(())
     }
@@ -324,27 +322,36 @@ impl Draft {
         }
     }
 
+    /// Whether the text may end here.
+    fn may_end(&self) -> bool
+        ensures { result ≡ may_end self.now.section }
+    {
+        match self.section {
+            Section::Sessions | Section::Calls | Section::Steps => true,
+            _ => false,
+        }
+    }
+
     /// The script, where the text may end after the lines before that one.
     pub(crate) fn finish(self, line: u64) -> Result<Script, ScriptError>
         ensures { result ≡ finished line self }
     {
+        if !self.may_end() {
+            return Err(ScriptError::Refused {
+                line,
+                reason: Reason::Order,
+            });
+        }
         let Draft {
-            section,
             space,
             sessions,
             steps,
             ..
         } = self;
-        match section {
-            Section::Sessions | Section::Calls | Section::Steps => Ok(Script {
-                space,
-                sessions,
-                steps,
-            }),
-            _ => Err(ScriptError::Refused {
-                line,
-                reason: Reason::Order,
-            }),
-        }
+        Ok(Script {
+            space,
+            sessions,
+            steps,
+        })
     }
 }

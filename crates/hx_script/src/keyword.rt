@@ -1,10 +1,11 @@
 //! The words that begin a line.
 
 ghost use Rattle.std.specs.Prelude.{◌≡◌};
+ghost use Rattle.std.specs.Str.{bytes_eq};
 ghost use Rattle.hx_script.specs.Keywords.{heading_of, call_word_of, step_word_of, keyword_of};
 
 /// The words of the head and of sections.
-#[derive(Clone, Copy, Debug, PartialEq, Eq)]
+#[derive(Clone, Copy)]
 pub enum Heading {
     Hx,
     Space,
@@ -19,7 +20,7 @@ pub enum Heading {
 }
 
 /// The words of calls.
-#[derive(Clone, Copy, Debug, PartialEq, Eq)]
+#[derive(Clone, Copy)]
 pub enum CallWord {
     Put,
     Get,
@@ -31,42 +32,49 @@ pub enum CallWord {
 }
 
 /// The words of steps.
-#[derive(Clone, Copy, Debug, PartialEq, Eq)]
+#[derive(Clone, Copy)]
 pub enum StepWord {
     Deliver,
     Tick,
     Halt,
 }
 
-#[derive(Clone, Copy, Debug, PartialEq, Eq)]
+#[derive(Clone, Copy)]
 pub enum Keyword {
     Heading(Heading),
     Call(CallWord),
     Step(StepWord),
 }
 
+/// Whether a word has these bytes.
+pub(crate) fn is(word: &[u8], bytes: &[u8]) -> bool
+    ensures { result ≡ bytes_eq word.now bytes.now }
+{
+    word == bytes
+}
+
 fn heading_of(word: &[u8]) -> Option<Heading>
     ensures { result ≡ heading_of word.now }
 {
-    if word == b"hx".as_slice() {
+    if is(word, b"hx") {
         Some(Heading::Hx)
-    } else if word == b"space".as_slice() {
+    } else if is(word, b"space") {
         Some(Heading::Space)
-    } else if word == b"key".as_slice() {
+    } else if is(word, b"key") {
         Some(Heading::Key)
-    } else if word == b"string".as_slice() {
+    } else if is(word, b"string") {
         Some(Heading::String)
-    } else if word == b"int".as_slice() {
+    } else if is(word, b"int") {
         Some(Heading::Int)
-    } else if word == b"subspace".as_slice() {
+    } else if is(word, b"subspace") {
         Some(Heading::Subspace)
-    } else if word == b"servers".as_slice() {
+    } else if is(word, b"servers") {
         Some(Heading::Servers)
-    } else if word == b"tolerate".as_slice() {
+    } else if is(word, b"tolerate") {
         Some(Heading::Tolerate)
-    } else if word == b"session".as_slice() {
+    } else if is(word, b"session") {
         Some(Heading::Session)
-    } else if word == b"steps".as_slice() {
+    } else if is(word, b"steps") {
         Some(Heading::Steps)
     } else {
         None
@@ -76,19 +84,19 @@ fn heading_of(word: &[u8]) -> Option<Heading>
 fn call_word_of(word: &[u8]) -> Option<CallWord>
     ensures { result ≡ call_word_of word.now }
 {
-    if word == b"put".as_slice() {
+    if is(word, b"put") {
         Some(CallWord::Put)
-    } else if word == b"get".as_slice() {
+    } else if is(word, b"get") {
         Some(CallWord::Get)
-    } else if word == b"del".as_slice() {
+    } else if is(word, b"del") {
         Some(CallWord::Del)
-    } else if word == b"cput".as_slice() {
+    } else if is(word, b"cput") {
         Some(CallWord::Cput)
-    } else if word == b"search".as_slice() {
+    } else if is(word, b"search") {
         Some(CallWord::Search)
-    } else if word == b"stop".as_slice() {
+    } else if is(word, b"stop") {
         Some(CallWord::Stop)
-    } else if word == b"add".as_slice() {
+    } else if is(word, b"add") {
         Some(CallWord::Add)
     } else {
         None
@@ -98,11 +106,11 @@ fn call_word_of(word: &[u8]) -> Option<CallWord>
 fn step_word_of(word: &[u8]) -> Option<StepWord>
     ensures { result ≡ step_word_of word.now }
 {
-    if word == b"deliver".as_slice() {
+    if is(word, b"deliver") {
         Some(StepWord::Deliver)
-    } else if word == b"tick".as_slice() {
+    } else if is(word, b"tick") {
         Some(StepWord::Tick)
-    } else if word == b"halt".as_slice() {
+    } else if is(word, b"halt") {
         Some(StepWord::Halt)
     } else {
         None

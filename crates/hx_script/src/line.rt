@@ -10,13 +10,14 @@ ghost use Rattle.hx_script.specs.Values.{is_dots};
 ghost use Rattle.hx_script.specs.Parts.{said};
 
 use crate::errors::{Reason, Stop};
+use crate::keyword::is;
 use hx_lex::{Token, TokenKind};
 use hx_types::Text;
 use std::marker::Model;
 use std::str;
 
 /// What a token says.
-#[derive(Drop)]
+#[derive(Clone, Copy)]
 pub(crate) enum Part<'a> {
     Word(&'a str),
     Number(i64),
@@ -25,7 +26,7 @@ pub(crate) enum Part<'a> {
 }
 
 /// Where a repetition ends: at the end of the line, or also before the word `set`.
-#[derive(Clone, Copy, Debug, PartialEq, Eq)]
+#[derive(Clone, Copy)]
 pub enum Until {
     End,
     Set,
@@ -189,9 +190,7 @@ impl<'a> Line<'a> {
             return true;
         };
         match (until, &token.kind) {
-            (Until::Set, TokenKind::Word) => {
-                &self.line[token.start..token.end] == b"set".as_slice()
-            }
+            (Until::Set, TokenKind::Word) => is(&self.line[token.start..token.end], b"set"),
             _ => false,
         }
     }
@@ -204,7 +203,7 @@ impl<'a> Line<'a> {
             return false;
         };
         match &token.kind {
-            TokenKind::Sign => &self.line[token.start..token.end] == b"..".as_slice(),
+            TokenKind::Sign => is(&self.line[token.start..token.end], b".."),
             _ => false,
         }
     }

@@ -9,7 +9,7 @@ use crate::errors::Stop;
 use crate::keyword::{CallWord, StepWord};
 use crate::line::{Line, Until};
 use crate::values::{all_terms, more_assigns, short_text, some_assigns};
-use hx_types::{Assigns, Op, PostId, RegionId, ServerId, Space, Step};
+use hx_types::{Assigns, Op, PostId, RegionId, ServerId, Space, Step, Terms};
 use std::alloc::Global;
 
 #[tactic(auto, unfolding(crate::specs::Calls::put))]
@@ -18,7 +18,8 @@ fn put(alloc: Global, space: &Space, line: &mut Line<'_>) -> Result<Op, Stop>
     ensures { Reads (λ op. op) result line.new (put space.now line.old) }
 {
     let key = short_text(alloc, line)?;
-    let sets = more_assigns(alloc, space, Until::End, Assigns::new(alloc), line)?;
+    let mut sets = Assigns::new(alloc);
+    more_assigns(alloc, space, Until::End, &mut sets, line)?;
     Ok(Op::Put { key, sets })
 }
 
@@ -47,9 +48,11 @@ fn cput(alloc: Global, space: &Space, line: &mut Line<'_>) -> Result<Op, Stop>
 {
     let key = short_text(alloc, line)?;
     line.fixed(b"if")?;
-    let tests = some_assigns(alloc, space, Until::Set, line)?;
+    let mut tests = Assigns::new(alloc);
+    some_assigns(alloc, space, Until::Set, &mut tests, line)?;
     line.fixed(b"set")?;
-    let sets = some_assigns(alloc, space, Until::End, line)?;
+    let mut sets = Assigns::new(alloc);
+    some_assigns(alloc, space, Until::End, &mut sets, line)?;
     Ok(Op::Cput { key, tests, sets })
 }
 
@@ -58,7 +61,8 @@ fn search(alloc: Global, space: &Space, line: &mut Line<'_>) -> Result<Op, Stop>
     requires few { length space.now.attributes ≤ 16 }
     ensures { Reads (λ op. op) result line.new (search_call space.now line.old) }
 {
-    let terms = all_terms(alloc, space, line)?;
+    let mut terms = Terms::new(alloc);
+    all_terms(alloc, space, &mut terms, line)?;
     Ok(Op::Search { terms })
 }
 

@@ -3,7 +3,7 @@
 ghost use Rattle.std.specs.Prelude.{◌≡◌, [], ◌≤◌, length};
 ghost use Rattle.hx_types.specs.Spaces.{attribute_of};
 ghost use Rattle.hx_script.specs.Readers.{Reads};
-ghost use Rattle.hx_script.specs.Values.{short_text, is_of, is_short, any_value, value, has_assign, free_attribute, assign, more_assigns, some_assigns, has_term, free_known, range, rest_of_term, term, all_terms};
+ghost use Rattle.hx_script.specs.Values.{short_text, value, has_assign, free_attribute, assign, more_assigns, some_assigns, has_term, free_known, range, rest_of_term, term, all_terms};
 
 use crate::errors::{Reason, Stop};
 use crate::line::{Line, Part, Until};
@@ -23,47 +23,23 @@ pub(crate) fn short_text(alloc: Global, line: &mut Line<'_>) -> Result<Text, Sto
     Ok(text.copy(alloc)?)
 }
 
-fn is_of(kind: Kind, value: &Value) -> bool
-    ensures { result ≡ is_of kind value.now }
-{
-    match (kind, value) {
-        (Kind::Text, Value::Text(_)) | (Kind::Int { .. }, Value::Int(_)) => true,
-        _ => false,
-    }
-}
-
-fn is_short(value: &Value) -> bool
-    ensures { result ≡ is_short value.now }
-{
-    match value {
-        Value::Text(text) => text.len() <= 1024,
-        Value::Int(_) => true,
-    }
-}
-
-fn any_value(alloc: Global, line: &mut Line<'_>) -> Result<Value, Stop>
-    ensures { Reads (λ v. v) result line.new (any_value line.old) }
-{
-    match line.next() {
-        Some(Part::Number(n)) => Ok(Value::Int(n)),
-        Some(Part::Text(text)) => Ok(Value::Text(text.copy(alloc)?)),
-        _ => Err(Stop::Fault(Reason::Order)),
-    }
-}
-
 /// A value of the kind.
 #[tactic(auto, unfolding(crate::specs::Values::value))]
 fn value(alloc: Global, kind: Kind, line: &mut Line<'_>) -> Result<Value, Stop>
     ensures { Reads (λ v. v) result line.new (value kind line.old) }
 {
-    let value = any_value(alloc, line)?;
-    if !is_of(kind, &value) {
-        return Err(Stop::Fault(Reason::TypeOf));
+    match line.next() {
+        Some(Part::Number(n)) => match kind {
+            Kind::Int { .. } => Ok(Value::Int(n)),
+            Kind::Text => Err(Stop::Fault(Reason::TypeOf)),
+        },
+        Some(Part::Text(text)) => match kind {
+            Kind::Int { .. } => Err(Stop::Fault(Reason::TypeOf)),
+            Kind::Text if text.len() > 1024 => Err(Stop::Fault(Reason::Limit)),
+            Kind::Text => Ok(Value::Text(text.copy(alloc)?)),
+        },
+        _ => Err(Stop::Fault(Reason::Order)),
     }
-    if !is_short(&value) {
-        return Err(Stop::Fault(Reason::Limit));
-    }
-    Ok(value)
 }
 
 fn has_assign(assigns: &Assigns, attribute: u32) -> bool
@@ -112,33 +88,33 @@ pub(crate) fn more_assigns(
     alloc: Global,
     space: &Space,
     until: Until,
-    before: Assigns,
+    assigns: &mut Assigns,
     line: &mut Line<'_>,
-) -> Result<Assigns, Stop>
+) -> Result<(), Stop>
     requires few { length space.now.attributes ≤ 16 }
-    ensures { Reads (λ s. s) result line.new (more_assigns space.now until before line.old) }
+    ensures { Reads (λ _. assigns.new) result line.new (more_assigns space.now until assigns.old line.old) }
 {
-    let mut assigns = before;
     'assigns: while !line.is_at(until) {
-        let assign = assign(alloc, space, &assigns, line)?;
+        let assign = assign(alloc, space, assigns, line)?;
         assigns.push(assign)?;
     }
-    Ok(assigns)
+    Ok(())
 }
 
-/// One assignment or more.
+/// One assignment or more, into an empty list.
 #[tactic(auto, unfolding(crate::specs::Values::some_assigns, crate::specs::Values::one_more))]
 pub(crate) fn some_assigns(
     alloc: Global,
     space: &Space,
     until: Until,
+    assigns: &mut Assigns,
     line: &mut Line<'_>,
-) -> Result<Assigns, Stop>
+) -> Result<(), Stop>
     requires few { length space.now.attributes ≤ 16 }
-    ensures { Reads (λ s. s) result line.new (some_assigns space.now until line.old) }
+    requires empty { assigns.old ≡ [] }
+    ensures { Reads (λ _. assigns.new) result line.new (some_assigns space.now until line.old) }
 {
-    let mut assigns = Assigns::new(alloc);
-    let first = assign(alloc, space, &assigns, line)?;
+    let first = assign(alloc, space, assigns, line)?;
     assigns.push(first)?;
     more_assigns(alloc, space, until, assigns, line)
 }
@@ -205,16 +181,21 @@ fn term(alloc: Global, space: &Space, terms: &Terms, line: &mut Line<'_>) -> Res
     rest_of_term(attribute, value, line)
 }
 
-/// Terms up to the end of the line.
+/// Terms up to the end of the line, into an empty list.
 #[tactic(auto, using(crate::proofs::Asking::terms_go_on, crate::proofs::Asking::term_shrinks, crate::proofs::Asking::terms_end))]
-pub(crate) fn all_terms(alloc: Global, space: &Space, line: &mut Line<'_>) -> Result<Terms, Stop>
+pub(crate) fn all_terms(
+    alloc: Global,
+    space: &Space,
+    terms: &mut Terms,
+    line: &mut Line<'_>,
+) -> Result<(), Stop>
     requires few { length space.now.attributes ≤ 16 }
-    ensures { Reads (λ s. s) result line.new (all_terms space.now line.old) }
+    requires empty { terms.old ≡ [] }
+    ensures { Reads (λ _. terms.new) result line.new (all_terms space.now line.old) }
 {
-    let mut terms = Terms::new(alloc);
     'terms: while !line.is_at(Until::End) {
-        let term = term(alloc, space, &terms, line)?;
+        let term = term(alloc, space, terms, line)?;
         terms.push(term)?;
     }
-    Ok(terms)
+    Ok(())
 }

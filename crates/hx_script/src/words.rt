@@ -7,6 +7,7 @@ ghost use Rattle.hx_script.specs.Readers.{Reads, Gives};
 ghost use Rattle.hx_script.specs.Words.{named, name, new_name, has_attribute, is_declared, place_of, declared_number, known_number};
 
 use crate::errors::{Reason, Stop};
+use crate::keyword::is;
 use crate::line::Line;
 use hx_types::{Attribute, Kind, Space};
 
@@ -16,7 +17,7 @@ pub(crate) fn named<'a>(line: &mut Line<'a>) -> Result<&'a str, Stop>
     ensures { Reads (λ w. w.now) result line.new (named line.old) }
 {
     let word = line.word()?;
-    if word.as_bytes() == b"if".as_slice() || word.as_bytes() == b"set".as_slice() {
+    if is(word.as_bytes(), b"if") || is(word.as_bytes(), b"set") {
         return Err(Stop::Fault(Reason::Order));
     }
     Ok(word)

@@ -4,7 +4,7 @@ use Rattle.hx_script.specs.Cuts.{more_axes}
 use Rattle.hx_script.proofs.Cutting.{cut_stops}
 use Rattle.hx_script.proofs.cuts.more_axes.Goals as goal
 
-pub returns-in_err-cut-clause-reads : goal.returns-in_err-cut-clause-reads
-returns-in_err-cut-clause-reads c =
+pub returns-in_err-next_axis-clause-reads : goal.returns-in_err-next_axis-clause-reads
+returns-in_err-next_axis-clause-reads c =
     let p = err_from_is_err_and c.from_residual.result c.from_residual.ensures.1 in
-    rw (p.1, p.2) (cut_stops c.in_err-cut.field-0.0 c.args.space.now c.args.regions c.axes.cut c.axes.line (more_axes c.args.space.now c.args.regions c.args.before c.args.line.now) (sym c.is_at.ensures ∙ c.axes-test.true) c.in_err-cut.ensures.reads c.axes.invariant.so_far)
+    rw (p.1, p.2) (cut_stops c.in_err-next_axis.field-0.0 c.args.space.now c.args.regions c.axes.cut c.axes.line (more_axes c.args.space.now c.args.regions c.args.cut.now c.args.line.now) (sym c.is_at.ensures ∙ c.axes-test.true) c.in_err-next_axis.ensures.reads c.axes.invariant.so_far)
