@@ -3,6 +3,7 @@
 ghost use Rattle.std.specs.Prelude.{◌≡◌, ◌++◌, ◌∷◌, [], IfOk, OnOk};
 ghost use Rattle.std.specs.Fmt.{decimal};
 ghost use Rattle.std.specs.String.{string_bytes};
+ghost use Rattle.hx_types.specs.declared.calls.Op.TheVariants as an_op;
 ghost use Rattle.hx_gen.specs.Calling.{call_drawn, color_drawn, key_drawn, size_drawn, sizes_drawn};
 
 use hx_types::{Assign, Assigns, Memory, Op, Term, Terms, Text, Value};
@@ -15,25 +16,37 @@ pub fn call_drawn(alloc: Global, session: u32, draw: u64) -> Result<Op, Memory>
     ensures { IfOk result (λ op. op ≡ call_drawn session draw) }
 {
     match (draw >> 8) % 8 {
-        0..=3 => Ok(Op::Put {
-            key: key_drawn(alloc, session, draw)?,
-            sets: color_and_size(alloc, draw)?,
-        }),
+        0..=3 => put_drawn(alloc, session, draw),
         4 => Ok(Op::Get {
             key: key_drawn(alloc, session, draw)?,
         }),
         5 => Ok(Op::Del {
             key: key_drawn(alloc, session, draw)?,
         }),
-        6 => Ok(Op::Cput {
-            key: key_drawn(alloc, session, draw)?,
-            tests: one(alloc, color_drawn(alloc, draw)?)?,
-            sets: one(alloc, size_drawn(draw))?,
-        }),
+        6 => cput_drawn(alloc, session, draw),
         _ => Ok(Op::Search {
             terms: sizes(alloc, draw)?,
         }),
     }
+}
+
+/// A put of a color and a size.
+fn put_drawn(alloc: Global, session: u32, draw: u64) -> Result<Op, Memory>
+    ensures { IfOk result (λ op. op ≡ an_op.Put (key_drawn session draw) (color_drawn draw ∷ size_drawn draw ∷ [])) }
+{
+    let key = key_drawn(alloc, session, draw)?;
+    let sets = color_and_size(alloc, draw)?;
+    Ok(Op::Put { key, sets })
+}
+
+/// A put of a size where the color is the drawn one.
+fn cput_drawn(alloc: Global, session: u32, draw: u64) -> Result<Op, Memory>
+    ensures { IfOk result (λ op. op ≡ an_op.Cput (key_drawn session draw) (color_drawn draw ∷ []) (size_drawn draw ∷ [])) }
+{
+    let key = key_drawn(alloc, session, draw)?;
+    let tests = one(alloc, color_drawn(alloc, draw)?)?;
+    let sets = one(alloc, size_drawn(draw))?;
+    Ok(Op::Cput { key, tests, sets })
 }
 
 /// One of the 64 keys of a session.
@@ -88,8 +101,7 @@ fn one(alloc: Global, assign: Assign) -> Result<Assigns, Memory>
 fn color_and_size(alloc: Global, draw: u64) -> Result<Assigns, Memory>
     ensures { IfOk result (λ assigns. assigns ≡ color_drawn draw ∷ size_drawn draw ∷ []) }
 {
-    let mut assigns = Assigns::new(alloc);
-    assigns.push(color_drawn(alloc, draw)?)?;
+    let mut assigns = one(alloc, color_drawn(alloc, draw)?)?;
     assigns.push(size_drawn(draw))?;
     Ok(assigns)
 }

@@ -79,14 +79,15 @@ fn calls_drawn(alloc: Global, seed: u64, calls: u32, session: u32) -> Result<Cal
 fn soak(alloc: Global) -> Result<Space, Memory>
     ensures { IfOk result (λ space. space ≡ soak) }
 {
-    let mut subspaces = Subspaces::new(alloc);
-    subspaces.push(axes(alloc, 1)?)?;
-    subspaces.push(axes(alloc, 2)?)?;
+    let name = Text::from_str(alloc, "soak")?;
+    let key_name = Text::from_str(alloc, "k")?;
+    let attributes = attributes(alloc)?;
+    let subspaces = subspaces(alloc)?;
     Ok(Space {
-        name: Text::from_str(alloc, "soak")?,
-        key_name: Text::from_str(alloc, "k")?,
+        name,
+        key_name,
         key_parts: 4,
-        attributes: attributes(alloc)?,
+        attributes,
         subspaces,
         servers: 4,
         tolerate: 1,
@@ -97,25 +98,42 @@ fn attributes(alloc: Global) -> Result<Attributes, Memory>
     ensures { IfOk result (λ made. made ≡ attributes_of_soak) }
 {
     let mut made = Attributes::new(alloc);
-    made.push(Attribute {
-        name: Text::from_str(alloc, "color")?,
-        kind: Kind::Text,
-    })?;
-    made.push(Attribute {
-        name: Text::from_str(alloc, "size")?,
-        kind: Kind::Int { lo: 0, hi: 999 },
-    })?;
+    push_attribute(alloc, &mut made, "color", Kind::Text)?;
+    push_attribute(alloc, &mut made, "size", Kind::Int { lo: 0, hi: 999 })?;
     Ok(made)
 }
 
-/// One axis of four parts.
-fn axes(alloc: Global, attribute: u32) -> Result<Axes, Memory>
-    ensures { IfOk result (λ made. made ≡ record { attribute = attribute; parts = 4 } ∷ []) }
+/// Adds an attribute.
+fn push_attribute(
+    alloc: Global,
+    attributes: &mut Attributes,
+    name: &str,
+    kind: Kind,
+) -> Result<(), Memory>
+    ensures { OnOk result (attributes.new ≡ attributes.old ++ record { name = name.now; kind = kind } ∷ []) }
 {
-    let mut made = Axes::new(alloc);
-    made.push(Axis {
+    let name = Text::from_str(alloc, name)?;
+    attributes.push(Attribute { name, kind })
+}
+
+/// A subspace of the color, and one of the size.
+fn subspaces(alloc: Global) -> Result<Subspaces, Memory>
+    ensures { IfOk result (λ made. made ≡ (record { attribute = 1; parts = 4 } ∷ []) ∷ (record { attribute = 2; parts = 4 } ∷ []) ∷ []) }
+{
+    let mut made = Subspaces::new(alloc);
+    push_axis(alloc, &mut made, 1)?;
+    push_axis(alloc, &mut made, 2)?;
+    Ok(made)
+}
+
+/// Adds a subspace of one axis, of four parts.
+fn push_axis(alloc: Global, subspaces: &mut Subspaces, attribute: u32) -> Result<(), Memory>
+    ensures { OnOk result (subspaces.new ≡ subspaces.old ++ (record { attribute = attribute; parts = 4 } ∷ []) ∷ []) }
+{
+    let mut axes = Axes::new(alloc);
+    axes.push(Axis {
         attribute,
         parts: 4,
     })?;
-    Ok(made)
+    subspaces.push(axes)
 }
