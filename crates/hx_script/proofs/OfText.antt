@@ -1,7 +1,6 @@
 -- No line is refused for the reason Step, which only a run can tell.
-use Rattle.std.proofs.Common.{◌≡◌, ◌≢◌, ℕ, ℤ, zero, suc, Bool, true, false, not, cond, List, [], ◌∷◌, ◌++◌, length, map, pos, Option, Some, None, Result, Ok, Err, refl, subst}
-use Rattle.std.specs.Prelude.{nat_le, nat_lt, int_le, min, codes, ◌&&◌, ◌||◌, ◌==◌, ◌-◌, ◌+◌, ◌*◌}
-use Rattle.std.specs.List.{list_any}
+use Rattle.std.proofs.Common.{◌≢◌, ℕ, ℤ, zero, suc, Bool, true, false, not, cond, List, [], ◌∷◌, length, pos, Option, Some, None, Result, Ok, Err, subst}
+use Rattle.std.specs.Prelude.{nat_le, int_le, ◌&&◌, ◌==◌, ◌+◌}
 use Rattle.std.specs.Str.{bytes_eq}
 use Rattle.hx_lex.specs.declared.errors.LexError.{LexError}
 use Rattle.hx_lex.specs.declared.token.Token.{Token}
@@ -37,15 +36,15 @@ use Rattle.hx_script.specs.declared.keyword.StepWord.TheVariants as step_words
 use Rattle.hx_script.specs.declared.line.Until.{Until}
 use Rattle.hx_script.specs.declared.line.Until.TheVariants as until
 use Rattle.hx_script.specs.Toks.{Tok, Word, Number, Text, Sign}
-use Rattle.hx_script.specs.Readers.{◌>>=◌, on_ok, Reader, give, refuse, judged, check, word, number, text, end, sign, fixed, is_between, number_in, natural, number_from, is_at, steps, repeat}
+use Rattle.hx_script.specs.Readers.{◌>>=◌, on_ok, Reader, give, judged, check, word, number, text, end, sign, fixed, is_between, number_in, natural, number_from, is_at, steps, repeat}
 use Rattle.hx_script.specs.Words.{may_name, named, name, is_declared, new_name, numbered, place_of, declared_number, known_number}
 use Rattle.hx_script.specs.Values.{short_text, is_of, is_short, any_value, value, has_assign, free_attribute, assign, one_more, more_assigns, some_assigns, has_term, free_known, range, is_dots, range_or_equal, rest_of_term, term, one_more_term, all_terms}
-use Rattle.hx_script.specs.Cuts.{has_axis, free_axis, parts, axis, next_axis, no_cut, more_axes, subspace}
+use Rattle.hx_script.specs.Cuts.{has_axis, free_axis, parts, axis, next_axis, no_cut, subspace}
 use Rattle.hx_script.specs.Actors.{is_decimal, number_word, actor_word, actor}
 use Rattle.hx_script.specs.Calls.{put, get, del, cput, search_call, stop, add, call, deliver, tick, halt, step}
 use Rattle.hx_script.specs.Keywords.{keyword_of}
 use Rattle.hx_script.specs.Grammar.{hx_line, space_line, key_line, string_attribute, int_attribute, attribute_line, subspace_line, servers_line, tolerate_line, session_line, steps_line, call_line, step_line, heading_line, line_for, command, toks_from, line_of_toks, line_of}
-use Rattle.hx_script.specs.Texts.{empty_draft, may_end, finished, lines_of, at_line, read_lines, script_of}
+use Rattle.hx_script.specs.Texts.{empty_draft, may_end, lines_of, at_line, read_lines, script_of}
 
 -- any reason but Step
 abbrev pub IsOfLine : Reason → Type 0

@@ -337,6 +337,7 @@ impl Draft {
         ensures { result ≡ finished line self }
     {
         if !self.may_end() {
+            drop(self);
             return Err(ScriptError::Refused {
                 line,
                 reason: Reason::Order,

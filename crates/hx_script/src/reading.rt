@@ -52,6 +52,7 @@ pub fn read(alloc: Global, text: &[u8]) -> Result<Script, ScriptError>
         let (line, after) = first_line(rest);
         number += 1;
         if let Err(stop) = draft.read_line(alloc, number, line) {
+            drop(draft);
             return Err(at(stop, number));
         }
         rest = after;
