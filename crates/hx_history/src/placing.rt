@@ -6,7 +6,7 @@ ghost use Rattle.hx_history.specs.Events.{event_view, history_by, is_in_place, i
 
 use crate::events::{Event, Read};
 use crate::lines::{line_of, reads_of, writes_of};
-use hx_types::{Exact, Item, Items, Memory, Object, Script, Update};
+use hx_types::{Answer, Caller, Exact, Item, Items, Memory, Object, Op, Script, Update, Version};
 use std::alloc::Global;
 
 /// How many writes have at most this version.
@@ -48,6 +48,29 @@ fn places_of<'a>(
     Ok(places)
 }
 
+/// The item of a call of this operation, with copies of what it is told.
+fn item_of(
+    alloc: Global,
+    version: Version,
+    caller: Caller,
+    op: &Op,
+    answer: &Answer,
+    object: &Option<Object>,
+) -> Result<Item, Memory>
+    ensures { IfOk result (λ item. item ≡ record { version = version; caller = caller; op = op.now; answer = answer.now; object = object.now }) }
+{
+    let object = object.copy(alloc)?;
+    let answer = answer.copy(alloc)?;
+    let op = op.copy(alloc)?;
+    Ok(Item {
+        version,
+        caller,
+        op,
+        answer,
+        object,
+    })
+}
+
 /// Adds gets of an object.
 fn push_reads(
     alloc: Global,
@@ -58,13 +81,15 @@ fn push_reads(
     ensures { OnOk result (items.new ≡ items.old ++ map (item_on object.now) (map read_view reads.now)) }
 {
     for read in reads {
-        items.push(Item {
-            version: read.version,
-            caller: read.caller,
-            op: read.op.copy(alloc)?,
-            answer: read.answer.copy(alloc)?,
-            object: object.copy(alloc)?,
-        })?;
+        let item = item_of(
+            alloc,
+            read.version,
+            read.caller,
+            read.op,
+            read.answer,
+            object,
+        )?;
+        items.push(item)?;
     }
     Ok(())
 }
@@ -81,14 +106,9 @@ fn push_write(
     let Some(op) = script.call(update.caller) else {
         return Ok(());
     };
-    items.push(Item {
-        version: update.version,
-        caller: update.caller,
-        op: op.copy(alloc)?,
-        answer: update.answer.copy(alloc)?,
-        object: update.object.copy(alloc)?,
-    })?;
-    Ok(())
+    let (version, caller) = (update.version, update.caller);
+    let item = item_of(alloc, version, caller, op, &update.answer, &update.object)?;
+    items.push(item)
 }
 
 /// The gets and writes of a key in order.

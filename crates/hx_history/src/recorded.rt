@@ -24,7 +24,7 @@ fn record_of(alloc: Global, begin: Begin, end: Option<End<'_>>) -> Result<Record
         });
     };
     let answer = end.answer.copy(alloc)?;
-    let is_doubt = answer.is_doubt();
+    let is_doubt = end.answer.is_doubt();
     Ok(Record {
         caller,
         begin,
