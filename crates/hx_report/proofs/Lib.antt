@@ -1,3 +1,4 @@
+pub mod Appending
 pub mod DriverLines
 pub mod LostRegions
 pub mod Reports

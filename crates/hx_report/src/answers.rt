@@ -4,8 +4,9 @@ ghost use Rattle.std.specs.Prelude.{◌≡◌, ◌++◌, OnOk};
 ghost use Rattle.std.specs.List.{flat_map};
 ghost use Rattle.hx_report.specs.Reporting.{answer_lines, found_line, in_epoch_line, region_line, row_line, rows_lines, version_line, version_text};
 
+use crate::labels::put_labeled;
 use crate::objects::put_object;
-use hx_print::{put_bytes, put_number, put_text};
+use hx_print::{put_bytes, put_text};
 use hx_types::{Answer, Epoch, Memory, Object, RegionId, Row, Rows, Space, Version};
 
 #[tactic(auto, unfolding(crate::specs::Reporting::version_text))]
@@ -13,8 +14,7 @@ fn put_version(out: &mut Vec<u8>, word: &[u8], version: Version) -> Result<(), M
     ensures { OnOk result (out.new.items ≡ out.old.items ++ version_text word.now version) }
 {
     put_bytes(out, word)?;
-    put_bytes(out, b" version ")?;
-    put_number(out, version.0)
+    put_labeled(out, b" version ", version.0)
 }
 
 #[tactic(auto, unfolding(crate::specs::Reporting::version_line))]
@@ -55,8 +55,7 @@ fn put_row(out: &mut Vec<u8>, space: &Space, row: &Row) -> Result<(), Memory>
 fn put_rows(out: &mut Vec<u8>, space: &Space, rows: &Rows) -> Result<(), Memory>
     ensures { OnOk result (out.new.items ≡ out.old.items ++ rows_lines space.now rows.now) }
 {
-    put_bytes(out, b"rows ")?;
-    put_number(out, rows.len() as u64)?;
+    put_labeled(out, b"rows ", rows.len() as u64)?;
     put_bytes(out, b"\n")?;
     put_each_row(out, space, rows.as_slice())
 }
@@ -81,10 +80,8 @@ fn put_region_line(
     ensures { OnOk result (out.new.items ≡ out.old.items ++ region_line word.now region epoch) }
 {
     put_bytes(out, word)?;
-    put_bytes(out, b" region ")?;
-    put_number(out, u64::from(region.0))?;
-    put_bytes(out, b" epoch ")?;
-    put_number(out, epoch.0)?;
+    put_labeled(out, b" region ", u64::from(region.0))?;
+    put_labeled(out, b" epoch ", epoch.0)?;
     put_bytes(out, b"\n")
 }
 
@@ -93,8 +90,7 @@ fn put_in_epoch(out: &mut Vec<u8>, word: &[u8], epoch: Epoch) -> Result<(), Memo
     ensures { OnOk result (out.new.items ≡ out.old.items ++ in_epoch_line word.now epoch) }
 {
     put_bytes(out, word)?;
-    put_bytes(out, b" epoch ")?;
-    put_number(out, epoch.0)?;
+    put_labeled(out, b" epoch ", epoch.0)?;
     put_bytes(out, b"\n")
 }
 

@@ -5,6 +5,7 @@ ghost use Rattle.std.specs.List.{flat_map};
 ghost use Rattle.hx_report.specs.Reporting.{called_text, end_text, maybe_answer_lines, record_lines, span_text};
 
 use crate::answers::put_answer;
+use crate::labels::put_labeled;
 use hx_print::{put_bytes, put_caller, put_number, put_op};
 use hx_types::{Answer, Caller, Memory, Op, Record, Records, Script, Space, Version};
 
@@ -34,8 +35,7 @@ fn put_span(out: &mut Vec<u8>, call: &Record) -> Result<(), Memory>
 {
     put_bytes(out, b"call ")?;
     put_caller(out, &call.caller)?;
-    put_bytes(out, b" begin ")?;
-    put_number(out, call.begin)?;
+    put_labeled(out, b" begin ", call.begin)?;
     put_bytes(out, b" end ")?;
     put_end(out, &call.end)
 }

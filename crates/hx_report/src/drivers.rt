@@ -3,8 +3,9 @@
 ghost use Rattle.std.specs.Prelude.{◌≡◌, ◌++◌, OnOk};
 ghost use Rattle.hx_report.specs.Driving.{driver_line, drivers_text, totals_text};
 
+use crate::labels::put_labeled;
 use crate::tracing::put_field;
-use hx_print::{put_bytes, put_number};
+use hx_print::put_bytes;
 use hx_types::{Memory, Totals};
 
 #[tactic(auto, unfolding(crate::specs::Driving::totals_text))]
@@ -21,8 +22,7 @@ fn put_totals(out: &mut Vec<u8>, totals: &Totals) -> Result<(), Memory>
 fn put_driver(out: &mut Vec<u8>, number: u64, totals: &Totals) -> Result<(), Memory>
     ensures { OnOk result (out.new.items ≡ out.old.items ++ driver_line number totals.now) }
 {
-    put_bytes(out, b"driver ")?;
-    put_number(out, number)?;
+    put_labeled(out, b"driver ", number)?;
     put_totals(out, totals)?;
     put_bytes(out, b"\n")
 }

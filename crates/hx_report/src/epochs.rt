@@ -6,7 +6,8 @@ ghost use Rattle.hx_types.specs.Configs.{is_lost};
 ghost use Rattle.hx_types.specs.Spaces.{IsSpace};
 ghost use Rattle.hx_report.specs.Reporting.{entry_lines, epoch_line, epochs_text, lost_numbers, lost_text, note_lines, servers_text};
 
-use hx_print::{put_bytes, put_number, put_numbers};
+use crate::labels::put_labeled;
+use hx_print::{put_bytes, put_numbers};
 use hx_types::{Config, Entry, Memory, Note, Notes, Script, Trace, any_ready, first_config};
 use std::alloc::Global;
 
@@ -54,8 +55,7 @@ fn put_lost(alloc: Global, out: &mut Vec<u8>, config: &Config) -> Result<(), Mem
 fn put_epoch(alloc: Global, out: &mut Vec<u8>, config: &Config) -> Result<(), Memory>
     ensures { OnOk result (out.new.items ≡ out.old.items ++ epoch_line config.now) }
 {
-    put_bytes(out, b"epoch ")?;
-    put_number(out, config.epoch.0)?;
+    put_labeled(out, b"epoch ", config.epoch.0)?;
     put_servers(out, config)?;
     put_lost(alloc, out, config)?;
     put_bytes(out, b"\n")

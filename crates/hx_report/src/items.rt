@@ -4,9 +4,10 @@ ghost use Rattle.std.specs.Prelude.{◌≡◌, ◌++◌, OnOk};
 ghost use Rattle.std.specs.List.{flat_map};
 ghost use Rattle.hx_report.specs.Reporting.{history_lines, item_line, item_text, state_text, word_of};
 
+use crate::labels::put_labeled;
 use crate::objects::put_object;
 use hx_history::{Histories, KeyHistory};
-use hx_print::{put_bytes, put_caller, put_number, put_text};
+use hx_print::{put_bytes, put_caller, put_text};
 use hx_types::{Answer, Item, Memory, Object, Space};
 
 /// The word for the answer of an item.
@@ -40,8 +41,7 @@ fn put_state(out: &mut Vec<u8>, space: &Space, object: &Option<Object>) -> Resul
 fn put_item_head(out: &mut Vec<u8>, item: &Item) -> Result<(), Memory>
     ensures { OnOk result (out.new.items ≡ out.old.items ++ item_text item.now) }
 {
-    put_bytes(out, b"item ")?;
-    put_number(out, item.version.0)?;
+    put_labeled(out, b"item ", item.version.0)?;
     put_bytes(out, b" ")?;
     put_caller(out, &item.caller)
 }

@@ -18,6 +18,7 @@ mod calls;
 mod drivers;
 mod epochs;
 mod items;
+mod labels;
 mod objects;
 mod tracing;
 

@@ -3,7 +3,8 @@
 ghost use Rattle.std.specs.Prelude.{◌≡◌, ◌++◌, codes, reverse, OnOk};
 ghost use Rattle.hx_report.specs.Tracing.{entries_text, entry_line, field_text, input_text, message_text, post_head, post_line, posts_text, reconfiguration_text, trace_text};
 
-use hx_print::{put_actor, put_bytes, put_number, put_post_name};
+use crate::labels::put_labeled;
+use hx_print::{put_actor, put_bytes, put_post_name};
 use hx_types::{
     Entry, Epoch, Input, Memory, Message, Post, Posts, RegionId, ServerId, Trace, Version,
 };
@@ -15,8 +16,7 @@ pub fn put_field(out: &mut Vec<u8>, name: &[u8], number: u64) -> Result<(), Memo
 {
     put_bytes(out, b" ")?;
     put_bytes(out, name)?;
-    put_bytes(out, b" ")?;
-    put_number(out, number)
+    put_labeled(out, b" ", number)
 }
 
 /// Appends the kind and the epoch of a message.
@@ -202,10 +202,8 @@ fn put_input(out: &mut Vec<u8>, input: &Input) -> Result<(), Memory>
 fn put_post_head(out: &mut Vec<u8>, entry: u64, place: u64, post: &Post) -> Result<(), Memory>
     ensures { OnOk result (out.new.items ≡ out.old.items ++ post_head entry place post.now) }
 {
-    put_bytes(out, b"post ")?;
-    put_number(out, entry)?;
-    put_bytes(out, b".")?;
-    put_number(out, place)?;
+    put_labeled(out, b"post ", entry)?;
+    put_labeled(out, b".", place)?;
     put_bytes(out, b" ")?;
     put_actor(out, &post.to)
 }
@@ -239,8 +237,7 @@ fn put_posts(out: &mut Vec<u8>, entry: u64, posts: &Posts) -> Result<(), Memory>
 fn put_entry(out: &mut Vec<u8>, number: u64, entry: &Entry) -> Result<(), Memory>
     ensures { OnOk result (out.new.items ≡ out.old.items ++ entry_line number entry.now) }
 {
-    put_bytes(out, b"entry ")?;
-    put_number(out, number)?;
+    put_labeled(out, b"entry ", number)?;
     put_bytes(out, b" ")?;
     put_actor(out, &entry.actor)?;
     put_bytes(out, b" ")?;
