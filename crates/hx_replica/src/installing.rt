@@ -3,24 +3,27 @@ ghost use Rattle.std.specs.List.{All, AllByRecursion, flat_map};
 ghost use Rattle.hx_types.specs.declared.limits.TheConstants.{MOST_ATTRIBUTES};
 ghost use Rattle.hx_types.specs.Subspaces.{is_key_region};
 ghost use Rattle.hx_folds.specs.Folding.{KeptsAscend, folded};
-ghost use Rattle.hx_model.specs.ServerSteps.{installed_slots, move_posts, offered_all};
+ghost use Rattle.hx_model.specs.ServerSteps.{installed_slots, move_posts, offered_all, ready_post};
 ghost use Rattle.hx_model.specs.Slots.{Forget, KeyState, moved, moved_all};
 ghost use Rattle.hx_slot.specs.States.{IsOrderly};
 ghost use Rattle.hx_store.specs.Stores.{state_at};
 ghost use Rattle.hx_replica.specs.Installing.{CanCome, IsFresh, TextsAscend, joined_slots, joining, of_key, own_offer, texts};
 ghost use Rattle.hx_replica.specs.Made.{spot_seen};
+ghost use Rattle.hx_replica.specs.Ticking.{standing};
 
 use crate::keys::keys_of;
 use crate::resuming::carry_on;
 use crate::spots::{Spot, place_at};
+use crate::ticking::tell_ready;
 use hx_slot::Slot;
 use hx_store::{Store, settle_all};
 use hx_types::{Exact, Memory, Posts, Same, Shared, Snapshot, Text, Update, Updates};
 use std::alloc::Global;
 
 /// The store of a replica that installs a snapshot of its region: the slots of the snapshot, each
-/// of which then takes the pending updates of its key, in byte order of keys. That a joiner is sent
-/// both is this project's choice.
+/// of which then takes the pending updates of its key, in byte order of keys. The coordinator is
+/// told last, where the replica is listed as not ready. That a joiner is sent both is this project's
+/// choice.
 pub fn installed(
     alloc: Global,
     spot: &Spot,
@@ -35,14 +38,39 @@ pub fn installed(
     ensures region { IfOk result (λ store. store.region ≡ spot.now.region) }
     ensures marks { IfOk result (λ store. store.marks ≡ is_key_region spot.now.space.now spot.now.region) }
     ensures states { IfOk result (λ store. store.states ≡ map (folded spot.now.region) (installed_slots (spot_seen spot.now) snapshot.now pending.now).states) }
-    ensures posts { OnOk result (posts.new ≡ posts.old ++ (installed_slots (spot_seen spot.now) snapshot.now pending.now).posts) }
+    ensures posts { OnOk result (posts.new ≡ (posts.old ++ (installed_slots (spot_seen spot.now) snapshot.now pending.now).posts) ++ ready_post (standing spot.now.config.now spot.now.server) spot.now.region) }
 {
     let marks = spot.region.0 < spot.space.key_parts;
     let mut store = Store::new(alloc, spot.space, spot.region, marks)?;
+    install_all(alloc, spot, snapshot, pending, &mut store, posts)?;
+    Ok(store)
+}
+
+/// An empty store takes the slots of a snapshot and then the pending updates, and the coordinator
+/// is told.
+fn install_all(
+    alloc: Global,
+    spot: &Spot,
+    snapshot: &Snapshot,
+    pending: &Updates,
+    store: &mut Store,
+    posts: &mut Posts,
+) -> Result<(), Memory>
+    requires region { store.old.region ≡ spot.now.region }
+    requires marks { store.old.marks ≡ is_key_region spot.now.space.now spot.now.region }
+    requires empty { store.old.states ≡ [] }
+    requires ascend { KeptsAscend snapshot.now }
+    requires orderly { All IsOrderly snapshot.now }
+    requires pending { All (CanCome spot.now.region) pending.now }
+    ensures region { store.new.region ≡ store.old.region }
+    ensures marks { store.new.marks ≡ store.old.marks }
+    ensures states { OnOk result (store.new.states ≡ map (folded spot.now.region) (installed_slots (spot_seen spot.now) snapshot.now pending.now).states) }
+    ensures posts { OnOk result (posts.new ≡ (posts.old ++ (installed_slots (spot_seen spot.now) snapshot.now pending.now).posts) ++ ready_post (standing spot.now.config.now spot.now.server) spot.now.region) }
+{
     store.install(alloc, snapshot)?;
     let keys = keys_of(alloc, pending)?;
-    join_all(alloc, spot, keys.as_slice(), pending, &mut store, posts)?;
-    Ok(store)
+    join_all(alloc, spot, keys.as_slice(), pending, store, posts)?;
+    tell_ready(spot, posts)
 }
 
 /// The slots of these keys take the pending updates of their keys, one after another.
@@ -66,9 +94,9 @@ fn join_all(
     ensures posts { OnOk result (posts.new ≡ posts.old ++ (joined_slots (spot_seen spot.now) pending.now store.old.states (texts keys.now)).posts) }
 {
     for key in keys {
-        let slot = slot_of(alloc, spot, store, key)?;
-        let next = joined(alloc, spot, slot, pending, posts)?;
-        store.put(alloc, next)?;
+        let mut slot = slot_of(alloc, spot, store, key)?;
+        join(alloc, spot, &mut slot, pending, posts)?;
+        store.put(alloc, slot)?;
     }
     Ok(())
 }
@@ -92,25 +120,24 @@ fn slot_of(alloc: Global, spot: &Spot, store: &Store, key: &Text) -> Result<Slot
 
 /// A slot takes the pending updates of its key: those that it accepts go to the next replica of
 /// their chains or end here, and what can be committed is told of.
-fn joined(
+fn join(
     alloc: Global,
     spot: &Spot,
-    slot: Slot,
+    slot: &mut Slot,
     pending: &Updates,
     posts: &mut Posts,
-) -> Result<Slot, Memory>
-    requires region { slot.region ≡ spot.now.region }
-    requires fresh { IsFresh spot.now.region slot.state }
+) -> Result<(), Memory>
+    requires region { slot.old.region ≡ spot.now.region }
+    requires fresh { IsFresh spot.now.region slot.old.state }
     requires pending { All (CanCome spot.now.region) pending.now }
-    ensures region { IfOk result (λ next. next.region ≡ spot.now.region) }
-    ensures state { IfOk result (λ next. next.state ≡ folded spot.now.region (moved_all (joining (spot_seen spot.now) pending.now slot.state) slot.state)) }
-    ensures posts { OnOk result (posts.new ≡ posts.old ++ flat_map (move_posts (spot_seen spot.now)) (joining (spot_seen spot.now) pending.now slot.state)) }
+    ensures region { slot.new.region ≡ slot.old.region }
+    ensures state { OnOk result (slot.new.state ≡ folded spot.now.region (moved_all (joining (spot_seen spot.now) pending.now slot.old.state) slot.old.state)) }
+    ensures posts { OnOk result (posts.new ≡ posts.old ++ flat_map (move_posts (spot_seen spot.now)) (joining (spot_seen spot.now) pending.now slot.old.state)) }
 {
-    let mut next = slot;
-    offer_all(alloc, spot, &mut next, pending)?;
-    let ends = carry_on(alloc, spot, &next, posts)?;
-    settle_all(&mut next, ends.as_slice());
-    Ok(next)
+    offer_all(alloc, spot, slot, pending)?;
+    let ends = carry_on(alloc, spot, slot, posts)?;
+    settle_all(slot, ends.as_slice());
+    Ok(())
 }
 
 /// A slot is offered the updates of its key.

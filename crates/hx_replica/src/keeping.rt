@@ -18,6 +18,7 @@ use hx_region::RegionMap;
 use hx_slot::Slot;
 use hx_store::Store;
 use hx_types::{Config, ServerId, Space, Version};
+use std::mem;
 
 /// The replicas of a server that adopts a configuration: each that it has of a region in which the
 /// configuration lists it takes its place among the new ones, and goes on. It takes no memory.
@@ -35,22 +36,23 @@ pub fn keep_all(
     ensures are { AreReplicas space.now next.new.items }
 {
     'replicas: while let Some(replica) = old.pop() {
-        keep(space, regions, config, server, replica, next);
+        let mut kept = replica;
+        keep(space, regions, config, server, &mut kept, next);
     }
 }
 
-/// A replica takes the place of the new one of its region, if there is one, and goes on.
+/// A replica changes places with the new one of its region, if there is one, and goes on.
 fn keep(
     space: &Space,
     regions: &RegionMap,
     config: &Config,
     server: ServerId,
-    mut replica: Replica,
+    replica: &mut Replica,
     next: &mut Vec<Replica>,
 )
-    requires is { IsReplicaIn space.now replica }
+    requires is { IsReplicaIn space.now replica.old }
     requires next { AreReplicas space.now next.old.items }
-    ensures views { views_of next.new.items ≡ with_replica (lean_replica space.now (standing config.now server) (view_of replica)) (views_of next.old.items) }
+    ensures views { views_of next.new.items ≡ with_replica (lean_replica space.now (standing config.now server) (view_of replica.old)) (views_of next.old.items) }
     ensures are { AreReplicas space.now next.new.items }
 {
     if let Some(number) = place_of(next.as_slice(), replica.region) {
@@ -61,8 +63,8 @@ fn keep(
             server,
             region: replica.region,
         };
-        adopt_replica(&spot, &mut replica);
-        next[number] = replica;
+        adopt_replica(&spot, replica);
+        mem::swap(&mut next[number], replica);
     }
 }
 

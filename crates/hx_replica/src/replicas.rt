@@ -1,6 +1,8 @@
-ghost use Rattle.std.specs.Prelude.{◌≡◌, ◌<◌, ◌≤◌, IfOk, OnOk, Some, length, map, slice_get, slice_set};
+ghost use Rattle.std.specs.Prelude.{◌≡◌, ◌<◌, ◌≤◌, IfOk, OnOk, Some, length, map, slice_get, slice_set, true};
 ghost use Rattle.std.specs.Option.{option_map};
 ghost use Rattle.hx_types.specs.declared.limits.TheConstants.{MOST_ATTRIBUTES};
+ghost use Rattle.hx_types.specs.Configs.{first_config};
+ghost use Rattle.hx_types.specs.Spaces.{IsSpace};
 ghost use Rattle.hx_types.specs.Subspaces.{region_count};
 ghost use Rattle.hx_model.specs.ServerSteps.{listed_regions, replica_of};
 ghost use Rattle.hx_store.specs.Stores.{after_step, key_at, state_at};
@@ -9,7 +11,7 @@ ghost use Rattle.hx_replica.specs.Replicas.{AscendByRegion, first_replica, new_r
 
 use crate::made::SlotChange;
 use hx_store::Store;
-use hx_types::{Config, Memory, RegionId, ServerId, Space};
+use hx_types::{Config, Memory, RegionId, ServerId, Shared, Space, first_config};
 use std::alloc::Global;
 
 /// A server's part of a region: whether it has all that was there before it joined, and its slots.
@@ -18,6 +20,14 @@ pub struct Replica {
     pub region: RegionId,
     pub installed: bool,
     pub store: Store,
+}
+
+/// The configuration of epoch 1.
+pub fn config_at_start(alloc: Global, space: &Space) -> Result<Shared<Config>, Memory>
+    requires { IsSpace space.now }
+    ensures { IfOk result (λ config. config ≡ first_config space.now) }
+{
+    Shared::new(alloc, first_config(alloc, space)?)
 }
 
 /// A replica, installed and empty, of each region in which the configuration lists the server.
@@ -73,6 +83,18 @@ pub fn new_replicas(
         }
     }
     Ok(replicas)
+}
+
+/// An installed replica of a region, with this store.
+pub fn joined_replica(alloc: Global, region: RegionId, store: Store) -> Result<Box<Replica>, Memory>
+    ensures { IfOk result (λ boxed. boxed.value ≡ record { region = region; installed = true; store = store }) }
+{
+    let joined = Replica {
+        region,
+        installed: true,
+        store,
+    };
+    Ok(Box::new(alloc, joined)?)
 }
 
 /// The place of a region's replica, found by halving.

@@ -1,6 +1,7 @@
 ghost use Rattle.std.specs.Prelude.{◌≡◌, ◌<◌, ◌≤◌, IfOk, IfNone, IfSome, IsSomeAnd, Some, None, false, is_some, length, map, slice_get, ℕ, ◌+◌};
 ghost use Rattle.std.specs.List.{All};
 ghost use Rattle.std.specs.Option.{option_map};
+ghost use Rattle.hx_types.specs.Configs.{first_config};
 ghost use Rattle.hx_types.specs.Effects.{key_of};
 ghost use Rattle.hx_types.specs.Posted.{NameOnly};
 ghost use Rattle.hx_types.specs.Posts.{IsSoundPost};
@@ -15,7 +16,7 @@ ghost use Rattle.hx_replica.specs.Installing.{IsSnapshot};
 ghost use Rattle.hx_replica.specs.Adopting.{lean_with_config};
 ghost use Rattle.hx_replica.specs.Made.{key_in, room_by, room_of};
 ghost use Rattle.hx_replica.specs.Named.{known_to};
-ghost use Rattle.hx_replica.specs.Replicas.{KeepAllRooms, new_replica};
+ghost use Rattle.hx_replica.specs.Replicas.{KeepAllRooms, first_replica, new_replica};
 ghost use Rattle.hx_replica.specs.Sound.{IsSoundInput, IsSoundServer};
 ghost use Rattle.hx_store.specs.Stores.{has_slot};
 ghost use Rattle.hx_replica.specs.Plans.{CanStep, HasRoomAt, IsDelivery, IsMadeAt, IsPlanOn};
@@ -26,7 +27,10 @@ use crate::installing::installed;
 use crate::keeping::keep_all;
 use crate::made::{SlotMade, room_by};
 use crate::plans::{Change, Plan, moved, said, to_coordinator, unmoved};
-use crate::replicas::{Replica, change_slot, first_replicas, new_replicas, place_of, put_replica};
+use crate::replicas::{
+    Replica, change_slot, config_at_start, first_replicas, joined_replica, new_replicas, place_of,
+    put_replica,
+};
 use crate::rows::step_slot;
 use crate::spots::Spot;
 use crate::ticking::{tell_ready, tick_all};
@@ -34,7 +38,7 @@ use hx_region::RegionMap;
 use hx_slot::Slot;
 use hx_types::{
     Actor, Config, Entry, Epoch, Exact, Input, Memory, Message, Op, Post, Posts, RegionId, Rows,
-    ServerId, Shared, Snapshot, Space, Terms, Text, Updates, first_config,
+    ServerId, Shared, Snapshot, Space, Terms, Text, Updates,
 };
 use std::alloc::Global;
 use std::marker::Model;
@@ -82,13 +86,32 @@ impl Server {
         ensures state { IfOk result (λ server. server.state ≡ server_at_start space.now id) }
     {
         let map = RegionMap::new(alloc, space)?;
-        let config = Shared::new(alloc, first_config(alloc, space)?)?;
+        let config = config_at_start(alloc, space)?;
         let replicas = first_replicas(alloc, space, &config, map.regions(), id)?;
+        Server::with_parts(alloc, space, id, map, config, replicas)
+    }
+
+    /// The server of a number at the start, with these parts.
+    fn with_parts(
+        alloc: Global,
+        space: &Space,
+        id: ServerId,
+        regions: RegionMap,
+        config: Shared<Config>,
+        replicas: Vec<Replica>,
+    ) -> Result<Server, Memory>
+        requires space { IsSpace space.now }
+        requires regions { regions ≡ space.now }
+        requires config { config ≡ first_config space.now }
+        requires replicas { replicas.items ≡ map (first_replica space.now) (listed_regions config id) }
+        ensures space { IfOk result (λ server. server.space ≡ space.now) }
+        ensures state { IfOk result (λ server. server.state ≡ server_at_start space.now id) }
+    {
         let space = space.copy(alloc)?;
         Ok(Server {
             id,
             space,
-            map,
+            map: regions,
             config,
             sealed: false,
             halted: false,
@@ -305,13 +328,7 @@ impl Server {
             return said(alloc, self.id, input, posts, Change::Nothing);
         }
         let store = installed(alloc, &spot, snapshot, pending, &mut posts)?;
-        tell_ready(&spot, &mut posts)?;
-        let joined = Replica {
-            region,
-            installed: true,
-            store,
-        };
-        let replica = Box::new(alloc, joined)?;
+        let replica = joined_replica(alloc, region, store)?;
         said(
             alloc,
             self.id,

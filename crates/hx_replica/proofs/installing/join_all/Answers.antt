@@ -12,8 +12,8 @@ use Rattle.hx_replica.proofs.installing.join_all.Goals as goal
 pub loop-key-init : goal.loop-key-init
 loop-key-init c = record { region = refl; marks = refl; so_far = none_joined (spot_seen c.args.spot.now) c.args.pending.now c.args.store.now.states c.args.posts.now c.requires.fresh }
 
-pub joined-requires-clause-fresh : goal.joined-requires-clause-fresh
-joined-requires-clause-fresh c =
+pub join-requires-clause-fresh : goal.join-requires-clause-fresh
+join-requires-clause-fresh c =
     is_fresh (spot_seen c.args.spot.now) c.args.pending.now c.args.store.now.states (texts c.args.keys.now) c.loop-key.key-index c.key-item.result.now c.args.posts.now c.loop-key.posts c.loop-key.store.states c.loop-key.store.marks c.in_ok-slot.slot.state
     c.requires.fresh c.requires.keys
     (at-map (λ (b : Bor (List ℕ)). b.now) c.args.keys.now c.loop-key.key-index c.key-item.result (at_item c.args.keys.now c.loop-key.key-index c.key-item.result c.loop-key-test.true c.key-item.is))
@@ -23,7 +23,7 @@ pub put-requires-clause-marks : goal.put-requires-clause-marks
 put-requires-clause-marks c =
     let spot = spot_seen c.args.spot.now in
     let kind = c.loop-key.invariant.marks ∙ c.requires.marks in
-    ap (λ (s : KeyState). s.marks) c.in_ok-next.ensures.state
+    ap (λ (s : KeyState). s.marks) c.in_ok-join.ensures.state
     ∙ marks_stay (joining spot c.args.pending.now c.in_ok-slot.slot.state) c.in_ok-slot.slot.state
     ∙ slot_marks spot c.args.pending.now c.args.store.now.states (texts c.args.keys.now) c.loop-key.key-index c.key-item.result.now c.args.posts.now c.loop-key.posts c.loop-key.store.states c.loop-key.store.marks c.in_ok-slot.slot.state
     c.requires.fresh c.requires.keys
@@ -40,5 +40,5 @@ loop-key-preserved c = record {
       c.requires.fresh c.requires.keys
       (at-map (λ (b : Bor (List ℕ)). b.now) c.args.keys.now c.loop-key.key-index c.key-item.result (at_item c.args.keys.now c.loop-key.key-index c.key-item.result c.loop-key-test.true c.key-item.is))
       c.loop-key.invariant.so_far (c.loop-key.invariant.marks ∙ c.requires.marks) c.in_ok-slot.ensures.state
-      c.in_ok-next.next.state c.put.new.self.states c.joined.new.posts c.in_ok-next.ensures.state c.in_ok-put.ensures.states c.in_ok-next.ensures.posts;
+      c.join.new.slot.state c.put.new.self.states c.join.new.posts c.in_ok-join.ensures.state c.in_ok-put.ensures.states c.in_ok-join.ensures.posts;
 }

@@ -1,4 +1,4 @@
-use Rattle.std.proofs.Common.{◌≡◌, ◌++◌, Some, ap, map, slice_get, subst, sym, ◌∙◌}
+use Rattle.std.proofs.Common.{◌≡◌, ◌++◌, Some, ap, map, refl, slice_get, subst, sym, ◌∙◌}
 use Rattle.std.specs.Option.{option_map}
 use Rattle.std.proofs.lemmas.Result.{IfOk-weaker}
 use Rattle.hx_types.specs.declared.configs.Config.{Config}
@@ -40,6 +40,7 @@ returns-clause-plan c =
     let g = c.args.region in
     let snapshot = c.args.snapshot.now in
     let pending = c.args.pending.now in
+    let slots = λ (k : Config). installed_slots (record { space = i.space; config = k; server = i.id; region = g }) snapshot pending in
     let heard : IsHeardBy (value_of i) c.args.epoch g c.in-Some.number c.index.result.now =
     heard_by i c.args.epoch g c.in-Some.number c.index.result.now c.index.ensures
     (subst (λ (v : ServerValue). Some (slice_get v.state.replicas c.in-Some.number) ≡ option_map (λ (r : ReplicaState). Some r) (hearing v.state c.args.epoch g)) (sym c.self.view_is) c.in-Some.ensures) in
@@ -50,12 +51,11 @@ returns-clause-plan c =
     join_planned (value_of i) c.args.input.now c.args.epoch g snapshot pending
     (subst (λ (v : ServerValue). folded_server v.state ≡ v.state) (sym c.self.view_is) c.requires.bare)
     (subst (λ (v : ServerValue). server_step v.space v.state c.args.input.now ≡ snapped v.space v.state snapshot pending (hearing v.state c.args.epoch g)) (sym c.self.view_is) c.requires.step)
-    c.in-Some.number c.index.result.now heard c.in_ok-store.store c.in_ok-replica.replica c.new-posts.result c.installed.new.posts c.tell_ready-2.new.posts plan c.if-index.false c.new-posts.ensures
-    (c.in_ok-store.ensures.posts ∙ ap (λ (k : Config). c.new-posts.result ++ (installed_slots (record { space = i.space; config = k; server = i.id; region = g }) snapshot pending).posts) c.deref.ensures)
-    (c.in_ok-tell_ready-2.ensures ∙ ap (λ (k : Config). c.installed.new.posts ++ ready_post (standing k i.id) g) c.deref.ensures)
+    c.in-Some.number c.index.result.now heard c.in_ok-store.store c.in_ok-replica.replica c.new-posts.result (c.new-posts.result ++ (slots i.config).posts) c.installed.new.posts plan c.if-index.false c.new-posts.ensures refl
+    (c.in_ok-store.ensures.posts ∙ ap (λ (k : Config). (c.new-posts.result ++ (slots k).posts) ++ ready_post (standing k i.id) g) c.deref.ensures)
     c.in_ok-store.ensures.region c.in_ok-store.ensures.marks
-    (c.in_ok-store.ensures.states ∙ ap (λ (k : Config). map (folded g) (installed_slots (record { space = i.space; config = k; server = i.id; region = g }) snapshot pending).states) c.deref.ensures)
-    c.in_ok-replica.ensures.ok
+    (c.in_ok-store.ensures.states ∙ ap (λ (k : Config). map (folded g) (slots k).states) c.deref.ensures)
+    c.in_ok-replica.ensures
     e
     )
     )

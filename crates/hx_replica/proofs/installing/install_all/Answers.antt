@@ -3,21 +3,19 @@ use Rattle.std.specs.List.{AllByRecursion}
 use Rattle.hx_types.specs.Subspaces.{is_key_region}
 use Rattle.hx_model.specs.ServerSteps.{state_from}
 use Rattle.hx_model.specs.Slots.{KeyState}
-use Rattle.hx_store.specs.Stores.{StoreState}
 use Rattle.hx_replica.specs.Installing.{IsFresh, TextsAscend, texts}
 use Rattle.hx_replica.proofs.Joined.{from_marked, snapshot_fresh}
 use Rattle.hx_replica.proofs.KeyOrder.{keys_ascend}
-use Rattle.hx_replica.proofs.installing.installed.Goals as goal
+use Rattle.hx_replica.proofs.installing.install_all.Goals as goal
 
 pub join_all-requires-clause-fresh : goal.join_all-requires-clause-fresh
 join_all-requires-clause-fresh c =
-    subst (AllByRecursion (IsFresh c.args.spot.now.region)) (sym c.in_ok-install.ensures.states) (snapshot_fresh c.args.spot.now.region c.in_ok-store.store.marks c.args.snapshot.now)
+    subst (AllByRecursion (IsFresh c.args.spot.now.region)) (sym c.in_ok-install.ensures.states) (snapshot_fresh c.args.spot.now.region c.args.store.now.marks c.args.snapshot.now)
 
 pub join_all-requires-clause-kinds : goal.join_all-requires-clause-kinds
 join_all-requires-clause-kinds c =
     let b = is_key_region c.args.spot.now.space.now c.args.spot.now.region in
-    let kind : c.in_ok-store.store.marks ≡ b = ap (λ (s : StoreState). s.marks) c.in_ok-store.ensures in
-    subst (AllByRecursion (λ (t : KeyState). t.marks ≡ b)) (ap (λ (k : Bool). map (state_from k) c.args.snapshot.now) (sym kind) ∙ sym c.in_ok-install.ensures.states) (from_marked b c.args.snapshot.now)
+    subst (AllByRecursion (λ (t : KeyState). t.marks ≡ b)) (ap (λ (k : Bool). map (state_from k) c.args.snapshot.now) (sym c.requires.marks) ∙ sym c.in_ok-install.ensures.states) (from_marked b c.args.snapshot.now)
 
 pub join_all-requires-clause-keys : goal.join_all-requires-clause-keys
 join_all-requires-clause-keys c = subst TextsAscend (sym (ap texts c.as_slice.ensures.value ∙ c.in_ok-keys.ensures)) (keys_ascend c.args.pending.now)

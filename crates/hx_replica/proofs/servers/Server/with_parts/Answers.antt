@@ -1,0 +1,18 @@
+use Rattle.std.proofs.Common.{subst, sym, ◌∙◌}
+use Rattle.hx_types.specs.declared.spaces.Space.{Space}
+use Rattle.hx_types.specs.Spaces.{IsSpace}
+use Rattle.hx_replica.specs.Replicas.{AreReplicas}
+use Rattle.hx_replica.proofs.Starting.{first_ones, first_state}
+use Rattle.hx_replica.proofs.servers.Server.with_parts.Goals as goal
+
+pub invariant_of-result : goal.invariant_of-result
+invariant_of-result c = record {
+  valid = subst IsSpace (sym c.in_ok-space.ensures) c.requires.space;
+  map_is = c.requires.regions ∙ sym c.in_ok-space.ensures;
+  replicas_are =
+      subst (λ (x : Space). AreReplicas x c.args.replicas.items) (sym c.in_ok-space.ensures)
+      (subst (AreReplicas c.args.space.now) (sym c.requires.replicas) (first_ones c.args.space.now c.args.config c.args.id));
+}
+
+pub returns-clause-state : goal.returns-clause-state
+returns-clause-state c = first_state c.args.space.now c.args.id c.args.config c.args.replicas.items c.requires.config c.requires.replicas
