@@ -41,7 +41,9 @@ pub fn installed(
     ensures posts { OnOk result (posts.new ≡ (posts.old ++ (installed_slots (spot_seen spot.now) snapshot.now pending.now).posts) ++ ready_post (standing spot.now.config.now spot.now.server) spot.now.region) }
 {
     let marks = spot.region.0 < spot.space.key_parts;
-    let mut store = Store::new(alloc, spot.space, spot.region, marks)?;
+    let Ok(mut store) = Store::new(alloc, spot.space, spot.region, marks) else {
+        return Err(Memory);
+    };
     install_all(alloc, spot, snapshot, pending, &mut store, posts)?;
     Ok(store)
 }
@@ -94,7 +96,9 @@ fn join_all(
     ensures posts { OnOk result (posts.new ≡ posts.old ++ (joined_slots (spot_seen spot.now) pending.now store.old.states (texts keys.now)).posts) }
 {
     for key in keys {
-        let mut slot = slot_of(alloc, spot, store, key)?;
+        let Ok(mut slot) = slot_of(alloc, spot, store, key) else {
+            return Err(Memory);
+        };
         join(alloc, spot, &mut slot, pending, posts)?;
         store.put(alloc, slot)?;
     }

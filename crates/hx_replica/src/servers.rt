@@ -85,9 +85,15 @@ impl Server {
         ensures space { IfOk result (λ server. server.space ≡ space.now) }
         ensures state { IfOk result (λ server. server.state ≡ server_at_start space.now id) }
     {
-        let map = RegionMap::new(alloc, space)?;
-        let config = config_at_start(alloc, space)?;
-        let replicas = first_replicas(alloc, space, &config, map.regions(), id)?;
+        let Ok(map) = RegionMap::new(alloc, space) else {
+            return Err(Memory);
+        };
+        let Ok(config) = config_at_start(alloc, space) else {
+            return Err(Memory);
+        };
+        let Ok(replicas) = first_replicas(alloc, space, &config, map.regions(), id) else {
+            return Err(Memory);
+        };
         Server::with_parts(alloc, space, id, map, config, replicas)
     }
 
@@ -327,8 +333,12 @@ impl Server {
             tell_ready(&spot, &mut posts)?;
             return said(alloc, self.id, input, posts, Change::Nothing);
         }
-        let store = installed(alloc, &spot, snapshot, pending, &mut posts)?;
-        let replica = joined_replica(alloc, region, store)?;
+        let Ok(store) = installed(alloc, &spot, snapshot, pending, &mut posts) else {
+            return Err(Memory);
+        };
+        let Ok(replica) = joined_replica(alloc, region, store) else {
+            return Err(Memory);
+        };
         said(
             alloc,
             self.id,

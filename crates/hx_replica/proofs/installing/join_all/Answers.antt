@@ -14,21 +14,21 @@ loop-key-init c = record { region = refl; marks = refl; so_far = none_joined (sp
 
 pub join-requires-clause-fresh : goal.join-requires-clause-fresh
 join-requires-clause-fresh c =
-    is_fresh (spot_seen c.args.spot.now) c.args.pending.now c.args.store.now.states (texts c.args.keys.now) c.loop-key.key-index c.key-item.result.now c.args.posts.now c.loop-key.posts c.loop-key.store.states c.loop-key.store.marks c.in_ok-slot.slot.state
+    is_fresh (spot_seen c.args.spot.now) c.args.pending.now c.args.store.now.states (texts c.args.keys.now) c.loop-key.key-index c.key-item.result.now c.args.posts.now c.loop-key.posts c.loop-key.store.states c.loop-key.store.marks c.in-Ok.slot.state
     c.requires.fresh c.requires.keys
     (at-map (λ (b : Bor (List ℕ)). b.now) c.args.keys.now c.loop-key.key-index c.key-item.result (at_item c.args.keys.now c.loop-key.key-index c.key-item.result c.loop-key-test.true c.key-item.is))
-    c.loop-key.invariant.so_far (c.loop-key.invariant.marks ∙ c.requires.marks) c.in_ok-slot.ensures.state
+    c.loop-key.invariant.so_far (c.loop-key.invariant.marks ∙ c.requires.marks) c.in-Ok.ensures.state
 
 pub put-requires-clause-marks : goal.put-requires-clause-marks
 put-requires-clause-marks c =
     let spot = spot_seen c.args.spot.now in
     let kind = c.loop-key.invariant.marks ∙ c.requires.marks in
     ap (λ (s : KeyState). s.marks) c.in_ok-join.ensures.state
-    ∙ marks_stay (joining spot c.args.pending.now c.in_ok-slot.slot.state) c.in_ok-slot.slot.state
-    ∙ slot_marks spot c.args.pending.now c.args.store.now.states (texts c.args.keys.now) c.loop-key.key-index c.key-item.result.now c.args.posts.now c.loop-key.posts c.loop-key.store.states c.loop-key.store.marks c.in_ok-slot.slot.state
+    ∙ marks_stay (joining spot c.args.pending.now c.in-Ok.slot.state) c.in-Ok.slot.state
+    ∙ slot_marks spot c.args.pending.now c.args.store.now.states (texts c.args.keys.now) c.loop-key.key-index c.key-item.result.now c.args.posts.now c.loop-key.posts c.loop-key.store.states c.loop-key.store.marks c.in-Ok.slot.state
     c.requires.fresh c.requires.keys
     (at-map (λ (b : Bor (List ℕ)). b.now) c.args.keys.now c.loop-key.key-index c.key-item.result (at_item c.args.keys.now c.loop-key.key-index c.key-item.result c.loop-key-test.true c.key-item.is))
-    c.loop-key.invariant.so_far kind c.in_ok-slot.ensures.state c.requires.kinds
+    c.loop-key.invariant.so_far kind c.in-Ok.ensures.state c.requires.kinds
     ∙ sym kind
 
 pub loop-key-preserved : goal.loop-key-preserved
@@ -36,9 +36,9 @@ loop-key-preserved c = record {
   region = c.in_ok-put.ensures.region ∙ c.loop-key.invariant.region;
   marks = c.in_ok-put.ensures.marks ∙ c.loop-key.invariant.marks;
   so_far =
-      join_next (spot_seen c.args.spot.now) c.args.pending.now c.args.store.now.states (texts c.args.keys.now) c.loop-key.key-index c.key-item.result.now c.args.posts.now c.loop-key.posts c.loop-key.store.states c.loop-key.store.marks c.in_ok-slot.slot.state
+      join_next (spot_seen c.args.spot.now) c.args.pending.now c.args.store.now.states (texts c.args.keys.now) c.loop-key.key-index c.key-item.result.now c.args.posts.now c.loop-key.posts c.loop-key.store.states c.loop-key.store.marks c.in-Ok.slot.state
       c.requires.fresh c.requires.keys
       (at-map (λ (b : Bor (List ℕ)). b.now) c.args.keys.now c.loop-key.key-index c.key-item.result (at_item c.args.keys.now c.loop-key.key-index c.key-item.result c.loop-key-test.true c.key-item.is))
-      c.loop-key.invariant.so_far (c.loop-key.invariant.marks ∙ c.requires.marks) c.in_ok-slot.ensures.state
+      c.loop-key.invariant.so_far (c.loop-key.invariant.marks ∙ c.requires.marks) c.in-Ok.ensures.state
       c.join.new.slot.state c.put.new.self.states c.join.new.posts c.in_ok-join.ensures.state c.in_ok-put.ensures.states c.in_ok-join.ensures.posts;
 }

@@ -51,11 +51,11 @@ returns-clause-plan c =
     join_planned (value_of i) c.args.input.now c.args.epoch g snapshot pending
     (subst (λ (v : ServerValue). folded_server v.state ≡ v.state) (sym c.self.view_is) c.requires.bare)
     (subst (λ (v : ServerValue). server_step v.space v.state c.args.input.now ≡ snapped v.space v.state snapshot pending (hearing v.state c.args.epoch g)) (sym c.self.view_is) c.requires.step)
-    c.in-Some.number c.index.result.now heard c.in_ok-store.store c.in_ok-replica.replica c.new-posts.result (c.new-posts.result ++ (slots i.config).posts) c.installed.new.posts plan c.if-index.false c.new-posts.ensures refl
-    (c.in_ok-store.ensures.posts ∙ ap (λ (k : Config). (c.new-posts.result ++ (slots k).posts) ++ ready_post (standing k i.id) g) c.deref.ensures)
-    c.in_ok-store.ensures.region c.in_ok-store.ensures.marks
-    (c.in_ok-store.ensures.states ∙ ap (λ (k : Config). map (folded g) (slots k).states) c.deref.ensures)
-    c.in_ok-replica.ensures
+    c.in-Some.number c.index.result.now heard c.in-Ok.store c.in-Ok-joined_replica.replica c.new-posts.result (c.new-posts.result ++ (slots i.config).posts) c.installed.new.posts plan c.if-index.false c.new-posts.ensures refl
+    (c.in-Ok.ensures.posts ∙ ap (λ (k : Config). (c.new-posts.result ++ (slots k).posts) ++ ready_post (standing k i.id) g) c.deref.ensures)
+    c.in-Ok.ensures.region c.in-Ok.ensures.marks
+    (c.in-Ok.ensures.states ∙ ap (λ (k : Config). map (folded g) (slots k).states) c.deref.ensures)
+    c.in-Ok-joined_replica.ensures
     e
     )
     )
