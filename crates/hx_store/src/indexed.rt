@@ -124,7 +124,8 @@ impl Indexed {
         let place = *place;
         let row = row_of(alloc, slots, place)?;
         let old = mem::replace(&mut self.rows[place as usize], row);
-        follow(&mut self.index, self.rows.as_slice(), place, old);
+        follow(&mut self.index, self.rows.as_slice(), place, &old);
+        drop(old);
         self.is_stale[place as usize] = false;
         let _ = self.stale.pop();
         Ok(())
@@ -165,16 +166,16 @@ fn row_of(alloc: Global, slots: &[Slot], place: u32) -> Result<Option<Row>, Memo
 
 /// The index follows a change of the row at a place. It has the place by the row that was there
 /// before, or not. It takes no memory.
-fn follow(index: &mut Index, rows: &[Option<Row>], place: u32, before: Option<Row>)
-    requires kept { IsKeptAs before place rows.now index.old }
+fn follow(index: &mut Index, rows: &[Option<Row>], place: u32, before: &Option<Row>)
+    requires kept { IsKeptAs before.now place rows.now index.old }
     requires place { place < length rows.now }
     ensures kept { IsKept rows.now index.new }
     ensures attributes { length index.new.orders ≡ length index.old.orders }
 {
     let keeps = rows[place as usize].is_some();
     match before {
-        Some(row) if keeps => index.replace(rows, place, &row),
-        Some(row) => index.forget(rows, place, &row),
+        Some(row) if keeps => index.replace(rows, place, row),
+        Some(row) => index.forget(rows, place, row),
         None if keeps => index.add(rows, place),
         None => {}
     }

@@ -135,8 +135,9 @@ impl Slots {
         }
         self.indexed.widen(alloc, count as u32 + 1)?;
         self.slots.reserve(1)?;
-        let slot = Slot::new(alloc, region, key.copy(alloc)?, marks);
+        let held = key.copy(alloc)?;
         self.keys.insert(key.copy(alloc)?, false)?;
+        let slot = Slot::new(alloc, region, held, marks);
         self.slots.push_reserved(slot);
         Ok(())
     }

@@ -10,7 +10,7 @@ use Rattle.hx_store.proofs.slots.Slots.add.Goals as goal
 
 pub invariant_of-self-2 : goal.invariant_of-self-2
 invariant_of-self-2 c =
-    let keys = (c.in_ok-insert.ensures.entries ∙ ap (λ (k : List ℕ). insert_entry same_text c.self.inside.keys.entries k false) c.in_ok-copy-2.ensures ∙ insert_entry-new same_text c.self.inside.keys c.args.key.now false (no-key c.self.inside.keys.entries c.self.inside.slots.items c.args.self.now.entries c.self.invariant.count (ap (λ (s : SlotsState). s.entries) c.self.view_is) c.args.key.now c.requires)) in
+    let keys = (c.in_ok-insert.ensures.entries ∙ ap (λ (k : List ℕ). insert_entry same_text c.self.inside.keys.entries k false) c.in_ok-copy.ensures ∙ insert_entry-new same_text c.self.inside.keys c.args.key.now false (no-key c.self.inside.keys.entries c.self.inside.slots.items c.args.self.now.entries c.self.invariant.count (ap (λ (s : SlotsState). s.entries) c.self.view_is) c.args.key.now c.requires)) in
     let items = (c.push_reserved.ensures.items ∙ ap (λ (xs : List SlotState). xs ++ c.new-slot.result ∷ []) c.in_ok-reserve.ensures.items) in
     let n = c.len-count.ensures in
     let ok = c.self.inside.slots.ok.0 in
@@ -25,8 +25,8 @@ pub returns-clause-ok : goal.returns-clause-ok
 returns-clause-ok c = record {
   slot = c.new-slot.result;
   region = c.new-slot.ensures.region;
-  state = c.new-slot.ensures.state ∙ ap (new_state c.args.marks) c.in_ok-copy.ensures;
-  set = (λ k. entries_of ((c.in_ok-insert.ensures.entries ∙ ap (λ (k : List ℕ). insert_entry same_text c.self.inside.keys.entries k false) c.in_ok-copy-2.ensures ∙ insert_entry-new same_text c.self.inside.keys c.args.key.now false (no-key c.self.inside.keys.entries c.self.inside.slots.items c.args.self.now.entries c.self.invariant.count (ap (λ (s : SlotsState). s.entries) c.self.view_is) c.args.key.now c.requires)) k) ((c.push_reserved.ensures.items ∙ ap (λ (xs : List SlotState). xs ++ c.new-slot.result ∷ []) c.in_ok-reserve.ensures.items) k))
+  state = c.new-slot.ensures.state ∙ ap (new_state c.args.marks) c.in_ok-held.ensures;
+  set = (λ k. entries_of ((c.in_ok-insert.ensures.entries ∙ ap (λ (k : List ℕ). insert_entry same_text c.self.inside.keys.entries k false) c.in_ok-copy.ensures ∙ insert_entry-new same_text c.self.inside.keys c.args.key.now false (no-key c.self.inside.keys.entries c.self.inside.slots.items c.args.self.now.entries c.self.invariant.count (ap (λ (s : SlotsState). s.entries) c.self.view_is) c.args.key.now c.requires)) k) ((c.push_reserved.ensures.items ∙ ap (λ (xs : List SlotState). xs ++ c.new-slot.result ∷ []) c.in_ok-reserve.ensures.items) k))
       ∙ entry-added c.self.inside.keys.entries c.self.inside.slots.items (c.args.key.now, false) c.new-slot.result c.self.invariant.count
       ∙ ap (λ (xs : List Entry). xs ++ (c.args.key.now, record { slot = c.new-slot.result; listed = false }) ∷ []) (ap (λ (s : SlotsState). s.entries) c.self.view_is);
 }
