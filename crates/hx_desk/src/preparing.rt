@@ -1,5 +1,5 @@
 //! All that an entry needs before it has a stamp.
-ghost use Rattle.std.specs.Prelude.{ℕ, ◌≡◌, ◌<◌, ◌≤◌, ◌^◌, true, false, List, IfOk, length};
+ghost use Rattle.std.specs.Prelude.{ℕ, ◌≡◌, ◌<◌, ◌≤◌, ◌^◌, ◌∷◌, ◌++◌, [], true, false, List, IfOk, OnOk, length};
 ghost use Rattle.hx_types.specs.declared.limits.TheConstants.{MOST_ENTRIES};
 ghost use Rattle.hx_types.specs.Fitting.{IsScript};
 ghost use Rattle.hx_model.specs.Runs.{has_halted};
@@ -47,15 +47,35 @@ pub(crate) fn foresee(
     desk.machine.prepare(alloc, input)
 }
 
+/// A post twice.
+fn twice(alloc: Global, post: &Post) -> Result<Copies, Memory>
+    ensures { IfOk result (λ copies. copies.first ≡ post.now) }
+{
+    let Ok(first) = post.copy(alloc) else {
+        return Err(Memory);
+    };
+    let Ok(second) = post.copy(alloc) else {
+        drop(first);
+        return Err(Memory);
+    };
+    Ok(Copies { first, second })
+}
+
+/// Adds a post twice.
+fn add_twice(alloc: Global, copies: &mut Vec<Copies>, post: &Post) -> Result<(), Memory>
+    ensures { OnOk result (firsts_of copies.new.items ≡ firsts_of copies.old.items ++ post.now ∷ []) }
+{
+    copies.push(twice(alloc, post)?)?;
+    Ok(())
+}
+
 /// Each post twice.
 fn double(alloc: Global, posts: &[Post]) -> Result<Vec<Copies>, Memory>
     ensures { IfOk result (λ copies. firsts_of copies.items ≡ posts.now) }
 {
     let mut copies = Vec::new(alloc);
     for post in posts {
-        let first = post.copy(alloc)?;
-        let second = post.copy(alloc)?;
-        copies.push(Copies { first, second })?;
+        add_twice(alloc, &mut copies, post)?;
     }
     Ok(copies)
 }
@@ -67,12 +87,12 @@ pub(crate) fn make_room(alloc: Global, desk: &mut Desk, plan: &Plan) -> Result<V
     ensures few { IfOk result (λ copies. length copies.items < 2 ^ 32) }
     ensures places { IfOk result (λ copies. HasPlaces desk.new (length copies.items)) }
 {
-    let copies = double(alloc, plan.entry().outputs.as_slice())?;
-    let count = copies.len();
+    let posts = plan.entry().outputs.as_slice();
+    let count = posts.len();
     if count >= 1 << 32 {
         return Err(Memory);
     }
     desk.part.reserve(1)?;
     desk.kept.reserve(2 * count)?;
-    Ok(copies)
+    double(alloc, posts)
 }

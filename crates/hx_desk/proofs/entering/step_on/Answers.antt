@@ -16,8 +16,8 @@ settle-requires-clause-desk g c =
     let w = c.requires.desk.0 in
     let d = c.foresee.new.desk in (
       w,
-      desk-told c.args.script.now c.args.clock.now c.args.boxes.now w c.args.desk.now d c.args.input (entry_in c.in-Ok.plan).input c.foresee.ensures.same (ready-own c.args.script.now d c.args.input c.in-Ok.plan c.in-Ok.ensures.ready)
-          (c.foresee.ensures.desk c.args.boxes.now w (told_by c.args.desk.now.actor c.args.input) c.requires.desk.1),
+      desk-told c.args.script.now c.args.clock.now c.args.boxes.now w c.args.desk.now d c.args.input.now (entry_in c.in-Ok.plan).input c.foresee.ensures.same (ready-own c.args.script.now d c.args.input.now c.in-Ok.plan c.in-Ok.ensures.ready)
+          (c.foresee.ensures.desk c.args.boxes.now w (told_by c.args.desk.now.actor c.args.input.now) c.requires.desk.1),
     )
 
 pub settle-requires-clause-step : goal.settle-requires-clause-step
@@ -25,7 +25,7 @@ settle-requires-clause-step g c =
     let s = c.foresee.ensures.same in
     let d = c.foresee.new.desk in
     let r = c.in-Ok.ensures.ready in
-    let i = c.args.input in (
+    let i = c.args.input.now in (
       ready-input c.args.script.now d i c.in-Ok.plan r,
       step-enough c.args.script.now d i c.in-Ok.plan r
           (at-same (λ (a : Actor) xs. makes_enough i (made_of c.args.script.now (entries_before xs) a i) ≡ true) c.args.desk.now.actor d.actor c.args.desk.now.part.items d.part.items s.actor s.part c.requires.enough),
@@ -42,15 +42,15 @@ returns-in-Ok-clause-desk g c =
     let d = c.foresee.new.desk in
     match-map _ _ _ _ c.settle.result
     (λ _ k w h. k w
-    (desk-told c.args.script.now c.args.clock.now c.args.boxes.now w c.args.desk.now d c.args.input (entry_in c.in-Ok.plan).input c.foresee.ensures.same (ready-own c.args.script.now d c.args.input c.in-Ok.plan c.in-Ok.ensures.ready)
-    (c.foresee.ensures.desk c.args.boxes.now w (told_by c.args.desk.now.actor c.args.input) h)))
+    (desk-told c.args.script.now c.args.clock.now c.args.boxes.now w c.args.desk.now d c.args.input.now (entry_in c.in-Ok.plan).input c.foresee.ensures.same (ready-own c.args.script.now d c.args.input.now c.in-Ok.plan c.in-Ok.ensures.ready)
+    (c.foresee.ensures.desk c.args.boxes.now w (told_by c.args.desk.now.actor c.args.input.now) h)))
     (λ _ k w rest h. k w rest (c.foresee.ensures.desk c.args.boxes.now w rest h)) c.settle.ensures.desk
 
 pub returns-in-Ok-clause-turn : goal.returns-in-Ok-clause-turn
 returns-in-Ok-clause-turn g c =
     let s = c.foresee.ensures.same in
     let d = c.foresee.new.desk in
-    let i = c.args.input in
+    let i = c.args.input.now in
     match-map _ _ _ _ c.settle.result
     (λ _ k. (
       k.0,
@@ -59,8 +59,8 @@ returns-in-Ok-clause-turn g c =
     ))
     (λ _ k. turn-after c.args.boxes.now c.args.desk.now d c.settle.new.desk c.args.out.now c.settle.new.out c.args.totals.now c.settle.new.totals _ _ _ s c.requires.out c.requires.room.total k) c.settle.ensures.turn
 
-pub returns-clause-desk : goal.returns-clause-desk
-returns-clause-desk g c w rest h = c.foresee.ensures.desk c.args.boxes.now w rest h
+pub returns-in-Err-clause-desk : goal.returns-in-Err-clause-desk
+returns-in-Err-clause-desk g c w rest h = c.foresee.ensures.desk c.args.boxes.now w rest h
 
-pub returns-clause-turn : goal.returns-clause-turn
-returns-clause-turn g c = turn-same c.args.boxes.now c.args.desk.now c.foresee.new.desk c.args.out.now c.args.totals.now _ c.foresee.ensures.same c.requires.out c.requires.room.total
+pub returns-in-Err-clause-turn : goal.returns-in-Err-clause-turn
+returns-in-Err-clause-turn g c = turn-same c.args.boxes.now c.args.desk.now c.foresee.new.desk c.args.out.now c.args.totals.now _ c.foresee.ensures.same c.requires.out c.requires.room.total

@@ -3,7 +3,7 @@ use Rattle.hx_desk.specs.Turns.{IsFaultOf}
 use Rattle.hx_desk.proofs.Results.{match-map}
 use Rattle.hx_desk.proofs.Turned.{turn-self}
 use Rattle.hx_desk.proofs.Worn.{more-to-make}
-use Rattle.hx_desk.proofs.entering.enter.Goals as goal
+use Rattle.hx_desk.proofs.entering.enter_unless_worn.Goals as goal
 
 pub returns-then-is_worn-clause-turn : goal.returns-then-is_worn-clause-turn
 returns-then-is_worn-clause-turn g c = turn-self c.args.boxes.now c.args.desk.now c.args.out.now c.args.totals.now _ c.requires.out c.requires.room.total
@@ -12,7 +12,7 @@ pub returns-then-is_worn-clause-fault : goal.returns-then-is_worn-clause-fault
 returns-then-is_worn-clause-fault g c = (
   refl,
   c.is_worn.ensures.most c.if-is_worn.true,
-  more-to-make c.args.script.now c.args.clock.now c.args.boxes.now c.requires.desk.0 c.args.desk.now c.args.input c.requires.desk.1 c.requires.running c.requires.given c.requires.enough,
+  more-to-make c.args.script.now c.args.clock.now c.args.boxes.now c.requires.desk.0 c.args.desk.now c.args.input.now c.requires.desk.1 c.requires.running c.requires.given c.requires.enough,
 )
 
 pub returns-else-is_worn-clause-fault : goal.returns-else-is_worn-clause-fault
