@@ -58,11 +58,18 @@ impl Machine {
         ensures state { (script : ScriptSeen) (a : ActorSeen) (past : List EntrySeen) → IsMachine script a past self.old → IsMachine script a past self.new }
     {
         match self {
-            Machine::Coordinator(coordinator) => {
-                Ok(Plan::Coordinator(coordinator.prepare(alloc, input)?))
-            }
-            Machine::Server(server) => Ok(Plan::Server(server.prepare(alloc, input)?)),
-            Machine::Session(session) => Ok(Plan::Session(session.prepare(alloc, input)?)),
+            Machine::Coordinator(coordinator) => match coordinator.prepare(alloc, input) {
+                Ok(plan) => Ok(Plan::Coordinator(plan)),
+                Err(error) => Err(error),
+            },
+            Machine::Server(server) => match server.prepare(alloc, input) {
+                Ok(plan) => Ok(Plan::Server(plan)),
+                Err(error) => Err(error),
+            },
+            Machine::Session(session) => match session.prepare(alloc, input) {
+                Ok(plan) => Ok(Plan::Session(plan)),
+                Err(error) => Err(error),
+            },
         }
     }
 
