@@ -8,6 +8,8 @@ mod io;
 #[cfg(test)]
 mod lex;
 #[cfg(test)]
+mod parts;
+#[cfg(test)]
 mod print;
 #[cfg(test)]
 mod read_back;

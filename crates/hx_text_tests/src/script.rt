@@ -1,5 +1,5 @@
 use hx_script::*;
-use hx_types::{Actor, Kind, Op, Script, Step, Term, Value};
+use hx_types::{Actor, Attribute, Axes, Calls, Kind, Op, Script, Space, Step, Term, Text, Value};
 
 const B: &str =
     "hx 1\nspace books\nkey name 2\nstring genre\nint year 1900 2099\nsubspace genre 4\nsubspace year 2\nservers 4\n";
@@ -9,8 +9,8 @@ const CALLS: &str = "tolerate 1\nsession 1\n";
 const STEPS: &str = "tolerate 1\nsteps\n";
 
 fn refusal(rt: &HostRuntime, text: &str) -> Option<(u64, Reason)> {
-    match read(rt.alloc(), text.as_bytes()) {
-        Err(ScriptError::Refused { line, reason }) => Some((line, reason)),
+    match read(rt.alloc(), text.as_bytes()).err() {
+        Some(ScriptError::Refused { line, reason }) => Some((line, reason)),
         _ => None,
     }
 }
@@ -56,7 +56,7 @@ fn refuses_the_head(rt: HostRuntime) {
         ("hx 1\nspace k\nkey k 1\nstring k", 4, Reason::Twice),
         ("hx 1\nspace k\nkey k 1\nint v 2 1", 4, Reason::Bounds),
     ] {
-        assert_eq!(rt; refusal(&rt, text), Some((line, reason)), "{text}");
+        assert!(rt; refusal(&rt, text) == Some((line, reason)), "{text}");
     }
 }
 
@@ -68,7 +68,7 @@ fn refuses_the_end_of_the_head(rt: HostRuntime) {
         ("tolerate 3", None),
         ("", Some((9, Reason::Order))),
     ] {
-        assert_eq!(rt; ninth(&rt, line), refused, "{line}");
+        assert!(rt; ninth(&rt, line) == refused, "{line}");
     }
 }
 
@@ -92,7 +92,7 @@ fn refuses_subspaces(rt: HostRuntime) {
     ] {
         let text = format!(in rt.alloc(); "{head}{lines}").ok();
         let refused = text.and_then(|text| refusal(&rt, text.as_str()));
-        assert_eq!(rt; refused, Some((number, reason)), "{lines}");
+        assert!(rt; refused == Some((number, reason)), "{lines}");
     }
 }
 
@@ -120,10 +120,10 @@ fn refuses_calls(rt: HostRuntime) {
         ("cput \"a\" if year=1 set", Reason::Order),
         ("cput \"a\" if year=1 set year=2 set", Reason::Order),
     ] {
-        assert_eq!(rt; call(&rt, line), Some((11, reason)), "{line}");
+        assert!(rt; call(&rt, line) == Some((11, reason)), "{line}");
     }
     for line in ["add 4 7", "cput \"a\" if year=1 set year=2"] {
-        assert_eq!(rt; call(&rt, line), None, "{line}");
+        assert!(rt; call(&rt, line) == None, "{line}");
     }
 }
 
@@ -157,31 +157,50 @@ fn refuses_steps(rt: HostRuntime) {
         ("halt c1", Reason::Order),
         ("steps", Reason::Order),
     ] {
-        assert_eq!(rt; step(&rt, line), Some((11, reason)), "{line}");
+        assert!(rt; step(&rt, line) == Some((11, reason)), "{line}");
     }
-    assert_eq!(rt; step(&rt, "deliver 1 . 4294967295"), None);
-    assert_eq!(rt; step(&rt, "halt c\nget \"a\""), Some((12, Reason::Order)));
+    assert!(rt; step(&rt, "deliver 1 . 4294967295") == None);
+    assert!(rt; step(&rt, "halt c\nget \"a\"") == Some((12, Reason::Order)));
+}
+
+fn is_named(name: &Text, key_name: &Text) -> bool {
+    name.as_str() == "books" && key_name.as_str() == "name"
+}
+
+fn are_genre_and_year(attributes: &[Attribute]) -> bool {
+    let [genre, year] = attributes else {
+        return false;
+    };
+    genre.name.as_str() == "genre"
+        && matches!(genre.kind, Kind::Text)
+        && year.name.as_str() == "year"
+        && matches!(year.kind, Kind::Int { lo: 1900, hi: 2099 })
+}
+
+/// Whether there is one axis, of the attribute in so many parts.
+fn is_cut(axes: &Axes, attribute: u32, parts: u32) -> bool {
+    matches!(axes.as_slice(), [axis] if axis.attribute == attribute && axis.parts == parts)
+}
+
+fn are_of_books(subspaces: &[Axes]) -> bool {
+    let [first, second] = subspaces else {
+        return false;
+    };
+    is_cut(first, 1, 4) && is_cut(second, 2, 2)
+}
+
+fn is_books(space: &Space) -> bool {
+    is_named(&space.name, &space.key_name)
+        && (space.key_parts == 2 && space.servers == 4 && space.tolerate == 1)
+        && are_genre_and_year(space.attributes.as_slice())
+        && are_of_books(space.subspaces.as_slice())
 }
 
 #[test]
 fn reads_a_space(rt: HostRuntime) {
-    let Some(script) = script(&rt, "tolerate 1") else {
-        panic!(rt; "refused");
-    };
-    let space = &script.space;
-    assert_eq!(rt; space.name.as_str(), "books");
-    assert_eq!(rt; space.key_name.as_str(), "name");
-    assert_eq!(rt; (space.key_parts, space.servers, space.tolerate), (2, 4, 1));
-    let [genre, year] = space.attributes.as_slice() else {
-        panic!(rt; "attributes");
-    };
-    assert!(rt; genre.name.as_str() == "genre" && matches!(genre.kind, Kind::Text));
-    assert!(rt; matches!(year.kind, Kind::Int { lo: 1900, hi: 2099 }));
-    let [first, second] = space.subspaces.as_slice() else {
-        panic!(rt; "subspaces");
-    };
-    assert!(rt; matches!(first.as_slice(), [axis] if axis.attribute == 1 && axis.parts == 4));
-    assert!(rt; matches!(second.as_slice(), [axis] if axis.attribute == 2 && axis.parts == 2));
+    let script = script(&rt, "tolerate 1").expect(&rt, "a script");
+    assert!(rt; is_books(&script.space));
+    drop(script);
 }
 
 const SESSIONS: &str =
@@ -216,37 +235,56 @@ fn is_search(call: &Op) -> bool {
     }
 }
 
+/// Whether it is the conditional put of session 2.
+fn is_cput(call: &Op) -> bool {
+    matches!(call, Op::Cput { tests, sets, .. } if tests.len() == 1 && sets.len() == 1)
+}
+
+/// Whether they are the calls of session 1.
+fn are_first(calls: &[Op]) -> bool {
+    matches!(calls, [put, Op::Get { .. }] if is_put(put))
+}
+
+/// Whether they are the calls of session 2.
+fn are_second(calls: &[Op]) -> bool {
+    let [cput, Op::Del { .. }, search, stop, add] = calls else {
+        return false;
+    };
+    is_cput(cput)
+        && is_search(search)
+        && matches!(stop, Op::Stop { server } if server.0 == 3)
+        && matches!(add, Op::Add { server, region } if server.0 == 4 && region.0 == 7)
+}
+
+fn are_both(sessions: &[Calls]) -> bool {
+    let [first, second] = sessions else {
+        return false;
+    };
+    are_first(first.as_slice()) && are_second(second.as_slice())
+}
+
 #[test]
 fn reads_calls(rt: HostRuntime) {
-    let Some(script) = script(&rt, SESSIONS) else {
-        panic!(rt; "refused");
+    let script = script(&rt, SESSIONS).expect(&rt, "a script");
+    assert!(rt; are_both(script.sessions.as_slice()));
+    drop(script);
+}
+
+/// Whether they are a tick, a delivery and a halt, each with its line.
+fn are_three(steps: &[(u64, Step)]) -> bool {
+    let [tick, deliver, halt] = steps else {
+        return false;
     };
-    let [first, second] = script.sessions.as_slice() else {
-        panic!(rt; "sessions");
-    };
-    assert!(rt; matches!(first.as_slice(), [put, Op::Get { .. }] if is_put(put)));
-    let [cput, Op::Del { .. }, search, stop, add] = second.as_slice() else {
-        panic!(rt; "calls of session 2");
-    };
-    assert!(rt;
-        matches!(cput, Op::Cput { tests, sets, .. } if tests.len() == 1 && sets.len() == 1)
-    );
-    assert!(rt; is_search(search));
-    assert!(rt; matches!(stop, Op::Stop { server } if server.0 == 3));
-    assert!(rt; matches!(add, Op::Add { server, region } if server.0 == 4 && region.0 == 7));
+    matches!(tick, (20, Step::Tick(Actor::Session(u))) if u.0 == 2)
+        && matches!(deliver, (21, Step::Deliver(id)) if id.entry == 1 && id.place == 0)
+        && matches!(halt, (23, Step::Halt(Actor::Server(s))) if s.0 == 4)
 }
 
 #[test]
 fn reads_steps(rt: HostRuntime) {
-    let Some(script) = script(&rt, SESSIONS) else {
-        panic!(rt; "refused");
-    };
-    let [tick, deliver, halt] = script.steps.as_slice() else {
-        panic!(rt; "steps");
-    };
-    assert!(rt; matches!(tick, (20, Step::Tick(Actor::Session(u))) if u.0 == 2));
-    assert!(rt; matches!(deliver, (21, Step::Deliver(id)) if id.entry == 1 && id.place == 0));
-    assert!(rt; matches!(halt, (23, Step::Halt(Actor::Server(s))) if s.0 == 4));
+    let script = script(&rt, SESSIONS).expect(&rt, "a script");
+    assert!(rt; are_three(script.steps.as_slice()));
+    drop(script);
 }
 
 #[test]
@@ -275,12 +313,11 @@ fn refuses_one_too_many(rt: HostRuntime) {
 
 #[test]
 fn refuses_bytes_that_are_no_text(rt: HostRuntime) {
-    let read = read(rt.alloc(), b"hx 1\n# \xFF");
-    let refused = Err(ScriptError::Refused {
+    let refused = ScriptError::Refused {
         line: 2,
         reason: Reason::Token,
-    });
-    assert!(rt; read.map(|_| ()) == refused);
+    };
+    assert!(rt; read(rt.alloc(), b"hx 1\n# \xFF").err() == Some(refused));
 }
 
 #[test]
@@ -298,11 +335,11 @@ fn refuses_tokens(rt: HostRuntime) {
         "get \u{1}\"a\"",
         "get \r\"a\"",
     ] {
-        assert_eq!(rt; call(&rt, line), Some((11, Reason::Token)), "{line}");
+        assert!(rt; call(&rt, line) == Some((11, Reason::Token)), "{line}");
     }
     let extremes = "\tsearch\tyear=-9223372036854775808..9223372036854775807\t# ä\u{1}\r";
-    assert_eq!(rt; call(&rt, extremes), None);
-    assert_eq!(rt; call(&rt, "get \"\\\"\\\\\\n\\tä\""), None);
+    assert!(rt; call(&rt, extremes) == None);
+    assert!(rt; call(&rt, "get \"\\\"\\\\\\n\\tä\"") == None);
 }
 
 #[test]
@@ -326,7 +363,7 @@ fn refuses_lines_of_the_head(rt: HostRuntime) {
     ] {
         let text = format!(in rt.alloc(); "{head}{line}").ok();
         let refused = text.and_then(|text| refusal(&rt, text.as_str()));
-        assert_eq!(rt; refused, Some((5, reason)), "{line}");
+        assert!(rt; refused == Some((5, reason)), "{line}");
     }
 }
 
@@ -352,7 +389,7 @@ fn refuses_more_calls(rt: HostRuntime) {
         ("add 1", Reason::Order),
         ("session", Reason::Order),
     ] {
-        assert_eq!(rt; call(&rt, line), Some((11, reason)), "{line}");
+        assert!(rt; call(&rt, line) == Some((11, reason)), "{line}");
     }
 }
 
@@ -370,15 +407,15 @@ fn refuses_calls_and_steps_past_their_limits(rt: HostRuntime) {
     let Some(calls) = lines(&rt, "get \"\"\n", 16_384) else {
         panic!(rt; "memory");
     };
-    assert_eq!(rt; call(&rt, calls.as_str()), None);
+    assert!(rt; call(&rt, calls.as_str()) == None);
     let more = format!(in rt.alloc(); "{calls}get 1").ok();
     let refused = more.and_then(|more| call(&rt, more.as_str()));
-    assert_eq!(rt; refused, Some((16_395, Reason::Limit)));
+    assert!(rt; refused == Some((16_395, Reason::Limit)));
     let Some(steps) = lines(&rt, "tick c\n", 65_536) else {
         panic!(rt; "memory");
     };
-    assert_eq!(rt; step(&rt, steps.as_str()), None);
+    assert!(rt; step(&rt, steps.as_str()) == None);
     let more = format!(in rt.alloc(); "{steps}tick 1").ok();
     let refused = more.and_then(|more| step(&rt, more.as_str()));
-    assert_eq!(rt; refused, Some((65_547, Reason::Limit)));
+    assert!(rt; refused == Some((65_547, Reason::Limit)));
 }

@@ -1,224 +1,247 @@
+use crate::parts::{is_printed, list, shared_list, text};
 use hx_summary::summary;
 use hx_types::{
     Actor, Answer, Assigns, Attribute, Attributes, Caller, Calls, Entry, Epoch, Input, Kind,
-    Memory, Note, Notes, Object, Op, Places, Posts, RegionId, Rows, Script, ServerId, SessionId,
-    Sessions, Shared, Space, Steps, Subspaces, Terms, Text, Trace, Update, Value, Version,
+    Memory, Note, Object, Op, Places, Posts, RegionId, Rows, Script, ServerId, SessionId, Shared,
+    Space, Steps, Subspaces, Terms, Trace, Update, Value, Version,
 };
-use std::alloc::Global;
-use std::test::Fail;
+use std::process::Abort;
 
-fn attributes(alloc: Global) -> Result<Attributes, Memory> {
-    let mut made = Attributes::new(alloc);
-    made.push(Attribute {
-        name: Text::from_str(alloc, "color")?,
+fn attributes<R: Abort + AllocGlobal>(rt: &R) -> Attributes {
+    let color = Attribute {
+        name: text(rt, "color"),
         kind: Kind::Text,
-    })?;
-    made.push(Attribute {
-        name: Text::from_str(alloc, "size")?,
+    };
+    let size = Attribute {
+        name: text(rt, "size"),
         kind: Kind::Int { lo: 0, hi: 999 },
-    })?;
-    Ok(made)
+    };
+    list(rt, [color, size])
 }
 
-fn space(alloc: Global) -> Result<Space, Memory> {
-    Ok(Space {
-        name: Text::from_str(alloc, "soak")?,
-        key_name: Text::from_str(alloc, "k")?,
+fn space<R: Abort + AllocGlobal>(rt: &R) -> Space {
+    Space {
+        name: text(rt, "soak"),
+        key_name: text(rt, "k"),
         key_parts: 4,
-        attributes: attributes(alloc)?,
-        subspaces: Subspaces::new(alloc),
+        attributes: attributes(rt),
+        subspaces: Subspaces::new(rt.alloc()),
         servers: 4,
         tolerate: 1,
-    })
+    }
 }
 
 /// The script of one session with these calls.
-fn script(alloc: Global, calls: Calls) -> Result<Script, Memory> {
-    let mut sessions = Sessions::new(alloc);
-    sessions.push(calls)?;
-    Ok(Script {
-        space: space(alloc)?,
+fn script<R: Abort + AllocGlobal>(rt: &R, calls: Calls) -> Script {
+    let sessions = list(rt, [calls]);
+    Script {
+        space: space(rt),
         sessions,
-        steps: Steps::new(alloc),
-    })
+        steps: Steps::new(rt.alloc()),
+    }
 }
 
-/// Adds an entry with one note.
-fn act(alloc: Global, trace: &mut Trace, actor: Actor, note: Note) -> Result<(), Memory> {
-    let mut notes = Notes::new(alloc);
-    notes.push(note)?;
-    trace.push(Entry {
+/// An entry with one note.
+fn entry<R: Abort + AllocGlobal>(rt: &R, actor: Actor, note: Note) -> Entry {
+    Entry {
         actor,
         input: Input::Tick,
-        outputs: Posts::new(alloc),
-        notes,
-    })
+        outputs: Posts::new(rt.alloc()),
+        notes: list(rt, [note]),
+    }
 }
 
 /// The call begins.
-fn begin(alloc: Global, trace: &mut Trace, number: u32) -> Result<(), Memory> {
+fn begin<R: Abort + AllocGlobal>(rt: &R, trace: &mut Trace, number: u32) {
     let actor = Actor::Session(SessionId(1));
-    act(alloc, trace, actor, Note::Began { number })
+    let began = entry(rt, actor, Note::Began { number });
+    trace.push(began).expect(rt, "memory");
 }
 
 /// The call begins and ends.
-fn end(alloc: Global, trace: &mut Trace, number: u32, answer: Answer) -> Result<(), Memory> {
-    begin(alloc, trace, number)?;
+fn end<R: Abort + AllocGlobal>(rt: &R, trace: &mut Trace, number: u32, answer: Answer) {
+    begin(rt, trace, number);
+    let actor = Actor::Session(SessionId(1));
     let version = Version(1);
-    let ended = Note::Ended {
+    let note = Note::Ended {
         number,
         version,
         answer,
     };
-    act(alloc, trace, Actor::Session(SessionId(1)), ended)
+    trace.push(entry(rt, actor, note)).expect(rt, "memory");
 }
 
-fn update(
-    alloc: Global,
+fn update<R: Abort + AllocGlobal>(
+    rt: &R,
     number: u32,
     key: &str,
     version: u64,
     object: Option<Object>,
-) -> Result<Update, Memory> {
-    Ok(Update {
-        key: Text::from_str(alloc, key)?,
+) -> Update {
+    let session = SessionId(1);
+    Update {
+        key: text(rt, key),
         version: Version(version),
-        caller: Caller {
-            session: SessionId(1),
-            number,
-        },
+        caller: Caller { session, number },
         answer: Answer::Done,
         changes: true,
         object,
-        places: Places::new(alloc),
-    })
+        places: Places::new(rt.alloc()),
+    }
+}
+
+/// A del of what is not there.
+fn absent<R: Abort + AllocGlobal>(rt: &R) -> Update {
+    let caller = Caller {
+        session: SessionId(1),
+        number: 1,
+    };
+    Update {
+        key: text(rt, "s1k47"),
+        version: Version(1),
+        caller,
+        answer: Answer::NotFound,
+        changes: false,
+        object: None,
+        places: Places::new(rt.alloc()),
+    }
 }
 
 /// A server assigns the write of a call.
-fn assign(alloc: Global, trace: &mut Trace, update: Update) -> Result<(), Memory> {
-    let update = Shared::new(alloc, update)?;
-    act(
-        alloc,
-        trace,
-        Actor::Server(ServerId(1)),
-        Note::Assigned { update },
-    )
+fn assigned<R: Abort + AllocGlobal>(rt: &R, update: Update) -> Entry {
+    let update = Shared::new(rt.alloc(), update).expect(rt, "memory");
+    entry(rt, Actor::Server(ServerId(1)), Note::Assigned { update })
 }
 
-fn object(alloc: Global, color: &str, size: i64) -> Result<Object, Memory> {
-    let mut made = Object::new(alloc);
-    made.push(Value::Text(Text::from_str(alloc, color)?))?;
-    made.push(Value::Int(size))?;
-    Ok(made)
+fn object<R: Abort + AllocGlobal>(rt: &R, color: &str, size: i64) -> Object {
+    let color = Value::Text(text(rt, color));
+    shared_list(rt, [color, Value::Int(size)])
 }
 
-fn put(alloc: Global, key: &str) -> Result<Op, Memory> {
-    Ok(Op::Put {
-        key: Text::from_str(alloc, key)?,
-        sets: Assigns::new(alloc),
-    })
+/// A server assigns the put of an object.
+fn put_assigned<R: Abort + AllocGlobal>(
+    rt: &R,
+    number: u32,
+    key: &str,
+    version: u64,
+    object: Object,
+) -> Entry {
+    assigned(rt, update(rt, number, key, version, Some(object)))
 }
 
-fn get(alloc: Global, key: &str) -> Result<Op, Memory> {
-    let key = Text::from_str(alloc, key)?;
-    Ok(Op::Get { key })
+fn put<R: Abort + AllocGlobal>(rt: &R, key: &str) -> Op {
+    let key = text(rt, key);
+    let sets = Assigns::new(rt.alloc());
+    Op::Put { key, sets }
 }
 
-fn del(alloc: Global, key: &str) -> Result<Op, Memory> {
-    let key = Text::from_str(alloc, key)?;
-    Ok(Op::Del { key })
+fn get<R: Abort + AllocGlobal>(rt: &R, key: &str) -> Op {
+    let key = text(rt, key);
+    Op::Get { key }
 }
 
-fn search(alloc: Global) -> Op {
-    let terms = Terms::new(alloc);
+fn del<R: Abort + AllocGlobal>(rt: &R, key: &str) -> Op {
+    let key = text(rt, key);
+    Op::Del { key }
+}
+
+fn search<R: Abort + AllocGlobal>(rt: &R) -> Op {
+    let terms = Terms::new(rt.alloc());
     Op::Search { terms }
 }
 
+/// The summary of the trace of the session with these calls.
+fn summed_up<R: Abort + AllocGlobal>(
+    rt: &R,
+    calls: Calls,
+    trace: Trace,
+) -> Result<Vec<u8>, Memory> {
+    let script = script(rt, calls);
+    let bytes = summary(rt.alloc(), &script, &trace);
+    drop(script);
+    drop(trace);
+    bytes
+}
+
+const ABSENT: &str = "soak 1\n\
+    calls 1\n\
+    done 0\n\
+    notfound 1\n\
+    cmpfail 0\n\
+    found 0\n\
+    searches 0\n\
+    objects 0\n\
+    digest cbf29ce484222325\n\
+    end\n";
+
 #[test]
-fn sums_up_a_del_of_what_is_not_there(rt: HostRuntime) -> Result<(), Fail> {
-    let alloc = rt.alloc();
-    let mut calls = Calls::new(alloc);
-    calls.push(del(alloc, "s1k47")?)?;
-    let mut trace = Trace::new(alloc);
-    let mut absent = update(alloc, 1, "s1k47", 1, None)?;
-    absent.answer = Answer::NotFound;
-    absent.changes = false;
-    assign(alloc, &mut trace, absent)?;
-    end(alloc, &mut trace, 1, Answer::NotFound)?;
-    let bytes = summary(alloc, &script(alloc, calls)?, &trace)?;
-    let lines = "soak 1\n\
-        calls 1\n\
-        done 0\n\
-        notfound 1\n\
-        cmpfail 0\n\
-        found 0\n\
-        searches 0\n\
-        objects 0\n\
-        digest cbf29ce484222325\n\
-        end\n";
-    assert_eq!(rt; bytes.as_slice(), lines.as_bytes());
-    Ok(())
+fn sums_up_a_del_of_what_is_not_there(rt: HostRuntime) {
+    let calls = list(&rt, [del(&rt, "s1k47")]);
+    let mut trace = list(&rt, [assigned(&rt, absent(&rt))]);
+    end(&rt, &mut trace, 1, Answer::NotFound);
+    assert!(rt; is_printed(summed_up(&rt, calls, trace), ABSENT));
 }
 
 /// Two puts of `b`, one of `a` and one of `d`, a get of `b`, a del of `d`, two searches, and a get
-/// and a put that never end.
-fn ten_calls(alloc: Global) -> Result<Calls, Memory> {
-    let mut calls = Calls::new(alloc);
-    calls.push(put(alloc, "b")?)?;
-    calls.push(put(alloc, "b")?)?;
-    calls.push(put(alloc, "a")?)?;
-    calls.push(put(alloc, "d")?)?;
-    calls.push(get(alloc, "b")?)?;
-    calls.push(del(alloc, "d")?)?;
-    calls.push(search(alloc))?;
-    calls.push(search(alloc))?;
-    calls.push(get(alloc, "a")?)?;
-    calls.push(put(alloc, "e")?)?;
-    Ok(calls)
+/// and a put that never end: these by their number from 1.
+fn call<R: Abort + AllocGlobal>(rt: &R, number: u32) -> Op {
+    match number {
+        1 | 2 => put(rt, "b"),
+        3 => put(rt, "a"),
+        4 => put(rt, "d"),
+        5 => get(rt, "b"),
+        6 => del(rt, "d"),
+        7 | 8 => search(rt),
+        9 => get(rt, "a"),
+        _ => put(rt, "e"),
+    }
+}
+
+fn ten_calls<R: Abort + AllocGlobal>(rt: &R) -> Calls {
+    let mut calls = Calls::new(rt.alloc());
+    for number in 1..11 {
+        calls.push(call(rt, number)).expect(rt, "memory");
+    }
+    calls
 }
 
 /// What is written: in the end there are `a` and `b`.
-fn written(alloc: Global, trace: &mut Trace) -> Result<(), Memory> {
-    let (old, new) = (object(alloc, "c0", 1)?, object(alloc, "", 44)?);
-    assign(alloc, trace, update(alloc, 1, "b", 1, Some(old))?)?;
-    assign(alloc, trace, update(alloc, 2, "b", 2, Some(new))?)?;
-    let (first, last) = (object(alloc, "c1", 7)?, object(alloc, "c2", 9)?);
-    assign(alloc, trace, update(alloc, 3, "a", 1, Some(first))?)?;
-    assign(alloc, trace, update(alloc, 4, "d", 1, Some(last))?)?;
-    assign(alloc, trace, update(alloc, 6, "d", 2, None)?)
+fn written<R: Abort + AllocGlobal>(rt: &R) -> Trace {
+    let old = put_assigned(rt, 1, "b", 1, object(rt, "c0", 1));
+    let new = put_assigned(rt, 2, "b", 2, object(rt, "", 44));
+    let first = put_assigned(rt, 3, "a", 1, object(rt, "c1", 7));
+    let last = put_assigned(rt, 4, "d", 1, object(rt, "c2", 9));
+    let gone = assigned(rt, update(rt, 6, "d", 2, None));
+    list(rt, [old, new, first, last, gone])
 }
 
 /// How the calls end; the second search is refused, the second get is open, and the last put in doubt.
-fn answered(alloc: Global, trace: &mut Trace) -> Result<(), Memory> {
+fn answered<R: Abort + AllocGlobal>(rt: &R, trace: &mut Trace) {
     for number in [1, 2, 3, 4, 6] {
-        end(alloc, trace, number, Answer::Done)?;
+        end(rt, trace, number, Answer::Done);
     }
-    let found = object(alloc, "c0", 1)?;
-    end(alloc, trace, 5, Answer::Found(found))?;
-    end(alloc, trace, 7, Answer::Rows(Rows::new(alloc)))?;
+    end(rt, trace, 5, Answer::Found(object(rt, "c0", 1)));
+    end(rt, trace, 7, Answer::Rows(Rows::new(rt.alloc())));
     let (region, epoch) = (RegionId(0), Epoch(1));
-    end(alloc, trace, 8, Answer::Refused { region, epoch })?;
-    begin(alloc, trace, 9)?;
-    end(alloc, trace, 10, Answer::Doubt { region, epoch })
+    end(rt, trace, 8, Answer::Refused { region, epoch });
+    begin(rt, trace, 9);
+    end(rt, trace, 10, Answer::Doubt { region, epoch });
 }
 
+const COUNTED: &str = "soak 1\n\
+    calls 8\n\
+    done 5\n\
+    notfound 0\n\
+    cmpfail 0\n\
+    found 1\n\
+    searches 1\n\
+    objects 2\n\
+    digest df49bf6378c53615\n\
+    end\n";
+
 #[test]
-fn counts_ended_calls_and_present_objects(rt: HostRuntime) -> Result<(), Fail> {
-    let alloc = rt.alloc();
-    let mut trace = Trace::new(alloc);
-    written(alloc, &mut trace)?;
-    answered(alloc, &mut trace)?;
-    let bytes = summary(alloc, &script(alloc, ten_calls(alloc)?)?, &trace)?;
-    let lines = "soak 1\n\
-        calls 8\n\
-        done 5\n\
-        notfound 0\n\
-        cmpfail 0\n\
-        found 1\n\
-        searches 1\n\
-        objects 2\n\
-        digest df49bf6378c53615\n\
-        end\n";
-    assert_eq!(rt; bytes.as_slice(), lines.as_bytes());
-    Ok(())
+fn counts_ended_calls_and_present_objects(rt: HostRuntime) {
+    let mut trace = written(&rt);
+    answered(&rt, &mut trace);
+    assert!(rt; is_printed(summed_up(&rt, ten_calls(&rt), trace), COUNTED));
 }

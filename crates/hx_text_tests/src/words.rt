@@ -1,6 +1,5 @@
 use hx_words::{Run, Soak, run_of, soak_of};
-use std::alloc::Global;
-use std::test::Fail;
+use std::process::Abort;
 
 const OPTIONS: [&str; 4] = ["--workers 7", "--lose 11", "--repeat 1000000", "--trace"];
 
@@ -65,32 +64,35 @@ const NO_SOAKS: [&str; 18] = [
     "soak 1 1 --lose 0",
 ];
 
-fn words(alloc: Global, line: &str) -> Result<Vec<String>, Fail> {
-    let mut words = Vec::new(alloc);
+fn words<R: Abort + AllocGlobal>(rt: &R, line: &str) -> Vec<String> {
+    let mut words = Vec::new(rt.alloc());
     for word in line.split_whitespace() {
-        words.push(String::from_str(alloc, word)?)?;
+        let word = String::from_str(rt.alloc(), word).expect(rt, "memory");
+        let Ok(()) = words.push(word) else {
+            panic!(rt; "memory");
+        };
     }
-    Ok(words)
+    words
 }
 
-fn run(alloc: Global, line: &str) -> Result<Option<Run>, Fail> {
-    let words = words(alloc, line)?;
-    Ok(run_of(words.as_slice()))
+fn run<R: Abort + AllocGlobal>(rt: &R, line: &str) -> Option<Run> {
+    let words = words(rt, line);
+    run_of(words.as_slice())
 }
 
-fn soak(alloc: Global, line: &str) -> Result<Option<Soak>, Fail> {
-    let words = words(alloc, line)?;
-    Ok(soak_of(words.as_slice()))
+fn soak<R: Abort + AllocGlobal>(rt: &R, line: &str) -> Option<Soak> {
+    let words = words(rt, line);
+    soak_of(words.as_slice())
 }
 
 /// The options of these places, one after the other.
-fn run_with(alloc: Global, places: [usize; 4]) -> Result<Option<Run>, Fail> {
-    let mut line = String::from_str(alloc, "run")?;
+fn run_with<R: Abort + AllocGlobal>(rt: &R, places: [usize; 4]) -> Option<Run> {
+    let mut line = String::from_str(rt.alloc(), "run").expect(rt, "memory");
     for place in places {
-        line.push_str(" ")?;
-        line.push_str(OPTIONS[place % 4])?;
+        line.push_str(" ").expect(rt, "memory");
+        line.push_str(OPTIONS[place % 4]).expect(rt, "memory");
     }
-    run(alloc, line.as_str())
+    run(rt, line.as_str())
 }
 
 fn differ(places: [usize; 4]) -> bool {
@@ -99,68 +101,63 @@ fn differ(places: [usize; 4]) -> bool {
 }
 
 #[test]
-fn options_stand_in_any_order_and_each_once(rt: HostRuntime) -> Result<(), Fail> {
+fn options_stand_in_any_order_and_each_once(rt: HostRuntime) {
     for number in 0..256usize {
         let places = [number % 4, number / 4 % 4, number / 16 % 4, number / 64];
         let wanted = if differ(places) { Some(ALL) } else { None };
-        assert!(rt; run_with(rt.alloc(), places)? == wanted, "at {number}");
+        assert!(rt; run_with(&rt, places) == wanted, "at {number}");
     }
-    Ok(())
 }
 
 #[test]
-fn what_is_left_out_has_its_default(rt: HostRuntime) -> Result<(), Fail> {
+fn what_is_left_out_has_its_default(rt: HostRuntime) {
     let default = Run {
         workers: 2,
         lose: 0,
         repeat: 0,
         with_trace: false,
     };
-    assert!(rt; run(rt.alloc(), "run")? == Some(default));
+    assert!(rt; run(&rt, "run") == Some(default));
     let workers = Run {
         workers: 16,
         ..default
     };
-    assert!(rt; run(rt.alloc(), "run --workers 16")? == Some(workers));
+    assert!(rt; run(&rt, "run --workers 16") == Some(workers));
     let traced = Run {
         lose: 1_000_000,
         with_trace: true,
         ..default
     };
-    assert!(rt; run(rt.alloc(), "run --lose 1000000 --trace --repeat 0")? == Some(traced));
-    Ok(())
+    assert!(rt; run(&rt, "run --lose 1000000 --trace --repeat 0") == Some(traced));
 }
 
 #[test]
-fn other_words_are_no_run(rt: HostRuntime) -> Result<(), Fail> {
+fn other_words_are_no_run(rt: HostRuntime) {
     for line in NO_RUNS {
-        assert!(rt; run(rt.alloc(), line)? == None, "{line}");
+        assert!(rt; run(&rt, line) == None, "{line}");
     }
-    Ok(())
 }
 
 #[test]
-fn a_soak_has_a_seed_and_calls(rt: HostRuntime) -> Result<(), Fail> {
+fn a_soak_has_a_seed_and_calls(rt: HostRuntime) {
     let least = Soak {
         seed: 0,
         calls: 1,
         workers: 2,
     };
-    assert!(rt; soak(rt.alloc(), "soak 0 1")? == Some(least));
+    assert!(rt; soak(&rt, "soak 0 1") == Some(least));
     let most = Soak {
         seed: u64::MAX,
         calls: 16_384,
         workers: 1,
     };
     let line = "soak 18446744073709551615 16384 --workers 1";
-    assert!(rt; soak(rt.alloc(), line)? == Some(most));
-    Ok(())
+    assert!(rt; soak(&rt, line) == Some(most));
 }
 
 #[test]
-fn other_words_are_no_soak(rt: HostRuntime) -> Result<(), Fail> {
+fn other_words_are_no_soak(rt: HostRuntime) {
     for line in NO_SOAKS {
-        assert!(rt; soak(rt.alloc(), line)? == None, "{line}");
+        assert!(rt; soak(&rt, line) == None, "{line}");
     }
-    Ok(())
 }
