@@ -1,11 +1,11 @@
+use crate::parts::{list, text};
 use hx_history::*;
 use hx_types::{
-    Actor, Answer, Assigns, Caller, Calls, Entry, Input, Items, Memory, Note, Notes, Object, Op,
-    Places, Rows, Script, Sequence, ServerId, SessionId, Sessions, Shared, Space, Terms, Text,
+    Actor, Answer, Assigns, Caller, Calls, Entry, Input, Item, Items, Note, Object, Op, Places,
+    Records, Rows, Script, Searches, Sequence, ServerId, SessionId, Shared, Space, Terms, Text,
     Trace, Update, Version,
 };
-use std::alloc::Global;
-use std::test::Fail;
+use std::process::Abort;
 
 /// An entry with one note, of session 1 or, where a write is assigned, of server 1.
 #[derive(Clone, Copy)]
@@ -17,23 +17,30 @@ enum Line {
     Assign(&'static str, u32),
 }
 
+fn put<R: Abort + AllocGlobal>(rt: &R, key: &str) -> Op {
+    let sets = Assigns::new(rt.alloc());
+    let key = text(rt, key);
+    Op::Put { key, sets }
+}
+
+fn get<R: Abort + AllocGlobal>(rt: &R, key: &str) -> Op {
+    let key = text(rt, key);
+    Op::Get { key }
+}
+
+fn search<R: Abort + AllocGlobal>(rt: &R) -> Op {
+    let terms = Terms::new(rt.alloc());
+    Op::Search { terms }
+}
+
 /// A put of two keys, a get of the second and a search.
-fn calls(alloc: Global) -> Result<Calls, Memory> {
-    let mut calls = Calls::new(alloc);
-    for key in ["b", "ab"] {
-        let key = Text::from_str(alloc, key)?;
-        let sets = Assigns::new(alloc);
-        calls.push(Op::Put { key, sets })?;
-    }
-    let key = Text::from_str(alloc, "ab")?;
-    calls.push(Op::Get { key })?;
-    let terms = Terms::new(alloc);
-    calls.push(Op::Search { terms })?;
-    Ok(calls)
+fn calls<R: Abort + AllocGlobal>(rt: &R) -> Calls {
+    list(rt, [put(rt, "b"), put(rt, "ab"), get(rt, "ab"), search(rt)])
 }
 
 /// A space that no call looks at.
-fn space(alloc: Global) -> Space {
+fn space<R: Abort + AllocGlobal>(rt: &R) -> Space {
+    let alloc = rt.alloc();
     Space {
         name: Text::new(alloc),
         key_name: Text::new(alloc),
@@ -45,27 +52,31 @@ fn space(alloc: Global) -> Space {
     }
 }
 
-fn script(alloc: Global) -> Result<Script, Memory> {
-    let mut sessions = Sessions::new(alloc);
-    sessions.push(calls(alloc)?)?;
-    Ok(Script {
-        space: space(alloc),
+fn script<R: Abort + AllocGlobal>(rt: &R) -> Script {
+    let sessions = list(rt, [calls(rt)]);
+    Script {
+        space: space(rt),
         sessions,
-        steps: Sequence::new(alloc),
-    })
+        steps: Sequence::new(rt.alloc()),
+    }
 }
 
-fn update(alloc: Global, key: &str, number: u32) -> Result<Update, Memory> {
+fn update<R: Abort + AllocGlobal>(rt: &R, key: &str, number: u32) -> Update {
     let session = SessionId(1);
-    Ok(Update {
-        key: Text::from_str(alloc, key)?,
+    Update {
+        key: text(rt, key),
         version: Version(1),
         caller: Caller { session, number },
         answer: Answer::Done,
         changes: true,
-        object: Some(Object::new(alloc)),
-        places: Places::new(alloc),
-    })
+        object: Some(Object::new(rt.alloc())),
+        places: Places::new(rt.alloc()),
+    }
+}
+
+fn assigned<R: Abort + AllocGlobal>(rt: &R, key: &str, number: u32) -> Note {
+    let update = Shared::new(rt.alloc(), update(rt, key, number)).expect(rt, "memory");
+    Note::Assigned { update }
 }
 
 fn ended(number: u32, answer: Answer) -> Note {
@@ -77,91 +88,138 @@ fn ended(number: u32, answer: Answer) -> Note {
     }
 }
 
-fn note(alloc: Global, line: Line) -> Result<Note, Memory> {
+fn note<R: Abort + AllocGlobal>(rt: &R, line: Line) -> Note {
     match line {
-        Line::Begin(number) => Ok(Note::Began { number }),
-        Line::Done(number) => Ok(ended(number, Answer::Done)),
-        Line::Found(number) => Ok(ended(number, Answer::Found(Object::new(alloc)))),
-        Line::Rows(number) => Ok(ended(number, Answer::Rows(Rows::new(alloc)))),
-        Line::Assign(key, number) => {
-            let update = Shared::new(alloc, update(alloc, key, number)?)?;
-            Ok(Note::Assigned { update })
-        }
+        Line::Begin(number) => Note::Began { number },
+        Line::Done(number) => ended(number, Answer::Done),
+        Line::Found(number) => ended(number, Answer::Found(Object::new(rt.alloc()))),
+        Line::Rows(number) => ended(number, Answer::Rows(Rows::new(rt.alloc()))),
+        Line::Assign(key, number) => assigned(rt, key, number),
     }
 }
 
-fn entry(alloc: Global, line: Line) -> Result<Entry, Memory> {
+fn entry<R: Abort + AllocGlobal>(rt: &R, line: Line) -> Entry {
     let actor = match line {
         Line::Assign(..) => Actor::Server(ServerId(1)),
         _ => Actor::Session(SessionId(1)),
     };
-    let mut notes = Notes::new(alloc);
-    notes.push(note(alloc, line)?)?;
-    Ok(Entry {
+    Entry {
         actor,
         input: Input::Tick,
-        outputs: Sequence::new(alloc),
-        notes,
-    })
+        outputs: Sequence::new(rt.alloc()),
+        notes: list(rt, [note(rt, line)]),
+    }
 }
 
 /// The first put is open, the second was done, the get found its object, and the search ended.
-fn trace(alloc: Global) -> Result<Trace, Memory> {
-    let mut trace = Trace::new(alloc);
-    for line in [
-        Line::Begin(1),
-        Line::Assign("b", 1),
-        Line::Begin(2),
-        Line::Assign("ab", 2),
-        Line::Done(2),
-        Line::Begin(3),
-        Line::Found(3),
-        Line::Begin(4),
-        Line::Rows(4),
-    ] {
-        trace.push(entry(alloc, line)?)?;
+const LINES: [Line; 9] = [
+    Line::Begin(1),
+    Line::Assign("b", 1),
+    Line::Begin(2),
+    Line::Assign("ab", 2),
+    Line::Done(2),
+    Line::Begin(3),
+    Line::Found(3),
+    Line::Begin(4),
+    Line::Rows(4),
+];
+
+fn trace<R: Abort + AllocGlobal>(rt: &R) -> Trace {
+    let mut trace = Trace::new(rt.alloc());
+    for line in LINES {
+        trace.push(entry(rt, line)).expect(rt, "memory");
     }
-    Ok(trace)
+    trace
 }
 
-/// The version and the caller's number of each item.
-fn shown(alloc: Global, items: &Items) -> Result<Vec<(u64, u32)>, Memory> {
-    let mut shown = Vec::new(alloc);
-    for item in items.as_slice() {
-        shown.push((item.version.0, item.caller.number))?;
+/// Whether the item has this version and this number of its caller.
+fn is_of(item: &Item, version: u64, number: u32) -> bool {
+    item.version.0 == version && item.caller.number == number
+}
+
+/// Whether the items are those of the second put and of the get.
+fn are_of_ab(items: &Items) -> bool {
+    match items.as_slice() {
+        [put, get] => is_of(put, 1, 2) && is_of(get, 1, 3),
+        _ => false,
     }
-    Ok(shown)
+}
+
+/// Whether the histories are those of both keys.
+fn are_of_both(listed: &Histories) -> bool {
+    match listed.as_slice() {
+        [first, second] => first.key.as_str() == "ab" && second.key.as_str() == "b",
+        _ => false,
+    }
+}
+
+/// Whether the history of the second key is listed.
+fn is_ab_listed<R: Abort + AllocGlobal>(rt: &R, script: &Script, trace: &Trace) -> bool {
+    let key = text(rt, "ab");
+    let items = history(rt.alloc(), script, trace, &key).expect(rt, "memory");
+    let is_listed = are_of_ab(&items);
+    drop(items);
+    drop(key);
+    is_listed
+}
+
+/// Whether the histories of both keys are listed.
+fn are_both_listed<R: Abort + AllocGlobal>(rt: &R, script: &Script, trace: &Trace) -> bool {
+    let listed = histories(rt.alloc(), script, trace).expect(rt, "memory");
+    let are_listed = are_of_both(&listed);
+    drop(listed);
+    are_listed
 }
 
 #[test]
-fn histories_of_keys_are_listed(rt: HostRuntime) -> Result<(), Fail> {
-    let alloc = rt.alloc();
-    let (script, trace) = (script(alloc)?, trace(alloc)?);
-    let items = history(alloc, &script, &trace, &Text::from_str(alloc, "ab")?)?;
-    assert_eq!(rt;
-        shown(alloc, &items)?.as_slice(),
-        [(1, 2), (1, 3)].as_slice()
-    );
-    let listed = histories(alloc, &script, &trace)?;
-    let listed = listed.as_slice();
-    assert_eq!(rt; listed.len(), 2);
-    assert_eq!(rt; listed[0].key.as_str(), "ab");
-    assert_eq!(rt; listed[1].key.as_str(), "b");
-    Ok(())
+fn histories_of_keys_are_listed(rt: HostRuntime) {
+    let script = script(&rt);
+    let trace = trace(&rt);
+    assert!(rt; is_ab_listed(&rt, &script, &trace));
+    assert!(rt; are_both_listed(&rt, &script, &trace));
+    drop(trace);
+    drop(script);
+}
+
+/// Whether there are four records, the first of which is open and the third of which has ended.
+fn are_recorded(records: &Records) -> bool {
+    match records.as_slice() {
+        [open, _, get, _] => {
+            open.begin == 1 && open.end.is_none() && get.begin == 6 && get.end == Some(7)
+        }
+        _ => false,
+    }
+}
+
+fn is_searched(searches: &Searches) -> bool {
+    match searches.as_slice() {
+        [search] => search.begin == 8 && search.end == 9,
+        _ => false,
+    }
+}
+
+/// Whether the calls are listed.
+fn are_calls_listed<R: Abort + AllocGlobal>(rt: &R, script: &Script, trace: &Trace) -> bool {
+    let records = records(rt.alloc(), script, trace).expect(rt, "memory");
+    let are_listed = are_recorded(&records);
+    drop(records);
+    are_listed
+}
+
+/// Whether the search is listed.
+fn is_search_listed<R: Abort + AllocGlobal>(rt: &R, script: &Script, trace: &Trace) -> bool {
+    let searches = searches(rt.alloc(), script, trace).expect(rt, "memory");
+    let is_listed = is_searched(&searches);
+    drop(searches);
+    is_listed
 }
 
 #[test]
-fn calls_and_searches_are_listed(rt: HostRuntime) -> Result<(), Fail> {
-    let alloc = rt.alloc();
-    let (script, trace) = (script(alloc)?, trace(alloc)?);
-    let records = records(alloc, &script, &trace)?;
-    let records = records.as_slice();
-    assert_eq!(rt; records.len(), 4);
-    assert_eq!(rt; (records[0].begin, records[0].end), (1, None));
-    assert_eq!(rt; (records[2].begin, records[2].end), (6, Some(7)));
-    let searches = searches(alloc, &script, &trace)?;
-    let searches = searches.as_slice();
-    assert_eq!(rt; searches.len(), 1);
-    assert_eq!(rt; (searches[0].begin, searches[0].end), (8, 9));
-    Ok(())
+fn calls_and_searches_are_listed(rt: HostRuntime) {
+    let script = script(&rt);
+    let trace = trace(&rt);
+    assert!(rt; are_calls_listed(&rt, &script, &trace));
+    assert!(rt; is_search_listed(&rt, &script, &trace));
+    drop(trace);
+    drop(script);
 }

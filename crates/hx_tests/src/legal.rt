@@ -1,134 +1,116 @@
+use crate::parts::{list, shared_list, text};
 use hx_legal::*;
 use hx_types::{
-    Answer, Assign, Assigns, Attribute, Attributes, Caller, Item, Items, Kind, Memory, Object, Op,
-    SessionId, Space, Subspaces, Text, Value, Version,
+    Answer, Assign, Assigns, Attribute, Caller, Item, Items, Kind, Object, Op, SessionId, Space,
+    Subspaces, Value, Version,
 };
-use std::alloc::Global;
+use std::process::Abort;
 
-fn attribute(alloc: Global, name: &str, kind: Kind) -> Result<Attribute, Memory> {
-    let name = Text::from_str(alloc, name)?;
-    Ok(Attribute { name, kind })
+fn attribute<R: Abort + AllocGlobal>(rt: &R, name: &str, kind: Kind) -> Attribute {
+    let name = text(rt, name);
+    Attribute { name, kind }
 }
 
 /// Books with a genre (attribute 1) and a year (attribute 2).
-fn books(alloc: Global) -> Result<Space, Memory> {
-    let mut attributes = Attributes::new(alloc);
-    attributes.push(attribute(alloc, "genre", Kind::Text)?)?;
-    let years = Kind::Int { lo: 1900, hi: 2099 };
-    attributes.push(attribute(alloc, "year", years)?)?;
-    Ok(Space {
-        name: Text::from_str(alloc, "books")?,
-        key_name: Text::from_str(alloc, "name")?,
+fn books<R: Abort + AllocGlobal>(rt: &R) -> Space {
+    let genre = attribute(rt, "genre", Kind::Text);
+    let year = attribute(rt, "year", Kind::Int { lo: 1900, hi: 2099 });
+    Space {
+        name: text(rt, "books"),
+        key_name: text(rt, "name"),
         key_parts: 2,
-        attributes,
-        subspaces: Subspaces::new(alloc),
+        attributes: list(rt, [genre, year]),
+        subspaces: Subspaces::new(rt.alloc()),
         servers: 4,
         tolerate: 1,
-    })
+    }
 }
 
-fn text(alloc: Global, text: &str) -> Result<Value, Memory> {
-    Ok(Value::Text(Text::from_str(alloc, text)?))
-}
-
-fn one(alloc: Global, attribute: u32, value: Value) -> Result<Assigns, Memory> {
-    let mut assigns = Assigns::new(alloc);
-    assigns.push(Assign { attribute, value })?;
-    Ok(assigns)
-}
-
-fn key(alloc: Global) -> Result<Text, Memory> {
-    Text::from_str(alloc, "a")
+fn one<R: Abort + AllocGlobal>(rt: &R, attribute: u32, value: Value) -> Assigns {
+    shared_list(rt, [Assign { attribute, value }])
 }
 
 /// Sets the genre alone.
-fn put(alloc: Global) -> Result<Op, Memory> {
-    let sets = one(alloc, 1, text(alloc, "b")?)?;
-    let key = key(alloc)?;
-    Ok(Op::Put { key, sets })
+fn put<R: Abort + AllocGlobal>(rt: &R) -> Op {
+    let sets = one(rt, 1, Value::Text(text(rt, "b")));
+    let key = text(rt, "a");
+    Op::Put { key, sets }
 }
 
-fn get(alloc: Global) -> Result<Op, Memory> {
-    let key = key(alloc)?;
-    Ok(Op::Get { key })
+fn get<R: Abort + AllocGlobal>(rt: &R) -> Op {
+    let key = text(rt, "a");
+    Op::Get { key }
 }
 
-fn del(alloc: Global) -> Result<Op, Memory> {
-    let key = key(alloc)?;
-    Ok(Op::Del { key })
+fn del<R: Abort + AllocGlobal>(rt: &R) -> Op {
+    let key = text(rt, "a");
+    Op::Del { key }
 }
 
 /// Sets the year to 2000 where the genre is this one.
-fn cput(alloc: Global, genre: &str) -> Result<Op, Memory> {
-    let tests = one(alloc, 1, text(alloc, genre)?)?;
-    let sets = one(alloc, 2, Value::Int(2000))?;
-    let key = key(alloc)?;
-    Ok(Op::Cput { key, tests, sets })
+fn cput<R: Abort + AllocGlobal>(rt: &R, genre: &str) -> Op {
+    let tests = one(rt, 1, Value::Text(text(rt, genre)));
+    let sets = one(rt, 2, Value::Int(2000));
+    let key = text(rt, "a");
+    Op::Cput { key, tests, sets }
 }
 
-fn book(alloc: Global, year: i64) -> Result<Object, Memory> {
-    let mut object = Object::new(alloc);
-    object.push(text(alloc, "b")?)?;
-    object.push(Value::Int(year))?;
-    Ok(object)
+fn book<R: Abort + AllocGlobal>(rt: &R, year: i64) -> Object {
+    let genre = Value::Text(text(rt, "b"));
+    shared_list(rt, [genre, Value::Int(year)])
 }
 
-fn add(items: &mut Items, op: Op, answer: Answer, object: Option<Object>) -> Result<(), Memory> {
+fn item(op: Op, answer: Answer, object: Option<Object>) -> Item {
     let caller = Caller {
         session: SessionId(1),
         number: 1,
     };
-    items.push(Item {
+    Item {
         version: Version(1),
         caller,
         op,
         answer,
         object,
-    })
+    }
 }
 
-/// A put and a get of a book.
-fn add_book(alloc: Global, items: &mut Items) -> Result<(), Memory> {
-    add(items, put(alloc)?, Answer::Done, Some(book(alloc, 1900)?))?;
-    let found = Answer::Found(book(alloc, 1900)?);
-    add(items, get(alloc)?, found, Some(book(alloc, 1900)?))
+/// The items of a key: a put and a get of a book, a conditional put that fails, one that is done
+/// and leaves a book of this year, a del, and a get that finds nothing.
+fn item_at<R: Abort + AllocGlobal>(rt: &R, place: u32, year: i64) -> Item {
+    match place {
+        0 => item(put(rt), Answer::Done, Some(book(rt, 1900))),
+        1 => item(get(rt), Answer::Found(book(rt, 1900)), Some(book(rt, 1900))),
+        2 => item(cput(rt, "c"), Answer::CmpFail, Some(book(rt, 1900))),
+        3 => item(cput(rt, "b"), Answer::Done, Some(book(rt, year))),
+        4 => item(del(rt), Answer::Done, None),
+        _ => item(get(rt), Answer::NotFound, None),
+    }
 }
 
-/// A conditional put that fails, and one that is done and leaves a book of this year.
-fn add_changes(alloc: Global, items: &mut Items, year: i64) -> Result<(), Memory> {
-    let failed = cput(alloc, "c")?;
-    add(items, failed, Answer::CmpFail, Some(book(alloc, 1900)?))?;
-    add(
-        items,
-        cput(alloc, "b")?,
-        Answer::Done,
-        Some(book(alloc, year)?),
-    )
-}
-
-fn history(alloc: Global, year: i64) -> Result<Items, Memory> {
-    let mut items = Items::new(alloc);
-    add_book(alloc, &mut items)?;
-    add_changes(alloc, &mut items, year)?;
-    add(&mut items, del(alloc)?, Answer::Done, None)?;
-    add(&mut items, get(alloc)?, Answer::NotFound, None)?;
-    Ok(items)
+fn history<R: Abort + AllocGlobal>(rt: &R, year: i64) -> Items {
+    let mut items = Items::new(rt.alloc());
+    for place in 0..6 {
+        items.push(item_at(rt, place, year)).expect(rt, "memory");
+    }
+    items
 }
 
 #[test]
-fn six_calls_are_legal(rt: HostRuntime) -> Result<(), Memory> {
-    let space = books(rt.alloc())?;
-    let items = history(rt.alloc(), 2000)?;
+fn six_calls_are_legal(rt: HostRuntime) {
+    let space = books(&rt);
+    let items = history(&rt, 2000);
     assert!(rt; legal(&space, items.as_slice()));
-    assert_eq!(rt; first_fault(&space, items.as_slice()), None);
-    Ok(())
+    assert!(rt; first_fault(&space, items.as_slice()).is_none());
+    drop(items);
+    drop(space);
 }
 
 #[test]
-fn a_forgotten_set_is_found(rt: HostRuntime) -> Result<(), Memory> {
-    let space = books(rt.alloc())?;
-    let items = history(rt.alloc(), 1900)?;
+fn a_forgotten_set_is_found(rt: HostRuntime) {
+    let space = books(&rt);
+    let items = history(&rt, 1900);
     assert!(rt; !legal(&space, items.as_slice()));
-    assert_eq!(rt; first_fault(&space, items.as_slice()), Some(3));
-    Ok(())
+    assert!(rt; first_fault(&space, items.as_slice()) == Some(3));
+    drop(items);
+    drop(space);
 }

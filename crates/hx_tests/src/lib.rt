@@ -8,6 +8,8 @@ mod history;
 #[cfg(test)]
 mod legal;
 #[cfg(test)]
+mod parts;
+#[cfg(test)]
 mod plan;
 #[cfg(test)]
 mod query;
