@@ -71,7 +71,7 @@ fn int_attribute(alloc: Global, space: &Space, line: &mut Line<'_>) -> Result<At
 }
 
 /// Puts an item at the end of the last list.
-#[tactic(auto, using(crate::proofs::Lists::push_to_last_is, crate::proofs::Lists::no_last))]
+#[tactic(auto, using(crate::proofs::Lists::push_at_last_place, crate::proofs::Lists::no_last))]
 fn push_to_last(sessions: &mut Sessions, op: Op) -> Result<(), Memory>
     ensures { OnOk result (sessions.new ≡ push_to_last sessions.old op) }
 {
