@@ -1,208 +1,181 @@
-ghost use Rattle.std.specs.Prelude.{◌≡◌, [], ◌∷◌, IfOk, length};
+ghost use Rattle.std.specs.Prelude.{◌≡◌, length};
 ghost use Rattle.hx_types.specs.Fitting.{IsScript};
 ghost use Rattle.hx_world_tests.specs.Examples.{axis_of, books, genre_is, one, one_call, put_a, script_in, search_b, three_calls, year_is};
 
+use crate::parts::{list, shared_list, text};
 use hx_types::{
-    Actor, Answer, Assign, Assigns, Attribute, Attributes, Axes, Axis, Calls, Entry, Kind, Memory,
-    Note, Object, Op, Place, PostId, Row, Script, ServerId, SessionId, Sessions, Space, Step,
-    Steps, Subspaces, Term, Terms, Text, Trace, Update, Value,
+    Actor, Answer, Assign, Assigns, Attribute, Attributes, Axes, Axis, Calls, Kind, Note, Object,
+    Op, PostId, Row, Script, ServerId, SessionId, Space, Step, Steps, Subspaces, Term, Trace,
+    Update, Value,
 };
 use hx_world::*;
 use std::alloc::Global;
-use std::test::Fail;
+use std::process::Abort;
 
-fn attributes(alloc: Global) -> Result<Attributes, Memory>
-    ensures { IfOk result (λ made. made ≡ books.attributes) }
+fn attributes<R: Abort + AllocGlobal>(rt: &R) -> Attributes
+    ensures { result ≡ books.attributes }
 {
-    let mut made = Attributes::new(alloc);
-    made.push(Attribute {
-        name: Text::from_str(alloc, "genre")?,
+    let genre = Attribute {
+        name: text(rt, "genre"),
         kind: Kind::Text,
-    })?;
-    made.push(Attribute {
-        name: Text::from_str(alloc, "year")?,
+    };
+    let year = Attribute {
+        name: text(rt, "year"),
         kind: Kind::Int { lo: 1900, hi: 2099 },
-    })?;
-    Ok(made)
+    };
+    list(rt, [genre, year])
 }
 
-fn axis(alloc: Global, attribute: u32, parts: u32) -> Result<Axes, Memory>
-    ensures { IfOk result (λ made. made ≡ axis_of attribute parts) }
+fn axis<R: Abort + AllocGlobal>(rt: &R, attribute: u32, parts: u32) -> Axes
+    ensures { result ≡ axis_of attribute parts }
 {
-    let mut made = Axes::new(alloc);
-    made.push(Axis { attribute, parts })?;
-    Ok(made)
+    list(rt, [Axis { attribute, parts }])
 }
 
-fn subspaces(alloc: Global) -> Result<Subspaces, Memory>
-    ensures { IfOk result (λ made. made ≡ books.subspaces) }
+fn subspaces<R: Abort + AllocGlobal>(rt: &R) -> Subspaces
+    ensures { result ≡ books.subspaces }
 {
-    let mut made = Subspaces::new(alloc);
-    made.push(axis(alloc, 1, 4)?)?;
-    made.push(axis(alloc, 2, 2)?)?;
-    Ok(made)
+    list(rt, [axis(rt, 1, 4), axis(rt, 2, 2)])
 }
 
-fn space(alloc: Global) -> Result<Space, Memory>
-    ensures { IfOk result (λ space. space ≡ books) }
+fn space<R: Abort + AllocGlobal>(rt: &R) -> Space
+    ensures { result ≡ books }
 {
-    Ok(Space {
-        name: Text::from_str(alloc, "books")?,
-        key_name: Text::from_str(alloc, "name")?,
+    Space {
+        name: text(rt, "books"),
+        key_name: text(rt, "name"),
         key_parts: 2,
-        attributes: attributes(alloc)?,
-        subspaces: subspaces(alloc)?,
+        attributes: attributes(rt),
+        subspaces: subspaces(rt),
         servers: 4,
         tolerate: 1,
-    })
+    }
 }
 
-fn genre(alloc: Global, genre: &str) -> Result<Assign, Memory>
-    ensures { IfOk result (λ made. made ≡ genre_is genre.now) }
+fn genre<R: Abort + AllocGlobal>(rt: &R, genre: &str) -> Assign
+    ensures { result ≡ genre_is genre.now }
 {
-    Ok(Assign {
+    Assign {
         attribute: 1,
-        value: Value::Text(Text::from_str(alloc, genre)?),
-    })
+        value: Value::Text(text(rt, genre)),
+    }
 }
 
-fn put(alloc: Global, sets: Assigns) -> Result<Op, Memory>
-    ensures { IfOk result (λ op. op ≡ put_a sets) }
+fn year(year: i64) -> Assign
+    ensures { result ≡ year_is year }
 {
-    Ok(Op::Put {
-        key: Text::from_str(alloc, "a")?,
-        sets,
-    })
-}
-
-fn three_calls(alloc: Global) -> Result<Calls, Memory>
-    ensures { IfOk result (λ calls. calls ≡ three_calls) }
-{
-    let mut first = Assigns::new(alloc);
-    first.push(genre(alloc, "b")?)?;
-    first.push(Assign {
+    Assign {
         attribute: 2,
-        value: Value::Int(1999),
-    })?;
-    let mut second = Assigns::new(alloc);
-    second.push(genre(alloc, "d")?)?;
-    let mut calls = Calls::new(alloc);
-    calls.push(put(alloc, first)?)?;
-    calls.push(Op::Get {
-        key: Text::from_str(alloc, "a")?,
-    })?;
-    calls.push(put(alloc, second)?)?;
-    Ok(calls)
+        value: Value::Int(year),
+    }
 }
 
-fn one_call(alloc: Global) -> Result<Calls, Memory>
-    ensures { IfOk result (λ calls. calls ≡ one_call) }
+fn put<R: Abort + AllocGlobal>(rt: &R, sets: Assigns) -> Op
+    ensures { result ≡ put_a sets }
 {
-    let mut calls = Calls::new(alloc);
-    calls.push(put(alloc, Assigns::new(alloc))?)?;
-    Ok(calls)
+    let key = text(rt, "a");
+    Op::Put { key, sets }
 }
 
-/// One session with these calls, in the space of books.
-fn script(alloc: Global, calls: Calls) -> Result<Script, Memory>
-    ensures { IfOk result (λ script. script ≡ script_in books calls) }
+fn three_calls<R: Abort + AllocGlobal>(rt: &R) -> Calls
+    ensures { result ≡ three_calls }
 {
-    let mut sessions = Sessions::new(alloc);
-    sessions.push(calls)?;
-    Ok(Script {
-        space: space(alloc)?,
-        sessions,
-        steps: Steps::new(alloc),
-    })
+    let first = put(rt, shared_list(rt, [genre(rt, "b"), year(1999)]));
+    let get = Op::Get { key: text(rt, "a") };
+    let second = put(rt, shared_list(rt, [genre(rt, "d")]));
+    list(rt, [first, get, second])
+}
+
+fn one_call<R: Abort + AllocGlobal>(rt: &R) -> Calls
+    ensures { result ≡ one_call }
+{
+    list(rt, [put(rt, Assigns::new(rt.alloc()))])
+}
+
+/// One session with these calls, in this space.
+fn script<R: Abort + AllocGlobal>(rt: &R, space: Space, calls: Calls) -> Script
+    ensures { result ≡ script_in space calls }
+{
+    Script {
+        space,
+        sessions: list(rt, [calls]),
+        steps: Steps::new(rt.alloc()),
+    }
 }
 
 #[tactic(auto, using(crate::proofs::Books::three_valid))]
-fn three_calls_script(alloc: Global) -> Result<Script, Memory>
-    ensures { IfOk result (λ script. IsScript script) }
+fn three_calls_script<R: Abort + AllocGlobal>(rt: &R) -> Script
+    ensures { IsScript result }
 {
-    let calls = three_calls(alloc)?;
-    Ok(script(alloc, calls)?)
+    script(rt, space(rt), three_calls(rt))
 }
 
 #[tactic(auto, using(crate::proofs::Books::book_valid))]
-fn one_call_script(alloc: Global) -> Result<Script, Memory>
-    ensures valid { IfOk result (λ script. IsScript script) }
-    ensures sessions { IfOk result (λ script. length script.sessions ≡ 1) }
-    ensures servers { IfOk result (λ script. script.space.servers ≡ 4) }
+fn one_call_script<R: Abort + AllocGlobal>(rt: &R) -> Script
+    ensures valid { IsScript result }
+    ensures sessions { length result.sessions ≡ 1 }
+    ensures servers { result.space.servers ≡ 4 }
 {
-    let calls = one_call(alloc)?;
-    Ok(script(alloc, calls)?)
+    script(rt, space(rt), one_call(rt))
 }
 
-fn search(alloc: Global) -> Result<Op, Memory>
-    ensures { IfOk result (λ op. op ≡ search_b) }
+fn search<R: Abort + AllocGlobal>(rt: &R) -> Op
+    ensures { result ≡ search_b }
 {
-    let mut terms = Terms::new(alloc);
-    terms.push(Term::Equal {
-        attribute: 1,
-        value: Value::Text(Text::from_str(alloc, "b")?),
-    })?;
-    Ok(Op::Search { terms })
+    let attribute = 1;
+    let value = Value::Text(text(rt, "b"));
+    let terms = shared_list(rt, [Term::Equal { attribute, value }]);
+    Op::Search { terms }
 }
 
 #[tactic(auto, using(crate::proofs::Books::search_valid))]
-fn search_script(alloc: Global) -> Result<Script, Memory>
-    ensures { IfOk result (λ script. IsScript script) }
+fn search_script<R: Abort + AllocGlobal>(rt: &R) -> Script
+    ensures { IsScript result }
 {
-    let mut sets = Assigns::new(alloc);
-    sets.push(genre(alloc, "b")?)?;
-    let mut calls = Calls::new(alloc);
-    calls.push(put(alloc, sets)?)?;
-    calls.push(search(alloc)?)?;
-    Ok(script(alloc, calls)?)
+    let put = put(rt, shared_list(rt, [genre(rt, "b")]));
+    let calls = list(rt, [put, search(rt)]);
+    script(rt, space(rt), calls)
 }
 
-fn small_space(alloc: Global) -> Result<Space, Memory>
-    ensures { IfOk result (λ space. space ≡ one) }
+fn small_space<R: Abort + AllocGlobal>(rt: &R) -> Space
+    ensures { result ≡ one }
 {
-    let mut attributes = Attributes::new(alloc);
-    attributes.push(Attribute {
-        name: Text::from_str(alloc, "v")?,
+    let declared = Attribute {
+        name: text(rt, "v"),
         kind: Kind::Text,
-    })?;
-    Ok(Space {
-        name: Text::from_str(alloc, "one")?,
-        key_name: Text::from_str(alloc, "k")?,
+    };
+    Space {
+        name: text(rt, "one"),
+        key_name: text(rt, "k"),
         key_parts: 1,
-        attributes,
-        subspaces: Subspaces::new(alloc),
+        attributes: list(rt, [declared]),
+        subspaces: Subspaces::new(rt.alloc()),
         servers: 1,
         tolerate: 0,
-    })
+    }
 }
 
 #[tactic(auto, using(crate::proofs::Books::small_valid))]
-fn small_script(alloc: Global) -> Result<Script, Memory>
-    ensures runs { IfOk result (λ script. IsScript script) }
-    ensures sessions { IfOk result (λ script. length script.sessions ≡ 1) }
+fn small_script<R: Abort + AllocGlobal>(rt: &R) -> Script
+    ensures runs { IsScript result }
+    ensures sessions { length result.sessions ≡ 1 }
 {
-    let mut sessions = Sessions::new(alloc);
-    sessions.push(one_call(alloc)?)?;
-    Ok(Script {
-        space: small_space(alloc)?,
-        sessions,
-        steps: Steps::new(alloc),
-    })
+    script(rt, small_space(rt), one_call(rt))
+}
+
+/// Drains so many entries and then the rest.
+fn drain<R: Abort + AllocGlobal>(rt: &R, world: &mut World, first: u64) {
+    assert!(rt; matches!(world.drain(rt.alloc(), first), Ok(Drained::Spent)));
+    assert!(rt; matches!(world.drain(rt.alloc(), u64::MAX), Ok(Drained::Quiet)));
 }
 
 /// The trace after a drain of so many entries and then one to the end, each of which ended so.
-fn drained(alloc: Global, script: &Script, first: u64) -> Result<Trace, Fail>
+fn drained<R: Abort + AllocGlobal>(rt: &R, script: &Script, first: u64) -> Trace
     requires { IsScript script.now }
 {
-    let mut world = World::start(alloc, script)?;
-    match world.drain(alloc, first) {
-        Ok(Drained::Spent) => {}
-        _ => return Err(Fail::from("the first drain")),
-    }
-    match world.drain(alloc, u64::MAX) {
-        Ok(Drained::Quiet) => Ok(world.into_trace()),
-        _ => Err(Fail::from("the second drain")),
-    }
+    let mut world = World::start(rt.alloc(), script).expect(rt, "memory");
+    drain(rt, &mut world, first);
+    world.into_trace()
 }
 
 /// The number of a server, or 0 for a session.
@@ -266,34 +239,51 @@ fn ended(trace: &Trace, place: usize) -> Option<(u32, u64, &Answer)> {
     }
 }
 
+/// Whether the entry at a place ends the call with this version as done.
+fn is_done(trace: &Trace, place: usize, number: u32, version: u64) -> bool {
+    match ended(trace, place) {
+        Some((n, v, Answer::Done)) => n == number && v == version,
+        _ => false,
+    }
+}
+
+/// Whether the entry at a place ends the second call with the book of the first.
+fn is_found(trace: &Trace, place: usize) -> bool {
+    match ended(trace, place) {
+        Some((2, 1, Answer::Found(book))) => is_book(book, "b", 1999),
+        _ => false,
+    }
+}
+
+const ACTORS: [u32; 33] = [
+    0, 1, 2, 1, 2, 3, 4, 3, 2, 1, 2, 1, 0, 0, 1, 0, 0, 1, 2, 1, 2, 2, 3, 3, 4, 3, 3, 2, 2, 1, 2, 1,
+    0,
+];
+
+const FIRST: [(u32, u64, bool); 3] = [(0, 0, true), (4, 0, true), (6, 0, true)];
+
+const SECOND: [(u32, u64, bool); 4] = [(0, 1, true), (4, 1, false), (5, 0, true), (6, 1, true)];
+
 #[test]
-fn a_put_is_chained_got_and_put_again(rt: HostRuntime) -> Result<(), Fail> {
-    let alloc = rt.alloc();
-    let script = three_calls_script(alloc)?;
-    let trace = drained(alloc, &script, 13)?;
-    let actors = [
-        0, 1, 2, 1, 2, 3, 4, 3, 2, 1, 2, 1, 0, 0, 1, 0, 0, 1, 2, 1, 2, 2, 3, 3, 4, 3, 3, 2, 2, 1,
-        2, 1, 0,
-    ];
-    assert!(rt; are_of(&trace, &actors));
-    let first = [(0, 0, true), (4, 0, true), (6, 0, true)];
-    assert!(rt; goes_through(assigned(&trace, 1), 1, &first));
-    let second = [(0, 1, true), (4, 1, false), (5, 0, true), (6, 1, true)];
-    assert!(rt; goes_through(assigned(&trace, 17), 2, &second));
-    Ok(())
+fn a_put_is_chained_got_and_put_again(rt: HostRuntime) {
+    let script = three_calls_script(&rt);
+    let trace = drained(&rt, &script, 13);
+    assert!(rt; are_of(&trace, &ACTORS));
+    assert!(rt; goes_through(assigned(&trace, 1), 1, &FIRST));
+    assert!(rt; goes_through(assigned(&trace, 17), 2, &SECOND));
+    drop(trace);
+    drop(script);
 }
 
 #[test]
-fn calls_end_with_their_answers(rt: HostRuntime) -> Result<(), Fail> {
-    let alloc = rt.alloc();
-    let script = three_calls_script(alloc)?;
-    let trace = drained(alloc, &script, 20)?;
-    assert!(rt; matches!(ended(&trace, 12), Some((1, 1, Answer::Done))));
-    assert!(rt;
-        matches!(ended(&trace, 15), Some((2, 1, Answer::Found(book))) if is_book(book, "b", 1999))
-    );
-    assert!(rt; matches!(ended(&trace, 32), Some((3, 2, Answer::Done))));
-    Ok(())
+fn calls_end_with_their_answers(rt: HostRuntime) {
+    let script = three_calls_script(&rt);
+    let trace = drained(&rt, &script, 20);
+    assert!(rt; is_done(&trace, 12, 1, 1));
+    assert!(rt; is_found(&trace, 15));
+    assert!(rt; is_done(&trace, 32, 3, 2));
+    drop(trace);
+    drop(script);
 }
 
 /// Whether there is one row: that of the first update of "a", with this genre.
@@ -309,16 +299,22 @@ fn is_row(rows: &[Row], genre: &str) -> bool {
     }
 }
 
+/// Whether the entry at a place ends the search with that row.
+fn is_search(trace: &Trace, place: usize) -> bool {
+    match ended(trace, place) {
+        Some((2, 0, Answer::Rows(rows))) => is_row(rows.as_slice(), "b"),
+        _ => false,
+    }
+}
+
 #[test]
-fn a_search_finds_its_row(rt: HostRuntime) -> Result<(), Fail> {
-    let alloc = rt.alloc();
-    let script = search_script(alloc)?;
-    let trace = drained(alloc, &script, 13)?;
-    assert_eq!(rt; trace.len(), 16);
-    assert!(rt;
-        matches!(ended(&trace, 15), Some((2, 0, Answer::Rows(rows))) if is_row(rows.as_slice(), "b"))
-    );
-    Ok(())
+fn a_search_finds_its_row(rt: HostRuntime) {
+    let script = search_script(&rt);
+    let trace = drained(&rt, &script, 13);
+    assert!(rt; trace.len() == 16);
+    assert!(rt; is_search(&trace, 15));
+    drop(trace);
+    drop(script);
 }
 
 /// Delivers the first post of an entry, and tells whether that could be done.
@@ -329,90 +325,121 @@ fn takes(alloc: Global, world: &mut World, entry: u64) -> bool
     world.step(alloc, &step).is_ok()
 }
 
+/// Begins the call of session 1 and delivers its post twice, and then drains the world.
+fn deliver_twice<R: Abort + AllocGlobal>(rt: &R, world: &mut World)
+    requires { length world.old.script.sessions ≡ 1 }
+{
+    let begin = Step::Tick(Actor::Session(SessionId(1)));
+    assert!(rt; world.step(rt.alloc(), &begin).is_ok());
+    assert!(rt; takes(rt.alloc(), world, 1));
+    assert!(rt; takes(rt.alloc(), world, 1));
+    assert!(rt; matches!(world.drain(rt.alloc(), u64::MAX), Ok(Drained::Quiet)));
+}
+
 /// The trace after session 1 has begun its call and the post of the call was delivered twice, and
 /// then a drain to the end.
-fn delivered_twice(alloc: Global, script: &Script) -> Result<Trace, Fail>
+fn delivered_twice<R: Abort + AllocGlobal>(rt: &R, script: &Script) -> Trace
     requires runs { IsScript script.now }
     requires sessions { length script.now.sessions ≡ 1 }
 {
-    let mut world = World::start(alloc, script)?;
-    let begin = Step::Tick(Actor::Session(SessionId(1)));
-    if world.step(alloc, &begin).is_err()
-        || !takes(alloc, &mut world, 1)
-        || !takes(alloc, &mut world, 1)
-    {
-        return Err(Fail::from("a step"));
-    }
-    match world.drain(alloc, u64::MAX) {
-        Ok(Drained::Quiet) => Ok(world.into_trace()),
-        _ => Err(Fail::from("the drain")),
-    }
+    let mut world = World::start(rt.alloc(), script).expect(rt, "memory");
+    deliver_twice(rt, &mut world);
+    world.into_trace()
 }
 
 #[test]
-fn a_call_delivered_twice_is_answered_twice(rt: HostRuntime) -> Result<(), Fail> {
-    let alloc = rt.alloc();
-    let script = small_script(alloc)?;
-    let trace = delivered_twice(alloc, &script)?;
+fn a_call_delivered_twice_is_answered_twice(rt: HostRuntime) {
+    let script = small_script(&rt);
+    let trace = delivered_twice(&rt, &script);
     assert!(rt; are_of(&trace, &[0, 1, 1, 0, 0]));
-    assert!(rt; matches!(ended(&trace, 3), Some((1, 1, Answer::Done))));
+    assert!(rt; is_done(&trace, 3, 1, 1));
     assert!(rt; ended(&trace, 4).is_none());
-    Ok(())
+    drop(trace);
+    drop(script);
+}
+
+/// Asserts that what was never sent can't be delivered, and that an idle coordinator takes no tick.
+fn assert_refused<R: Abort + AllocGlobal>(rt: &R, world: &mut World) {
+    let delivery = Step::Deliver(PostId { entry: 1, place: 0 });
+    assert!(rt; matches!(world.step(rt.alloc(), &delivery), Err(StepError::Unsent)));
+    let tick = Step::Tick(Actor::Coordinator);
+    assert!(rt; matches!(world.step(rt.alloc(), &tick), Err(StepError::Idle)));
+    assert!(rt; world.trace().is_empty());
 }
 
 #[test]
-fn steps_that_cannot_be_taken_are_refused(rt: HostRuntime) -> Result<(), Fail> {
-    let alloc = rt.alloc();
-    let script = small_script(alloc)?;
-    let mut world = World::start(alloc, &script)?;
-    let delivery = Step::Deliver(PostId { entry: 1, place: 0 });
-    assert!(rt; matches!(world.step(alloc, &delivery), Err(StepError::Unsent)));
-    let tick = Step::Tick(Actor::Coordinator);
-    assert!(rt; matches!(world.step(alloc, &tick), Err(StepError::Idle)));
-    assert!(rt; world.trace().is_empty());
-    Ok(())
+fn steps_that_cannot_be_taken_are_refused(rt: HostRuntime) {
+    let script = small_script(&rt);
+    let mut world = World::start(rt.alloc(), &script).expect(&rt, "memory");
+    assert_refused(&rt, &mut world);
+    drop(world);
+    drop(script);
+}
+
+/// Begins the call of session 1, and halts server 1, which leads the call's key.
+fn halt_leader<R: Abort + AllocGlobal>(rt: &R, world: &mut World)
+    requires sessions { length world.old.script.sessions ≡ 1 }
+    requires servers { world.old.script.space.servers ≡ 4 }
+    ensures { world.new.script ≡ world.old.script }
+{
+    let begin = Step::Tick(Actor::Session(SessionId(1)));
+    assert!(rt; world.step(rt.alloc(), &begin).is_ok());
+    let halt = Step::Halt(Actor::Server(ServerId(1)));
+    assert!(rt; world.step(rt.alloc(), &halt).is_ok());
 }
 
 /// A world in which session 1 has begun its call and then server 1, which leads the call's key, has
 /// halted.
-fn halted_leader(alloc: Global, script: &Script) -> Result<World<'_>, Fail>
+fn halted_leader<'a, R: Abort + AllocGlobal>(rt: &R, script: &'a Script) -> World<'a>
     requires valid { IsScript script.now }
     requires sessions { length script.now.sessions ≡ 1 }
     requires servers { script.now.space.servers ≡ 4 }
-    ensures { IfOk result (λ world. world.script ≡ script.now) }
+    ensures { result.script ≡ script.now }
 {
-    let mut world = World::start(alloc, script)?;
-    let begin = Step::Tick(Actor::Session(SessionId(1)));
-    let halt = Step::Halt(Actor::Server(ServerId(1)));
-    if world.step(alloc, &begin).is_err() || world.step(alloc, &halt).is_err() {
-        return Err(Fail::from("a step"));
-    }
-    Ok(world)
+    let mut world = World::start(rt.alloc(), script).expect(rt, "memory");
+    halt_leader(rt, &mut world);
+    world
 }
 
-#[test]
-fn a_halted_server_takes_no_step(rt: HostRuntime) -> Result<(), Fail> {
-    let alloc = rt.alloc();
-    let script = one_call_script(alloc)?;
-    let mut world = halted_leader(alloc, &script)?;
+/// Asserts that server 1, which has halted, takes no step, and that a session can't halt.
+fn assert_halted<R: Abort + AllocGlobal>(rt: &R, world: &mut World)
+    requires sessions { length world.old.script.sessions ≡ 1 }
+    requires servers { world.old.script.space.servers ≡ 4 }
+{
     let call = Step::Deliver(PostId { entry: 1, place: 0 });
-    assert!(rt; matches!(world.step(alloc, &call), Err(StepError::Halted)));
+    assert!(rt; matches!(world.step(rt.alloc(), &call), Err(StepError::Halted)));
     let halt = Step::Halt(Actor::Server(ServerId(1)));
-    assert!(rt; matches!(world.step(alloc, &halt), Err(StepError::Halted)));
+    assert!(rt; matches!(world.step(rt.alloc(), &halt), Err(StepError::Halted)));
     let session = Step::Halt(Actor::Session(SessionId(1)));
-    assert!(rt; matches!(world.step(alloc, &session), Err(StepError::NotServer)));
-    assert_eq!(rt; world.trace().len(), 2);
-    Ok(())
+    assert!(rt; matches!(world.step(rt.alloc(), &session), Err(StepError::NotServer)));
+    assert!(rt; world.trace().len() == 2);
 }
 
 #[test]
-fn a_halted_leader_is_replaced(rt: HostRuntime) -> Result<(), Fail> {
-    let alloc = rt.alloc();
-    let script = one_call_script(alloc)?;
-    let mut world = halted_leader(alloc, &script)?;
-    assert!(rt; matches!(world.drain(alloc, u64::MAX), Ok(Drained::Quiet)));
-    let trace = world.into_trace();
-    let last = trace.len().saturating_sub(1);
-    assert!(rt; matches!(ended(&trace, last), Some((1, 1, Answer::Done))));
-    Ok(())
+fn a_halted_server_takes_no_step(rt: HostRuntime) {
+    let script = one_call_script(&rt);
+    let mut world = halted_leader(&rt, &script);
+    assert_halted(&rt, &mut world);
+    drop(world);
+    drop(script);
+}
+
+/// The trace after the leader has halted and then a drain to the end.
+fn replaced_leader<R: Abort + AllocGlobal>(rt: &R, script: &Script) -> Trace
+    requires valid { IsScript script.now }
+    requires sessions { length script.now.sessions ≡ 1 }
+    requires servers { script.now.space.servers ≡ 4 }
+{
+    let mut world = halted_leader(rt, script);
+    assert!(rt; matches!(world.drain(rt.alloc(), u64::MAX), Ok(Drained::Quiet)));
+    world.into_trace()
+}
+
+#[test]
+fn a_halted_leader_is_replaced(rt: HostRuntime) {
+    let script = one_call_script(&rt);
+    let trace = replaced_leader(&rt, &script);
+    assert!(rt; is_done(&trace, trace.len().saturating_sub(1), 1, 1));
+    drop(trace);
+    drop(script);
 }
