@@ -1,77 +1,62 @@
-ghost use Rattle.std.specs.Prelude.{◌≡◌, ◌<◌, [], ◌∷◌, IfOk, length, pos};
-ghost use Rattle.hx_types.specs.Spaces.{IsSpace};
-ghost use Rattle.hx_types.specs.declared.spaces.Kind.TheVariants as a_kind;
+ghost use Rattle.std.specs.Prelude.{◌≡◌, length};
 
+use crate::rows::object;
+use crate::spaces::{books, text};
+use crate::updates::{places_of_1, update};
 use hx_chain::*;
 use hx_region::RegionMap;
 use hx_slot::Slot;
 use hx_types::{
-    Answer, Attribute, Attributes, Axes, Axis, Caller, Config, Epoch, Hop, Kind, Member, Members,
-    Memory, Object, Place, Places, RegionId, RegionLists, ServerId, ServerList, SessionId, Space,
-    Subspaces, Text, Update, Value, Version,
+    Config, Epoch, Hop, Member, Members, Object, Places, RegionId, RegionLists, ServerId,
+    ServerList, Text, Update,
 };
 use std::alloc::Global;
+use std::process::Abort;
 
 /// The servers of a region that are left of the two that it stood on, counted round from its
 /// number among four.
-fn members(alloc: Global, region: u32, left: &[u32]) -> Result<Members, Memory> {
+fn members(rt: &impl Abort, alloc: Global, region: u32, left: &[u32]) -> Members {
     let mut made = Members::new(alloc);
     for place in 0..2 {
         let server = (region % 4 + place) % 4 + 1;
         if left.contains(&server) {
-            made.push(Member {
+            let member = Member {
                 server: ServerId(server),
                 ready: true,
-            })?;
+            };
+            made.push(member).expect(rt, "no memory");
         }
     }
-    Ok(made)
+    made
 }
 
-fn config(alloc: Global, left: &[u32]) -> Result<Config, Memory> {
+fn servers(rt: &impl Abort, alloc: Global, left: &[u32]) -> ServerList {
     let mut servers = ServerList::new(alloc);
     for server in left {
-        servers.push(ServerId(*server))?;
+        servers.push(ServerId(*server)).expect(rt, "no memory");
     }
-    let mut regions = RegionLists::new(alloc);
-    for region in 0..8 {
-        regions.push(members(alloc, region, left)?)?;
-    }
-    Ok(Config {
-        epoch: Epoch(1),
-        servers,
-        regions,
-    })
+    servers
 }
 
-fn place(region: u32) -> Place {
-    Place {
-        region: RegionId(region),
-        after: Version(0),
-        keeps: true,
+fn config(rt: &impl Abort, alloc: Global, left: &[u32]) -> Config {
+    let mut regions = RegionLists::new(alloc);
+    for region in 0..8 {
+        regions
+            .push(members(rt, alloc, region, left))
+            .expect(rt, "no memory");
+    }
+    Config {
+        epoch: Epoch(1),
+        servers: servers(rt, alloc, left),
+        regions,
     }
 }
 
 /// An update through regions 0, 4 and 6.
-fn update(alloc: Global) -> Result<Update, Memory>
-    ensures { IfOk result (λ update. length update.places ≡ 3) }
+fn first_update(rt: &impl Abort, alloc: Global) -> Update
+    ensures { length result.places ≡ 3 }
 {
-    let mut places = Places::new(alloc);
-    places.push(place(0))?;
-    places.push(place(4))?;
-    places.push(place(6))?;
-    Ok(Update {
-        key: Text::from_str(alloc, "a")?,
-        version: Version(1),
-        caller: Caller {
-            session: SessionId(1),
-            number: 1,
-        },
-        answer: Answer::Done,
-        changes: true,
-        object: None,
-        places,
-    })
+    update(rt, alloc, "a", 1, (1, 1), None, places_of_1(rt, alloc))
 }
 
 fn is_at(hop: Hop, wanted: (u32, u32)) -> bool {
@@ -86,115 +71,49 @@ fn follows(config: &Config, update: &Update, from: (u32, u32), to: (u32, u32)) -
 }
 
 #[test]
-fn goes_from_member_to_member_and_place_to_place(rt: HostRuntime) -> Result<(), Memory> {
-    let config = config(rt.alloc(), &[1, 2, 3, 4])?;
-    let update = update(rt.alloc())?;
+fn goes_from_member_to_member_and_place_to_place(rt: HostRuntime) {
+    let config = config(&rt, rt.alloc(), &[1, 2, 3, 4]);
+    let update = first_update(&rt, rt.alloc());
     let way = [(1, 0), (2, 0), (1, 1), (2, 1), (3, 2), (4, 2)];
     for (from, to) in way.iter().zip(way.iter().skip(1)) {
         assert!(rt; follows(&config, &update, *from, *to));
     }
     assert!(rt; matches!(prev(&config, &update, 0, ServerId(1)), Hop::End));
     assert!(rt; matches!(next(&config, &update, 2, ServerId(4)), Hop::End));
-    Ok(())
 }
 
 #[test]
-fn is_blocked_by_a_lost_region(rt: HostRuntime) -> Result<(), Memory> {
-    let update = update(rt.alloc())?;
-    let low = config(rt.alloc(), &[1, 2])?;
+fn is_blocked_by_a_lost_region(rt: HostRuntime) {
+    let update = first_update(&rt, rt.alloc());
+    let low = config(&rt, rt.alloc(), &[1, 2]);
     assert!(rt;
         matches!(
             next(&low, &update, 1, ServerId(2)),
             Hop::Blocked(RegionId(6))
         )
     );
-    let high = config(rt.alloc(), &[3, 4])?;
+    let high = config(&rt, rt.alloc(), &[3, 4]);
     assert!(rt;
         matches!(
             prev(&high, &update, 2, ServerId(3)),
             Hop::Blocked(RegionId(4))
         )
     );
-    Ok(())
 }
 
 #[test]
-fn finds_the_place_in_a_region(rt: HostRuntime) -> Result<(), Memory> {
-    let update = update(rt.alloc())?;
+fn finds_the_place_in_a_region(rt: HostRuntime) {
+    let update = first_update(&rt, rt.alloc());
     assert_eq!(rt; place_number(&update, RegionId(6)), Some(2));
     assert_eq!(rt; place_number(&update, RegionId(5)), None);
-    Ok(())
 }
 
-fn attributes(alloc: Global) -> Result<Attributes, Memory>
-    ensures { IfOk result (λ made. made ≡ record { name = 103 ∷ []; kind = a_kind.Text } ∷ record { name = 121 ∷ []; kind = a_kind.Int (pos 1900) (pos 2099) } ∷ []) }
-{
-    let mut made = Attributes::new(alloc);
-    made.push(Attribute {
-        name: Text::from_str(alloc, "g")?,
-        kind: Kind::Text,
-    })?;
-    made.push(Attribute {
-        name: Text::from_str(alloc, "y")?,
-        kind: Kind::Int { lo: 1900, hi: 2099 },
-    })?;
-    Ok(made)
-}
-
-fn subspaces(alloc: Global) -> Result<Subspaces, Memory>
-    ensures { IfOk result (λ made. made ≡ (record { attribute = 1; parts = 4 } ∷ []) ∷ (record { attribute = 2; parts = 2 } ∷ []) ∷ []) }
-{
-    let mut genre = Axes::new(alloc);
-    genre.push(Axis {
-        attribute: 1,
-        parts: 4,
-    })?;
-    let mut year = Axes::new(alloc);
-    year.push(Axis {
-        attribute: 2,
-        parts: 2,
-    })?;
-    let mut made = Subspaces::new(alloc);
-    made.push(genre)?;
-    made.push(year)?;
-    Ok(made)
-}
-
-/// Books with a genre and a year: regions 0 and 1 by the key, 2 to 5 by the genre, 6 and 7 by the
-/// year.
-fn books(name: Text, key_name: Text, attributes: Attributes, subspaces: Subspaces) -> Space
-    requires name { name ≡ 98 ∷ [] }
-    requires key_name { key_name ≡ 110 ∷ [] }
-    requires attributes { attributes ≡ record { name = 103 ∷ []; kind = a_kind.Text } ∷ record { name = 121 ∷ []; kind = a_kind.Int (pos 1900) (pos 2099) } ∷ [] }
-    requires subspaces { subspaces ≡ (record { attribute = 1; parts = 4 } ∷ []) ∷ (record { attribute = 2; parts = 2 } ∷ []) ∷ [] }
-    ensures { IsSpace result }
-{
-    Space {
-        name,
-        key_name,
-        key_parts: 2,
-        attributes,
-        subspaces,
-        servers: 4,
-        tolerate: 1,
-    }
-}
-
-fn books_map(alloc: Global) -> Result<RegionMap, Memory> {
-    let name = Text::from_str(alloc, "b")?;
-    let key_name = Text::from_str(alloc, "n")?;
-    let attributes = attributes(alloc)?;
-    let subspaces = subspaces(alloc)?;
-    let space = books(name, key_name, attributes, subspaces);
-    let map = RegionMap::new(alloc, &space)?;
-    Ok(map)
-}
-
-fn book(alloc: Global, genre: &str, year: i64) -> Result<Object, Memory> {
-    let mut made = Object::new(alloc);
-    made.push(Value::Text(Text::from_str(alloc, genre)?))?;
-    made.push(Value::Int(year))?;
-    Ok(made)
+fn books_map(rt: &impl Abort, alloc: Global) -> RegionMap {
+    let space = books(rt, alloc);
+    let Ok(map) = RegionMap::new(alloc, &space) else {
+        panic!(rt; "no memory");
+    };
+    map
 }
 
 /// Whether the places are these: region, `after` and `keeps` of each.
@@ -208,33 +127,34 @@ fn are(places: &Places, wanted: &[(u32, u64, bool)]) -> bool {
 
 /// Whether the first update of a key that changes from one object to another goes through these.
 fn goes_through(
+    rt: &impl Abort,
     alloc: Global,
     old: Option<&Object>,
     new: Option<&Object>,
     wanted: &[(u32, u64, bool)],
-) -> Result<bool, Memory> {
-    let map = books_map(alloc)?;
-    let key = Text::from_str(alloc, "a")?;
+) -> bool {
+    let map = books_map(rt, alloc);
+    let key = text(rt, alloc, "a");
     let slot = Slot::new(alloc, RegionId(0), Text::new(alloc), true);
-    let places = places(alloc, &map, &key, old, new, true, &slot)?;
-    Ok(are(&places, wanted))
+    let Ok(places) = places(alloc, &map, &key, old, new, true, &slot) else {
+        panic!(rt; "no memory");
+    };
+    are(&places, wanted)
 }
 
 #[test]
-fn goes_through_the_regions_of_a_new_object(rt: HostRuntime) -> Result<(), Memory> {
-    let new = book(rt.alloc(), "b", 1999)?;
+fn goes_through_the_regions_of_a_new_object(rt: HostRuntime) {
+    let new = object(&rt, rt.alloc(), "b", 1999);
     let wanted = [(0, 0, true), (4, 0, true), (6, 0, true)];
-    assert!(rt; goes_through(rt.alloc(), None, Some(&new), &wanted)?);
-    let new = book(rt.alloc(), "", 1900)?;
-    assert!(rt; goes_through(rt.alloc(), None, Some(&new), &wanted)?);
-    Ok(())
+    assert!(rt; goes_through(&rt, rt.alloc(), None, Some(&new), &wanted));
+    let new = object(&rt, rt.alloc(), "", 1900);
+    assert!(rt; goes_through(&rt, rt.alloc(), None, Some(&new), &wanted));
 }
 
 #[test]
-fn goes_through_the_old_region_first(rt: HostRuntime) -> Result<(), Memory> {
-    let old = book(rt.alloc(), "b", 1999)?;
-    let new = book(rt.alloc(), "d", 1999)?;
+fn goes_through_the_old_region_first(rt: HostRuntime) {
+    let old = object(&rt, rt.alloc(), "b", 1999);
+    let new = object(&rt, rt.alloc(), "d", 1999);
     let wanted = [(0, 0, true), (4, 0, false), (5, 0, true), (6, 0, true)];
-    assert!(rt; goes_through(rt.alloc(), Some(&old), Some(&new), &wanted)?);
-    Ok(())
+    assert!(rt; goes_through(&rt, rt.alloc(), Some(&old), Some(&new), &wanted));
 }

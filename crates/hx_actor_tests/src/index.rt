@@ -1,53 +1,65 @@
-use hx_index::{Index, View};
-use hx_types::{Exact, Memory, Object, Row, Term, Terms, Text, Value, Version};
-use std::alloc::Global;
+ghost use Rattle.std.specs.Prelude.{◌≡◌, ◌≤◌, [], ◌∷◌};
+ghost use Rattle.std.specs.List.{repeat};
+ghost use Rattle.hx_index.specs.Orders.{IsIndexOf, no_rows};
 
-/// A number of an attribute from a lower to an upper end.
-fn between(alloc: Global, attribute: u32, lo: i64, hi: i64) -> Result<Terms, Memory> {
-    let mut terms = Terms::new(alloc);
-    terms.push(Term::Range { attribute, lo, hi })?;
-    Ok(terms)
+use crate::rows::{between, row};
+use hx_index::{Index, View};
+use hx_types::{Exact, Row, Term};
+use std::alloc::Global;
+use std::process::Abort;
+
+fn copy(rt: &impl Abort, alloc: Global, row: &Row) -> Row
+    ensures { result ≡ row.now }
+{
+    let Ok(copy) = row.copy(alloc) else {
+        panic!(rt; "no memory");
+    };
+    copy
 }
 
-/// An object with a text and a number.
-fn row(alloc: Global, key: &str, text: &str, number: i64) -> Result<Row, Memory> {
-    let mut object = Object::new(alloc);
-    object.push(Value::Text(Text::from_str(alloc, text)?))?;
-    object.push(Value::Int(number))?;
-    Ok(Row {
-        key: Text::from_str(alloc, key)?,
-        version: Version(1),
-        object,
-    })
+/// An index of two attributes with room for this many rows, and of none.
+fn indexed(rt: &impl Abort, alloc: Global, rows: u32) -> Index
+    ensures orders { result.orders ≡ repeat 3 ([] ∷ []) }
+    ensures empty { IsIndexOf no_rows result }
+    ensures room { rows ≤ result.room }
+{
+    let Ok(mut index) = Index::new(alloc, 2) else {
+        panic!(rt; "no memory");
+    };
+    let Ok(()) = index.reserve(alloc, rows) else {
+        panic!(rt; "no memory");
+    };
+    index
 }
 
 #[test]
-fn a_row_is_found_by_its_number(rt: HostRuntime) -> Result<(), Memory> {
+fn a_row_is_found_by_its_number(rt: HostRuntime) {
     let alloc = rt.alloc();
-    let rows = [Some(row(alloc, "a", "x", 500)?)];
-    let mut index = Index::new(alloc, 2)?;
-    index.reserve(alloc, 1)?;
+    let rows = [Some(row(&rt, alloc, "a", "x", 500))];
+    let mut index = indexed(&rt, alloc, 1);
     index.add(&rows, 0);
     let mut view = View::new(&rows, 0);
-    let found = index.find(alloc, &mut view, &between(alloc, 2, 500, 600)?)?;
+    let Ok(found) = index.find(alloc, &mut view, &between(&rt, alloc, 2, 500, 600)) else {
+        panic!(rt; "no memory");
+    };
     assert_eq!(rt; found.as_slice(), [0].as_slice());
     assert_eq!(rt; view.looks(), 3);
-    let found = index.find(alloc, &mut view, &between(alloc, 2, 501, 600)?)?;
+    let Ok(found) = index.find(alloc, &mut view, &between(&rt, alloc, 2, 501, 600)) else {
+        panic!(rt; "no memory");
+    };
     assert!(rt; found.is_empty());
     assert_eq!(rt; view.looks(), 5);
-    Ok(())
 }
 
 #[test]
-fn a_row_goes_to_its_new_place(rt: HostRuntime) -> Result<(), Memory> {
+fn a_row_goes_to_its_new_place(rt: HostRuntime) {
     let alloc = rt.alloc();
-    let old = row(alloc, "a", "x", 500)?;
-    let other = row(alloc, "b", "y", 700)?;
-    let one = [Some(old.copy(alloc)?), None];
-    let both = [Some(old.copy(alloc)?), Some(other.copy(alloc)?)];
-    let changed = [Some(row(alloc, "a", "x", 900)?), Some(other)];
-    let mut index = Index::new(alloc, 2)?;
-    index.reserve(alloc, 2)?;
+    let old = row(&rt, alloc, "a", "x", 500);
+    let other = row(&rt, alloc, "b", "y", 700);
+    let one = [Some(copy(&rt, alloc, &old)), None];
+    let both = [Some(copy(&rt, alloc, &old)), Some(copy(&rt, alloc, &other))];
+    let changed = [Some(row(&rt, alloc, "a", "x", 900)), Some(other)];
+    let mut index = indexed(&rt, alloc, 2);
     index.add(&one, 0);
     index.add(&both, 1);
     index.replace(&changed, 0, &old);
@@ -58,7 +70,8 @@ fn a_row_goes_to_its_new_place(rt: HostRuntime) -> Result<(), Memory> {
         hi: 999,
     };
     assert!(rt; index.run(&mut view, &numbers) == (1, 2));
-    let found = index.find(alloc, &mut view, &between(alloc, 2, 500, 800)?)?;
+    let Ok(found) = index.find(alloc, &mut view, &between(&rt, alloc, 2, 500, 800)) else {
+        panic!(rt; "no memory");
+    };
     assert_eq!(rt; found.as_slice(), [1].as_slice());
-    Ok(())
 }

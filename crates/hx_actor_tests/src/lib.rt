@@ -11,8 +11,14 @@ mod index;
 #[cfg(test)]
 mod replica;
 #[cfg(test)]
+mod rows;
+#[cfg(test)]
 mod session;
 #[cfg(test)]
 mod slot;
 #[cfg(test)]
+mod spaces;
+#[cfg(test)]
 mod store;
+#[cfg(test)]
+mod updates;

@@ -4,4 +4,4 @@ use Rattle.hx_actor_tests.proofs.SmallSpace.{small_is_space}
 use Rattle.hx_actor_tests.proofs.coord.coordinator.Goals as goal
 
 pub start-requires : goal.start-requires
-start-requires c = subst IsSpace (sym c.in_ok-space.ensures) small_is_space
+start-requires g c = subst IsSpace (sym c.by_key-space.ensures) small_is_space

@@ -8,13 +8,13 @@ use Rattle.hx_actor_tests.proofs.OneServer.{small_is_space}
 use Rattle.hx_actor_tests.proofs.replica.started.Goals as goal
 
 pub start-requires-clause-space : goal.start-requires-clause-space
-start-requires-clause-space c = subst IsSpace (sym c.in_ok-space.ensures) small_is_space
+start-requires-clause-space g c = subst IsSpace (sym c.by_key-space.ensures) small_is_space
 
 pub start-requires-clause-server : goal.start-requires-clause-server
-start-requires-clause-server c = subst (λ (x : Space). IsServerOf x first) (sym c.in_ok-space.ensures) (omega arith, omega arith)
+start-requires-clause-server g c = subst (λ (x : Space). IsServerOf x first) (sym c.by_key-space.ensures) (omega arith, omega arith)
 
 pub returns-clause-space : goal.returns-clause-space
-returns-clause-space c = IfOk-weaker c.start.result _ _ (λ server e. e ∙ c.in_ok-space.ensures) c.start.ensures.space
+returns-clause-space g c = IfOk-weaker c.start.result _ _ (λ server e. e ∙ c.by_key-space.ensures) c.start.ensures.space
 
 pub returns-clause-state : goal.returns-clause-state
-returns-clause-state c = IfOk-weaker c.start.result _ _ (λ server e. e ∙ ap (λ (x : Space). server_at_start x first) c.in_ok-space.ensures) c.start.ensures.state
+returns-clause-state g c = IfOk-weaker c.start.result _ _ (λ server e. e ∙ ap (λ (x : Space). server_at_start x first) c.by_key-space.ensures) c.start.ensures.state
