@@ -1,14 +1,16 @@
-ghost use Rattle.std.specs.Prelude.{ℕ, ◌≡◌, ◌≤◌, ◌∷◌, [], IfOk};
+ghost use Rattle.std.specs.Prelude.{ℕ, ◌≡◌, ◌≤◌, ◌++◌, ◌∷◌, [], IfOk};
 ghost use Rattle.hx_clock.specs.declared.parts.Stamped.{Stamped};
 ghost use Rattle.hx_clock.specs.Parts.{stamped, Posted};
 ghost use Rattle.hx_clock.specs.Views.{Carries, Knows, Owns};
 ghost use Rattle.hx_thread_tests.specs.Gathered.{halting, idle, turns};
 
+use crate::clocks::begun;
 use hx_clock::{Clock, Part, Parts, Seat, Stamped};
 use hx_gather::merge;
 use hx_types::{Actor, Entry, Input, Memory, Message, Notes, Post, PostId, Posts, ServerId, Stamp};
 use std::alloc::Global;
 use std::collections::BTreeSet;
+use std::process::Abort;
 use std::test::Fail;
 use std::thread;
 
@@ -95,10 +97,12 @@ fn act_often(
 #[test]
 fn three_acts_are_numbered_from_0(rt: HostRuntime) -> Result<(), Fail> {
     let alloc: Global = rt.alloc();
-    let (mut clock, mut counting) = Clock::new(alloc)?;
+    let (mut clock, mut counting) = begun(&rt, alloc);
     let (number, seat) = clock.enrol(&mut counting);
     assert_eq!(rt; number, 0);
-    let (seat, stamps) = act_often(alloc, &clock, seat, 3)?;
+    let Ok((seat, stamps)) = act_often(alloc, &clock, seat, 3) else {
+        panic!(rt; "no memory");
+    };
     assert_eq!(rt; stamps.as_slice(), [0, 1, 2].as_slice());
     clock.learn(&mut counting, seat);
     assert_eq!(rt; clock.close(counting), 3);
@@ -108,7 +112,7 @@ fn three_acts_are_numbered_from_0(rt: HostRuntime) -> Result<(), Fail> {
 #[test]
 fn two_threads_draw_different_stamps(rt: HostRuntime) -> Result<(), Fail> {
     let alloc: Global = rt.alloc();
-    let (mut clock, mut counting) = Clock::new(alloc)?;
+    let (mut clock, mut counting) = begun(&rt, alloc);
     let (_, first) = clock.enrol(&mut counting);
     let (_, second) = clock.enrol(&mut counting);
     let shared = &clock;
@@ -123,11 +127,14 @@ fn two_threads_draw_different_stamps(rt: HostRuntime) -> Result<(), Fail> {
             ensures { IfOk result (λ made. made.0.clock ≡ shared.entry.now) }
         { act_often(alloc, shared, second, 1000) },
     );
-    let (first, stamps) = first?;
-    let (second, others) = second?;
+    let (Ok((first, stamps)), Ok((second, others))) = (first, second) else {
+        panic!(rt; "no memory");
+    };
     let mut all = BTreeSet::new(alloc);
     for stamp in stamps.iter().chain(others.iter()) {
-        all.insert(*stamp)?;
+        let Ok(_) = all.insert(*stamp) else {
+            panic!(rt; "no memory");
+        };
     }
     assert_eq!(rt; all.len(), 2000);
     clock.learn(&mut counting, first);
@@ -139,10 +146,12 @@ fn two_threads_draw_different_stamps(rt: HostRuntime) -> Result<(), Fail> {
 #[test]
 fn a_pass_and_a_new_seat_know_what_was_told(rt: HostRuntime) -> Result<(), Fail> {
     let alloc: Global = rt.alloc();
-    let (mut clock, mut counting) = Clock::new(alloc)?;
+    let (mut clock, mut counting) = begun(&rt, alloc);
     let (_, mut asking) = clock.enrol(&mut counting);
     let (_, mut taking) = clock.enrol(&mut counting);
-    let id = ask(alloc, &clock, &mut asking)?;
+    let Ok(id) = ask(alloc, &clock, &mut asking) else {
+        panic!(rt; "no memory");
+    };
     let pass = clock.tell(&mut asking, id);
     clock.learn(&mut taking, pass);
     assert_eq!(rt; take(alloc, &clock, &mut taking, id).0, 1);
@@ -154,36 +163,47 @@ fn a_pass_and_a_new_seat_know_what_was_told(rt: HostRuntime) -> Result<(), Fail>
     Ok(())
 }
 
+/// Adds an entry of an actor to its part.
+fn add(rt: &impl Abort, alloc: Global, part: &mut Part, actor: Actor, stamp: u64)
+    ensures { part.new ≡ part.old ++ stamped stamp (idle actor) ∷ [] }
+{
+    let added = Stamped {
+        stamp: Stamp(stamp),
+        entry: idle(alloc, actor),
+    };
+    let Ok(()) = part.push(added) else {
+        panic!(rt; "no memory");
+    };
+}
+
 /// Two entries of an actor, with their stamps.
-fn part(alloc: Global, actor: Actor, first: u64, second: u64) -> Result<Part, Memory>
-    ensures { IfOk result (λ part. part ≡ stamped first (idle actor) ∷ stamped second (idle actor) ∷ []) }
+fn part(rt: &impl Abort, alloc: Global, actor: Actor, first: u64, second: u64) -> Part
+    ensures { result ≡ stamped first (idle actor) ∷ stamped second (idle actor) ∷ [] }
 {
     let mut part = Part::new(alloc);
-    part.push(Stamped {
-        stamp: Stamp(first),
-        entry: idle(alloc, actor),
-    })?;
-    part.push(Stamped {
-        stamp: Stamp(second),
-        entry: idle(alloc, actor),
-    })?;
-    Ok(part)
+    add(rt, alloc, &mut part, actor, first);
+    add(rt, alloc, &mut part, actor, second);
+    part
 }
 
 /// The turns of two actors.
-fn turns(alloc: Global) -> Result<Parts, Memory>
-    ensures { IfOk result (λ parts. parts ≡ turns) }
+fn turns(rt: &impl Abort, alloc: Global) -> Parts
+    ensures { result ≡ turns }
 {
     let mut parts = Parts::new(alloc);
-    parts.push(part(alloc, Actor::Coordinator, 0, 2)?)?;
-    parts.push(part(alloc, SERVER, 1, 3)?)?;
-    Ok(parts)
+    let Ok(()) = parts.push(part(rt, alloc, Actor::Coordinator, 0, 2)) else {
+        panic!(rt; "no memory");
+    };
+    let Ok(()) = parts.push(part(rt, alloc, SERVER, 1, 3)) else {
+        panic!(rt; "no memory");
+    };
+    parts
 }
 
 #[test]
 fn parts_are_merged_by_stamp(rt: HostRuntime) -> Result<(), Fail> {
     let alloc: Global = rt.alloc();
-    let trace = merge(alloc, turns(alloc)?)?;
+    let trace = merge(alloc, turns(&rt, alloc))?;
     assert_eq!(rt; trace.len(), 4);
     for (place, entry) in trace.as_slice().iter().enumerate() {
         assert!(rt; (entry.actor == SERVER) == (place % 2 == 1), "at {place}");

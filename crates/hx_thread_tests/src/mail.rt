@@ -5,6 +5,7 @@ ghost use Rattle.hx_mail.specs.Boxes.{IsAddressed, IsPortOf};
 ghost use Rattle.hx_mail.specs.Ports.{CarriesName};
 ghost use Rattle.hx_thread_tests.specs.Mailed.{halting, of_first_server, small};
 
+use crate::clocks::begun;
 use hx_clock::{Clock, Seat};
 use hx_mail::{Envelope, Mailbox, Port};
 use hx_types::{
@@ -12,6 +13,7 @@ use hx_types::{
     Subspaces, Text,
 };
 use std::alloc::Global;
+use std::process::Abort;
 use std::sync::Wait;
 use std::test::Fail;
 
@@ -83,8 +85,11 @@ fn put<R: Wait>(rt: &R, mailbox: &Mailbox, envelope: Envelope, port: &mut Port) 
     }
 }
 
+/// The name under which an envelope was put, and the number of its entry.
+type Taken = Option<(u32, u64)>;
+
 /// Takes an envelope: the name under which it was put, and the number of its entry.
-fn take<R: Wait>(rt: &R, mailbox: &Mailbox, port: &mut Port) -> Option<(u32, u64)>
+fn take<R: Wait>(rt: &R, mailbox: &Mailbox, port: &mut Port) -> Taken
     requires port { IsPortOf mailbox.now port.old }
     ensures port { IsPortOf mailbox.now port.new }
 {
@@ -92,21 +97,68 @@ fn take<R: Wait>(rt: &R, mailbox: &Mailbox, port: &mut Port) -> Option<(u32, u64
     Some((letter.port, letter.envelope.id.entry))
 }
 
+/// Puts the first two envelopes of a seat: the numbers of their entries, where they come back.
+fn put_two<R: Wait + Abort>(
+    rt: &R,
+    alloc: Global,
+    clock: &Clock,
+    seat: &mut Seat,
+    mailbox: &Mailbox,
+    port: &mut Port,
+) -> (Option<u64>, Option<u64>)
+    requires clock { seat.old.clock ≡ clock.now }
+    requires own { (k : ℕ) × Owns seat.old.view k [] }
+    requires names { mailbox.now.names ≡ of_first_server clock.now }
+    requires port { IsPortOf mailbox.now port.old }
+    ensures port { IsPortOf mailbox.now port.new }
+    ensures later { ¬ (CarriesName 0 port.old.view) → ¬ (CarriesName 0 port.new.view) }
+{
+    let Ok(first) = ask(alloc, clock, seat) else {
+        panic!(rt; "no memory");
+    };
+    let Ok(second) = ask(alloc, clock, seat) else {
+        panic!(rt; "no memory");
+    };
+    let first = put(rt, mailbox, first, port);
+    (first, put(rt, mailbox, second, port))
+}
+
+/// What a box of one place gives before two envelopes are put at another port, which of them come back,
+/// and what it gives then, in two turns.
+fn used<R: Wait + Abort>(
+    rt: &R,
+    alloc: Global,
+    clock: &Clock,
+    seat: &mut Seat,
+    space: &Space,
+) -> (Taken, (Option<u64>, Option<u64>), (Taken, Taken))
+    requires clock { seat.old.clock ≡ clock.now }
+    requires own { (k : ℕ) × Owns seat.old.view k [] }
+    requires space { space.now ≡ small }
+{
+    let Ok((mailbox, mut taking)) = Mailbox::new(alloc, clock, SERVER, space, 0, 1) else {
+        panic!(rt; "no memory");
+    };
+    let Ok(mut putting) = mailbox.split(rt, &mut taking) else {
+        panic!(rt; "no memory");
+    };
+    let before = take(rt, &mailbox, &mut taking);
+    let back = put_two(rt, alloc, clock, seat, &mailbox, &mut putting);
+    mailbox.join(rt, &mut taking, putting);
+    let first = take(rt, &mailbox, &mut taking);
+    let second = take(rt, &mailbox, &mut taking);
+    (before, back, (first, second))
+}
+
 #[test]
 fn a_box_of_one_place_is_empty_then_full(rt: HostRuntime) -> Result<(), Fail> {
     let alloc: Global = rt.alloc();
-    let (mut clock, mut counting) = Clock::new(alloc)?;
-    let (_, mut seat) = clock.enrol(&mut counting);
     let space = space(alloc)?;
-    let (mailbox, mut taking) = Mailbox::new(alloc, &clock, SERVER, &space, 0, 1)?;
-    let mut putting = mailbox.split(&rt, &mut taking)?;
-    assert!(rt; take(&rt, &mailbox, &mut taking).is_none());
-    let first = ask(alloc, &clock, &mut seat)?;
-    let second = ask(alloc, &clock, &mut seat)?;
-    assert!(rt; put(&rt, &mailbox, first, &mut putting).is_none());
-    assert!(rt; put(&rt, &mailbox, second, &mut putting) == Some(2));
-    mailbox.join(&rt, &mut taking, putting);
-    assert!(rt; take(&rt, &mailbox, &mut taking) == Some((1, 1)));
-    assert!(rt; take(&rt, &mailbox, &mut taking).is_none());
+    let (mut clock, mut counting) = begun(&rt, alloc);
+    let (_, mut seat) = clock.enrol(&mut counting);
+    let (before, back, after) = used(&rt, alloc, &clock, &mut seat, &space);
+    assert!(rt; before.is_none());
+    assert_eq!(rt; back, (None, Some(2)));
+    assert_eq!(rt; after, (Some((1, 1)), None));
     Ok(())
 }

@@ -9,6 +9,7 @@ ghost use Rattle.hx_clock.specs.Views.{Knows, Owns};
 ghost use Rattle.hx_thread_tests.specs.Gathered.{answering, asking, call_of_get, ended, first_server, first_session, no_object, one_get, HasMade};
 ghost use Rattle.hx_gather.specs.Gathered.{IsSeated};
 
+use crate::clocks::begun;
 use hx_clock::{Clock, Part, Seat, Stamped};
 use hx_gather::{SeatedPart, gather};
 use hx_types::{
@@ -16,6 +17,7 @@ use hx_types::{
     ServerId, SessionId, Shared, Text, Trace, Version,
 };
 use std::alloc::Global;
+use std::process::Abort;
 use std::test::Fail;
 
 const SERVER: Actor = Actor::Server(ServerId(1));
@@ -23,15 +25,20 @@ const SERVER: Actor = Actor::Server(ServerId(1));
 const SESSION: Actor = Actor::Session(SessionId(1));
 
 /// What the session asks.
-fn call(alloc: Global) -> Result<Message, Memory>
-    ensures { IfOk result (λ message. message ≡ call_of_get) }
+fn call(rt: &impl Abort, alloc: Global) -> Message
+    ensures { result ≡ call_of_get }
 {
-    let key = Text::from_str(alloc, "a")?;
-    Ok(Message::Call {
+    let Ok(key) = Text::from_str(alloc, "a") else {
+        panic!(rt; "no memory");
+    };
+    let Ok(op) = Shared::new(alloc, Op::Get { key }) else {
+        panic!(rt; "no memory");
+    };
+    Message::Call {
         epoch: Epoch(1),
         number: 1,
-        op: Shared::new(alloc, Op::Get { key })?,
-    })
+        op,
+    }
 }
 
 /// What the server answers.
@@ -46,58 +53,65 @@ fn reply() -> Message
 }
 
 /// The one post of an entry.
-fn post(alloc: Global, from: Actor, to: Actor, message: Message) -> Result<Posts, Memory>
-    ensures { IfOk result (λ posts. posts ≡ record { from = from; to = to; message = message } ∷ []) }
+fn post(rt: &impl Abort, alloc: Global, from: Actor, to: Actor, message: Message) -> Posts
+    ensures { result ≡ record { from = from; to = to; message = message } ∷ [] }
 {
     let mut posts = Posts::new(alloc);
-    posts.push(Post { from, to, message })?;
-    Ok(posts)
+    let Ok(()) = posts.push(Post { from, to, message }) else {
+        panic!(rt; "no memory");
+    };
+    posts
 }
 
 /// The one note of an entry.
-fn note(alloc: Global, note: Note) -> Result<Notes, Memory>
-    ensures { IfOk result (λ notes. notes ≡ note ∷ []) }
+fn note(rt: &impl Abort, alloc: Global, note: Note) -> Notes
+    ensures { result ≡ note ∷ [] }
 {
     let mut notes = Notes::new(alloc);
-    notes.push(note)?;
-    Ok(notes)
+    let Ok(()) = notes.push(note) else {
+        panic!(rt; "no memory");
+    };
+    notes
 }
 
 /// The session begins its call.
-fn asking(alloc: Global) -> Result<Entry, Memory>
-    ensures { IfOk result (λ entry. entry ≡ asking) }
+fn asking(rt: &impl Abort, alloc: Global) -> Entry
+    ensures { result ≡ asking }
 {
-    let message = call(alloc)?;
-    Ok(Entry {
+    Entry {
         actor: SESSION,
         input: Input::Tick,
-        outputs: post(alloc, SESSION, SERVER, message)?,
-        notes: note(alloc, Note::Began { number: 1 })?,
-    })
+        outputs: post(rt, alloc, SESSION, SERVER, call(rt, alloc)),
+        notes: note(rt, alloc, Note::Began { number: 1 }),
+    }
 }
 
 /// The server has no object.
-fn answering(alloc: Global, id: PostId) -> Result<Entry, Memory>
-    ensures { IfOk result (λ entry. entry ≡ answering id) }
+fn answering(rt: &impl Abort, alloc: Global, id: PostId) -> Entry
+    ensures { result ≡ answering id }
 {
-    let message = call(alloc)?;
-    Ok(Entry {
+    Entry {
         actor: SERVER,
         input: Input::Deliver {
             id,
             from: SESSION,
-            message,
+            message: call(rt, alloc),
         },
-        outputs: post(alloc, SERVER, SESSION, reply())?,
+        outputs: post(rt, alloc, SERVER, SESSION, reply()),
         notes: Notes::new(alloc),
-    })
+    }
 }
 
 /// The call ends.
-fn ended(alloc: Global, id: PostId) -> Result<Entry, Memory>
-    ensures { IfOk result (λ entry. entry ≡ ended id) }
+fn ended(rt: &impl Abort, alloc: Global, id: PostId) -> Entry
+    ensures { result ≡ ended id }
 {
-    Ok(Entry {
+    let end = Note::Ended {
+        number: 1,
+        version: Version(0),
+        answer: Answer::NotFound,
+    };
+    Entry {
         actor: SESSION,
         input: Input::Deliver {
             id,
@@ -105,15 +119,8 @@ fn ended(alloc: Global, id: PostId) -> Result<Entry, Memory>
             message: reply(),
         },
         outputs: Posts::new(alloc),
-        notes: note(
-            alloc,
-            Note::Ended {
-                number: 1,
-                version: Version(0),
-                answer: Answer::NotFound,
-            },
-        )?,
-    })
+        notes: note(rt, alloc, end),
+    }
 }
 
 /// An actor with no entry.
@@ -135,20 +142,22 @@ fn enrolled(alloc: Global, clock: &mut Clock, counting: &mut Seat, actor: Actor)
 }
 
 /// One entry more of an actor, and the name of its first post.
-fn step(clock: &Clock, actor: &mut SeatedPart, entry: Entry) -> Result<PostId, Memory>
+fn step(rt: &impl Abort, clock: &Clock, actor: &mut SeatedPart, entry: Entry) -> PostId
     requires seat { IsSeated clock.now actor.old }
     requires few { length actor.old.part < 2 }
     requires cause { DeliveryMeets (Knows actor.old.seat.view) entry }
     ensures actor { actor.new.actor ≡ actor.old.actor }
-    ensures seat { IfOk result (λ _. (IsSeated clock.now actor.new) × ((k : ℕ) → Owns actor.old.seat.view k actor.old.part → Owns actor.new.seat.view k actor.new.part)) }
-    ensures made { IfOk result (λ id. HasMade entry actor.old actor.new id) }
+    ensures seat { (IsSeated clock.now actor.new) × ((k : ℕ) → Owns actor.old.seat.view k actor.old.part → Owns actor.new.seat.view k actor.new.part) }
+    ensures made { HasMade entry actor.old actor.new result }
 {
     let stamp = clock.act(&mut actor.seat, &entry);
-    actor.part.push(Stamped { stamp, entry })?;
-    Ok(PostId {
+    let Ok(()) = actor.part.push(Stamped { stamp, entry }) else {
+        panic!(rt; "no memory");
+    };
+    PostId {
         entry: stamp.0 + 1,
         place: 0,
-    })
+    }
 }
 
 /// A post of one actor becomes known to another.
@@ -164,28 +173,40 @@ fn pass(clock: &Clock, from: &mut SeatedPart, to: &mut SeatedPart, id: PostId)
     clock.learn(&mut to.seat, told);
 }
 
+/// Both actors, the server first.
+fn both(rt: &impl Abort, alloc: Global, server: SeatedPart, session: SeatedPart) -> Vec<SeatedPart>
+    ensures { result.items ≡ server ∷ session ∷ [] }
+{
+    let mut actors = Vec::new(alloc);
+    let Ok(()) = actors.push(server) else {
+        panic!(rt; "no memory");
+    };
+    let Ok(()) = actors.push(session) else {
+        panic!(rt; "no memory");
+    };
+    actors
+}
+
 /// What a session and a server made on their own.
-fn small_run(alloc: Global) -> Result<Trace, Memory>
+fn small_run(rt: &impl Abort, alloc: Global) -> Result<Trace, Memory>
     ensures run { IfOk result (λ trace. IsRun one_get (reverse trace)) }
 {
-    let (mut clock, mut counting) = Clock::new(alloc)?;
+    let (mut clock, mut counting) = begun(rt, alloc);
     let mut session = enrolled(alloc, &mut clock, &mut counting, SESSION);
     let mut server = enrolled(alloc, &mut clock, &mut counting, SERVER);
-    let sent = step(&clock, &mut session, asking(alloc)?)?;
+    let sent = step(rt, &clock, &mut session, asking(rt, alloc));
     pass(&clock, &mut session, &mut server, sent);
-    let answered = step(&clock, &mut server, answering(alloc, sent)?)?;
+    let answered = step(rt, &clock, &mut server, answering(rt, alloc, sent));
     pass(&clock, &mut server, &mut session, answered);
-    step(&clock, &mut session, ended(alloc, answered)?)?;
-    let mut actors = Vec::new(alloc);
-    actors.push(server)?;
-    actors.push(session)?;
+    step(rt, &clock, &mut session, ended(rt, alloc, answered));
+    let actors = both(rt, alloc, server, session);
     gather(alloc, clock, counting, actors)
 }
 
 #[test]
 fn two_actors_are_gathered_into_a_run(rt: HostRuntime) -> Result<(), Fail> {
     let alloc: Global = rt.alloc();
-    let trace = small_run(alloc)?;
+    let trace = small_run(&rt, alloc)?;
     assert_eq!(rt; trace.len(), 3);
     for (place, entry) in trace.as_slice().iter().enumerate() {
         assert!(rt; (entry.actor == SERVER) == (place == 1), "at {place}");
