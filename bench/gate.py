@@ -1,0 +1,93 @@
+#!/usr/bin/env python3
+"""bench/gate.py [COMMAND ..]: runs the gate (bash .ci/run where no command is given) and tells what it cost.
+
+Every second the processor time of each check below the command is read off /proc, so that what a check
+takes in its last second is missing; the last line has all that the command took, as the system counted it.
+For each crate it prints the seconds of its proof, of the proof of its tests, and of its must-fail edits with
+the proof that they begin with. A crate that an earlier run on the machine passed costs nothing: remove what the
+toolchain kept, or give `rt ci --anew`, to measure from nothing. Run it with nothing else running.
+"""
+
+import collections
+import os
+import re
+import resource
+import subprocess
+import sys
+import time
+
+TICKS = os.sysconf("SC_CLK_TCK")
+
+
+def read(path):
+    """Returns a file's text, or nothing of a process that has ended."""
+    try:
+        with open(path, encoding="utf-8", errors="replace") as file:
+            return file.read()
+    except OSError:
+        return ""
+
+
+def processes():
+    """Returns each process with its parent, its name, its start and its processor seconds."""
+    found = {}
+    for pid in filter(str.isdigit, os.listdir("/proc")):
+        head, _, rest = read(f"/proc/{pid}/stat").rpartition(")")
+        fields = rest.split()
+        if len(fields) > 19:
+            seconds = (int(fields[11]) + int(fields[12])) / TICKS
+            found[int(pid)] = int(fields[1]), head.partition("(")[2], fields[19], seconds
+    return found
+
+
+def is_below(found, pid, top):
+    """Whether a process stands below another."""
+    while pid in found and pid != top:
+        pid = found[pid][0]
+    return pid == top
+
+
+def kind_of(words):
+    """Returns the crate of a check and what it checks, or nothing of another process."""
+    crate = re.search(r"--crate-name (\w+)", words)
+    if not crate:
+        return None
+    if "--test" in words:
+        return crate[1], "tests"
+    return crate[1], "proof" if " build " in words else "edits"
+
+
+def sample(top, known, spent):
+    """Notes what each check below the command has taken by now."""
+    found = processes()
+    for pid, (_, name, start, seconds) in found.items():
+        if name.startswith("rattle") and is_below(found, pid, top):
+            check = pid, start
+            if check not in known:
+                known[check] = kind_of(read(f"/proc/{pid}/cmdline").replace("\0", " "))
+            if known[check]:
+                spent[check] = seconds
+
+
+def main(words):
+    known, spent = {}, {}
+    with subprocess.Popen(words or ["bash", ".ci/run"]) as command:
+        while command.poll() is None:
+            sample(command.pid, known, spent)
+            time.sleep(1)
+    table = collections.defaultdict(collections.Counter)
+    for check, seconds in spent.items():
+        crate, kind = known[check]
+        table[crate][kind] += seconds
+    print(f"{'crate':<20}{'proof':>8}{'tests':>8}{'edits':>8}")
+    for crate, of in sorted(table.items(), key=lambda it: -sum(it[1].values())):
+        print(f"{crate:<20}{of['proof']:>8.0f}{of['tests']:>8.0f}{of['edits']:>8.0f}")
+    sums = [sum(of[kind] for of in table.values()) / 60 for kind in ("proof", "tests", "edits")]
+    print(f"{'minutes':<20}" + "".join(f"{it:>8.1f}" for it in sums))
+    took = resource.getrusage(resource.RUSAGE_CHILDREN)
+    print(f"in all {(took.ru_utime + took.ru_stime) / 60:.1f} processor minutes")
+    return command.returncode
+
+
+if __name__ == "__main__":
+    sys.exit(main(sys.argv[1:]))
