@@ -17,16 +17,22 @@ const BOW: usize = 40;
 /// The diagram of a run.
 pub fn picture(alloc: Global, run: &Run) -> Result<String, PictureError> {
     let mut svg = String::new(alloc);
-    head(&mut svg, run)?;
-    epochs(&mut svg, run)?;
-    lines(&mut svg, run)?;
-    calls(&mut svg, run)?;
-    for post in &run.posts {
-        arrows(alloc, &mut svg, run, post)?;
-    }
-    points(&mut svg, run)?;
-    svg.push_str("</svg>\n")?;
+    draw(alloc, &mut svg, run)?;
     Ok(svg)
+}
+
+/// The parts of the diagram, those in front last.
+fn draw(alloc: Global, svg: &mut String, run: &Run) -> Result<(), PictureError> {
+    head(svg, run)?;
+    epochs(svg, run)?;
+    lines(svg, run)?;
+    calls(svg, run)?;
+    for post in &run.posts {
+        arrows(alloc, svg, run, post)?;
+    }
+    points(svg, run)?;
+    svg.push_str("</svg>\n")?;
+    Ok(())
 }
 
 /// The size, the style, the title and the legend.
@@ -184,10 +190,10 @@ fn calls(svg: &mut String, run: &Run) -> Result<(), AllocError> {
 /// An arrow for each delivery of a post, dashed where it isn't the first; a stub with a cross where
 /// there is none.
 fn arrows(alloc: Global, svg: &mut String, run: &Run, post: &Post) -> Result<(), PictureError> {
-    let label = label_of(alloc, post)?;
     let Some(from) = maker_of(run, post.name) else {
         return Ok(());
     };
+    let label = label_of(alloc, post)?;
     let to = across(run.actors.line_of(post.to));
     let mut delivered = false;
     for (place, entry) in run.entries.iter().enumerate() {

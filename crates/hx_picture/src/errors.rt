@@ -7,7 +7,7 @@ use std::{fmt, io};
 pub const MOST_DRAWN: usize = 600;
 
 /// Why there is no picture.
-#[derive(Clone, Copy, PartialEq, Eq)]
+#[derive(Clone, Copy)]
 pub enum PictureError {
     /// There are words, and the program takes none.
     Usage,

@@ -1,6 +1,6 @@
 use crate::actors::Actors;
 use crate::errors::{MOST_DRAWN, PictureError};
-use std::alloc::Global;
+use std::alloc::{AllocError, Global};
 
 /// The name of a post: its entry, and its place among the posts of that entry.
 #[derive(Clone, Copy, PartialEq, Eq)]
@@ -61,20 +61,23 @@ pub fn read_run(alloc: Global, text: &str) -> Result<Run<'_>, PictureError> {
         entries: Vec::new(alloc),
         posts: Vec::new(alloc),
     };
+    read_lines(&mut run, text)?;
+    run.actors.sort();
+    Ok(run)
+}
+
+/// Reads the lines of a report, which has to have entries, and not too many of them.
+fn read_lines<'a>(run: &mut Run<'a>, text: &'a str) -> Result<(), PictureError> {
     let mut lines = 0_usize;
     for line in text.lines() {
         lines = lines.saturating_add(1);
-        read_line(&mut run, line, lines)?;
+        read_line(run, line, lines)?;
     }
-    if run.entries.is_empty() {
-        return Err(PictureError::NoTrace);
+    match run.entries.len() {
+        0 => Err(PictureError::NoTrace),
+        entries if entries > MOST_DRAWN => Err(PictureError::TooLong { entries }),
+        _ => Ok(()),
     }
-    if run.entries.len() > MOST_DRAWN {
-        let entries = run.entries.len();
-        return Err(PictureError::TooLong { entries });
-    }
-    run.actors.sort();
-    Ok(run)
 }
 
 /// Reads one line of a report. The first has to be a report's; lines of histories, rows, epochs and of
@@ -92,18 +95,22 @@ fn read_line<'a>(run: &mut Run<'a>, line: &'a str, number: usize) -> Result<(), 
     match word {
         "space" => run.space = rest,
         "call" => run.calls.push(call_of(rest).ok_or(fault)?)?,
-        "entry" => {
-            let entry = entry_of(rest).ok_or(fault)?;
-            run.actors.add(entry.actor)?;
-            run.entries.push(entry)?;
-        }
-        "post" => {
-            let post = post_of(rest).ok_or(fault)?;
-            run.actors.add(post.to)?;
-            run.posts.push(post)?;
-        }
+        "entry" => add_entry(run, entry_of(rest).ok_or(fault)?)?,
+        "post" => add_post(run, post_of(rest).ok_or(fault)?)?,
         _ => {}
     }
+    Ok(())
+}
+
+fn add_entry<'a>(run: &mut Run<'a>, entry: Entry<'a>) -> Result<(), AllocError> {
+    run.actors.add(entry.actor)?;
+    run.entries.push(entry)?;
+    Ok(())
+}
+
+fn add_post<'a>(run: &mut Run<'a>, post: Post<'a>) -> Result<(), AllocError> {
+    run.actors.add(post.to)?;
+    run.posts.push(post)?;
     Ok(())
 }
 
