@@ -62,6 +62,6 @@ pub use spaces::{Attribute, Attributes, Axes, Axis, Kind, Space, Subspaces};
 pub use starting::first_config;
 pub use texts::Text;
 pub use totals::Totals;
-pub use traces::{Entry, Input, Note, Notes, Script, Step, Steps, Trace};
+pub use traces::{Entry, Input, Note, Notes, Script, Step, Steps};
 pub use updates::{Place, Update, Updates};
 pub use values::{Assign, Assigns, Object, Term, Terms, Value};
