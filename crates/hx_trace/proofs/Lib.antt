@@ -1,0 +1,4 @@
+pub mod Spans
+pub mod Growing
+pub mod Naming
+pub mod Numbering

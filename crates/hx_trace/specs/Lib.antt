@@ -1,0 +1,4 @@
+pub use Rattle.hx_model.specs.Runs
+pub mod Entries
+pub mod Lists
+pub mod Reservations

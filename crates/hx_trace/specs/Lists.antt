@@ -1,0 +1,81 @@
+-- How a trace lies in memory: a head for each entry, and the posts and notes of all entries one after another.
+use Rattle.std.specs.Prelude.{◌≡◌, ℕ, ◌+◌, ◌-◌, ◌<◌, ◌≤◌, ◌^◌, List, length, map, slice_get, slice_range, Option, None, Some, vec_capacity, ⊤}
+use Rattle.std.specs.List.{AllByRecursion}
+use Rattle.hx_types.specs.declared.messages.Post.{Post}
+use Rattle.hx_types.specs.declared.messages.PostId.{PostId}
+use Rattle.hx_types.specs.declared.traces.Entry.{Entry}
+use Rattle.hx_types.specs.declared.traces.Input.{Input}
+use Rattle.hx_types.specs.declared.traces.Note.{Note}
+use Rattle.hx_types.specs.declared.traces.Input.TheVariants.{Tick, Halt, Deliver}
+use Rattle.hx_trace.specs.declared.heads.Head.{Head}
+use Rattle.hx_trace.specs.declared.heads.Span.{Span}
+use Rattle.hx_trace.specs.declared.heads.Taken.{Taken}
+use Rattle.hx_trace.specs.declared.heads.Taken.TheVariants as a_taken
+use Rattle.hx_trace.specs.declared.lists.Lists.{Lists}
+
+-- the items of a run
+abbrev pub spanned : {A : Type 0} → List A → Span → List A
+spanned xs s = slice_range xs s.start (s.start + s.count)
+
+-- the delivery of a post
+abbrev pub delivery : PostId → Option Post → Input
+delivery id None = Tick
+delivery id (Some p) = Deliver id p.from p.message
+
+-- an input that is held
+abbrev pub held : Option Input → Input
+held None = Tick
+held (Some input) = input
+
+abbrev pub input_by : List Post → List Input → Taken → Input
+input_by posts inputs a_taken.Tick = Tick
+input_by posts inputs a_taken.Halt = Halt
+input_by posts inputs (a_taken.Sent entry place at) = delivery (record { entry = entry; place = place }) (slice_get posts at)
+input_by posts inputs (a_taken.Held at) = held (slice_get inputs at)
+
+-- the entry of a head
+abbrev pub entry_by : List Post → List Note → List Input → Head → Entry
+entry_by posts notes inputs h =
+    record { actor = h.actor; input = input_by posts inputs h.taken; outputs = spanned posts h.posts; notes = spanned notes h.notes }
+
+-- the entries of heads of the lists
+abbrev pub entries_by : Lists → List Head → List Entry
+entries_by l heads = map (entry_by l.posts.items l.notes.items l.inputs.items) heads
+
+-- the entries of the lists
+abbrev pub entries_in : Lists → List Entry
+entries_in l = entries_by l l.heads.items
+
+-- what the head names lies in the lists
+abbrev pub IsTakenIn : ℕ → ℕ → Taken → Type 0
+IsTakenIn posts inputs a_taken.Tick = ⊤
+IsTakenIn posts inputs a_taken.Halt = ⊤
+IsTakenIn posts inputs (a_taken.Sent entry place at) = at < posts
+IsTakenIn posts inputs (a_taken.Held at) = at < inputs
+
+pub record IsHeadIn (posts notes inputs : ℕ) (h : Head) : Type 0 where
+  pub taken : IsTakenIn posts inputs h.taken
+  pub posts_end : h.posts.start + h.posts.count ≤ posts
+  pub notes_end : h.notes.start + h.notes.count ≤ notes
+
+abbrev pub AreHeadsIn : Lists → List Head → Type 0
+AreHeadsIn l heads = AllByRecursion (IsHeadIn (length l.posts.items) (length l.notes.items) (length l.inputs.items)) heads
+
+abbrev pub AreWhole : Lists → Type 0
+AreWhole l = AreHeadsIn l l.heads.items
+
+-- there is room for one entry more with p posts and n notes
+pub record HasRoom (l : Lists) (p n : ℕ) : Type 0 where
+  pub heads : length l.heads.items < vec_capacity l.heads
+  pub posts : length l.posts.items + p ≤ vec_capacity l.posts
+  pub notes : length l.notes.items + n ≤ vec_capacity l.notes
+  pub few_heads : length l.heads.items + 1 < 2 ^ 32
+  pub few_posts : length l.posts.items + p < 2 ^ 32
+  pub few_notes : length l.notes.items + n < 2 ^ 32
+
+-- the items of the lists are the same
+pub record IsSame (old new : Lists) : Type 0 where
+  pub heads : new.heads.items ≡ old.heads.items
+  pub posts : new.posts.items ≡ old.posts.items
+  pub notes : new.notes.items ≡ old.notes.items
+  pub inputs : new.inputs.items ≡ old.inputs.items

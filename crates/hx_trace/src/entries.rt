@@ -1,0 +1,65 @@
+ghost use Rattle.std.specs.Prelude.{◌≡◌, map};
+ghost use Rattle.std.specs.Iterator.{YieldsFirstBy, item_count};
+ghost use Rattle.hx_trace.specs.Entries.{entry_seen};
+
+use crate::heads::Head;
+use crate::lists::{Lists, entry_of};
+use hx_types::{Actor, Message, Note, Post, PostId};
+use std::marker::Model;
+
+/// What an actor took in an entry of a trace.
+#[derive(Clone, Copy)]
+pub enum InputRef<'a> {
+    /// Its own turn.
+    Tick,
+    /// It failed.
+    Halt,
+    /// A post that was sent to it.
+    Deliver {
+        id: PostId,
+        from: Actor,
+        message: &'a Message,
+    },
+}
+
+/// An entry of a trace: the input that its actor took, and what it posted and noted.
+#[derive(Clone, Copy)]
+pub struct EntryRef<'a> {
+    pub actor: Actor,
+    pub input: InputRef<'a>,
+    pub outputs: &'a [Post],
+    pub notes: &'a [Note],
+}
+
+/// The entries of a trace in order.
+#[derive(Drop)]
+pub struct Entries<'a> {
+    pub(crate) heads: &'a [Head],
+    pub(crate) lists: &'a Lists,
+}
+
+impl<'a> Model for Entries<'a> {
+    ghost use Rattle.std.specs.Prelude.{List};
+    ghost use Rattle.hx_types.specs.declared.traces.Entry.{Entry};
+    ghost use Rattle.hx_trace.specs.Lists.{AreHeadsIn, entries_by};
+
+    ghost Value = { List Entry };
+
+    ghost view = { λ e. entries_by e.lists.now e.heads.now };
+
+    ghost invariant = { λ e. AreHeadsIn e.lists.now e.heads.now };
+}
+
+impl<'a> Iterator for Entries<'a> {
+    type Item = EntryRef<'a>;
+
+    ghost next_gives = { YieldsFirstBy entry_seen (λ entries. entries) };
+
+    ghost remaining = { item_count (λ entries. entries) };
+
+    fn next(&mut self) -> Option<EntryRef<'a>> {
+        let (head, rest) = self.heads.split_first()?;
+        self.heads = rest;
+        Some(entry_of(self.lists, head))
+    }
+}
