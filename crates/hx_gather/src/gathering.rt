@@ -8,7 +8,8 @@ ghost use Rattle.hx_gather.specs.Gathered.{parts_by, parts_of, CountsAll, IsSeat
 
 use crate::merging::merge_lists;
 use hx_clock::{Clock, Part, Seat, Stamped};
-use hx_types::{Actor, Memory, Trace};
+use hx_trace::Trace;
+use hx_types::{Actor, Memory};
 use std::alloc::Global;
 
 /// What one actor made, with the seat that carries it. It is all that is left of an actor that

@@ -4,7 +4,8 @@ ghost use Rattle.hx_clock.specs.Parts.{IsCausal};
 ghost use Rattle.hx_law_threads.specs.Merged.{IsMerged};
 
 use hx_clock::{Parts, Stamped};
-use hx_types::{Memory, Sequence, Trace};
+use hx_trace::Trace;
+use hx_types::Memory;
 use itertools::Itertools;
 use std::alloc::Global;
 
@@ -23,7 +24,7 @@ pub(crate) fn merge_lists(alloc: Global, lists: Vec<Vec<Stamped>>) -> Result<Tra
     requires causal { IsCausal (map (λ list. list.items) lists.items) }
     ensures merged { IfOk result (λ trace. (merged : List Stamped) × IsMerged (map (λ list. list.items) lists.items) merged × (trace ≡ map (λ x. x.entry) merged)) }
 {
-    let mut trace = Sequence::with_capacity(alloc, entries_in(lists.as_slice()))?;
+    let mut trace = Trace::with_capacity(alloc, entries_in(lists.as_slice()))?;
     for stamped in lists.into_iter().kmerge(alloc)? {
         trace.push(stamped.entry)?;
     }
