@@ -148,7 +148,7 @@ impl Fate for Counted {
 /// How many posts of a run may be lost: all but servers' words that they have halted.
 fn posts_to_lose(ran: &Ran) -> usize {
     let mut count: usize = 0;
-    for entry in ran.trace.as_slice() {
+    for entry in ran.trace.iter() {
         let posts = entry.outputs.as_slice().iter();
         let to_lose = posts.filter(|post| !matches!(post.message, Message::Gone));
         count = count.saturating_add(to_lose.count());

@@ -16,4 +16,6 @@ mod query;
 #[cfg(test)]
 mod region;
 #[cfg(test)]
+mod trace;
+#[cfg(test)]
 mod types;

@@ -12,9 +12,10 @@ ghost use Rattle.hx_gather.specs.Gathered.{IsSeated};
 use crate::clocks::begun;
 use hx_clock::{Clock, Part, Seat, Stamped};
 use hx_gather::{SeatedPart, gather};
+use hx_trace::{InputRef, Trace};
 use hx_types::{
     Actor, Answer, Entry, Epoch, Input, Memory, Message, Note, Notes, Op, Post, PostId, Posts,
-    ServerId, SessionId, Shared, Text, Trace, Version,
+    ServerId, SessionId, Shared, Text, Version,
 };
 use std::alloc::Global;
 use std::process::Abort;
@@ -203,31 +204,23 @@ fn small_run(rt: &impl Abort, alloc: Global) -> Result<Trace, Memory>
     gather(alloc, clock, counting, actors)
 }
 
+/// Whether the entry at a place delivers the post of a name.
+fn is_delivery(trace: &Trace, place: usize, name: PostId) -> bool {
+    match trace.get(place) {
+        Some(entry) => matches!(entry.input, InputRef::Deliver { id, .. } if id == name),
+        None => false,
+    }
+}
+
 #[test]
 fn two_actors_are_gathered_into_a_run(rt: HostRuntime) -> Result<(), Fail> {
     let alloc: Global = rt.alloc();
     let trace = small_run(&rt, alloc)?;
     assert_eq!(rt; trace.len(), 3);
-    for (place, entry) in trace.as_slice().iter().enumerate() {
+    for (place, entry) in trace.iter().enumerate() {
         assert!(rt; (entry.actor == SERVER) == (place == 1), "at {place}");
     }
-    assert!(rt;
-        matches!(
-            trace.as_slice()[1].input,
-            Input::Deliver {
-                id: PostId { entry: 1, place: 0 },
-                ..
-            }
-        )
-    );
-    assert!(rt;
-        matches!(
-            trace.as_slice()[2].input,
-            Input::Deliver {
-                id: PostId { entry: 2, place: 0 },
-                ..
-            }
-        )
-    );
+    assert!(rt; is_delivery(&trace, 1, PostId { entry: 1, place: 0 }));
+    assert!(rt; is_delivery(&trace, 2, PostId { entry: 2, place: 0 }));
     Ok(())
 }

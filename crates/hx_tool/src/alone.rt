@@ -17,7 +17,8 @@ use crate::outcomes::{Answered, Done, Made, Outcome, status};
 use crate::words::{Command, command_of};
 use hx_io::{Sink, Source, read_all, write_all};
 use hx_script::Reason;
-use hx_types::{Actor, LONGEST_SCRIPT, Trace};
+use hx_trace::Trace;
+use hx_types::{Actor, LONGEST_SCRIPT};
 use std::alloc::Global;
 
 /// How many bytes a script may have.

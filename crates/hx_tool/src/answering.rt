@@ -6,7 +6,8 @@ use crate::outcomes::{Answered, Made, Outcome};
 use crate::plans::plans;
 use crate::replaying::replay;
 use crate::words::Command;
-use hx_types::{Memory, Script, Trace};
+use hx_trace::Trace;
+use hx_types::{Memory, Script};
 use std::alloc::Global;
 
 /// What the command makes of the script of a text.

@@ -4,7 +4,8 @@ ghost use Rattle.hx_tool.specs.Outcomes.{status_of};
 use crate::outcomes::{Done, Outcome, status};
 use hx_fate::Fate;
 use hx_mail::Port;
-use hx_types::{Totals, Trace};
+use hx_trace::Trace;
+use hx_types::Totals;
 use std::alloc::Global;
 
 /// How a call ended that may have run on threads, and what it hands back: for each driver in order the

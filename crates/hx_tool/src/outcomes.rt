@@ -4,7 +4,8 @@ ghost use Rattle.hx_tool.specs.Outcomes.{fault_line, reason_word, refusal_line, 
 use hx_io::ReadError;
 use hx_print::{put_actor, put_bytes, put_number};
 use hx_script::{Reason, ScriptError};
-use hx_types::{Actor, Memory, Trace};
+use hx_trace::Trace;
+use hx_types::{Actor, Memory};
 use std::alloc::Global;
 
 /// How a call of the program ended.

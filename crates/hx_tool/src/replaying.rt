@@ -8,7 +8,8 @@ ghost use Rattle.hx_tool.specs.Steps.{AreTaken, HasSteps};
 use crate::outcomes::{Answered, Made};
 use crate::steps::{Stopped, take_steps};
 use hx_report::report;
-use hx_types::{Memory, Script, Trace};
+use hx_trace::Trace;
+use hx_types::{Memory, Script};
 use hx_world::{DrainError, Drained, World};
 use std::alloc::Global;
 

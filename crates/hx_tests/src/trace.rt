@@ -1,0 +1,117 @@
+use crate::parts::list;
+use hx_trace::{EntryRef, InputRef, Trace};
+use hx_types::{
+    Actor, Entry, Epoch, Input, Message, Note, Notes, Post, PostId, Posts, ServerId, SessionId,
+};
+use std::process::Abort;
+
+const SESSION: Actor = Actor::Session(SessionId(1));
+
+const SERVER: Actor = Actor::Server(ServerId(2));
+
+/// A poll of an epoch, by which the posts are told apart.
+fn poll(epoch: u64) -> Post {
+    Post {
+        from: SESSION,
+        to: SERVER,
+        message: Message::Poll {
+            epoch: Epoch(epoch),
+        },
+    }
+}
+
+/// A session's own turn, with two posts and a note.
+fn asking<R: Abort + AllocGlobal>(rt: &R) -> Entry {
+    Entry {
+        actor: SESSION,
+        input: Input::Tick,
+        outputs: list(rt, [poll(7), poll(8)]),
+        notes: list(rt, [Note::Began { number: 1 }]),
+    }
+}
+
+/// The delivery of the second of these posts, as the entry's message has it.
+fn taking<R: Abort + AllocGlobal>(rt: &R, epoch: u64) -> Entry {
+    let message = Message::Poll {
+        epoch: Epoch(epoch),
+    };
+    Entry {
+        actor: SERVER,
+        input: Input::Deliver {
+            id: PostId { entry: 1, place: 1 },
+            from: SESSION,
+            message,
+        },
+        outputs: Posts::new(rt.alloc()),
+        notes: Notes::new(rt.alloc()),
+    }
+}
+
+/// The epoch of a poll.
+fn epoch_of(message: &Message) -> u64 {
+    match message {
+        Message::Poll { epoch } => epoch.0,
+        _ => 0,
+    }
+}
+
+/// The name and the epoch of the poll that an entry delivers.
+fn delivered(entry: EntryRef<'_>) -> Option<(u64, u32, u64)> {
+    match entry.input {
+        InputRef::Deliver { id, message, .. } => Some((id.entry, id.place, epoch_of(message))),
+        _ => None,
+    }
+}
+
+/// What the entry at a place delivers.
+fn delivered_at(trace: &Trace, place: usize) -> Option<(u64, u32, u64)> {
+    delivered(trace.get(place)?)
+}
+
+/// The epoch of the post of a name.
+fn sent(trace: &Trace, entry: u64, place: u32) -> Option<u64> {
+    let post = trace.sent(PostId { entry, place })?;
+    Some(epoch_of(&post.message))
+}
+
+/// How many posts and notes all entries have.
+fn counts(trace: &Trace) -> (usize, usize) {
+    let mut posts: usize = 0;
+    let mut notes: usize = 0;
+    for entry in trace.iter() {
+        posts = posts.saturating_add(entry.outputs.len());
+        notes = notes.saturating_add(entry.notes.len());
+    }
+    (posts, notes)
+}
+
+#[test]
+fn a_trace_gives_what_was_put(rt: HostRuntime) {
+    let mut trace = Trace::with_capacity(rt.alloc(), 2).expect(&rt, "memory");
+    assert!(&rt; trace.is_empty());
+    trace.push(asking(&rt)).expect(&rt, "memory");
+    // The message of a delivery that is put so is kept, whether or not it is that of the post.
+    trace.push(taking(&rt, 9)).expect(&rt, "memory");
+    assert_eq!(&rt; trace.len(), 2);
+    assert_eq!(&rt; counts(&trace), (2, 1));
+    assert_eq!(&rt; sent(&trace, 1, 0), Some(7));
+    assert_eq!(&rt; sent(&trace, 1, 1), Some(8));
+    assert_eq!(&rt; sent(&trace, 1, 2), None);
+    assert_eq!(&rt; sent(&trace, 0, 0), None);
+    assert_eq!(&rt; sent(&trace, 3, 0), None);
+    assert_eq!(&rt; delivered_at(&trace, 0), None);
+    assert_eq!(&rt; delivered_at(&trace, 1), Some((1, 1, 9)));
+    assert_eq!(&rt; delivered_at(&trace, 2), None);
+}
+
+#[test]
+fn a_delivery_of_a_sent_post_names_it(rt: HostRuntime) {
+    let alloc = rt.alloc();
+    let mut trace = Trace::new(alloc);
+    let reserved = trace.reserve_entry(alloc, 2, 1).expect(&rt, "memory");
+    let mut trace = reserved.append_entry(asking(&rt));
+    let reserved = trace.reserve_entry(alloc, 0, 0).expect(&rt, "memory");
+    let trace = reserved.append_entry(taking(&rt, 8));
+    assert_eq!(&rt; counts(&trace), (2, 1));
+    assert_eq!(&rt; delivered_at(&trace, 1), Some((1, 1, 8)));
+}
