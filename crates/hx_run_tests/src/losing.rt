@@ -1,15 +1,16 @@
 //! Lost posts, small boxes, and what fates are asked.
-ghost use Rattle.std.specs.Prelude.{◌≡◌};
+ghost use Rattle.std.specs.Prelude.{◌≡◌, ◌≤◌, length};
 
-use crate::running::{LIBRARY, answers, script_of};
+use crate::running::{LIBRARY, answers, boxed, script_of};
 use hx_desk::Open;
 use hx_fate::{Choice, Faithful, Fate};
 use hx_run::{Ran, run};
 use hx_types::{Actor, Message};
 use std::alloc::Global;
-use std::sync::Arc;
+use std::process::Abort;
 use std::sync::atomic::{AtomicU64, Ordering};
-use std::test::Fail;
+use std::sync::{Arc, Wait};
+use std::thread::Threads;
 
 /// A put, a get and a put that moves the object.
 const MOVED: &str =
@@ -78,25 +79,21 @@ impl Fate for Coin {
 
 /// Each fate draws from a state of its own: 1, 2 and 3.
 #[test]
-fn half_of_all_posts_may_be_lost(rt: HostRuntime) -> Result<(), Fail> {
-    let alloc = rt.alloc();
-    let mut fates: Vec<Box<dyn Fate + Send>> = Vec::new(alloc);
-    fates.push(Box::new(alloc, Coin::new(1))?)?;
-    fates.push(Box::new(alloc, Coin::new(2))?)?;
-    fates.push(Box::new(alloc, Coin::new(3))?)?;
-    let answered = answers(&rt, alloc, LIBRARY, 3, 1024, fates, &Open)?;
-    assert_eq!(rt; answered, Some(13));
-    Ok(())
+fn half_of_all_posts_may_be_lost(rt: HostRuntime) {
+    let mut fates: Vec<Box<dyn Fate + Send>> = Vec::new(rt.alloc());
+    fates.push(boxed(&rt, Coin::new(1))).expect(&rt, "memory");
+    fates.push(boxed(&rt, Coin::new(2))).expect(&rt, "memory");
+    fates.push(boxed(&rt, Coin::new(3))).expect(&rt, "memory");
+    let answered = answers(&rt, LIBRARY, 3, 1024, fates, &Open);
+    assert_eq!(&rt; answered, Some(13));
 }
 
 #[test]
-fn boxes_of_one_place_lose_nothing(rt: HostRuntime) -> Result<(), Fail> {
-    let alloc = rt.alloc();
-    let mut fates: Vec<Box<dyn Fate + Send>> = Vec::new(alloc);
-    fates.push(Box::new(alloc, Faithful::new())?)?;
-    let answered = answers(&rt, alloc, MOVED, 1, 1, fates, &Open)?;
-    assert_eq!(rt; answered, Some(3));
-    Ok(())
+fn boxes_of_one_place_lose_nothing(rt: HostRuntime) {
+    let mut fates: Vec<Box<dyn Fate + Send>> = Vec::new(rt.alloc());
+    fates.push(boxed(&rt, Faithful::new())).expect(&rt, "memory");
+    let answered = answers(&rt, MOVED, 1, 1, fates, &Open);
+    assert_eq!(&rt; answered, Some(3));
 }
 
 /// Delivers all, and tells others how often it was asked and dropped.
@@ -149,30 +146,56 @@ impl Fate for Counted {
 fn posts_to_lose(ran: &Ran) -> usize {
     let mut count: usize = 0;
     for entry in ran.trace.iter() {
-        let posts = entry.outputs.as_slice().iter();
+        let posts = entry.outputs.iter();
         let to_lose = posts.filter(|post| !matches!(post.message, Message::Gone));
         count = count.saturating_add(to_lose.count());
     }
     count
 }
 
-#[test]
-fn a_fate_is_asked_of_each_post_and_dropped_once(rt: HostRuntime) -> Result<(), Fail> {
-    let alloc = rt.alloc();
-    let script = script_of(alloc, LIBRARY)?;
-    let asked = Arc::new(alloc, AtomicU64::new(0))?;
-    let dropped = Arc::new(alloc, AtomicU64::new(0))?;
-    let fate = Counted {
+/// A count that several can hold.
+fn count<R: Abort + AllocGlobal>(rt: &R) -> Arc<AtomicU64, Global> {
+    Arc::new(rt.alloc(), AtomicU64::new(0)).expect(rt, "memory")
+}
+
+/// A fate that tells by these counts how often it was asked and dropped.
+fn counted<R: Abort + AllocGlobal>(
+    rt: &R,
+    asked: &Arc<AtomicU64, Global>,
+    dropped: &Arc<AtomicU64, Global>,
+) -> Counted {
+    Counted {
         chosen: 0,
-        asked: Arc::try_clone(&asked)?,
-        dropped: Arc::try_clone(&dropped)?,
-    };
-    let mut fates: Vec<Box<dyn Fate + Send>> = Vec::new(alloc);
-    fates.push(Box::new(alloc, fate)?)?;
-    let ran = run(&rt, alloc, &script, 1, 1024, fates, &Open)?;
-    assert_eq!(rt; asked.load(Ordering::SeqCst), posts_to_lose(&ran) as u64);
-    assert_eq!(rt; dropped.load(Ordering::SeqCst), 0);
+        asked: Arc::try_clone(asked).expect(rt, "a count of owners"),
+        dropped: Arc::try_clone(dropped).expect(rt, "a count of owners"),
+    }
+}
+
+/// A run of the library's day on one thread.
+fn day<R: Abort + AllocGlobal + Threads + Wait + Sync>(
+    rt: &R,
+    fates: Vec<Box<dyn Fate + Send>>,
+) -> Ran
+    requires { 1 ≤ length fates.items }
+{
+    let script = script_of(rt, LIBRARY);
+    let ran = run(rt, rt.alloc(), &script, 1, 1024, fates, &Open).expect(rt, "memory");
+    drop(script);
+    ran
+}
+
+#[test]
+fn a_fate_is_asked_of_each_post_and_dropped_once(rt: HostRuntime) {
+    let asked = count(&rt);
+    let dropped = count(&rt);
+    let mut fates: Vec<Box<dyn Fate + Send>> = Vec::new(rt.alloc());
+    let fate = counted(&rt, &asked, &dropped);
+    fates.push(boxed(&rt, fate)).expect(&rt, "memory");
+    let ran = day(&rt, fates);
+    let posts = posts_to_lose(&ran) as u64;
+    let early = dropped.load(Ordering::SeqCst);
     drop(ran);
-    assert_eq!(rt; dropped.load(Ordering::SeqCst), 1);
-    Ok(())
+    assert_eq!(&rt; early, 0);
+    assert_eq!(&rt; asked.load(Ordering::SeqCst), posts);
+    assert_eq!(&rt; dropped.load(Ordering::SeqCst), 1);
 }

@@ -2,14 +2,13 @@
 //! two threads at once can do.
 ghost use Rattle.std.specs.Prelude.{◌≤◌};
 
-use crate::running::answers;
+use crate::running::{answers, boxed};
 use hx_desk::Gate;
 use hx_fate::{Faithful, Fate};
 use hx_types::{Actor, ServerId, SessionId};
-use std::alloc::Global;
+use std::process::Abort;
 use std::sync::Wait;
 use std::sync::atomic::{AtomicU64, Ordering};
-use std::test::Fail;
 use std::thread;
 use std::thread::Threads;
 
@@ -85,34 +84,31 @@ impl Gate for Hold {
 
 /// Runs the script on so many threads, which are held: how many calls are answered, and how often a
 /// thread gave up.
-fn held<R: Threads + Wait + Sync>(
+fn held<R: Abort + AllocGlobal + Threads + Wait + Sync>(
     rt: &R,
-    alloc: Global,
     workers: u32,
     patience: u64,
-) -> Result<(Option<usize>, u64), Fail>
+) -> (Option<usize>, u64)
     requires { (1 ≤ workers) × (workers ≤ 2) }
 {
-    let mut fates: Vec<Box<dyn Fate + Send>> = Vec::new(alloc);
-    fates.push(Box::new(alloc, Faithful::new())?)?;
-    fates.push(Box::new(alloc, Faithful::new())?)?;
+    let mut fates: Vec<Box<dyn Fate + Send>> = Vec::new(rt.alloc());
+    fates.push(boxed(rt, Faithful::new())).expect(rt, "memory");
+    fates.push(boxed(rt, Faithful::new())).expect(rt, "memory");
     let hold = Hold::new(patience);
-    let answered = answers(rt, alloc, APART, workers, 1024, fates, &hold)?;
-    Ok((answered, hold.gave_up.load(Ordering::SeqCst)))
+    let answered = answers(rt, APART, workers, 1024, fates, &hold);
+    (answered, hold.gave_up.load(Ordering::SeqCst))
 }
 
 #[test]
-fn two_threads_overlap(rt: HostRuntime) -> Result<(), Fail> {
-    let (answered, gave_up) = held(&rt, rt.alloc(), 2, 200_000_000)?;
-    assert_eq!(rt; answered, Some(3));
-    assert_eq!(rt; gave_up, 0);
-    Ok(())
+fn two_threads_overlap(rt: HostRuntime) {
+    let (answered, gave_up) = held(&rt, 2, 200_000_000);
+    assert_eq!(&rt; answered, Some(3));
+    assert_eq!(&rt; gave_up, 0);
 }
 
 #[test]
-fn one_thread_waits_in_vain(rt: HostRuntime) -> Result<(), Fail> {
-    let (answered, gave_up) = held(&rt, rt.alloc(), 1, 1_000_000)?;
-    assert_eq!(rt; answered, Some(3));
-    assert!(rt; gave_up > 0);
-    Ok(())
+fn one_thread_waits_in_vain(rt: HostRuntime) {
+    let (answered, gave_up) = held(&rt, 1, 1_000_000);
+    assert_eq!(&rt; answered, Some(3));
+    assert!(&rt; gave_up > 0);
 }

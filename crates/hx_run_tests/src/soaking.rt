@@ -6,7 +6,7 @@ use hx_print::{put_bytes, put_named, put_text};
 use hx_types::{Answer, Effect, Exact, Memory, Object, Op, Space, Text, effect};
 use std::alloc::Global;
 use std::collections::BTreeMap;
-use std::test::Fail;
+use std::process::Abort;
 
 /// What a soak of these calls writes, as another program counted it from the same definitions.
 const SUMMARY: &str =
@@ -45,40 +45,52 @@ impl Counts {
 }
 
 /// Takes a call on a key, and answers it.
-fn take(
-    alloc: Global,
+fn take<R: Abort + AllocGlobal>(
+    rt: &R,
     space: &Space,
     map: &mut BTreeMap<Text, Object>,
     key: &Text,
     op: &Op,
-) -> Result<Answer, Fail> {
+) -> Answer {
+    let effect = effect(rt.alloc(), space, map.get(key), op).expect(rt, "memory");
     let Effect {
         object,
         answer,
         changes: _,
-    } = effect(alloc, space, map.get(key), op)?;
+    } = effect;
     match object {
-        Some(object) => drop(map.insert(key.copy(alloc)?, object)?),
+        Some(object) => put(rt, map, key, object),
         None => drop(map.remove(key)),
     }
-    Ok(answer)
+    answer
+}
+
+/// Puts an object in the place of a key.
+fn put<R: Abort + AllocGlobal>(
+    rt: &R,
+    map: &mut BTreeMap<Text, Object>,
+    key: &Text,
+    object: Object,
+) {
+    let key = key.copy(rt.alloc()).expect(rt, "memory");
+    let before = map.insert(key, object).expect(rt, "memory");
+    drop(before);
 }
 
 /// Takes all calls of a session.
-fn take_all(
-    alloc: Global,
+fn take_all<R: Abort + AllocGlobal>(
+    rt: &R,
     space: &Space,
     map: &mut BTreeMap<Text, Object>,
     counts: &mut Counts,
     calls: &[Op],
-) -> Result<(), Fail> {
+) {
     for op in calls {
         match op.key() {
-            Some(key) => counts.count(&take(alloc, space, map, key, op)?),
+            Some(key) => counts.count(&take(rt, space, map, key, op)),
             None => counts.searches = counts.searches.saturating_add(1),
         }
     }
-    Ok(())
 }
 
 /// The lines of all objects in byte order of keys, as reports have them after `present`.
@@ -94,21 +106,18 @@ fn lines(alloc: Global, space: &Space, map: &BTreeMap<Text, Object>) -> Result<V
     Ok(out)
 }
 
-#[test]
-fn drawn_calls_add_up(rt: HostRuntime) -> Result<(), Fail> {
-    let alloc = rt.alloc();
-    let script = script_of(alloc, 7, 16384)?;
-    let mut map = BTreeMap::new(alloc);
-    let mut counts = Counts::new();
-    for session in script.sessions.as_slice() {
-        take_all(
-            alloc,
-            &script.space,
-            &mut map,
-            &mut counts,
-            session.as_slice(),
-        )?;
-    }
+/// The hash of the lines of all objects.
+fn hash_of<R: Abort + AllocGlobal>(
+    rt: &R,
+    space: &Space,
+    map: &BTreeMap<Text, Object>,
+) -> u64 {
+    let lines = lines(rt.alloc(), space, map).expect(rt, "memory");
+    fnv(&lines)
+}
+
+/// The summary of counts, of so many objects and their hash.
+fn told<R: Abort + AllocGlobal>(rt: &R, counts: Counts, objects: usize, hash: u64) -> String {
     let Counts {
         done,
         not_found,
@@ -116,11 +125,27 @@ fn drawn_calls_add_up(rt: HostRuntime) -> Result<(), Fail> {
         found,
         searches,
     } = counts;
-    let objects = map.len();
-    let hash = fnv(&lines(alloc, &script.space, &map)?);
-    let told = format!(in alloc;
+    let told = format!(in rt.alloc();
         "soak 1\ncalls 16384\ndone {done}\nnotfound {not_found}\ncmpfail {failed}\nfound {found}\nsearches {searches}\nobjects {objects}\ndigest {hash:016x}\nend\n"
-    )?;
-    assert_eq!(rt; told.as_str(), SUMMARY);
-    Ok(())
+    );
+    told.expect(rt, "memory")
+}
+
+#[test]
+fn drawn_calls_add_up(rt: HostRuntime) {
+    let script = script_of(rt.alloc(), 7, 16384).expect(&rt, "memory");
+    let mut map = BTreeMap::new(rt.alloc());
+    let mut counts = Counts::new();
+    for session in script.sessions.as_slice() {
+        take_all(
+            &rt,
+            &script.space,
+            &mut map,
+            &mut counts,
+            session.as_slice(),
+        );
+    }
+    let hash = hash_of(&rt, &script.space, &map);
+    let told = told(&rt, counts, map.len(), hash);
+    assert_eq!(&rt; told.as_str(), SUMMARY);
 }
