@@ -1,7 +1,8 @@
-use Rattle.std.proofs.Common.{◌≡◌, ◌+◌, ◌<◌, Global, List, Vec, Some, map, length, sym, ap, ◌∙◌, arith}
+use Rattle.std.proofs.Common.{◌≡◌, ◌+◌, ◌<◌, Global, List, Vec, Some, map, length, get_or, sym, ap, ◌∙◌, arith}
 use Rattle.std.proofs.lemmas.Option.{get_or_from_slice_get}
 use Rattle.std.specs.Option.{option_map}
 use Rattle.std.specs.Prelude.{slice_get}
+use Rattle.hx_types.specs.declared.traces.Entry.{Entry}
 use Rattle.hx_types.specs.Fitting.{call_of}
 use Rattle.hx_trace.specs.Entries.{entry_seen}
 use Rattle.hx_history.specs.declared.call_notes.CallNotes.{CallNotes}
@@ -22,14 +23,16 @@ loop-place-preserved c =
     let within : c.loop-place.place < length c.args.trace.now = omega (arith, c.loop-place-test.true, c.len-place-end.ensures) in
     elim c.match-get.branch [
       | in-Some w ↦
-          let found : Some (entry_seen w.in-Some.entry) ≡ slice_get c.args.trace.now c.loop-place.place =
-          ap (option_map entry_seen) (sym w.in-Some.is) ∙ c.get.ensures in
-          let table : c.match-get.table ≡ w.take_entry.new.table = w.table-is in
+          let x : Entry = entry_seen w.in-Some.entry in
+          let found : Some x ≡ slice_get c.args.trace.now c.loop-place.place = ap (option_map entry_seen) (sym w.in-Some.is) ∙ c.get.ensures in
+          let read : x ≡ get_or c.args.trace.now c.loop-place.place x = sym (get_or_from_slice_get c.args.trace.now c.loop-place.place x x (sym found)) in
           record {
-            spans = λ caller. ap (λ (t : Vec (Vec CallNotes Global) Global). span_in (map (λ row. row.items) t.items) caller) table ∙ w.take_entry.ensures.spans caller
-                ∙ ap (option_map (after_entry caller (c.loop-place.place + 1) (entry_seen w.in-Some.entry))) (c.loop-place.invariant.spans caller)
-                ∙ spans_more c.args.trace.now c.loop-place.place (entry_seen w.in-Some.entry) within (sym (get_or_from_slice_get c.args.trace.now c.loop-place.place (entry_seen w.in-Some.entry) (entry_seen w.in-Some.entry) (sym found))) caller (call_of c.args.script.now caller);
-            as_script = ap (λ (t : Vec (Vec CallNotes Global) Global). shape (map (λ row. row.items) t.items)) table ∙ w.take_entry.ensures.same_shape ∙ c.loop-place.invariant.as_script;
+            spans = λ caller. ap (λ (t : Vec (Vec CallNotes Global) Global). span_in (map (λ row. row.items) t.items) caller) w.table-is
+                ∙ w.take_entry.ensures.spans caller
+                ∙ ap (option_map (after_entry caller (c.loop-place.place + 1) x)) (c.loop-place.invariant.spans caller)
+                ∙ spans_more c.args.trace.now c.loop-place.place x within read caller (call_of c.args.script.now caller);
+            as_script = ap (λ (t : Vec (Vec CallNotes Global) Global). shape (map (λ row. row.items) t.items)) w.table-is
+                ∙ w.take_entry.ensures.same_shape ∙ c.loop-place.invariant.as_script;
           }
       | in_default w ↦ absurd (not_past c.args.trace.now c.loop-place.place within (ap (option_map entry_seen) (sym w.in_default.is) ∙ c.get.ensures))
     ]
