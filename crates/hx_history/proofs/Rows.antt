@@ -31,6 +31,12 @@ numbered_at xs i (suc n) x is within read =
     let same : n ≡ i = omega arith in
     ap (slice_get xs) same ∙ slice_get-get_or xs i x within ∙ ap (λ y. Some y) (sym read)
 
+-- there is an item at a place within a list
+pub not_past : {A : Type 0} (xs : List A) (i : ℕ) → i < length xs → None ≡ slice_get xs i → ⊥
+not_past [] i within none = omega (arith, within)
+not_past (x ∷ xs) zero within none = cc
+not_past (x ∷ xs) (suc i) within none = not_past xs i (omega arith) none
+
 pub slice_get-set_other : {A : Type 0} (xs : List A) (i k : ℕ) (y : A) → k ≢ i → slice_get (set xs i y) k ≡ slice_get xs k
 slice_get-set_other [] i k y other = refl
 slice_get-set_other (x ∷ xs) zero zero y other = absurd (other refl)

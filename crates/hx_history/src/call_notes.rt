@@ -1,11 +1,11 @@
 ghost use Rattle.std.specs.Prelude.{◌≡◌, ◌+◌, ◌<◌, ◌⊎◌, ℕ, map, length, replicate, reverse, IfNone, IfSome, IfOk};
 ghost use Rattle.std.specs.Option.{option_map};
 ghost use Rattle.hx_types.specs.Fitting.{call_of, numbered};
+ghost use Rattle.hx_trace.specs.Entries.{entry_seen};
 ghost use Rattle.hx_history.specs.Calls.{after_entry, after_note, after_notes, no_notes, notes_of, shape, span_in, span_of};
 
-use hx_types::{
-    Actor, Answer, Caller, Calls, Entry, Memory, Note, Script, SessionId, Trace, Version,
-};
+use hx_trace::{EntryRef, Trace};
+use hx_types::{Actor, Answer, Caller, Calls, Memory, Note, Script, SessionId, Version};
 use std::alloc::Global;
 
 /// The begin of a call.
@@ -111,15 +111,15 @@ fn take_notes<'a>(row: &mut SessionNotes<'a>, session: SessionId, entry: u64, no
 }
 
 /// Puts down what an entry says.
-fn take_entry<'a>(table: &mut Vec<SessionNotes<'a>>, place: u64, entry: &'a Entry)
-    ensures spans { (c : Caller) → span_in (map (λ row. row.items) table.new.items) c ≡ option_map (after_entry c place entry.now) (span_in (map (λ row. row.items) table.old.items) c) }
+fn take_entry<'a>(table: &mut Vec<SessionNotes<'a>>, place: u64, entry: EntryRef<'a>)
+    ensures spans { (c : Caller) → span_in (map (λ row. row.items) table.new.items) c ≡ option_map (after_entry c place (entry_seen entry.entry)) (span_in (map (λ row. row.items) table.old.items) c) }
     ensures same_shape { shape (map (λ row. row.items) table.new.items) ≡ shape (map (λ row. row.items) table.old.items) }
 {
     let Actor::Session(session) = entry.actor else {
         return;
     };
     if let Some(row) = place_of(session.0, table.len()) {
-        take_notes(&mut table[row], session, place, entry.notes.as_slice());
+        take_notes(&mut table[row], session, place, entry.notes);
     }
 }
 
@@ -133,8 +133,10 @@ pub fn table<'a>(
     ensures as_script { IfOk result (λ table. shape (map (λ row. row.items) table.items) ≡ shape script.now.sessions) }
 {
     let mut table = empty_table(alloc, script)?;
-    for (place, entry) in trace.as_slice().iter().enumerate() {
-        take_entry(&mut table, place as u64 + 1, entry);
+    for place in 0..trace.len() {
+        if let Some(entry) = trace.get(place) {
+            take_entry(&mut table, place as u64 + 1, entry);
+        }
     }
     Ok(table)
 }

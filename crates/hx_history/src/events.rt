@@ -2,7 +2,8 @@ ghost use Rattle.std.specs.Prelude.{◌≡◌, ◌++◌, map, OnOk, IfOk};
 ghost use Rattle.std.specs.Option.{option_map};
 ghost use Rattle.hx_history.specs.Events.{End, event_of as event_by, event_view, events_in, events_of, key_of, read_of as read_at_end};
 
-use hx_types::{Actor, Answer, Caller, Memory, Note, Op, Script, Text, Trace, Update, Version};
+use hx_trace::Trace;
+use hx_types::{Actor, Answer, Caller, Memory, Note, Op, Script, Text, Update, Version};
 use std::alloc::Global;
 
 /// A get that ended without being refused.
@@ -106,8 +107,8 @@ pub fn events<'a>(
     ensures { IfOk result (λ events. map event_view events.items ≡ events_of script.now trace.now) }
 {
     let mut events = Vec::new(alloc);
-    for entry in trace.as_slice() {
-        push_events(&mut events, script, entry.actor, entry.notes.as_slice())?;
+    for entry in trace.iter() {
+        push_events(&mut events, script, entry.actor, entry.notes)?;
     }
     Ok(events)
 }

@@ -10,7 +10,8 @@ ghost use Rattle.hx_history.specs.Listed.{AreHistories, listed_of};
 
 use crate::events::{Event, events};
 use crate::placing::history_from;
-use hx_types::{Items, Memory, Same, Script, Sequence, Text, Trace};
+use hx_trace::Trace;
+use hx_types::{Items, Memory, Same, Script, Sequence, Text};
 use std::alloc::Global;
 use std::collections::BTreeMap;
 

@@ -5,7 +5,8 @@ ghost use Rattle.hx_model.specs.Histories.{records_of};
 ghost use Rattle.hx_history.specs.Calls.{end_view, record_by, records_in};
 
 use crate::call_notes::{Begin, CallNotes, End, table};
-use hx_types::{Exact, Memory, Record, Records, Script, Trace, Version};
+use hx_trace::Trace;
+use hx_types::{Exact, Memory, Record, Records, Script, Version};
 use std::alloc::Global;
 
 /// The record of a call.

@@ -5,7 +5,8 @@ ghost use Rattle.hx_history.specs.Calls.{end_view};
 ghost use Rattle.hx_history.specs.Searches.{searched_by, searches_in, searches_of};
 
 use crate::call_notes::{Begin, CallNotes, End, table};
-use hx_types::{Answer, Exact, Memory, Op, Script, Searched, Searches, Trace};
+use hx_trace::Trace;
+use hx_types::{Answer, Exact, Memory, Op, Script, Searched, Searches};
 use std::alloc::Global;
 
 /// The finished search of a call, if it is one that ended with rows.

@@ -1,8 +1,5 @@
-use Rattle.std.proofs.Common.{◌≡◌, ◌<◌, ◌⊎◌, ◌+◌, List, length, ap, ◌∙◌, arith}
-use Rattle.std.specs.Option.{option_map}
-use Rattle.hx_types.specs.declared.traces.Note.{Note}
-use Rattle.hx_types.specs.Fitting.{numbered}
-use Rattle.hx_history.specs.Calls.{after_notes, span_of}
+use Rattle.std.proofs.Common.{◌≡◌, ◌<◌, ◌⊎◌, ◌+◌, length, arith}
+use Rattle.hx_trace.specs.Entries.{entry_seen}
 use Rattle.hx_history.proofs.Rows.{entry_taken, same_shape, no_row_of}
 use Rattle.hx_history.proofs.call_notes.take_entry.Goals as goal
 
@@ -11,11 +8,8 @@ returns-in-Some-clause-spans c =
     let within : c.in-Some.row < length c.args.table.now.items = omega (arith, c.args.table.now.ok.0, c.in-Some.ensures.found.1) in
     let is : c.in-Some.row + 1 ≡ c.in-Session.session.0 = c.in-Some.ensures.found.0 in
     entry_taken (λ row. row.items) c.args.table.now.items c.in-Some.row c.index_mut.result.now c.take_notes.new.row within c.index_mut.ensures.value
-    c.in-Session.session c.args.place c.args.entry.now is c.in-Session.is
-    (
-    λ n. c.take_notes.ensures.spans n
-    ∙ ap (λ (notes : List Note). option_map (after_notes c.in-Session.session c.args.place n notes) (option_map span_of (numbered c.index_mut.result.now.items n))) c.as_slice.ensures
-    )
+    c.in-Session.session c.args.place (entry_seen c.args.entry) is c.in-Session.is
+    c.take_notes.ensures.spans
 
 pub returns-in-Some-clause-same_shape : goal.returns-in-Some-clause-same_shape
 returns-in-Some-clause-same_shape c =
@@ -27,4 +21,4 @@ pub returns-in_default-place_of-clause-spans : goal.returns-in_default-place_of-
 returns-in_default-place_of-clause-spans c =
     let none : (c.in-Session.session.0 ≡ 0) ⊎ (c.len.result < c.in-Session.session.0) = c.in_default-place_of.ensures.none in
     let long : c.len.result ≡ length c.args.table.now.items = omega (arith, c.args.table.now.ok.0) in
-    no_row_of (λ row. row.items) c.args.table.now.items c.len.result long c.in-Session.session c.args.place c.args.entry.now c.in-Session.is none
+    no_row_of (λ row. row.items) c.args.table.now.items c.len.result long c.in-Session.session c.args.place (entry_seen c.args.entry) c.in-Session.is none
