@@ -91,7 +91,9 @@ fn half_of_all_posts_may_be_lost(rt: HostRuntime) {
 #[test]
 fn boxes_of_one_place_lose_nothing(rt: HostRuntime) {
     let mut fates: Vec<Box<dyn Fate + Send>> = Vec::new(rt.alloc());
-    fates.push(boxed(&rt, Faithful::new())).expect(&rt, "memory");
+    fates
+        .push(boxed(&rt, Faithful::new()))
+        .expect(&rt, "memory");
     let answered = answers(&rt, MOVED, 1, 1, fates, &Open);
     assert_eq!(&rt; answered, Some(3));
 }
@@ -159,7 +161,7 @@ fn count<R: Abort + AllocGlobal>(rt: &R) -> Arc<AtomicU64, Global> {
 }
 
 /// A fate that tells by these counts how often it was asked and dropped.
-fn counted<R: Abort + AllocGlobal>(
+fn counting_fate<R: Abort + AllocGlobal>(
     rt: &R,
     asked: &Arc<AtomicU64, Global>,
     dropped: &Arc<AtomicU64, Global>,
@@ -189,7 +191,7 @@ fn a_fate_is_asked_of_each_post_and_dropped_once(rt: HostRuntime) {
     let asked = count(&rt);
     let dropped = count(&rt);
     let mut fates: Vec<Box<dyn Fate + Send>> = Vec::new(rt.alloc());
-    let fate = counted(&rt, &asked, &dropped);
+    let fate = counting_fate(&rt, &asked, &dropped);
     fates.push(boxed(&rt, fate)).expect(&rt, "memory");
     let ran = day(&rt, fates);
     let posts = posts_to_lose(&ran) as u64;

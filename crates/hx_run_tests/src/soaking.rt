@@ -72,8 +72,10 @@ fn put<R: Abort + AllocGlobal>(
     key: &Text,
     object: Object,
 ) {
-    let key = key.copy(rt.alloc()).expect(rt, "memory");
-    let before = map.insert(key, object).expect(rt, "memory");
+    let copied: Result<Text, Memory> = key.copy(rt.alloc());
+    let Ok(before) = map.insert(copied.expect(rt, "memory"), object) else {
+        panic!(rt; "memory");
+    };
     drop(before);
 }
 
@@ -107,11 +109,7 @@ fn lines(alloc: Global, space: &Space, map: &BTreeMap<Text, Object>) -> Result<V
 }
 
 /// The hash of the lines of all objects.
-fn hash_of<R: Abort + AllocGlobal>(
-    rt: &R,
-    space: &Space,
-    map: &BTreeMap<Text, Object>,
-) -> u64 {
+fn hash_of<R: Abort + AllocGlobal>(rt: &R, space: &Space, map: &BTreeMap<Text, Object>) -> u64 {
     let lines = lines(rt.alloc(), space, map).expect(rt, "memory");
     fnv(&lines)
 }
