@@ -1,9 +1,8 @@
 -- The queue: names of posts, among them the undelivered ones whose receivers haven't halted.
-use Rattle.std.proofs.Common.{◌≡◌, ℕ, ◌+◌, inl, inr, Bool, true, false, not, List, [], ◌∷◌, ◌++◌, length, drop, Option, Some, None, refl, sym, ap, ◌∙◌, subst, arith, cond}
+use Rattle.std.proofs.Common.{◌≡◌, ◌+◌, inl, inr, Bool, true, false, not, List, [], ◌∷◌, ◌++◌, length, drop, Option, Some, None, refl, sym, ap, ◌∙◌, subst, arith, cond}
 use Rattle.std.specs.Prelude.{reverse, slice_get}
 use Rattle.std.specs.List.{filter}
-use Rattle.std.specs.Option.{option_map}
-use Rattle.std.proofs.lemmas.Bool.{cases_Bool, cond-true, cond-false, cond_both, eqb-true, false≢true, not-true}
+use Rattle.std.proofs.lemmas.Bool.{cond-true, cond-false, cond_both, eqb-true, false≢true, not-true}
 use Rattle.hx_types.specs.declared.messages.Post.{Post}
 use Rattle.hx_types.specs.declared.messages.PostId.{PostId}
 use Rattle.hx_types.specs.declared.ids.Actor.{Actor}
@@ -24,7 +23,7 @@ use Rattle.hx_world.specs.declared.sessions.CountedSession.{CountedSession}
 use Rattle.hx_world.specs.Filing.{names_after}
 use Rattle.hx_world.specs.Idle.{IsPostedFirst}
 use Rattle.hx_world.specs.Invariant.{IsQueue, IsWorldOf}
-use Rattle.hx_world.specs.Names.{AreAscending, can_receive}
+use Rattle.hx_world.specs.Names.{can_receive}
 use Rattle.hx_world.proofs.Naming.{append-ascends, before_entry, delivery-ascends, name_in, named_still, named_within, names-ascend, new_named, still_named, waiting_named}
 
 -- ---- filters

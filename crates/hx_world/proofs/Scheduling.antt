@@ -1,6 +1,6 @@
 -- Which step the schedule takes next.
 use Rattle.std.proofs.Common.{◌≡◌, ℕ, zero, suc, ◌+◌, ◌<◌, inl, inr, Bool, true, false, not, ◌&&◌, List, [], ◌∷◌, ◌++◌, length, Option, Some, None, refl, sym, ap, ◌∙◌, subst, arith, cond, ltb, leb, add-one}
-use Rattle.std.specs.Prelude.{⊤, reverse, slice_get, is_some, IsSomeAnd, MatchOption}
+use Rattle.std.specs.Prelude.{⊤, reverse, is_some, IsSomeAnd, MatchOption}
 use Rattle.std.specs.Option.{option_map}
 use Rattle.std.proofs.lemmas.Bool.{cond-true, cond-false, cases_eq, and_from, and_parts, and_right, le-leb, lt-ltb, ltb-true, not-true}
 use Rattle.hx_types.specs.declared.calls.Op.{Op}

@@ -40,15 +40,12 @@ use Rattle.hx_world.specs.Turns.{HasNoTurn, HasTurn, IsAdmitted, IsBarred, is_en
 use Rattle.hx_world.specs.Worlds.{most_entries}
 use Rattle.hx_world.proofs.Advancing.{IsGiven, attended_entry, attended_world, coordinated_entry, coordinated_world, given, served_entry, served_world}
 use Rattle.hx_world.proofs.Seating.{at_set, item_read}
-use Rattle.hx_world.proofs.Taking.{attends, coordinates, server_exists, serves, session_exists}
+use Rattle.hx_world.proofs.Taking.{attends, coordinates, server_exists, server_id, serves, session_exists, session_id}
 use Rattle.hx_world.proofs.Tallies.{few_entries}
 
 -- no world makes more entries
 pub most_of : (script : Script) (actors : Actors) (log : Log) → IsWorldOn script actors log → length log.trace ≤ most_entries
 most_of script actors log w = few_entries script log.trace w.past.valid w.past.run w.past.few
-
-pub short : (script : Script) (actors : Actors) (log : Log) → IsWorldOn script actors log → length log.trace < 4294967296
-short script actors log w = let few = most_of script actors log w in omega (arith, few)
 
 pub ascending : (script : Script) (actors : Actors) (log : Log) → IsWorldOn script actors log → AreAscending log.waiting.items
 ascending script actors log w = w.queue.ascending
@@ -178,6 +175,12 @@ module _ (script : Script) (actors : Actors) (log : Log) (w : IsWorldOn script a
         (serves script t w.past s input (subst (λ (x : ServerId). AreInOrder script.space (server_of script x t)) place_is at.in_order) running may)
         )
 
+    -- it has its number
+    pub may_serve : (h : CountedServer) → h ≡ get_or actors.servers.items (s.0 - 1) h → (input : Input) → MayTake t (Server s) input → MayTake t (Server h.server.state.id) input
+    may_serve h e input may =
+        let number : h.server.state.id ≡ s = ap (λ (x : ServerState). x.id) (server_here h e).state ∙ server_id script t w.past (server_at (s.0 - 1)) ∙ place_is in
+        subst (λ (x : ServerId). MayTake t (Server x) input) (sym number) may
+
     -- whether it has halted
     pub halted_here : (h : CountedServer) → h ≡ get_or actors.servers.items (s.0 - 1) h → h.server.state.halted ≡ has_halted script t (Server s)
     halted_here h e = ap (λ (x : ServerState). x.halted) (server_here h e).state ∙ ap (λ (x : ServerId). has_halted script t (Server x)) place_is
@@ -266,6 +269,12 @@ module _ (script : Script) (actors : Actors) (log : Log) (w : IsWorldOn script a
         subst (λ (y : SessionState). session.CanTake script.space y input) (sym (at.state ∙ ap (λ (v : SessionId). session_of script v t) session_is))
         (attends script t w.past u input may)
         )
+
+    -- it has its number
+    pub may_attend : (x : CountedSession) → x ≡ get_or actors.sessions.items (u.0 - 1) x → (input : Input) → MayTake t (Session u) input → MayTake t (Session x.session.state.id) input
+    may_attend x e input may =
+        let number : x.session.state.id ≡ u = ap (λ (y : SessionState). y.id) (session_here x e).state ∙ session_id script t w.past (session_at (u.0 - 1)) ∙ session_is in
+        subst (λ (v : SessionId). MayTake t (Session v) input) (sym number) may
 
     module _ (x : CountedSession) (read : x ≡ get_or actors.sessions.items (u.0 - 1) x) (input : Input) where
       attended_is : session.session_entry x.session.space x.session.state input ≡ entry_by script t (given (Session (session_at (u.0 - 1))) input)

@@ -1,4 +1,6 @@
-ghost use Rattle.std.specs.Prelude.{◌≡◌, ◌<◌, ◌^◌, OnOk, OnErr, IfErr, length};
+ghost use Rattle.std.specs.Prelude.{OnOk, OnErr, IfErr, reverse};
+ghost use Rattle.hx_types.specs.declared.ids.Actor.TheVariants as an_actor;
+ghost use Rattle.hx_model.specs.Runs.{MayTake};
 ghost use Rattle.hx_session.specs.Sessions.{CanTake, session_entry};
 ghost use Rattle.hx_world.specs.Filing.{Files, IsSameLog};
 ghost use Rattle.hx_world.specs.Names.{AreAscending};
@@ -6,7 +8,7 @@ ghost use Rattle.hx_world.specs.Sessions.{HasTaken, IsSameSession};
 ghost use Rattle.hx_world.specs.Turns.{IsAdmitted, IsBarred};
 
 use crate::ends::StepError;
-use crate::logs::{Log, close, open};
+use crate::logs::{Log, append_entry, reserve_entry};
 use crate::turns::admit;
 use hx_session::Session;
 use hx_types::Input;
@@ -28,7 +30,7 @@ pub fn session_takes(
     input: &Input,
 ) -> Result<(), StepError>
     requires can { CanTake counted.old.session.space counted.old.session.state input.now }
-    requires few_entries { length log.old.trace < 2 ^ 32 }
+    requires may { MayTake (reverse log.old.trace) (an_actor.Session counted.old.session.state.id) input.now }
     requires ascending { AreAscending log.old.waiting.items }
     ensures log { OnOk result (Files log.old log.new (session_entry counted.old.session.space counted.old.session.state input.now)) }
     ensures taken { OnOk result (HasTaken counted.old counted.new input.now) }
@@ -41,11 +43,11 @@ pub fn session_takes(
         return Err(StepError::Memory);
     };
     admit(plan.entry(), counted.entries)?;
-    let Ok(entries) = open(alloc, log, plan.entry()) else {
+    let Ok(reserved) = reserve_entry(alloc, log, plan.entry()) else {
         return Err(StepError::Memory);
     };
     let entry = counted.session.apply(plan);
-    close(log, entries, entry);
+    append_entry(log, reserved, entry);
     counted.entries += 1;
     Ok(())
 }

@@ -10,7 +10,8 @@ use crate::logs::empty;
 use crate::schedule::{advance, has_next};
 use crate::starting::start_actors;
 use crate::steps::take_step;
-use hx_types::{Memory, Script, Step, Trace};
+use hx_trace::Trace;
+use hx_types::{Memory, Script, Step};
 use std::alloc::Global;
 use std::marker::Model;
 

@@ -1,13 +1,10 @@
 use Rattle.std.proofs.Common.{refl, rules}
 use Rattle.hx_world.specs.declared.actors.Actors.{Actors}
-use Rattle.hx_world.proofs.Turning.{ascending, can_coordinate, coordinated, not_coordinated, short, uncoordinated}
+use Rattle.hx_world.proofs.Turning.{ascending, can_coordinate, coordinated, not_coordinated, uncoordinated}
 use Rattle.hx_world.proofs.actors.to_coordinator.Goals as goal
 
 pub coordinator_takes-requires-clause-can : goal.coordinator_takes-requires-clause-can
 coordinator_takes-requires-clause-can c = can_coordinate c.args.cluster.now.script.now c.args.cluster.now.actors c.args.cluster.now.log c.requires.world c.args.input.now c.requires.may
-
-pub coordinator_takes-requires-clause-few_entries : goal.coordinator_takes-requires-clause-few_entries
-coordinator_takes-requires-clause-few_entries c = short c.args.cluster.now.script.now c.args.cluster.now.actors c.args.cluster.now.log c.requires.world
 
 pub coordinator_takes-requires-clause-ascending : goal.coordinator_takes-requires-clause-ascending
 coordinator_takes-requires-clause-ascending c = ascending c.args.cluster.now.script.now c.args.cluster.now.actors c.args.cluster.now.log c.requires.world

@@ -1,7 +1,7 @@
 use Rattle.std.proofs.Common.{◌-◌, refl, rules}
 use Rattle.std.specs.Vec.{with_item}
 use Rattle.hx_world.specs.declared.actors.Actors.{Actors}
-use Rattle.hx_world.proofs.Turning.{ascending, can_serve, not_served, served, server_in, server_low, short, unserved}
+use Rattle.hx_world.proofs.Turning.{ascending, can_serve, may_serve, not_served, served, server_in, server_low, unserved}
 use Rattle.hx_world.proofs.actors.to_server.Goals as goal
 
 pub overflow_sub-server : goal.overflow_sub-server
@@ -15,8 +15,10 @@ server_takes-requires-clause-can c =
     can_serve c.args.cluster.now.script.now c.args.cluster.now.actors c.args.cluster.now.log c.requires.world c.args.server c.requires.actor
     c.index_mut-counted.result.now c.index_mut-counted.ensures.value c.args.input.now c.requires.running c.requires.may
 
-pub server_takes-requires-clause-few_entries : goal.server_takes-requires-clause-few_entries
-server_takes-requires-clause-few_entries c = short c.args.cluster.now.script.now c.args.cluster.now.actors c.args.cluster.now.log c.requires.world
+pub server_takes-requires-clause-may : goal.server_takes-requires-clause-may
+server_takes-requires-clause-may c =
+    may_serve c.args.cluster.now.script.now c.args.cluster.now.actors c.args.cluster.now.log c.requires.world c.args.server c.requires.actor
+    c.index_mut-counted.result.now c.index_mut-counted.ensures.value c.args.input.now c.requires.may
 
 pub server_takes-requires-clause-ascending : goal.server_takes-requires-clause-ascending
 server_takes-requires-clause-ascending c = ascending c.args.cluster.now.script.now c.args.cluster.now.actors c.args.cluster.now.log c.requires.world

@@ -1,7 +1,7 @@
 use Rattle.std.proofs.Common.{◌-◌, refl, rules}
 use Rattle.std.specs.Vec.{with_item}
 use Rattle.hx_world.specs.declared.actors.Actors.{Actors}
-use Rattle.hx_world.proofs.Turning.{ascending, attended, can_attend, not_attended, session_in, session_low, short, unattended}
+use Rattle.hx_world.proofs.Turning.{ascending, attended, can_attend, may_attend, not_attended, session_in, session_low, unattended}
 use Rattle.hx_world.proofs.actors.to_session.Goals as goal
 
 pub overflow_sub-session : goal.overflow_sub-session
@@ -15,8 +15,10 @@ session_takes-requires-clause-can c =
     can_attend c.args.cluster.now.script.now c.args.cluster.now.actors c.args.cluster.now.log c.requires.world c.args.session c.requires.actor
     c.index_mut-counted.result.now c.index_mut-counted.ensures.value c.args.input.now c.requires.may
 
-pub session_takes-requires-clause-few_entries : goal.session_takes-requires-clause-few_entries
-session_takes-requires-clause-few_entries c = short c.args.cluster.now.script.now c.args.cluster.now.actors c.args.cluster.now.log c.requires.world
+pub session_takes-requires-clause-may : goal.session_takes-requires-clause-may
+session_takes-requires-clause-may c =
+    may_attend c.args.cluster.now.script.now c.args.cluster.now.actors c.args.cluster.now.log c.requires.world c.args.session c.requires.actor
+    c.index_mut-counted.result.now c.index_mut-counted.ensures.value c.args.input.now c.requires.may
 
 pub session_takes-requires-clause-ascending : goal.session_takes-requires-clause-ascending
 session_takes-requires-clause-ascending c = ascending c.args.cluster.now.script.now c.args.cluster.now.actors c.args.cluster.now.log c.requires.world
