@@ -8,7 +8,8 @@ ghost use Rattle.hx_report.specs.Reporting.{entry_lines, epoch_line, epochs_text
 
 use crate::labels::put_labeled;
 use hx_print::{put_bytes, put_numbers};
-use hx_types::{Config, Entry, Memory, Note, Notes, Script, Trace, any_ready, first_config};
+use hx_trace::Trace;
+use hx_types::{Config, Memory, Note, Script, any_ready, first_config};
 use std::alloc::Global;
 
 /// Whether the region has no ready member.
@@ -71,20 +72,20 @@ fn put_note(alloc: Global, out: &mut Vec<u8>, note: &Note) -> Result<(), Memory>
     }
 }
 
-fn put_notes(alloc: Global, out: &mut Vec<u8>, notes: &Notes) -> Result<(), Memory>
+fn put_notes(alloc: Global, out: &mut Vec<u8>, notes: &[Note]) -> Result<(), Memory>
     ensures { OnOk result (out.new.items ≡ out.old.items ++ flat_map note_lines notes.now) }
 {
-    for note in notes.as_slice() {
+    for note in notes {
         put_note(alloc, out, note)?;
     }
     Ok(())
 }
 
-fn put_issued(alloc: Global, out: &mut Vec<u8>, trace: &[Entry]) -> Result<(), Memory>
+fn put_issued(alloc: Global, out: &mut Vec<u8>, trace: &Trace) -> Result<(), Memory>
     ensures { OnOk result (out.new.items ≡ out.old.items ++ flat_map entry_lines trace.now) }
 {
-    for entry in trace {
-        put_notes(alloc, out, &entry.notes)?;
+    for entry in trace.iter() {
+        put_notes(alloc, out, entry.notes)?;
     }
     Ok(())
 }
@@ -102,5 +103,5 @@ pub fn put_epochs(
         (out.new.items ≡ out.old.items ++ epochs_text script.now (reverse trace.now)) }
 {
     put_epoch(alloc, out, &first_config(alloc, &script.space)?)?;
-    put_issued(alloc, out, trace.as_slice())
+    put_issued(alloc, out, trace)
 }

@@ -29,7 +29,8 @@ use crate::items::put_histories;
 use crate::tracing::put_trace;
 use hx_history::{histories, records};
 use hx_print::{put_bytes, put_space};
-use hx_types::{Memory, Script, Space, Totals, Trace};
+use hx_trace::Trace;
+use hx_types::{Memory, Script, Space, Totals};
 use std::alloc::Global;
 
 #[tactic(auto, unfolding(crate::specs::Reporting::head_text))]

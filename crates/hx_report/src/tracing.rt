@@ -1,13 +1,13 @@
 //! The lines of a trace: entries and their posts.
 
 ghost use Rattle.std.specs.Prelude.{◌≡◌, ◌++◌, codes, reverse, OnOk};
+ghost use Rattle.hx_trace.specs.Entries.{entry_seen, input_seen};
 ghost use Rattle.hx_report.specs.Tracing.{entries_text, entry_line, field_text, input_text, message_text, post_head, post_line, posts_text, reconfiguration_text, trace_text};
 
 use crate::labels::put_labeled;
 use hx_print::{put_actor, put_bytes, put_post_name};
-use hx_types::{
-    Entry, Epoch, Input, Memory, Message, Post, Posts, RegionId, ServerId, Trace, Version,
-};
+use hx_trace::{EntryRef, InputRef, Trace};
+use hx_types::{Epoch, Memory, Message, Post, RegionId, ServerId, Version};
 
 /// Appends a name and a number, each with a blank before it.
 #[tactic(auto, unfolding(crate::specs::Tracing::field_text))]
@@ -184,15 +184,15 @@ fn put_message(out: &mut Vec<u8>, message: &Message) -> Result<(), Memory>
 }
 
 #[tactic(auto, unfolding(crate::specs::Tracing::input_text))]
-fn put_input(out: &mut Vec<u8>, input: &Input) -> Result<(), Memory>
-    ensures { OnOk result (out.new.items ≡ out.old.items ++ input_text input.now) }
+fn put_input(out: &mut Vec<u8>, input: InputRef<'_>) -> Result<(), Memory>
+    ensures { OnOk result (out.new.items ≡ out.old.items ++ input_text (input_seen input.entry)) }
 {
     match input {
-        Input::Tick => put_bytes(out, b"tick"),
-        Input::Halt => put_bytes(out, b"halt"),
-        Input::Deliver { id, .. } => {
+        InputRef::Tick => put_bytes(out, b"tick"),
+        InputRef::Halt => put_bytes(out, b"halt"),
+        InputRef::Deliver { id, .. } => {
             put_bytes(out, b"deliver ")?;
-            put_post_name(out, id)
+            put_post_name(out, &id)
         }
     }
 }
@@ -219,11 +219,11 @@ fn put_post(out: &mut Vec<u8>, entry: u64, place: u64, post: &Post) -> Result<()
 }
 
 #[tactic(auto, unfolding(crate::specs::Tracing::posts_text))]
-fn put_posts(out: &mut Vec<u8>, entry: u64, posts: &Posts) -> Result<(), Memory>
+fn put_posts(out: &mut Vec<u8>, entry: u64, posts: &[Post]) -> Result<(), Memory>
     ensures { OnOk result (out.new.items ≡ out.old.items ++ posts_text entry 0 posts.now) }
 {
     let mut place = 0;
-    let mut rest = posts.as_slice();
+    let mut rest = posts;
     'posts: while let Some((post, after)) = rest.split_first() {
         put_post(out, entry, place, post)?;
         place += 1;
@@ -234,28 +234,27 @@ fn put_posts(out: &mut Vec<u8>, entry: u64, posts: &Posts) -> Result<(), Memory>
 
 /// Appends the line of an entry itself.
 #[tactic(auto, unfolding(crate::specs::Tracing::entry_line))]
-fn put_entry(out: &mut Vec<u8>, number: u64, entry: &Entry) -> Result<(), Memory>
-    ensures { OnOk result (out.new.items ≡ out.old.items ++ entry_line number entry.now) }
+fn put_entry(out: &mut Vec<u8>, number: u64, entry: EntryRef<'_>) -> Result<(), Memory>
+    ensures { OnOk result (out.new.items ≡ out.old.items ++ entry_line number (entry_seen entry.entry)) }
 {
     put_labeled(out, b"entry ", number)?;
     put_bytes(out, b" ")?;
     put_actor(out, &entry.actor)?;
     put_bytes(out, b" ")?;
-    put_input(out, &entry.input)?;
+    put_input(out, entry.input)?;
     put_bytes(out, b"\n")
 }
 
 #[tactic(auto, unfolding(crate::specs::Tracing::entries_text))]
-fn put_entries(out: &mut Vec<u8>, entries: &[Entry]) -> Result<(), Memory>
-    ensures { OnOk result (out.new.items ≡ out.old.items ++ entries_text 1 entries.now) }
+fn put_entries(out: &mut Vec<u8>, trace: &Trace) -> Result<(), Memory>
+    ensures { OnOk result (out.new.items ≡ out.old.items ++ entries_text 1 trace.now) }
 {
-    let mut number = 1;
-    let mut rest = entries;
-    'entries: while let Some((entry, after)) = rest.split_first() {
-        put_entry(out, number, entry)?;
-        put_posts(out, number, &entry.outputs)?;
-        number += 1;
-        rest = after;
+    for place in 0..trace.len() {
+        if let Some(entry) = trace.get(place) {
+            let number = place as u64 + 1;
+            put_entry(out, number, entry)?;
+            put_posts(out, number, entry.outputs)?;
+        }
     }
     Ok(())
 }
@@ -267,7 +266,7 @@ pub fn put_trace(out: &mut Vec<u8>, trace: &Trace, with_trace: bool) -> Result<(
         (out.new.items ≡ out.old.items ++ trace_text with_trace (reverse trace.now)) }
 {
     if with_trace {
-        put_entries(out, trace.as_slice())
+        put_entries(out, trace)
     } else {
         Ok(())
     }
