@@ -19,7 +19,8 @@ use crate::objects::present_objects;
 use crate::texts::put_objects;
 use hx_history::{Histories, histories, records};
 use hx_print::put_bytes;
-use hx_types::{Memory, Records, Script, Space, Trace};
+use hx_trace::Trace;
+use hx_types::{Memory, Records, Script, Space};
 use std::alloc::Global;
 
 /// The text of what the records and the histories add up to.
