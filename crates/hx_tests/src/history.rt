@@ -1,9 +1,10 @@
 use crate::parts::{list, text};
 use hx_history::*;
+use hx_trace::Trace;
 use hx_types::{
     Actor, Answer, Assigns, Caller, Calls, Entry, Input, Item, Items, Note, Object, Op, Places,
     Records, Rows, Script, Searches, Sequence, ServerId, SessionId, Shared, Space, Terms, Text,
-    Trace, Update, Version,
+    Update, Version,
 };
 use std::process::Abort;
 
