@@ -1,7 +1,8 @@
 //! What the tests are made of. A want of memory ends a test.
 ghost use Rattle.std.specs.Prelude.{◌≡◌};
 
-use hx_types::{Memory, Sequence, SharedList, Text};
+use hx_trace::Trace;
+use hx_types::{Entry, Memory, Sequence, SharedList, Text};
 use std::process::Abort;
 
 pub fn text<R: Abort + AllocGlobal>(rt: &R, text: &str) -> Text
@@ -31,6 +32,15 @@ pub fn shared_list<R: Abort + AllocGlobal, T: Drop, const N: usize>(
         panic!(rt; "memory");
     };
     SharedList::from_vec(rt.alloc(), items).expect(rt, "memory")
+}
+
+/// The trace of these entries.
+pub fn trace_of<R: Abort + AllocGlobal, const N: usize>(rt: &R, entries: [Entry; N]) -> Trace {
+    let mut trace = Trace::new(rt.alloc());
+    for entry in entries {
+        trace.push(entry).expect(rt, "memory");
+    }
+    trace
 }
 
 /// Whether the lines were printed, byte for byte.

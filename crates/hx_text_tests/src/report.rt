@@ -1,11 +1,12 @@
 ghost use Rattle.hx_types.specs.Spaces.{IsSpace};
 
-use crate::parts::{is_printed, list, shared_list, text};
+use crate::parts::{is_printed, list, shared_list, text, trace_of};
 use hx_report::*;
+use hx_trace::Trace;
 use hx_types::{
     Actor, Answer, Assign, Attribute, Caller, Entry, Epoch, Input, Kind, Message, Note, Object, Op,
     Places, Post, PostId, Posts, Script, ServerId, SessionId, Sessions, Shared, Space, Steps,
-    Subspaces, Totals, Trace, Update, Value, Version,
+    Subspaces, Totals, Update, Value, Version,
 };
 use std::process::Abort;
 
@@ -164,7 +165,7 @@ fn third_entry<R: Abort + AllocGlobal>(rt: &R) -> Entry {
 
 /// The whole trace of the put.
 fn three_entries<R: Abort + AllocGlobal>(rt: &R) -> Trace {
-    list(rt, [first_entry(rt), second_entry(rt), third_entry(rt)])
+    trace_of(rt, [first_entry(rt), second_entry(rt), third_entry(rt)])
 }
 
 const LINES: &str = "report 1\n\

@@ -1,9 +1,10 @@
-use crate::parts::{is_printed, list, shared_list, text};
+use crate::parts::{is_printed, list, shared_list, text, trace_of};
 use hx_summary::summary;
+use hx_trace::Trace;
 use hx_types::{
     Actor, Answer, Assigns, Attribute, Attributes, Caller, Calls, Entry, Epoch, Input, Kind,
     Memory, Note, Object, Op, Places, Posts, RegionId, Rows, Script, ServerId, SessionId, Shared,
-    Space, Steps, Subspaces, Terms, Trace, Update, Value, Version,
+    Space, Steps, Subspaces, Terms, Update, Value, Version,
 };
 use std::process::Abort;
 
@@ -177,7 +178,7 @@ const ABSENT: &str = "soak 1\n\
 #[test]
 fn sums_up_a_del_of_what_is_not_there(rt: HostRuntime) {
     let calls = list(&rt, [del(&rt, "s1k47")]);
-    let mut trace = list(&rt, [assigned(&rt, absent(&rt))]);
+    let mut trace = trace_of(&rt, [assigned(&rt, absent(&rt))]);
     end(&rt, &mut trace, 1, Answer::NotFound);
     assert!(rt; is_printed(summed_up(&rt, calls, trace), ABSENT));
 }
@@ -212,7 +213,7 @@ fn written<R: Abort + AllocGlobal>(rt: &R) -> Trace {
     let first = put_assigned(rt, 3, "a", 1, object(rt, "c1", 7));
     let last = put_assigned(rt, 4, "d", 1, object(rt, "c2", 9));
     let gone = assigned(rt, update(rt, 6, "d", 2, None));
-    list(rt, [old, new, first, last, gone])
+    trace_of(rt, [old, new, first, last, gone])
 }
 
 /// How the calls end; the second search is refused, the second get is open, and the last put in doubt.
