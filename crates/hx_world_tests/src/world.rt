@@ -3,10 +3,11 @@ ghost use Rattle.hx_types.specs.Fitting.{IsScript};
 ghost use Rattle.hx_world_tests.specs.Examples.{axis_of, books, genre_is, one, one_call, put_a, script_in, search_b, three_calls, year_is};
 
 use crate::parts::{list, shared_list, text};
+use hx_trace::Trace;
 use hx_types::{
     Actor, Answer, Assign, Assigns, Attribute, Attributes, Axes, Axis, Calls, Kind, Note, Object,
-    Op, PostId, Row, Script, ServerId, SessionId, Space, Step, Steps, Subspaces, Term, Trace,
-    Update, Value,
+    Op, PostId, Row, Script, ServerId, SessionId, Space, Step, Steps, Subspaces, Term, Update,
+    Value,
 };
 use hx_world::*;
 use std::alloc::Global;
@@ -189,9 +190,8 @@ fn number_of(actor: Actor) -> u32 {
 
 /// Whether the entries are of these actors in order.
 fn are_of(trace: &Trace, actors: &[u32]) -> bool {
-    let entries = trace.as_slice();
-    entries.len() == actors.len()
-        && entries
+    trace.len() == actors.len()
+        && trace
             .iter()
             .zip(actors)
             .all(|(entry, number)| number_of(entry.actor) == *number)
