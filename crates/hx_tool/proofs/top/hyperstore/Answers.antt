@@ -1,5 +1,5 @@
 -- The words are those of `run`, of `soak`, or of neither.
-use Rattle.std.proofs.Common.{refl}
+use Rattle.std.proofs.Common.{inl, refl}
 use Rattle.hx_tool.proofs.Wording.{none_some, not_both, same_some}
 use Rattle.hx_tool.proofs.top.hyperstore.Goals as goal
 
@@ -43,6 +43,19 @@ returns-in-Some-soak_of-clause-soak g c command says =
     rw (same_some c.in-Some-soak_of.command command ((c.in-Some-soak_of.ensures.said command).1 says)) (c.soak_words.ensures.soak, c.soak_words.ensures.risen)
 
 -- ---- other words
+pub returns-in-None-soak_of-clause-fine : goal.returns-in-None-soak_of-clause-fine
+returns-in-None-soak_of-clause-fine g c =
+    let e = c.hyperstore_alone.ensures in
+    rw c.unthreaded.ensures.done
+    (λ is. let w = e.fine is in
+    inl (record {
+      unthreaded = record {
+        no_run = λ command says. none_some command ((c.in-None.ensures.said command).1 says);
+        no_soak = λ command says. none_some command ((c.in-None-soak_of.ensures.said command).1 says);
+      };
+      writes = record { command = w.0; text = w.1; bytes = w.2; says = w.3; reads = w.4; answer = w.5; written = w.6 };
+    }))
+
 pub returns-in-None-soak_of-clause-alone : goal.returns-in-None-soak_of-clause-alone
 returns-in-None-soak_of-clause-alone g c unthreaded =
     let e = c.hyperstore_alone.ensures in
