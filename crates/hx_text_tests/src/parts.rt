@@ -37,7 +37,7 @@ pub fn shared_list<R: Abort + AllocGlobal, T: Drop, const N: usize>(
 /// The trace of these entries.
 pub fn trace_of<R: Abort + AllocGlobal, const N: usize>(rt: &R, entries: [Entry; N]) -> Trace {
     let mut trace = Trace::new(rt.alloc());
-    for entry in entries {
+    for entry in list(rt, entries).into_vec() {
         trace.push(entry).expect(rt, "memory");
     }
     trace

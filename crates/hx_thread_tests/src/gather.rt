@@ -7,6 +7,7 @@ ghost use Rattle.hx_thread_tests.specs.Gathered.{halting, idle, turns};
 use crate::clocks::begun;
 use hx_clock::{Clock, Part, Parts, Seat, Stamped};
 use hx_gather::merge;
+use hx_trace::Trace;
 use hx_types::{Actor, Entry, Input, Memory, Message, Notes, Post, PostId, Posts, ServerId, Stamp};
 use std::alloc::Global;
 use std::collections::BTreeSet;
@@ -200,13 +201,24 @@ fn turns(rt: &impl Abort, alloc: Global) -> Parts
     parts
 }
 
+/// Whether the entry at a place is one of the actor.
+pub fn is_of(trace: &Trace, place: usize, actor: Actor) -> bool {
+    match trace.get(place) {
+        Some(entry) => entry.actor == actor,
+        None => false,
+    }
+}
+
 #[test]
 fn parts_are_merged_by_stamp(rt: HostRuntime) -> Result<(), Fail> {
     let alloc: Global = rt.alloc();
     let trace = merge(alloc, turns(&rt, alloc))?;
     assert_eq!(rt; trace.len(), 4);
-    for (place, entry) in trace.as_slice().iter().enumerate() {
-        assert!(rt; (entry.actor == SERVER) == (place % 2 == 1), "at {place}");
+    for place in 0..trace.len() {
+        assert!(rt;
+            is_of(&trace, place, SERVER) == (place % 2 == 1),
+            "at {place}"
+        );
     }
     Ok(())
 }

@@ -10,6 +10,7 @@ ghost use Rattle.hx_thread_tests.specs.Gathered.{answering, asking, call_of_get,
 ghost use Rattle.hx_gather.specs.Gathered.{IsSeated};
 
 use crate::clocks::begun;
+use crate::gather::is_of;
 use hx_clock::{Clock, Part, Seat, Stamped};
 use hx_gather::{SeatedPart, gather};
 use hx_trace::{InputRef, Trace};
@@ -217,8 +218,8 @@ fn two_actors_are_gathered_into_a_run(rt: HostRuntime) -> Result<(), Fail> {
     let alloc: Global = rt.alloc();
     let trace = small_run(&rt, alloc)?;
     assert_eq!(rt; trace.len(), 3);
-    for (place, entry) in trace.iter().enumerate() {
-        assert!(rt; (entry.actor == SERVER) == (place == 1), "at {place}");
+    for place in 0..trace.len() {
+        assert!(rt; is_of(&trace, place, SERVER) == (place == 1), "at {place}");
     }
     assert!(rt; is_delivery(&trace, 1, PostId { entry: 1, place: 0 }));
     assert!(rt; is_delivery(&trace, 2, PostId { entry: 2, place: 0 }));

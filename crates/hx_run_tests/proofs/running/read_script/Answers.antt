@@ -1,5 +1,5 @@
 -- What is read is a valid script.
-use Rattle.hx_run_tests.proofs.running.script_of.Goals as goal
+use Rattle.hx_run_tests.proofs.running.read_script.Goals as goal
 
 pub returns : goal.returns
 returns c = c.scripts_are_valid.ensures c.as_bytes.result.now c.in_ok-read.field-0 c.in_ok-read.ensures
