@@ -31,7 +31,10 @@ pub fn read_script(alloc: Global, text: &str) -> Result<Script, Fail>
 pub fn script_of<R: Abort + AllocGlobal>(rt: &R, text: &str) -> Script
     ensures { IsScript result }
 {
-    read_script(rt.alloc(), text).expect(rt, "a script")
+    let Ok(script) = read_script(rt.alloc(), text) else {
+        panic!(rt; "no script");
+    };
+    script
 }
 
 /// A fate that can be handed to a driver.
