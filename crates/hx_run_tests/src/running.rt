@@ -7,12 +7,11 @@ use hx_fate::Fate;
 use hx_history::{histories, records};
 use hx_legal::legal;
 use hx_run::{Ran, run};
-use hx_script::{read, scripts_are_valid};
+use hx_script::{ScriptError, read, scripts_are_valid};
 use hx_types::Script;
 use std::alloc::Global;
 use std::process::Abort;
 use std::sync::Wait;
-use std::test::Fail;
 use std::thread::Threads;
 
 /// A day of a library: 13 calls of three sessions, a stop and an add among them.
@@ -20,21 +19,19 @@ pub const LIBRARY: &str =
     "hx 1\nspace library\nkey title 4\nstring author\nstring shelf\nint year 1450 2049\nsubspace author 4\nsubspace shelf 2, year 4\nservers 5\ntolerate 1\nsession 1\nput \"Odyssee\" author=\"Homer\" shelf=\"Antike\" year=1488\nput \"Die Verwandlung\" author=\"Kafka\" shelf=\"Moderne\" year=1915\nput \"Das Schloß\" author=\"Kafka\" shelf=\"Moderne\" year=1926\nstop 2\nput \"Žert\" author=\"Kundera\" shelf=\"Moderne\" year=1967\nsession 2\nsearch author=\"Kafka\"\ncput \"Das Schloß\" if shelf=\"Moderne\" set shelf=\"Ausleihe\"\nsearch shelf=\"Moderne\" year=1900..1999\nadd 5 0\nsession 3\nget \"Das Schloß\"\ndel \"Odyssee\"\nget \"Odyssee\"\nsearch\n";
 
 /// The script of a text.
-pub fn read_script(alloc: Global, text: &str) -> Result<Script, Fail>
+pub fn read_script(alloc: Global, text: &str) -> Result<Script, ScriptError>
     ensures { IfOk result (λ script. IsScript script) }
 {
     scripts_are_valid();
-    Ok(read(alloc, text.as_bytes())?)
+    let script = read(alloc, text.as_bytes())?;
+    Ok(script)
 }
 
 /// The script of a text. What a test can't get ends it.
 pub fn script_of<R: Abort + AllocGlobal>(rt: &R, text: &str) -> Script
     ensures { IsScript result }
 {
-    let Ok(script) = read_script(rt.alloc(), text) else {
-        panic!(rt; "no script");
-    };
-    script
+    read_script(rt.alloc(), text).expect(rt, "a script")
 }
 
 /// A fate that can be handed to a driver.
