@@ -18,8 +18,8 @@ pub fn merge(alloc: Global, parts: Parts) -> Result<Trace, Memory>
     merge_lists(alloc, lists)
 }
 
-// The entries of the lists in the order of their stamps. There is room for all before the first is
-// moved, so that the trace never grows.
+// The entries of the lists in the order of their stamps. There is room for the heads of all before the
+// first is moved.
 pub(crate) fn merge_lists(alloc: Global, lists: Vec<Vec<Stamped>>) -> Result<Trace, Memory>
     requires causal { IsCausal (map (λ list. list.items) lists.items) }
     ensures merged { IfOk result (λ trace. (merged : List Stamped) × IsMerged (map (λ list. list.items) lists.items) merged × (trace ≡ map (λ x. x.entry) merged)) }
