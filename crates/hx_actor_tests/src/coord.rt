@@ -29,7 +29,7 @@ fn hear(
         from,
         message,
     };
-    let Ok(plan) = coordinator.prepare(alloc, &input) else {
+    let Ok(plan) = coordinator.prepare(alloc, input) else {
         panic!(rt; "no memory");
     };
     let entry = coordinator.apply(plan);
@@ -38,7 +38,7 @@ fn hear(
 
 /// How many posts it makes on its turn.
 fn turn(rt: &impl Abort, alloc: Global, coordinator: &mut Coordinator) -> usize {
-    let Ok(plan) = coordinator.prepare(alloc, &Input::Tick) else {
+    let Ok(plan) = coordinator.prepare(alloc, Input::Tick) else {
         panic!(rt; "no memory");
     };
     let entry = coordinator.apply(plan);

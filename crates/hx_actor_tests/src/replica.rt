@@ -68,8 +68,8 @@ fn started(rt: &impl Abort, alloc: Global) -> Result<Server, Memory>
 }
 
 /// How many posts and notes a server makes of an input, and whether it then stands still.
-fn step(rt: &impl Abort, alloc: Global, server: &mut Server, input: &Input) -> (usize, usize, bool)
-    requires { CanTake server.old.space server.old.state input.now }
+fn step(rt: &impl Abort, alloc: Global, server: &mut Server, input: Input) -> (usize, usize, bool)
+    requires { CanTake server.old.space server.old.state input }
 {
     let Ok(plan) = server.prepare(alloc, input) else {
         panic!(rt; "no memory");
@@ -79,8 +79,8 @@ fn step(rt: &impl Abort, alloc: Global, server: &mut Server, input: &Input) -> (
 }
 
 /// The same of the server at the start.
-fn made_of(rt: &impl Abort, alloc: Global, input: &Input) -> (usize, usize, bool)
-    requires { CanTake small (server_at_start small first) input.now }
+fn made_of(rt: &impl Abort, alloc: Global, input: Input) -> (usize, usize, bool)
+    requires { CanTake small (server_at_start small first) input }
 {
     let Ok(mut server) = started(rt, alloc) else {
         panic!(rt; "no memory");
@@ -92,34 +92,34 @@ fn made_of(rt: &impl Abort, alloc: Global, input: &Input) -> (usize, usize, bool
 #[test]
 fn put_of_the_epoch_is_answered(rt: HostRuntime) {
     let now = put(&rt, rt.alloc(), 1);
-    assert_eq!(rt; made_of(&rt, rt.alloc(), &now), (1, 1, false));
+    assert_eq!(rt; made_of(&rt, rt.alloc(), now), (1, 1, false));
 }
 
 #[test]
 fn put_of_another_epoch_is_not(rt: HostRuntime) {
     let later = put(&rt, rt.alloc(), 2);
-    assert_eq!(rt; made_of(&rt, rt.alloc(), &later), (0, 0, false));
+    assert_eq!(rt; made_of(&rt, rt.alloc(), later), (0, 0, false));
 }
 
 #[test]
 fn a_ready_member_answers_a_search(rt: HostRuntime) {
     let search = ask(rt.alloc());
-    assert_eq!(rt; made_of(&rt, rt.alloc(), &search), (1, 0, false));
+    assert_eq!(rt; made_of(&rt, rt.alloc(), search), (1, 0, false));
 }
 
 /// Nothing is pending at the start.
 #[test]
 fn nothing_is_sent_again(rt: HostRuntime) {
-    assert_eq!(rt; made_of(&rt, rt.alloc(), &Input::Tick), (0, 0, false));
+    assert_eq!(rt; made_of(&rt, rt.alloc(), Input::Tick), (0, 0, false));
 }
 
 #[test]
 fn a_halt_is_told(rt: HostRuntime) {
-    assert_eq!(rt; made_of(&rt, rt.alloc(), &Input::Halt), (1, 0, true));
+    assert_eq!(rt; made_of(&rt, rt.alloc(), Input::Halt), (1, 0, true));
 }
 
 #[test]
 fn a_seal_is_told(rt: HostRuntime) {
     let seal = from_coordinator(Message::Seal { epoch: Epoch(1) });
-    assert_eq!(rt; made_of(&rt, rt.alloc(), &seal), (1, 0, false));
+    assert_eq!(rt; made_of(&rt, rt.alloc(), seal), (1, 0, false));
 }

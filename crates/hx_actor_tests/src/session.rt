@@ -35,7 +35,7 @@ fn started(rt: &impl Abort, alloc: Global, space: &Space) -> Session
 
 /// How many posts and notes a session makes on its turn.
 fn turn(rt: &impl Abort, alloc: Global, session: &mut Session) -> (usize, usize) {
-    let Ok(plan) = session.prepare(alloc, &Input::Tick) else {
+    let Ok(plan) = session.prepare(alloc, Input::Tick) else {
         panic!(rt; "no memory");
     };
     let entry = session.apply(plan);

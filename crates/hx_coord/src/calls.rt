@@ -29,6 +29,8 @@ enum Coming {
 
 /// A session asks for a server to be taken out. The server is asked to halt, and leaves with the
 /// next configuration once it has; this is the project's choice.
+#[cold]
+#[inline(never)]
 pub fn stop_server(
     alloc: Global,
     config: &Config,
@@ -46,6 +48,8 @@ pub fn stop_server(
 }
 
 /// A session asks for a replica to be added, at the end of a region's list.
+#[cold]
+#[inline(never)]
 pub fn add_replica(
     alloc: Global,
     config: &Config,

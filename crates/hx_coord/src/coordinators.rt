@@ -51,18 +51,20 @@ impl Coordinator {
     /// Computes the step that this input makes, and takes all memory that it needs. Nothing
     /// changes. The posts of its entry are of each space of which the coordinator and the input
     /// are, name only the coordinator and actors that it or the input names, and have epochs at
-    /// most 1 above the greatest that it keeps.
-    pub fn prepare(&mut self, alloc: Global, input: &Input) -> Result<Plan, Memory>
-        requires { CanTake self.old input.now }
+    /// most 1 above the greatest that it keeps. On an error the input is dropped.
+    #[inline(never)]
+    pub fn prepare(&mut self, alloc: Global, input: Input) -> Result<Plan, Memory>
+        requires { CanTake self.old input }
         ensures plan { IfOk result (IsPlanOn self.new) }
-        ensures input { IfOk result (λ plan. plan.entry.input ≡ input.now) }
-        ensures of_space { IfOk result (λ plan. (space : SpaceSeen) → IsCoordinatorOf space self.old → IsInputOf space self.old.sessions input.now → ArePostsOf space plan.entry.outputs) }
-        ensures named { IfOk result (λ plan. NameOnly (known_to self.old input.now) plan.entry.outputs) }
+        ensures input { IfOk result (λ plan. plan.entry.input ≡ input) }
+        ensures of_space { IfOk result (λ plan. (space : SpaceSeen) → IsCoordinatorOf space self.old → IsInputOf space self.old.sessions input → ArePostsOf space plan.entry.outputs) }
+        ensures named { IfOk result (λ plan. NameOnly (known_to self.old input) plan.entry.outputs) }
         ensures small { IfOk result (λ plan. (most : ℕ) → CoordinatorUpTo most self.old → PostsUpTo (most + 1) plan.entry.outputs) }
         ensures state { self.new ≡ self.old }
     {
-        let made = self.made(alloc, input)?;
-        let input = input.copy(alloc)?;
+        let Ok(made) = self.made(alloc, &input) else {
+            return Err(Memory);
+        };
         let entry = Entry {
             actor: Actor::Coordinator,
             input,

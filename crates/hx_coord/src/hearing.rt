@@ -36,6 +36,8 @@ pub fn hear(
 }
 
 /// What a message of the coordinator itself makes: it can only ask for the configuration.
+#[cold]
+#[inline(never)]
 fn hear_itself(
     alloc: Global,
     config: &Shared<Config>,
@@ -125,6 +127,8 @@ fn gone(
 
 /// A server of the configuration is gone: the epoch is sealed, without waiting for that server.
 #[tactic(auto, using(crate::proofs::Heard::go_steady, crate::proofs::Heard::go_sealing))]
+#[cold]
+#[inline(never)]
 fn go(
     alloc: Global,
     config: &Shared<Config>,

@@ -117,6 +117,8 @@ impl Issuing {
 /// answers its answer. Configurations that a coordinator numbers by epochs are HyperDex's; the
 /// order of these steps is this project's choice.
 #[tactic(auto, using(crate::proofs::Steps::issue_made))]
+#[cold]
+#[inline(never)]
 pub fn issue(alloc: Global, config: &Config, agenda: Agenda) -> Result<Made, Memory>
     requires { config.now.epoch.0 ≤ 2 ^ 62 }
     ensures { IfOk result (IsMade config.now (issue (standing config.now agenda))) }

@@ -14,6 +14,7 @@ use std::alloc::Global;
 
 /// The coordinator's turn: what it waits for is asked for again.
 #[tactic(auto, using(crate::proofs::Steps::tick_made))]
+#[inline(never)]
 pub fn tick(alloc: Global, config: &Config, agenda: Agenda) -> Result<Made, Memory>
     ensures { IfOk result (IsMade config.now (coordinator_tick (standing config.now agenda) (phase_seen agenda.phase))) }
 {

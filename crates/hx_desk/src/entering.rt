@@ -124,19 +124,19 @@ fn step_on<R: Wait, G: Gate>(
     out: &mut Outbox,
     fate: &mut Box<dyn Fate + Send>,
     totals: &mut Totals,
-    input: &Input,
+    input: Input,
 ) -> Result<(), Fault>
     requires fresh { length desk.old.part.items < MOST_ENTRIES }
     requires script { IsScript script.now }
     requires boxes { AreBoxes script.now clock.now boxes.now }
-    requires desk { (w : ℕ) × IsDesk script.now clock.now boxes.now w (told_by desk.old.actor input.now) desk.old }
+    requires desk { (w : ℕ) × IsDesk script.now clock.now boxes.now w (told_by desk.old.actor input) desk.old }
     requires running { has_halted script.now (entries_before desk.old.part.items) desk.old.actor ≡ false }
-    requires given { CanBeGiven script.now desk.old input.now }
-    requires enough { makes_enough input.now (made_of script.now (entries_before desk.old.part.items) desk.old.actor input.now) ≡ true }
+    requires given { CanBeGiven script.now desk.old input }
+    requires enough { makes_enough input (made_of script.now (entries_before desk.old.part.items) desk.old.actor input) ≡ true }
     requires out { IsOutbox boxes.now out.old }
     requires room { HasRoom out.old desk.old totals.old }
-    ensures desk { MatchResult result (λ _. (w : ℕ) → IsDesk script.now clock.now boxes.now w (told_by desk.old.actor input.now) desk.old → IsDesk script.now clock.now boxes.now w [] desk.new) (λ _. (w : ℕ) (rest : List Mailed) → IsDesk script.now clock.now boxes.now w rest desk.old → IsDesk script.now clock.now boxes.now w rest desk.new) }
-    ensures turn { MatchResult result (λ _. (x : Stamped) × IsMadeOf script.now desk.old input.now x × IsTurn boxes.now desk.old desk.new out.old out.new totals.old totals.new (record { chosen = choices fate.old; lost = losses fate.old; doubled = repeats fate.old }) (record { chosen = choices fate.new; lost = losses fate.new; doubled = repeats fate.new }) (x ∷ [])) (λ _. IsTurn boxes.now desk.old desk.new out.old out.new totals.old totals.new (record { chosen = choices fate.old; lost = losses fate.old; doubled = repeats fate.old }) (record { chosen = choices fate.new; lost = losses fate.new; doubled = repeats fate.new }) []) }
+    ensures desk { MatchResult result (λ _. (w : ℕ) → IsDesk script.now clock.now boxes.now w (told_by desk.old.actor input) desk.old → IsDesk script.now clock.now boxes.now w [] desk.new) (λ _. (w : ℕ) (rest : List Mailed) → IsDesk script.now clock.now boxes.now w rest desk.old → IsDesk script.now clock.now boxes.now w rest desk.new) }
+    ensures turn { MatchResult result (λ _. (x : Stamped) × IsMadeOf script.now desk.old input x × IsTurn boxes.now desk.old desk.new out.old out.new totals.old totals.new (record { chosen = choices fate.old; lost = losses fate.old; doubled = repeats fate.old }) (record { chosen = choices fate.new; lost = losses fate.new; doubled = repeats fate.new }) (x ∷ [])) (λ _. IsTurn boxes.now desk.old desk.new out.old out.new totals.old totals.new (record { chosen = choices fate.old; lost = losses fate.old; doubled = repeats fate.old }) (record { chosen = choices fate.new; lost = losses fate.new; doubled = repeats fate.new }) []) }
     ensures fault { MatchResult result (λ _. ⊤) (λ fault. fault ≡ a_fault.Memory) }
 {
     match foresee(alloc, script, clock, desk, input) {
@@ -159,18 +159,18 @@ fn enter_unless_worn<R: Wait, G: Gate>(
     out: &mut Outbox,
     fate: &mut Box<dyn Fate + Send>,
     totals: &mut Totals,
-    input: &Input,
+    input: Input,
 ) -> Result<(), Fault>
     requires script { IsScript script.now }
     requires boxes { AreBoxes script.now clock.now boxes.now }
-    requires desk { (w : ℕ) × IsDesk script.now clock.now boxes.now w (told_by desk.old.actor input.now) desk.old }
+    requires desk { (w : ℕ) × IsDesk script.now clock.now boxes.now w (told_by desk.old.actor input) desk.old }
     requires running { has_halted script.now (entries_before desk.old.part.items) desk.old.actor ≡ false }
-    requires given { CanBeGiven script.now desk.old input.now }
-    requires enough { makes_enough input.now (made_of script.now (entries_before desk.old.part.items) desk.old.actor input.now) ≡ true }
+    requires given { CanBeGiven script.now desk.old input }
+    requires enough { makes_enough input (made_of script.now (entries_before desk.old.part.items) desk.old.actor input) ≡ true }
     requires out { IsOutbox boxes.now out.old }
     requires room { HasRoom out.old desk.old totals.old }
-    ensures desk { MatchResult result (λ _. (w : ℕ) → IsDesk script.now clock.now boxes.now w (told_by desk.old.actor input.now) desk.old → IsDesk script.now clock.now boxes.now w [] desk.new) (λ _. (w : ℕ) (rest : List Mailed) → IsDesk script.now clock.now boxes.now w rest desk.old → IsDesk script.now clock.now boxes.now w rest desk.new) }
-    ensures turn { MatchResult result (λ _. (x : Stamped) × IsMadeOf script.now desk.old input.now x × IsTurn boxes.now desk.old desk.new out.old out.new totals.old totals.new (record { chosen = choices fate.old; lost = losses fate.old; doubled = repeats fate.old }) (record { chosen = choices fate.new; lost = losses fate.new; doubled = repeats fate.new }) (x ∷ [])) (λ _. IsTurn boxes.now desk.old desk.new out.old out.new totals.old totals.new (record { chosen = choices fate.old; lost = losses fate.old; doubled = repeats fate.old }) (record { chosen = choices fate.new; lost = losses fate.new; doubled = repeats fate.new }) []) }
+    ensures desk { MatchResult result (λ _. (w : ℕ) → IsDesk script.now clock.now boxes.now w (told_by desk.old.actor input) desk.old → IsDesk script.now clock.now boxes.now w [] desk.new) (λ _. (w : ℕ) (rest : List Mailed) → IsDesk script.now clock.now boxes.now w rest desk.old → IsDesk script.now clock.now boxes.now w rest desk.new) }
+    ensures turn { MatchResult result (λ _. (x : Stamped) × IsMadeOf script.now desk.old input x × IsTurn boxes.now desk.old desk.new out.old out.new totals.old totals.new (record { chosen = choices fate.old; lost = losses fate.old; doubled = repeats fate.old }) (record { chosen = choices fate.new; lost = losses fate.new; doubled = repeats fate.new }) (x ∷ [])) (λ _. IsTurn boxes.now desk.old desk.new out.old out.new totals.old totals.new (record { chosen = choices fate.old; lost = losses fate.old; doubled = repeats fate.old }) (record { chosen = choices fate.new; lost = losses fate.new; doubled = repeats fate.new }) []) }
     ensures fault { MatchResult result (λ _. ⊤) (λ fault. IsFaultOf script.now desk.new fault) }
 {
     if is_worn(desk) {
@@ -209,9 +209,7 @@ pub(crate) fn enter<R: Wait, G: Gate>(
     ensures turn { MatchResult result (λ _. (x : Stamped) × IsMadeOf script.now desk.old input x × IsTurn boxes.now desk.old desk.new out.old out.new totals.old totals.new (record { chosen = choices fate.old; lost = losses fate.old; doubled = repeats fate.old }) (record { chosen = choices fate.new; lost = losses fate.new; doubled = repeats fate.new }) (x ∷ [])) (λ _. IsTurn boxes.now desk.old desk.new out.old out.new totals.old totals.new (record { chosen = choices fate.old; lost = losses fate.old; doubled = repeats fate.old }) (record { chosen = choices fate.new; lost = losses fate.new; doubled = repeats fate.new }) []) }
     ensures fault { MatchResult result (λ _. ⊤) (λ fault. IsFaultOf script.now desk.new fault) }
 {
-    let entered = enter_unless_worn(
-        rt, alloc, script, clock, boxes, gate, desk, out, fate, totals, &input,
-    );
-    drop(input);
-    entered
+    enter_unless_worn(
+        rt, alloc, script, clock, boxes, gate, desk, out, fate, totals, input,
+    )
 }

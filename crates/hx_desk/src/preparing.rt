@@ -32,15 +32,15 @@ pub(crate) fn foresee(
     script: &Script,
     clock: &Clock,
     desk: &mut Desk,
-    input: &Input,
+    input: Input,
 ) -> Result<Plan, Memory>
     requires script { IsScript script.now }
     requires desk { (boxes : List Boxed) × (w : ℕ) × (rest : List Mailed) × IsDesk script.now clock.now boxes w rest desk.old }
     requires running { has_halted script.now (entries_before desk.old.part.items) desk.old.actor ≡ false }
-    requires given { CanBeGiven script.now desk.old input.now }
+    requires given { CanBeGiven script.now desk.old input }
     ensures same { IsSame desk.old desk.new }
     ensures desk { (boxes : List Boxed) (w : ℕ) (rest : List Mailed) → IsDesk script.now clock.now boxes w rest desk.old → IsDesk script.now clock.now boxes w rest desk.new }
-    ensures ready { IfOk result (IsReady script.now desk.new input.now) }
+    ensures ready { IfOk result (IsReady script.now desk.new input) }
 {
     let _ = script;
     let _drawn = clock.now(&mut desk.seat);

@@ -109,7 +109,7 @@ fn tick<R: Wait, G: Gate>(
     ensures fault { MatchResult result (λ _. ⊤) (λ fault. IsFaultOf script.now desk.new fault) }
     ensures turn { (xs : List Stamped) × IsTurn boxes.now desk.old desk.new out.old out.new totals.old totals.new (record { chosen = choices fate.old; lost = losses fate.old; doubled = repeats fate.old }) (record { chosen = choices fate.new; lost = losses fate.new; doubled = repeats fate.new }) xs }
 {
-    match foresee(alloc, script, clock, desk, &Input::Tick) {
+    match foresee(alloc, script, clock, desk, Input::Tick) {
         Ok(plan) => finish(
             rt, alloc, script, clock, boxes, gate, desk, out, fate, totals, plan,
         ),

@@ -55,6 +55,8 @@ fn can_count(heard: &[u64]) -> bool
 }
 
 /// Takes an envelope for a server that has halted, and drops it.
+#[cold]
+#[inline(never)]
 fn discard<R: Wait>(
     rt: &R,
     script: &Script,

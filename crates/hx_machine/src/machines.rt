@@ -50,11 +50,11 @@ impl Machine {
     }
 
     /// Computes the step that this input makes, and takes all memory that it needs. The actor stays
-    /// as it was.
-    pub fn prepare(&mut self, alloc: Global, input: &Input) -> Result<Plan, Memory>
-        requires { (script : ScriptSeen) × (a : ActorSeen) × (past : List Stamped) × IsMachine script a (entries_in past) self.old × CanTake script a past input.now }
+    /// as it was. On an error the input is dropped.
+    pub fn prepare(&mut self, alloc: Global, input: Input) -> Result<Plan, Memory>
+        requires { (script : ScriptSeen) × (a : ActorSeen) × (past : List Stamped) × IsMachine script a (entries_in past) self.old × CanTake script a past input }
         ensures plan { IfOk result (IsPlanOn self.new) }
-        ensures step { IfOk result (λ plan. (script : ScriptSeen) (a : ActorSeen) (past : List Stamped) → IsMachine script a (entries_in past) self.old → CanTake script a past input.now → IsStepOf script a (entries_in past) input.now (entry_in plan)) }
+        ensures step { IfOk result (λ plan. (script : ScriptSeen) (a : ActorSeen) (past : List Stamped) → IsMachine script a (entries_in past) self.old → CanTake script a past input → IsStepOf script a (entries_in past) input (entry_in plan)) }
         ensures state { (script : ScriptSeen) (a : ActorSeen) (past : List EntrySeen) → IsMachine script a past self.old → IsMachine script a past self.new }
     {
         match self {

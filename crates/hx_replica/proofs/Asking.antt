@@ -6,16 +6,13 @@ use Rattle.std.proofs.lemmas.Bool.{and_parts, cond_both, false≢true}
 use Rattle.std.proofs.lemmas.Option.{same_Some, slice_get_within}
 use Rattle.hx_types.specs.declared.calls.Op.{Op}
 use Rattle.hx_types.specs.declared.messages.Message.{Message}
-use Rattle.hx_types.specs.declared.messages.PostId.{PostId}
 use Rattle.hx_types.specs.declared.ids.Actor.{Actor}
 use Rattle.hx_types.specs.declared.ids.Epoch.{Epoch}
 use Rattle.hx_types.specs.declared.ids.RegionId.{RegionId}
 use Rattle.hx_types.specs.declared.spaces.Space.{Space}
-use Rattle.hx_types.specs.declared.traces.Input.{Input}
 use Rattle.hx_types.specs.declared.updates.Place.{Place}
 use Rattle.hx_types.specs.declared.messages.Message.TheVariants as a_message
 use Rattle.hx_types.specs.declared.ids.Actor.TheVariants.{Coordinator, Server, Session}
-use Rattle.hx_types.specs.declared.traces.Input.TheVariants.{Deliver}
 use Rattle.hx_types.specs.Configs.{is_lost}
 use Rattle.hx_types.specs.Effects.{key_of}
 use Rattle.hx_types.specs.Posts.{goes_between, has_place_in}
@@ -29,8 +26,8 @@ use Rattle.hx_model.specs.Slots.{KeyState, state_among, top_of}
 use Rattle.hx_slot.specs.States.{IsPlacedIn}
 use Rattle.hx_replica.specs.Hearing.{heard, leading}
 use Rattle.hx_replica.specs.Made.{IsSessionActor, IsSlotInput, key_in}
-use Rattle.hx_replica.specs.Plans.{CanStep}
-use Rattle.hx_replica.specs.Servers.{CanTake, HasSmallVersions, IsSoundDelivery, ServerValue}
+use Rattle.hx_replica.specs.Plans.{CanHear, CanStep}
+use Rattle.hx_replica.specs.Servers.{HasSmallVersions, IsSoundDelivery, ServerValue}
 use Rattle.hx_replica.proofs.Hearing.{found_region, hearing_found, installed_some, led}
 use Rattle.hx_replica.proofs.Planning.{found_there}
 
@@ -127,10 +124,10 @@ abbrev pub AreMarked : ServerValue → Type 0
 AreMarked v = (place : ℕ) (r : Replica) → slice_get v.state.replicas place ≡ Some r → AllByRecursion (λ (t : KeyState). t.marks ≡ is_key_region v.space r.region) r.states
 
 -- the replica that hears a message can step
-pub can_step : (v : ServerValue) (input : Input) (id : PostId) (from : Actor) (m : Message) (place : ℕ) (key : List ℕ) → AreMarked v → CanTake v.space v.state input → input ≡ Deliver id from m
+pub can_step : (v : ServerValue) (from : Actor) (m : Message) (place : ℕ) (key : List ℕ) → AreMarked v → CanHear v.space v.state from m
     → Some (slice_get v.state.replicas place) ≡ option_map (λ (r : Replica). Some r) (heard v.space v.state m) → key ≡ key_in m → CanStep v.space v.state place key from m
-can_step v input id from m place key marked can is at k =
-    let now : CanTake v.space v.state (Deliver id from m) = subst (CanTake v.space v.state) is can in
+can_step v from m place key marked hears at k =
+    let now = hears.can in
     let there = found_there v.state.replicas place (heard v.space v.state m) at in
     record {
       key_is = k;

@@ -1,4 +1,4 @@
--- The plan of a server that adopts a configuration.
+-- What a server makes that adopts a configuration.
 use Rattle.std.proofs.Common.{◌≡◌, ◌<◌, ◌≤◌, Bool, true, false, List, [], ◌∷◌, ◌++◌, map, Vec, refl, ap, sym, ◌∙◌, subst}
 use Rattle.std.specs.List.{flat_map}
 use Rattle.std.specs.declared.alloc.Global.{Global}
@@ -6,26 +6,25 @@ use Rattle.std.proofs.lemmas.Bool.{cond-true, cond-false, lt-ltb, le-ltb}
 use Rattle.hx_types.specs.declared.configs.Config.{Config}
 use Rattle.hx_types.specs.declared.messages.Post.{Post}
 use Rattle.hx_types.specs.declared.ids.RegionId.{RegionId}
-use Rattle.hx_types.specs.declared.ids.ServerId.{ServerId}
 use Rattle.hx_types.specs.declared.spaces.Space.{Space}
 use Rattle.hx_types.specs.declared.traces.Input.{Input}
-use Rattle.hx_types.specs.declared.ids.Actor.TheVariants.{Server}
 use Rattle.hx_types.specs.Configs.{joiner_for}
 use Rattle.hx_types.specs.Words.{provided}
-use Rattle.hx_model.specs.ServerSteps.{Replica as ReplicaState, ServerState, ServerStep, Spot, adopted, adopted_posts, adopted_replica, adopted_state, install_at, is_active, listed_regions, ready_post, replica_or_new, resumed_posts, server_step, spot_of, unmoved, with_config}
+use Rattle.hx_model.specs.ServerSteps.{Replica as ReplicaState, ServerState, ServerStep, Spot, adopted, adopted_posts, adopted_replica, adopted_state, install_at, is_active, listed_regions, ready_post, replica_or_new, resumed_posts, spot_of, unmoved, with_config}
 use Rattle.hx_model.specs.Slots.{Forget, KeyState, moved}
 use Rattle.hx_folds.specs.Folding.{folded, folded_replica, folded_server}
 use Rattle.hx_folds.proofs.Folds.{folded-twice}
 use Rattle.hx_folds.proofs.Servers.{new-folded}
 use Rattle.hx_replica.specs.declared.plans.Change.{Change}
-use Rattle.hx_replica.specs.declared.plans.Plan.{Plan}
+use Rattle.hx_replica.specs.declared.plans.ServerMade.{ServerMade}
 use Rattle.hx_replica.specs.declared.plans.Change.TheVariants as a_change
 use Rattle.hx_replica.specs.declared.replicas.Replica.{Replica}
 use Rattle.hx_replica.specs.Adopting.{lean_adopted, lean_replica}
 use Rattle.hx_replica.specs.Replicas.{new_replica}
-use Rattle.hx_replica.specs.Plans.{IsAdoptionOn, IsChange, IsPlanOn}
+use Rattle.hx_replica.specs.Plans.{IsAdoptionOn, IsChange, IsStepMade}
 use Rattle.hx_replica.specs.Servers.{ServerValue}
 use Rattle.hx_replica.specs.Ticking.{standing}
+use Rattle.hx_replica.proofs.Planning.{nothing_made, step_made, unmoved_made}
 use Rattle.hx_replica.proofs.Sending.{snap_same}
 
 posts_same : (space : Space) (s : ServerState) (r : ReplicaState) → adopted_posts space (standing s.config s.id) r ≡ adopted_posts space s r
@@ -62,36 +61,33 @@ views_of_all : (space : Space) (s : ServerState) (old : List ReplicaState) (gs :
 views_of_all space s old [] bare = refl
 views_of_all space s old (g ∷ gs) bare = let e = lean_one space s (replica_or_new old g) (bare g) in let rest = views_of_all space s old gs bare in λ j. e j ∷ rest j
 
-abbrev pub adopting_plan : ServerId → Input → List Post → Config → Vec Replica Global → Plan
-adopting_plan server input posts config replicas =
-    record { entry = record { actor = Server server; input = input; outputs = posts; notes = [] }; change = a_change.Adopt config replicas }
+abbrev pub adopting : List Post → Config → Vec Replica Global → ServerMade
+adopting posts config replicas = record { posts = posts; notes = []; change = a_change.Adopt config replicas }
 
 -- a newer configuration is adopted
-pub adoption_planned : (v : ServerValue) (input : Input) (config copy : Config) (replicas : Vec Replica Global) (posts : List Post) (plan : Plan) → v.state.config.epoch.0 < config.epoch.0 → folded_server v.state ≡ v.state
-    → server_step v.space v.state input ≡ install_at v.space v.state config
+pub adoption_made : (v : ServerValue) (config copy : Config) (replicas : Vec Replica Global) (posts : List Post) (made : ServerMade) → v.state.config.epoch.0 < config.epoch.0 → folded_server v.state ≡ v.state
     → posts ≡ flat_map (λ (g : RegionId). adopted_posts v.space (standing config v.state.id) (replica_or_new v.state.replicas g)) (listed_regions config v.state.id)
     → replicas.items ≡ map (new_replica v.space) (listed_regions config v.state.id)
-    → copy ≡ config → plan ≡ adopting_plan v.state.id input posts copy replicas → IsPlanOn v plan
-adoption_planned v input config copy replicas posts plan newer bare is p new same e =
+    → copy ≡ config → made ≡ adopting posts copy replicas → IsStepMade v (install_at v.space v.state config) made
+adoption_made v config copy replicas posts made newer bare p new same e =
     let s : ServerState = v.state in
     let next : ServerState = with_config s config in
-    let step : server_step v.space s input ≡ adopted v.space next = is ∙ cond-true _ (adopted v.space next) (unmoved s) (lt-ltb s.config.epoch.0 config.epoch.0 newer) in
+    let step : install_at v.space s config ≡ adopted v.space next = cond-true _ (adopted v.space next) (unmoved s) (lt-ltb s.config.epoch.0 config.epoch.0 newer) in
     let gs = listed_regions config s.id in
-    let said : posts ≡ (adopted v.space next).posts = p ∙ posts_of v.space next s.replicas gs in
     let views = views_of_all v.space next s.replicas gs (λ g. sym (new-folded s.replicas g) ∙ ap (λ (x : ServerState). replica_or_new x.replicas g) bare) in
-    subst (IsPlanOn v) (sym (e ∙ ap (λ (c : Config). adopting_plan s.id input posts c replicas) same))
-    (record {
-      entry = ap (λ (ps : List Post). record { actor = Server s.id; input = input; outputs = ps; notes = [] }) said
-          ∙ ap (λ (t : ServerStep). record { actor = Server s.id; input = input; outputs = t.posts; notes = t.notes }) (sym step);
-      change = record {
-        new = new;
-        state = ap (λ (t : ServerStep). folded_server t.state) step ∙ ap (λ (l : List ReplicaState). record { id = s.id; config = config; sealed = next.sealed; halted = s.halted; replicas = l }) (sym views);
-      };
-    })
+    step_made v (install_at v.space s config) posts [] (a_change.Adopt config replicas) made (p ∙ posts_of v.space next s.replicas gs ∙ ap (λ (t : ServerStep). t.posts) (sym step)) (ap (λ (t : ServerStep). t.notes) (sym step))
+    (
+    λ input is. record {
+      new = new;
+      state = ap (λ (t : ServerStep). folded_server t.state) (is ∙ step) ∙ ap (λ (l : List ReplicaState). record { id = s.id; config = config; sealed = next.sealed; halted = s.halted; replicas = l }) (sym views);
+    }
+    )
+    (e ∙ ap (λ (c : Config). adopting posts c replicas) same)
 
 -- an older one is nothing
-pub older_step : (v : ServerValue) (input : Input) (config : Config) → config.epoch.0 ≤ v.state.config.epoch.0 → server_step v.space v.state input ≡ install_at v.space v.state config → server_step v.space v.state input ≡ unmoved v.state
-older_step v input config older is = is ∙ cond-false _ (adopted v.space (with_config v.state config)) (unmoved v.state) (le-ltb v.state.config.epoch.0 config.epoch.0 older)
+pub older_made : (v : ServerValue) (config : Config) (made : ServerMade) → config.epoch.0 ≤ v.state.config.epoch.0 → folded_server v.state ≡ v.state → made ≡ unmoved_made → IsStepMade v (install_at v.space v.state config) made
+older_made v config made older bare e =
+    nothing_made v (install_at v.space v.state config) made bare (cond-false _ (adopted v.space (with_config v.state config)) (unmoved v.state) (le-ltb v.state.config.epoch.0 config.epoch.0 older)) e
 
 -- the change of a plan that adopts a configuration
 pub adoption : (v : ServerValue) (input : Input) (change : Change) (config : Config) (replicas : Vec Replica Global) → change ≡ a_change.Adopt config replicas → IsChange v input change → IsAdoptionOn v input config replicas.items

@@ -1,4 +1,4 @@
--- The plan of a server that gets a snapshot.
+-- What a server makes that gets a snapshot.
 use Rattle.std.proofs.Common.{◌≡◌, ℕ, ◌+◌, ◌≤◌, Bool, Box, Global, true, false, List, [], ◌∷◌, ◌++◌, map, get_or, Option, None, Some, ap, sym, ◌∙◌, subst}
 use Rattle.std.specs.Prelude.{IsTrue}
 use Rattle.std.specs.List.{AllByRecursion, list_all, slice_get}
@@ -8,7 +8,7 @@ use Rattle.std.proofs.lemmas.List.Elements.{All-weaker}
 use Rattle.hx_types.specs.declared.ids.Actor.{Actor}
 use Rattle.hx_types.specs.declared.ids.Epoch.{Epoch}
 use Rattle.hx_types.specs.declared.ids.RegionId.{RegionId}
-use Rattle.hx_types.specs.declared.ids.ServerId.{ServerId}
+use Rattle.hx_types.specs.declared.configs.Config.{Config}
 use Rattle.hx_types.specs.declared.messages.Message.{Message}
 use Rattle.hx_types.specs.declared.messages.Post.{Post}
 use Rattle.hx_types.specs.declared.calls.Row.{Row}
@@ -16,37 +16,33 @@ use Rattle.hx_types.specs.declared.snapshots.Kept.{Kept}
 use Rattle.hx_types.specs.declared.snapshots.Mark.{Mark}
 use Rattle.hx_types.specs.declared.snapshots.Touch.{Touch}
 use Rattle.hx_types.specs.declared.spaces.Space.{Space}
-use Rattle.hx_types.specs.declared.traces.Input.{Input}
 use Rattle.hx_types.specs.declared.updates.Update.{Update}
-use Rattle.hx_types.specs.declared.ids.Actor.TheVariants.{Server}
 use Rattle.hx_types.specs.declared.messages.Message.TheVariants as a_message
-use Rattle.hx_types.specs.declared.traces.Input.TheVariants.{Deliver}
 use Rattle.hx_types.specs.Posts.{Bounds, IsSoundKept, IsSoundMessage, IsSoundUpdate, has_place_in, keys_ascend}
-use Rattle.hx_types.specs.Spaces.{IsAnswerOf, IsMaybeRowUpTo, IsRegionOf}
+use Rattle.hx_types.specs.Spaces.{IsAnswerOf, IsMaybeRowUpTo, IsRegionOf, IsConfigOf}
 use Rattle.hx_types.specs.Subspaces.{is_key_region}
 use Rattle.hx_types.specs.Words.{text_below}
-use Rattle.hx_model.specs.ServerSteps.{Replica as ReplicaState, ServerState, ServerStep, hearing, installed_slots, keys_of, ready_post, saying, server_step, snapped, spot_of, state_from, with_replica}
+use Rattle.hx_model.specs.ServerSteps.{Replica as ReplicaState, ServerState, ServerStep, hearing, installed_slots, keys_of, ready_post, saying, snapped, spot_of, state_from, with_replica}
 use Rattle.hx_model.specs.Slots.{KeyState}
 use Rattle.hx_folds.specs.Folding.{KeptsAscend, folded, folded_replica, folded_server}
 use Rattle.hx_folds.proofs.Servers.{with-replica-folded}
 use Rattle.hx_slot.specs.States.{IsOrderly, IsRowUpTo}
 use Rattle.hx_store.specs.Stores.{StoreState}
-use Rattle.hx_replica.specs.declared.plans.Change.{Change}
 use Rattle.hx_replica.specs.declared.plans.Change.TheVariants as a_change
-use Rattle.hx_replica.specs.declared.plans.Plan.{Plan}
+use Rattle.hx_replica.specs.declared.plans.ServerMade.{ServerMade}
 use Rattle.hx_replica.specs.declared.replicas.Replica.{Replica}
 use Rattle.hx_replica.specs.declared.servers.Server.TheInside.{Inside}
 use Rattle.hx_replica.specs.Inside.{value_of}
 use Rattle.hx_replica.specs.Installing.{CanCome, IsSnapshot}
-use Rattle.hx_replica.specs.Plans.{IsDelivery, IsJoinOn, IsPlanOn}
+use Rattle.hx_replica.specs.Plans.{CanHear, IsJoinOn, IsStepMade}
 use Rattle.hx_replica.specs.Replicas.{view_of}
-use Rattle.hx_replica.specs.Servers.{CanTake, ServerValue}
+use Rattle.hx_replica.specs.Servers.{ServerValue}
 use Rattle.hx_replica.specs.Ticking.{standing}
 use Rattle.hx_replica.proofs.Asking.{placed}
 use Rattle.hx_replica.proofs.Changing.{view_at}
 use Rattle.hx_replica.proofs.Hearing.{found_region, hearing_found}
 use Rattle.hx_replica.proofs.Joined.{from_marked, joined_marked}
-use Rattle.hx_replica.proofs.Planning.{found_there}
+use Rattle.hx_replica.proofs.Planning.{found_there, staying_made, step_made}
 
 all_pass : (test : List ℕ → Bool) (ks : List Kept) → list_all test (map (λ (k : Kept). k.key) ks) ≡ true → AllByRecursion (λ (k : Kept). test k.key ≡ true) ks
 all_pass test [] e = tt
@@ -80,13 +76,18 @@ sound_snapshot b epoch g snapshot pending h = record {
 }
 
 -- a snapshot that a server can take
-pub snapshot_taken : (v : ServerValue) (input : Input) (from : Actor) (m : Message) (epoch : Epoch) (g : RegionId) (snapshot : List Kept) (pending : List Update) → CanTake v.space v.state input → IsDelivery input from m → m ≡ a_message.Snap epoch g snapshot pending
+pub snapshot_taken : (v : ServerValue) (from : Actor) (m : Message) (epoch : Epoch) (g : RegionId) (snapshot : List Kept) (pending : List Update) → CanHear v.space v.state from m → m ≡ a_message.Snap epoch g snapshot pending
     → IsSnapshot g snapshot pending
-snapshot_taken v input from m epoch g snapshot pending can to is =
-    let now : CanTake v.space v.state (Deliver to.id from m) = subst (CanTake v.space v.state) to.is can in
-    let sound = now.input_to in
+snapshot_taken v from m epoch g snapshot pending hears is =
+    let sound = hears.can.input_to in
     sound_snapshot (record { space = v.space; sessions = sound.sessions; most = sound.entry + 1 }) epoch g snapshot pending
     (subst (IsSoundMessage (record { space = v.space; sessions = sound.sessions; most = sound.entry + 1 })) is sound.sound.message)
+
+-- a configuration that a server can adopt
+pub config_taken : (v : ServerValue) (from : Actor) (m : Message) (config : Config) → CanHear v.space v.state from m → m ≡ a_message.Install config → IsConfigOf v.space config
+config_taken v from m config hears is =
+    let sound = hears.can.input_to in
+    (subst (IsSoundMessage (record { space = v.space; sessions = sound.sessions; most = sound.entry + 1 })) is sound.sound.message).1
 
 -- the replica that hears it
 pub record IsHeardBy (v : ServerValue) (epoch : Epoch) (g : RegionId) (number : ℕ) (y : Replica) : Type 0 where
@@ -106,64 +107,59 @@ heard_by i epoch g number y is at =
       region = ap (λ (r : ReplicaState). r.region) (sym same) ∙ found_region g s.replicas there.replica (hearing_found s epoch g there.replica there.is);
     }
 
-abbrev pub said_plan : ServerId → Input → List Post → Change → Plan
-said_plan server input posts change = record { entry = record { actor = Server server; input = input; outputs = posts; notes = [] }; change = change }
-
 folded_marked : (g : RegionId) (b : Bool) (states : List KeyState) → AllByRecursion (λ (t : KeyState). t.marks ≡ b) states → AllByRecursion (λ (t : KeyState). t.marks ≡ b) (map (folded g) states)
 folded_marked g b [] h = tt
 folded_marked g b (s ∷ rest) h = (h.0, folded_marked g b rest h.1)
 
-module _ (v : ServerValue) (input : Input) (epoch : Epoch) (g : RegionId) (snapshot : List Kept) (pending : List Update) (bare : folded_server v.state ≡ v.state)
-    (is : server_step v.space v.state input ≡ snapped v.space v.state snapshot pending (hearing v.state epoch g)) where
+module _ (v : ServerValue) (epoch : Epoch) (g : RegionId) (snapshot : List Kept) (pending : List Update) (bare : folded_server v.state ≡ v.state) where
   abbrev s : ServerState
   s = v.state
 
   module _ (number : ℕ) (y : Replica) (heard : IsHeardBy v epoch g number y) where
     -- it was installed before
-    pub ready_planned : (before posts : List Post) (plan : Plan) → y.installed ≡ true → before ≡ [] → posts ≡ before ++ ready_post (standing s.config s.id) g → plan ≡ said_plan s.id input posts a_change.Nothing → IsPlanOn v plan
-    ready_planned before posts plan installed none p e =
-        let step : server_step v.space s input ≡ saying s (ready_post s g) =
-        is ∙ ap (snapped v.space s snapshot pending) heard.hears ∙ cond-true y.installed (saying s (ready_post s y.region)) _ installed ∙ ap (λ (h : RegionId). saying s (ready_post s h)) heard.region in
-        subst (IsPlanOn v) (sym e)
-        (record {
-          entry = ap (λ (ps : List Post). record { actor = Server s.id; input = input; outputs = ps; notes = [] }) (p ∙ ap (λ (l : List Post). l ++ ready_post s g) none)
-              ∙ ap (λ (t : ServerStep). record { actor = Server s.id; input = input; outputs = t.posts; notes = t.notes }) (sym step);
-          change = ap (λ (t : ServerStep). folded_server t.state) step ∙ bare;
-        })
+    pub ready_made : (before posts : List Post) (made : ServerMade) → y.installed ≡ true → before ≡ [] → posts ≡ before ++ ready_post (standing s.config s.id) g → made ≡ record { posts = posts; notes = []; change = a_change.Nothing }
+        → IsStepMade v (snapped v.space s snapshot pending (hearing s epoch g)) made
+    ready_made before posts made installed none p e =
+        let step : snapped v.space s snapshot pending (hearing s epoch g) ≡ saying s (ready_post s g) =
+        ap (snapped v.space s snapshot pending) heard.hears ∙ cond-true y.installed (saying s (ready_post s y.region)) _ installed ∙ ap (λ (h : RegionId). saying s (ready_post s h)) heard.region in
+        staying_made v (snapped v.space s snapshot pending (hearing s epoch g)) posts made bare (ap (λ (t : ServerStep). t.state) step)
+        (p ∙ ap (λ (l : List Post). l ++ ready_post s g) none ∙ ap (λ (t : ServerStep). t.posts) (sym step))
+        (ap (λ (t : ServerStep). t.notes) (sym step)) e
 
     -- it is installed now
-    pub join_planned : (store : StoreState) (boxed : Box Replica Global) (before joined posts : List Post) (plan : Plan) → y.installed ≡ false → before ≡ [] → joined ≡ before ++ (installed_slots (spot_of v.space s g) snapshot pending).posts
+    pub join_made : (store : StoreState) (boxed : Box Replica Global) (before joined posts : List Post) (made : ServerMade) → y.installed ≡ false → before ≡ [] → joined ≡ before ++ (installed_slots (spot_of v.space s g) snapshot pending).posts
         → posts ≡ joined ++ ready_post (standing s.config s.id) g → store.region ≡ g → store.marks ≡ is_key_region v.space g → store.states ≡ map (folded g) (installed_slots (spot_of v.space s g) snapshot pending).states
-        → boxed.value ≡ record { region = g; installed = true; store = store } → plan ≡ said_plan s.id input posts (a_change.Join number boxed) → IsPlanOn v plan
-    join_planned store boxed before joined posts plan out none j p region marks states held e =
+        → boxed.value ≡ record { region = g; installed = true; store = store } → made ≡ record { posts = posts; notes = []; change = a_change.Join number boxed } → IsStepMade v (snapped v.space s snapshot pending (hearing s epoch g)) made
+    join_made store boxed before joined posts made out none j p region marks states held e =
         let slots = installed_slots (spot_of v.space s g) snapshot pending in
         let new : ReplicaState = record { region = g; installed = true; states = slots.states } in
-        let at : RegionId → ServerStep = λ h. let made = installed_slots (spot_of v.space s h) snapshot pending in
+        let at : RegionId → ServerStep = λ h. let each = installed_slots (spot_of v.space s h) snapshot pending in
         record {
-          state = record s { replicas = with_replica (record { region = h; installed = true; states = made.states }) s.replicas };
-          posts = made.posts ++ ready_post s h;
+          state = record s { replicas = with_replica (record { region = h; installed = true; states = each.states }) s.replicas };
+          posts = each.posts ++ ready_post s h;
           notes = [];
         } in
-        let step : server_step v.space s input ≡ at g =
-        is ∙ ap (snapped v.space s snapshot pending) heard.hears ∙ cond-false y.installed (saying s (ready_post s y.region)) _ out ∙ ap at heard.region in
+        let step : snapped v.space s snapshot pending (hearing s epoch g) ≡ at g =
+        ap (snapped v.space s snapshot pending) heard.hears ∙ cond-false y.installed (saying s (ready_post s y.region)) _ out ∙ ap at heard.region in
         let view : folded_replica new ≡ record { region = g; installed = true; states = store.states } = ap (λ (l : List KeyState). record { region = g; installed = true; states = l }) (sym states) in
-        subst (IsPlanOn v) (sym e)
+        step_made v (snapped v.space s snapshot pending (hearing s epoch g)) posts [] (a_change.Join number boxed) made
+        (p ∙ ap (λ (l : List Post). l ++ ready_post s g) (j ∙ ap (λ (l : List Post). l ++ slots.posts) none) ∙ ap (λ (t : ServerStep). t.posts) (sym step))
+        (ap (λ (t : ServerStep). t.notes) (sym step))
+        (
+        λ input is. subst (λ (r : Replica). IsJoinOn v input number r) (sym held)
         (record {
-          entry = ap (λ (ps : List Post). record { actor = Server s.id; input = input; outputs = ps; notes = [] })
-              (p ∙ ap (λ (l : List Post). l ++ ready_post s g) (j ∙ ap (λ (l : List Post). l ++ slots.posts) none))
-              ∙ ap (λ (t : ServerStep). record { actor = Server s.id; input = input; outputs = t.posts; notes = t.notes }) (sym step);
-          change = subst (λ (r : Replica). IsJoinOn v input number r) (sym held) (record {
-            before = view_of y;
-            found = heard.found;
-            region = sym heard.region;
-            is = record {
-              region = region;
-              marks = marks;
-              marked = subst (AllByRecursion (λ (t : KeyState). t.marks ≡ is_key_region v.space g)) (sym states)
-                  (folded_marked g (is_key_region v.space g) slots.states (joined_marked (spot_of v.space s g) pending (keys_of pending) (record { states = map (state_from (is_key_region v.space g)) snapshot; posts = [] }) (from_marked (is_key_region v.space g) snapshot)));
-            };
-            state = ap (λ (t : ServerStep). folded_server t.state) step
-                ∙ ap (λ (l : List ReplicaState). record s { replicas = l })
-                (with-replica-folded new s.replicas ∙ ap (with_replica (folded_replica new)) (ap (λ (x : ServerState). x.replicas) bare) ∙ ap (λ (r : ReplicaState). with_replica r s.replicas) view);
-          });
+          before = view_of y;
+          found = heard.found;
+          region = sym heard.region;
+          is = record {
+            region = region;
+            marks = marks;
+            marked = subst (AllByRecursion (λ (t : KeyState). t.marks ≡ is_key_region v.space g)) (sym states)
+                (folded_marked g (is_key_region v.space g) slots.states (joined_marked (spot_of v.space s g) pending (keys_of pending) (record { states = map (state_from (is_key_region v.space g)) snapshot; posts = [] }) (from_marked (is_key_region v.space g) snapshot)));
+          };
+          state = ap (λ (t : ServerStep). folded_server t.state) (is ∙ step)
+              ∙ ap (λ (l : List ReplicaState). record s { replicas = l })
+              (with-replica-folded new s.replicas ∙ ap (with_replica (folded_replica new)) (ap (λ (x : ServerState). x.replicas) bare) ∙ ap (λ (r : ReplicaState). with_replica r s.replicas) view);
         })
+        )
+        e

@@ -7,27 +7,28 @@ use Rattle.hx_types.specs.declared.ids.Actor.{Actor}
 use Rattle.hx_types.specs.declared.spaces.Space.{Space}
 use Rattle.hx_types.specs.declared.traces.Input.{Input}
 use Rattle.hx_types.specs.declared.traces.Input.TheVariants.{Deliver}
-use Rattle.hx_model.specs.ServerSteps.{Replica as ReplicaState, ServerState, listed_regions, server_step, spot_of, state_in, with_replica, with_slot}
+use Rattle.hx_model.specs.ServerSteps.{Replica as ReplicaState, ServerState, ServerStep, listed_regions, server_step, spot_of, state_in, with_replica, with_slot}
 use Rattle.hx_folds.specs.Folding.{folded_server}
 use Rattle.hx_replica.specs.declared.made.SlotChange.{SlotChange}
 use Rattle.hx_replica.specs.declared.made.SlotMade.{SlotMade}
 use Rattle.hx_replica.specs.declared.plans.Change.{Change}
 use Rattle.hx_replica.specs.declared.plans.Change.TheVariants.{Nothing, Seal, Halt, Adopt, Join, Slot}
 use Rattle.hx_replica.specs.declared.plans.Plan.{Plan}
+use Rattle.hx_replica.specs.declared.plans.ServerMade.{ServerMade}
 use Rattle.hx_replica.specs.Made.{ChangeFits, HasRoomFor, IsMade, IsSlotInput, key_in, room_of, slot_step_of, stepped}
 use Rattle.hx_replica.specs.declared.replicas.Replica.{Replica}
 use Rattle.hx_replica.specs.Adopting.{lean_with_config}
 use Rattle.hx_replica.specs.Replicas.{IsReplicaIn, new_replica, view_of}
-use Rattle.hx_replica.specs.Servers.{ServerValue, server_entry}
+use Rattle.hx_replica.specs.Servers.{CanTake, ServerValue, server_entry}
 
 -- the replica with a number among the server's has at a place room for n more updates of the key
 abbrev pub HasRoomAt : ℕ → List ℕ → ℕ → ServerValue → ℕ → Type 0
 HasRoomAt number key n s place = IsSomeAnd (slice_get s.rooms number) (HasRoomFor key n place)
 
--- the input brings the message
-pub record IsDelivery (input : Input) (from : Actor) (m : Message) : Type 0 where
+-- the server can take a post of the message
+pub record CanHear (space : Space) (s : ServerState) (from : Actor) (m : Message) : Type 0 where
   pub id : PostId
-  pub is : input ≡ Deliver id from m
+  pub can : CanTake space s (Deliver id from m)
 
 -- the replica at the place hears the message, and its slot can be asked
 pub record CanStep (space : Space) (s : ServerState) (place : ℕ) (key : List ℕ) (from : Actor) (m : Message) : Type 0 where
@@ -70,6 +71,16 @@ IsChange s input Halt = folded_server (server_step s.space s.state input).state 
 IsChange s input (Adopt config replicas) = IsAdoptionOn s input config replicas.items
 IsChange s input (Join number replica) = IsJoinOn s input number replica.value
 IsChange s input (Slot number place change) = IsChangeOn s input number place change
+
+-- what was made is the server's step on the input, and there is room for its change
+pub record IsServerMade (s : ServerValue) (input : Input) (made : ServerMade) : Type 0 where
+  pub posts : made.posts ≡ (server_step s.space s.state input).posts
+  pub notes : made.notes ≡ (server_step s.space s.state input).notes
+  pub change : IsChange s input made.change
+
+-- that is so on each input of which the server's step is this one
+abbrev pub IsStepMade : ServerValue → ServerStep → ServerMade → Type 0
+IsStepMade s step made = (input : Input) → server_step s.space s.state input ≡ step → IsServerMade s input made
 
 -- the plan is that of the server's step, and there is room for its change
 pub record IsPlanOn (s : ServerValue) (plan : Plan) : Type 0 where

@@ -31,6 +31,7 @@ pub struct SlotMade {
 }
 
 /// For how many updates a slot needs room where a message comes: an acknowledgement brings none.
+#[inline]
 pub fn room_by(message: &Message) -> u32
     ensures { result ≡ room_by message.now }
 {
@@ -41,6 +42,7 @@ pub fn room_by(message: &Message) -> u32
 }
 
 /// The slot stays, and these are the posts.
+#[inline]
 pub fn staying(alloc: Global, posts: Posts) -> SlotMade
     ensures posts { result.posts ≡ posts }
     ensures notes { result.notes ≡ [] }

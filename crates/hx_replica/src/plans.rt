@@ -5,9 +5,7 @@ ghost use Rattle.hx_replica.specs.declared.plans.Change.TheVariants as a_change;
 
 use crate::made::{SlotChange, SlotMade};
 use crate::replicas::Replica;
-use hx_types::{
-    Actor, Config, Entry, Exact, Input, Memory, Message, Notes, Post, Posts, ServerId, Shared,
-};
+use hx_types::{Actor, Config, Entry, Memory, Message, Notes, Post, Posts, ServerId, Shared};
 use std::alloc::Global;
 
 /// What a step changes of its server.
@@ -36,6 +34,14 @@ pub enum Change {
         place: usize,
         change: SlotChange,
     },
+}
+
+/// What a step posts and notes, and what it changes of its server: its entry but for the input.
+#[derive(Drop)]
+pub struct ServerMade {
+    pub posts: Posts,
+    pub notes: Notes,
+    pub change: Change,
 }
 
 /// A step that is ready to be made: its entry, and what it changes.
@@ -67,61 +73,35 @@ pub fn to_coordinator(alloc: Global, server: ServerId, message: Message) -> Resu
     Ok(posts)
 }
 
-/// The plan of a step that makes these posts, notes nothing and changes this.
-pub fn said(
-    alloc: Global,
-    server: ServerId,
-    input: &Input,
-    posts: Posts,
-    change: Change,
-) -> Result<Plan, Memory>
-    ensures { IfOk result (λ plan. plan ≡ record { entry = record { actor = an_actor.Server server; input = input.now; outputs = posts; notes = [] }; change = change }) }
+/// What a step makes that makes these posts, notes nothing and changes this.
+pub fn said(alloc: Global, posts: Posts, change: Change) -> ServerMade
+    ensures { result ≡ record { posts = posts; notes = []; change = change } }
 {
-    let Ok(input) = input.copy(alloc) else {
-        return Err(Memory);
-    };
-    let entry = Entry {
-        actor: Actor::Server(server),
-        input,
-        outputs: posts,
+    ServerMade {
+        posts,
         notes: Notes::new(alloc),
-    };
-    Ok(Plan { entry, change })
+        change,
+    }
 }
 
-/// The plan of a step that posts, notes and changes nothing.
-pub fn unmoved(alloc: Global, server: ServerId, input: &Input) -> Result<Plan, Memory>
-    ensures { IfOk result (λ plan. plan ≡ record { entry = record { actor = an_actor.Server server; input = input.now; outputs = []; notes = [] }; change = a_change.Nothing }) }
+/// What a step makes that posts, notes and changes nothing.
+pub fn unmoved(alloc: Global) -> ServerMade
+    ensures { result ≡ record { posts = []; notes = []; change = a_change.Nothing } }
 {
-    said(alloc, server, input, Posts::new(alloc), Change::Nothing)
+    said(alloc, Posts::new(alloc), Change::Nothing)
 }
 
-/// The plan of a step of which the slot of a key made this.
-pub fn moved(
-    alloc: Global,
-    server: ServerId,
-    input: &Input,
-    replica: usize,
-    place: usize,
-    made: SlotMade,
-) -> Result<Plan, Memory>
-    ensures { IfOk result (λ plan. plan ≡ record { entry = record { actor = an_actor.Server server; input = input.now; outputs = made.posts; notes = made.notes }; change = a_change.Slot replica place made.change }) }
+/// What a step makes of which the slot at a place of a replica made this.
+pub fn moved(replica: usize, place: usize, made: SlotMade) -> ServerMade
+    ensures { result ≡ record { posts = made.posts; notes = made.notes; change = a_change.Slot replica place made.change } }
 {
-    let Ok(input) = input.copy(alloc) else {
-        return Err(Memory);
-    };
-    let entry = Entry {
-        actor: Actor::Server(server),
-        input,
-        outputs: made.posts,
+    ServerMade {
+        posts: made.posts,
         notes: made.notes,
-    };
-    Ok(Plan {
-        entry,
         change: Change::Slot {
             replica,
             place,
             change: made.change,
         },
-    })
+    }
 }

@@ -98,6 +98,7 @@ pub fn joined_replica(alloc: Global, region: RegionId, store: Store) -> Result<B
 }
 
 /// The place of a region's replica, found by halving.
+#[inline]
 pub fn place_of(replicas: &[Replica], region: RegionId) -> Option<usize>
     requires { AscendByRegion replicas.now }
     ensures { option_map (slice_get (views_of replicas.now)) result ≡ option_map Some (replica_of region (views_of replicas.now)) }

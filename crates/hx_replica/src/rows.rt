@@ -48,6 +48,7 @@ pub fn step_slot(
     }
 }
 
+#[inline]
 fn caller_of(from: Actor, number: u32) -> Caller
     ensures { result ≡ record { session = session_in from; number = number } }
 {
@@ -57,6 +58,7 @@ fn caller_of(from: Actor, number: u32) -> Caller
     }
 }
 
+#[inline]
 fn session_in(from: Actor) -> SessionId
     ensures { result ≡ session_in from }
 {

@@ -9,7 +9,7 @@ ghost use Rattle.hx_types.specs.Spaces.{IsConfigOf, IsServerOf, IsSpace};
 ghost use Rattle.hx_types.specs.Subspaces.{is_key_region};
 ghost use Rattle.hx_types.specs.Words.{when_some};
 ghost use Rattle.hx_folds.specs.Folding.{folded_server};
-ghost use Rattle.hx_model.specs.ServerSteps.{Replica as ReplicaState, asked, halting, hearing, if_installed, install_at, listed_regions, replica_of, seal_at, server_at_start, server_step, snapped, state_in, tick_step};
+ghost use Rattle.hx_model.specs.ServerSteps.{Replica as ReplicaState, asked, halting, hearing, if_installed, install_at, listed_regions, message_step, replica_of, seal_at, server_at_start, server_step, snapped, state_in, tick_step};
 ghost use Rattle.hx_model.specs.Slots.{found_in, new_state};
 ghost use Rattle.hx_replica.specs.Hearing.{IsOfOneSlot, heard, leading};
 ghost use Rattle.hx_replica.specs.Installing.{IsSnapshot};
@@ -19,14 +19,14 @@ ghost use Rattle.hx_replica.specs.Named.{known_to};
 ghost use Rattle.hx_replica.specs.Replicas.{KeepAllRooms, first_replica, new_replica};
 ghost use Rattle.hx_replica.specs.Sound.{IsSoundInput, IsSoundServer};
 ghost use Rattle.hx_store.specs.Stores.{has_slot};
-ghost use Rattle.hx_replica.specs.Plans.{CanStep, HasRoomAt, IsDelivery, IsMadeAt, IsPlanOn};
-ghost use Rattle.hx_replica.specs.Servers.{CanTake, server_entry};
+ghost use Rattle.hx_replica.specs.Plans.{CanHear, CanStep, HasRoomAt, IsMadeAt, IsPlanOn, IsServerMade, IsStepMade};
+ghost use Rattle.hx_replica.specs.Servers.{CanTake};
 
 use crate::adopting::post_adoption;
 use crate::installing::installed;
 use crate::keeping::keep_all;
 use crate::made::{SlotMade, room_by};
-use crate::plans::{Change, Plan, moved, said, to_coordinator, unmoved};
+use crate::plans::{Change, Plan, ServerMade, moved, said, to_coordinator, unmoved};
 use crate::replicas::{
     Replica, change_slot, config_at_start, first_replicas, joined_replica, new_replicas, place_of,
     put_replica,
@@ -130,22 +130,46 @@ impl Server {
     /// coordinator and actors that its configuration, its slots or the input name. Where all that the
     /// server holds and the post that it gets are of the space, exist and have no epoch and no version
     /// above a bound, that is so of what it posts, and no epoch and no version of it is above the bound
-    /// by more than 1.
-    #[tactic(auto, using(crate::proofs::Roomy::all_same))]
-    pub fn prepare(&mut self, alloc: Global, input: &Input) -> Result<Plan, Memory>
-        requires { CanTake self.old.space self.old.state input.now }
+    /// by more than 1. On an error the input is dropped.
+    pub fn prepare(&mut self, alloc: Global, input: Input) -> Result<Plan, Memory>
+        requires { CanTake self.old.space self.old.state input }
         ensures plan { IfOk result (IsPlanOn self.new) }
-        ensures input { IfOk result (λ plan. plan.entry.input ≡ input.now) }
-        ensures named { IfOk result (λ plan. NameOnly (known_to self.old.state input.now) plan.entry.outputs) }
-        ensures sound { IfOk result (λ plan. (sessions n : ℕ) → IsSoundServer self.old.space sessions n self.old.state → IsSoundInput self.old.space sessions n self.old.state.id input.now → All (IsSoundPost self.old.space sessions (n + 1)) plan.entry.outputs) }
+        ensures input { IfOk result (λ plan. plan.entry.input ≡ input) }
+        ensures named { IfOk result (λ plan. NameOnly (known_to self.old.state input) plan.entry.outputs) }
+        ensures sound { IfOk result (λ plan. (sessions n : ℕ) → IsSoundServer self.old.space sessions n self.old.state → IsSoundInput self.old.space sessions n self.old.state.id input → All (IsSoundPost self.old.space sessions (n + 1)) plan.entry.outputs) }
+        ensures rooms { KeepAllRooms self.old.rooms self.new.rooms }
+        ensures space { self.new.space ≡ self.old.space }
+        ensures state { self.new.state ≡ self.old.state }
+    {
+        let actor = Actor::Server(self.id);
+        let Ok(made) = self.made_on(alloc, &input) else {
+            return Err(Memory);
+        };
+        let entry = Entry {
+            actor,
+            input,
+            outputs: made.posts,
+            notes: made.notes,
+        };
+        Ok(Plan {
+            entry,
+            change: made.change,
+        })
+    }
+
+    /// What the step on an input makes.
+    #[tactic(auto, using(crate::proofs::Roomy::all_same))]
+    fn made_on(&mut self, alloc: Global, input: &Input) -> Result<ServerMade, Memory>
+        requires { CanTake self.old.space self.old.state input.now }
+        ensures made { IfOk result (IsServerMade self.new input.now) }
         ensures rooms { KeepAllRooms self.old.rooms self.new.rooms }
         ensures space { self.new.space ≡ self.old.space }
         ensures state { self.new.state ≡ self.old.state }
     {
         match input {
-            Input::Tick => self.tick(alloc, input),
-            Input::Halt => self.halt(alloc, input),
-            Input::Deliver { from, message, .. } => self.deliver(alloc, input, *from, message),
+            Input::Tick => self.tick(alloc),
+            Input::Halt => self.halt(alloc),
+            Input::Deliver { from, message, .. } => self.deliver(alloc, *from, message),
         }
     }
 
@@ -214,17 +238,17 @@ impl Server {
     }
 
     /// What is pending is sent again; where the server is sealed, it says that instead.
-    fn tick(&self, alloc: Global, input: &Input) -> Result<Plan, Memory>
-        requires step { server_step self.now.space self.now.state input.now ≡ tick_step self.now.space self.now.state }
-        requires bare { folded_server self.now.state ≡ self.now.state }
-        ensures plan { IfOk result (IsPlanOn self.now) }
-        ensures input { IfOk result (λ plan. plan.entry.input ≡ input.now) }
+    #[inline(never)]
+    fn tick(&self, alloc: Global) -> Result<ServerMade, Memory>
+        requires { folded_server self.now.state ≡ self.now.state }
+        ensures { IfOk result (IsStepMade self.now (tick_step self.now.space self.now.state)) }
     {
         let posts = self.sent_again(alloc)?;
-        said(alloc, self.id, input, posts, Change::Nothing)
+        Ok(said(alloc, posts, Change::Nothing))
     }
 
     /// The posts of a tick.
+    #[inline(never)]
     fn sent_again(&self, alloc: Global) -> Result<Posts, Memory>
         ensures { IfOk result (λ posts. posts ≡ (tick_step self.now.space self.now.state).posts) }
     {
@@ -243,42 +267,42 @@ impl Server {
     }
 
     /// The server stops for good, and says so.
-    fn halt(&self, alloc: Global, input: &Input) -> Result<Plan, Memory>
-        requires step { server_step self.now.space self.now.state input.now ≡ halting self.now.state }
-        requires bare { folded_server self.now.state ≡ self.now.state }
-        ensures plan { IfOk result (IsPlanOn self.now) }
-        ensures input { IfOk result (λ plan. plan.entry.input ≡ input.now) }
+    #[cold]
+    #[inline(never)]
+    fn halt(&self, alloc: Global) -> Result<ServerMade, Memory>
+        requires { folded_server self.now.state ≡ self.now.state }
+        ensures { IfOk result (IsStepMade self.now (halting self.now.state)) }
     {
         let posts = to_coordinator(alloc, self.id, Message::Gone)?;
-        said(alloc, self.id, input, posts, Change::Halt)
+        Ok(said(alloc, posts, Change::Halt))
     }
 
     /// The server takes part in its epoch no longer, and says so. Another epoch's seal is nothing
     /// to it.
-    fn seal(&self, alloc: Global, input: &Input, epoch: Epoch) -> Result<Plan, Memory>
-        requires step { server_step self.now.space self.now.state input.now ≡ seal_at self.now.state epoch }
-        requires bare { folded_server self.now.state ≡ self.now.state }
-        ensures plan { IfOk result (IsPlanOn self.now) }
-        ensures input { IfOk result (λ plan. plan.entry.input ≡ input.now) }
+    #[cold]
+    #[inline(never)]
+    fn seal(&self, alloc: Global, epoch: Epoch) -> Result<ServerMade, Memory>
+        requires { folded_server self.now.state ≡ self.now.state }
+        ensures { IfOk result (IsStepMade self.now (seal_at self.now.state epoch)) }
     {
         if epoch.0 != self.config.epoch.0 {
-            return unmoved(alloc, self.id, input);
+            return Ok(unmoved(alloc));
         }
         let posts = to_coordinator(alloc, self.id, Message::Sealed { epoch })?;
-        said(alloc, self.id, input, posts, Change::Seal)
+        Ok(said(alloc, posts, Change::Seal))
     }
 
     /// The server adopts a configuration of a higher epoch than its own. An older one, or the same,
     /// is nothing to it.
-    fn install(&self, alloc: Global, input: &Input, config: &Shared<Config>) -> Result<Plan, Memory>
-        requires step { server_step self.now.space self.now.state input.now ≡ install_at self.now.space self.now.state config.now }
+    #[cold]
+    #[inline(never)]
+    fn install(&self, alloc: Global, config: &Shared<Config>) -> Result<ServerMade, Memory>
         requires config { IsConfigOf self.now.space config.now }
         requires bare { folded_server self.now.state ≡ self.now.state }
-        ensures plan { IfOk result (IsPlanOn self.now) }
-        ensures input { IfOk result (λ plan. plan.entry.input ≡ input.now) }
+        ensures { IfOk result (IsStepMade self.now (install_at self.now.space self.now.state config.now)) }
     {
         if config.epoch.0 <= self.config.epoch.0 {
-            return unmoved(alloc, self.id, input);
+            return Ok(unmoved(alloc));
         }
         let mut posts = Posts::new(alloc);
         post_adoption(
@@ -292,34 +316,27 @@ impl Server {
         )?;
         let replicas = new_replicas(alloc, &self.space, config, self.map.regions(), self.id)?;
         let config = config.copy(alloc)?;
-        said(
-            alloc,
-            self.id,
-            input,
-            posts,
-            Change::Adopt { config, replicas },
-        )
+        Ok(said(alloc, posts, Change::Adopt { config, replicas }))
     }
 
     /// A replica that isn't installed installs a snapshot with its pending updates. The coordinator
     /// is told that the replica has joined, now or before, where it is listed as not ready.
+    #[cold]
+    #[inline(never)]
     fn join(
         &self,
         alloc: Global,
-        input: &Input,
         epoch: Epoch,
         region: RegionId,
         snapshot: &Snapshot,
         pending: &Updates,
-    ) -> Result<Plan, Memory>
-        requires step { server_step self.now.space self.now.state input.now ≡ snapped self.now.space self.now.state snapshot.now pending.now (hearing self.now.state epoch region) }
+    ) -> Result<ServerMade, Memory>
         requires bare { folded_server self.now.state ≡ self.now.state }
         requires snapshot { IsSnapshot region snapshot.now pending.now }
-        ensures plan { IfOk result (IsPlanOn self.now) }
-        ensures input { IfOk result (λ plan. plan.entry.input ≡ input.now) }
+        ensures { IfOk result (IsStepMade self.now (snapped self.now.space self.now.state snapshot.now pending.now (hearing self.now.state epoch region))) }
     {
         let Some(number) = self.hearing(epoch, region) else {
-            return unmoved(alloc, self.id, input);
+            return Ok(unmoved(alloc));
         };
         let spot = Spot {
             space: &self.space,
@@ -331,7 +348,7 @@ impl Server {
         let mut posts = Posts::new(alloc);
         if self.replicas[number].installed {
             tell_ready(&spot, &mut posts)?;
-            return said(alloc, self.id, input, posts, Change::Nothing);
+            return Ok(said(alloc, posts, Change::Nothing));
         }
         let Ok(store) = installed(alloc, &spot, snapshot, pending, &mut posts) else {
             return Err(Memory);
@@ -339,28 +356,19 @@ impl Server {
         let Ok(replica) = joined_replica(alloc, region, store) else {
             return Err(Memory);
         };
-        said(
-            alloc,
-            self.id,
-            input,
-            posts,
-            Change::Join { number, replica },
-        )
+        Ok(said(alloc, posts, Change::Join { number, replica }))
     }
 
-    /// The step that a message makes.
+    /// What the step on a message makes.
     #[tactic(auto, using(crate::proofs::Roomy::all_same))]
     fn deliver(
         &mut self,
         alloc: Global,
-        input: &Input,
         from: Actor,
         message: &Message,
-    ) -> Result<Plan, Memory>
-        requires can { CanTake self.old.space self.old.state input.now }
-        requires delivery { IsDelivery input.now from message.now }
-        ensures plan { IfOk result (IsPlanOn self.new) }
-        ensures input { IfOk result (λ plan. plan.entry.input ≡ input.now) }
+    ) -> Result<ServerMade, Memory>
+        requires { CanHear self.old.space self.old.state from message.now }
+        ensures made { IfOk result (IsStepMade self.new (message_step self.new.space self.new.state from message.now)) }
         ensures rooms { KeepAllRooms self.old.rooms self.new.rooms }
         ensures space { self.new.space ≡ self.old.space }
         ensures state { self.new.state ≡ self.old.state }
@@ -373,23 +381,24 @@ impl Server {
                 terms,
             } => {
                 let posts = self.found(alloc, from, *epoch, *number, *region, terms)?;
-                said(alloc, self.id, input, posts, Change::Nothing)
+                Ok(said(alloc, posts, Change::Nothing))
             }
-            Message::Seal { epoch } => self.seal(alloc, input, *epoch),
-            Message::Install { config } => self.install(alloc, input, config),
-            Message::Die => self.halt(alloc, input),
+            Message::Seal { epoch } => self.seal(alloc, *epoch),
+            Message::Install { config } => self.install(alloc, config),
+            Message::Die => self.halt(alloc),
             Message::Snap {
                 epoch,
                 region,
                 snapshot,
                 pending,
-            } => self.join(alloc, input, *epoch, *region, snapshot, pending),
-            _ => self.take(alloc, input, from, message),
+            } => self.join(alloc, *epoch, *region, snapshot, pending),
+            _ => self.take(alloc, from, message),
         }
     }
 
     /// What a search finds in a region, where this server is a ready member of it. All of the server
     /// stays, whatever comes: only the index of the region's store is brought up to date.
+    #[inline(never)]
     fn found(
         &mut self,
         alloc: Global,
@@ -435,38 +444,30 @@ impl Server {
         replica.store.find(alloc, terms, &mut looks)
     }
 
-    /// The step of the slot to which a message goes; where none hears it, nothing moves.
+    /// What the slot makes to which a message goes; where none hears it, nothing moves.
     #[tactic(auto, using(crate::proofs::Roomy::all_same))]
-    fn take(
-        &mut self,
-        alloc: Global,
-        input: &Input,
-        from: Actor,
-        message: &Message,
-    ) -> Result<Plan, Memory>
-        requires can { CanTake self.old.space self.old.state input.now }
-        requires delivery { IsDelivery input.now from message.now }
+    fn take(&mut self, alloc: Global, from: Actor, message: &Message) -> Result<ServerMade, Memory>
+        requires can { CanHear self.old.space self.old.state from message.now }
         requires slot { IsOfOneSlot message.now }
-        ensures plan { IfOk result (IsPlanOn self.new) }
-        ensures input { IfOk result (λ plan. plan.entry.input ≡ input.now) }
+        ensures made { IfOk result (IsStepMade self.new (message_step self.new.space self.new.state from message.now)) }
         ensures rooms { KeepAllRooms self.old.rooms self.new.rooms }
         ensures space { self.new.space ≡ self.old.space }
         ensures state { self.new.state ≡ self.old.state }
     {
-        let id = self.id;
-        match self.heard(message) {
-            Some(heard) => {
-                let place = self.reserve(alloc, &heard, room_by(message))?;
-                let Ok(made) = self.step(alloc, &heard, place, from, message) else {
-                    return Err(Memory);
-                };
-                moved(alloc, id, input, heard.replica, place, made)
-            }
-            None => unmoved(alloc, id, input),
-        }
+        // What the invariant says of the slots is known from here on.
+        let _ = &self.id;
+        let Some(heard) = self.heard(message) else {
+            return Ok(unmoved(alloc));
+        };
+        let place = self.reserve(alloc, &heard, room_by(message))?;
+        let Ok(made) = self.step(alloc, &heard, place, from, message) else {
+            return Err(Memory);
+        };
+        Ok(moved(heard.replica, place, made))
     }
 
     /// The replica that hears a message on a key, if one does.
+    #[inline]
     fn heard<'a>(&self, message: &'a Message) -> Option<Heard<'a>>
         ensures replica { option_map (λ h. slice_get self.now.state.replicas h.replica) result ≡ option_map Some (heard self.now.space self.now.state message.now) }
         ensures key { IfSome result (λ h. h.key.now ≡ key_in message.now) }
@@ -503,6 +504,7 @@ impl Server {
     }
 
     /// The replica of a region, where it is installed.
+    #[inline]
     fn installed<'a>(&self, epoch: Epoch, region: RegionId, key: &'a Text) -> Option<Heard<'a>>
         ensures replica { option_map (λ h. slice_get self.now.state.replicas h.replica) result ≡ option_map Some (if_installed (hearing self.now.state epoch region)) }
         ensures key { IfSome result (λ h. h.key.now ≡ key.now) }
@@ -512,6 +514,7 @@ impl Server {
     }
 
     /// The place of the replica of a region, where it is installed.
+    #[inline]
     fn installed_at(&self, epoch: Epoch, region: RegionId) -> Option<usize>
         ensures { option_map (slice_get self.now.state.replicas) result ≡ option_map Some (if_installed (hearing self.now.state epoch region)) }
     {
@@ -525,6 +528,7 @@ impl Server {
 
     /// The place of the replica that hears messages of an epoch for a region: none where the
     /// server is sealed, the epoch another, or the region lost.
+    #[inline]
     fn hearing(&self, epoch: Epoch, region: RegionId) -> Option<usize>
         ensures { option_map (slice_get self.now.state.replicas) result ≡ option_map Some (hearing self.now.state epoch region) }
     {

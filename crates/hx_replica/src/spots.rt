@@ -26,6 +26,7 @@ pub struct Spot<'a> {
 }
 
 /// The number of an update's place in the region of the spot.
+#[inline]
 pub fn place_at(spot: &Spot, update: &Update) -> u32
     requires placed { IsPlacedIn spot.now.region update.now }
     requires few { length update.now.places ≤ 17 }
@@ -69,6 +70,7 @@ fn prev_of(spot: &Spot, update: &Update) -> Hop
 }
 
 /// The region of a place.
+#[inline]
 fn region_at(update: &Update, place: u32) -> RegionId
     ensures { result ≡ region_at update.now.places place }
 {

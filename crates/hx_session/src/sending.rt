@@ -118,6 +118,8 @@ fn call_to(alloc: Global, sender: &Sender, op: &Op, region: RegionId) -> Result<
 }
 
 /// The coordinator is asked.
+#[cold]
+#[inline(never)]
 fn to_coordinator(alloc: Global, sender: &Sender, message: Message) -> Result<Made, Memory>
     ensures made { IfOk result (λ made. (calls : List Operation) (parts : List PartSeen) → IsMade (sender_seen sender.now calls parts) (to_coordinator (sender_seen sender.now calls parts) message) made) }
     ensures config { IfOk result (λ made. made.change.config ≡ None) }
@@ -140,6 +142,7 @@ fn to_coordinator(alloc: Global, sender: &Sender, message: Message) -> Result<Ma
 }
 
 /// A search asks the regions of its plan, or ends where it has none.
+#[inline(never)]
 fn search(alloc: Global, sender: &Sender, terms: &Terms) -> Result<Made, Memory>
     requires { sender.now.map.now ≡ sender.now.space.now }
     ensures made { IfOk result (λ made. (calls : List Operation) (parts : List PartSeen) → IsMade (sender_seen sender.now calls parts) (ask_regions (sender_seen sender.now calls parts) terms.now (plan_of sender.now.space.now sender.now.config.now terms.now)) made) }

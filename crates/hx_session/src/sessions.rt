@@ -116,19 +116,21 @@ impl Session {
 
     /// Computes the step that this input makes, and takes all memory that it needs. Nothing
     /// changes. The posts of its entry are of the space, name only the coordinator and actors that
-    /// the session or the input names, and have no epoch above the greatest of theirs.
-    pub fn prepare(&mut self, alloc: Global, input: &Input) -> Result<Plan, Memory>
-        requires { CanTake self.old.space self.old.state input.now }
+    /// the session or the input names, and have no epoch above the greatest of theirs. On an error
+    /// the input is dropped.
+    pub fn prepare(&mut self, alloc: Global, input: Input) -> Result<Plan, Memory>
+        requires { CanTake self.old.space self.old.state input }
         ensures plan { IfOk result (IsPlanOn self.new) }
-        ensures input { IfOk result (λ plan. plan.entry.input ≡ input.now) }
+        ensures input { IfOk result (λ plan. plan.entry.input ≡ input) }
         ensures of_space { IfOk result (λ plan. ArePostsOf self.old.space plan.entry.outputs) }
-        ensures named { IfOk result (λ plan. NameOnly (known_to self.old.state input.now) plan.entry.outputs) }
-        ensures small { IfOk result (λ plan. (most : ℕ) → SessionUpTo most self.old.state → InputUpTo most input.now → PostsUpTo most plan.entry.outputs) }
+        ensures named { IfOk result (λ plan. NameOnly (known_to self.old.state input) plan.entry.outputs) }
+        ensures small { IfOk result (λ plan. (most : ℕ) → SessionUpTo most self.old.state → InputUpTo most input → PostsUpTo most plan.entry.outputs) }
         ensures space { self.new.space ≡ self.old.space }
         ensures state { self.new.state ≡ self.old.state }
     {
-        let made = self.made(alloc, input)?;
-        let input = input.copy(alloc)?;
+        let Ok(made) = self.made(alloc, &input) else {
+            return Err(Memory);
+        };
         let entry = Entry {
             actor: Actor::Session(self.id),
             input,
@@ -198,6 +200,8 @@ impl Session {
     }
 
     /// The call under way is sent again, and the newest configuration is asked for.
+    #[cold]
+    #[inline(never)]
     fn send_again(&self, alloc: Global) -> Result<Made, Memory>
         requires { self.now.state.under_way ≡ true }
         ensures { IfOk result (IsMade self.now.state (session_tick self.now.space self.now.state)) }
@@ -284,6 +288,7 @@ impl Session {
     }
 
     /// A part is kept; where it is the last, the search ends.
+    #[inline(never)]
     fn keep(
         &self,
         alloc: Global,
@@ -308,6 +313,8 @@ impl Session {
     }
 
     /// A configuration of a higher epoch is adopted, and a call on a key or a search sent anew.
+    #[cold]
+    #[inline(never)]
     fn install(&self, alloc: Global, config: &Shared<Config>) -> Result<Made, Memory>
         ensures { IfOk result (IsMade self.now.state (session_install self.now.space self.now.state config.now)) }
     {

@@ -1,3 +1,8 @@
+ghost use Rattle.std.specs.Prelude.{◌≡◌, ◌+◌, [], ◌∷◌, length};
+ghost use Rattle.hx_types.specs.declared.ids.Actor.TheVariants as an_actor;
+ghost use Rattle.hx_types.specs.declared.messages.Message.TheVariants as a_message;
+ghost use Rattle.hx_types.specs.declared.traces.Input.TheVariants as an_input;
+
 use crate::parts::list;
 use hx_trace::{EntryRef, InputRef, Trace};
 use hx_types::{
@@ -10,7 +15,9 @@ const SESSION: Actor = Actor::Session(SessionId(1));
 const SERVER: Actor = Actor::Server(ServerId(2));
 
 /// A poll of an epoch, by which the posts are told apart.
-fn poll(epoch: u64) -> Post {
+fn poll(epoch: u64) -> Post
+    ensures { result ≡ record { from = SESSION; to = SERVER; message = a_message.Poll (record { 0 = epoch }) } }
+{
     Post {
         from: SESSION,
         to: SERVER,
@@ -21,7 +28,12 @@ fn poll(epoch: u64) -> Post {
 }
 
 /// A session's own turn, with two posts and a note.
-fn asking<R: Abort + AllocGlobal>(rt: &R) -> Entry {
+fn asking<R: Abort + AllocGlobal>(rt: &R) -> Entry
+    ensures input { result.input ≡ an_input.Tick }
+    ensures posts { result.outputs ≡ record { from = SESSION; to = SERVER; message = a_message.Poll (record { 0 = 7 }) }
+        ∷ record { from = SESSION; to = SERVER; message = a_message.Poll (record { 0 = 8 }) } ∷ [] }
+    ensures notes { length result.notes ≡ 1 }
+{
     Entry {
         actor: SESSION,
         input: Input::Tick,
@@ -104,9 +116,57 @@ fn a_trace_gives_what_was_put(rt: HostRuntime) {
     assert_eq!(&rt; delivered_at(&trace, 2), None);
 }
 
+/// The delivery of the second of these posts, with a post and a note.
+fn hearing<R: Abort + AllocGlobal>(rt: &R) -> Entry
+    ensures actor { result.actor ≡ SERVER }
+    ensures input { result.input ≡ an_input.Deliver (record { entry = 1; place = 1 }) SESSION (a_message.Poll (record { 0 = 8 })) }
+    ensures posts { length result.outputs ≡ 1 }
+    ensures notes { length result.notes ≡ 1 }
+{
+    Entry {
+        actor: SERVER,
+        input: Input::Deliver {
+            id: PostId { entry: 1, place: 1 },
+            from: SESSION,
+            message: Message::Poll { epoch: Epoch(8) },
+        },
+        outputs: list(rt, [poll(3)]),
+        notes: list(rt, [Note::Began { number: 2 }]),
+    }
+}
+
 #[test]
-fn an_entry_finds_its_room(rt: HostRuntime) {
+fn a_trace_grows_in_place(rt: HostRuntime) {
     let mut trace = Trace::new(rt.alloc());
-    let reserved = trace.reserve_entry(rt.alloc(), 2, 1);
-    assert!(&rt; reserved.is_ok());
+    let growing = trace.growing();
+    growing.reserve(2, 1).expect(&rt, "memory");
+    growing.append(asking(&rt));
+    growing.reserve(1, 1).expect(&rt, "memory");
+    growing.append(hearing(&rt));
+    assert_eq!(&rt; trace.len(), 2);
+    assert_eq!(&rt; counts(&trace), (3, 2));
+    assert_eq!(&rt; sent(&trace, 1, 0), Some(7));
+    assert_eq!(&rt; sent(&trace, 1, 1), Some(8));
+    assert_eq!(&rt; sent(&trace, 2, 0), Some(3));
+    assert_eq!(&rt; delivered_at(&trace, 0), None);
+    assert_eq!(&rt; delivered_at(&trace, 1), Some((1, 1, 8)));
+}
+
+#[test]
+fn whole_entries_are_read_back(rt: HostRuntime) {
+    let mut trace = Trace::new(rt.alloc());
+    trace.push(asking(&rt)).expect(&rt, "memory");
+    trace.push(hearing(&rt)).expect(&rt, "memory");
+    // An entry that grows in place may deliver a post of an entry that is kept whole.
+    let growing = trace.growing();
+    growing.reserve(1, 1).expect(&rt, "memory");
+    growing.append(hearing(&rt));
+    assert_eq!(&rt; trace.len(), 3);
+    assert_eq!(&rt; counts(&trace), (4, 3));
+    assert_eq!(&rt; sent(&trace, 1, 1), Some(8));
+    assert_eq!(&rt; sent(&trace, 2, 0), Some(3));
+    assert_eq!(&rt; sent(&trace, 3, 0), Some(3));
+    assert_eq!(&rt; sent(&trace, 3, 1), None);
+    assert_eq!(&rt; delivered_at(&trace, 1), Some((1, 1, 8)));
+    assert_eq!(&rt; delivered_at(&trace, 2), Some((1, 1, 8)));
 }

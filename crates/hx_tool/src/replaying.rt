@@ -25,11 +25,11 @@ pub fn replay(alloc: Global, script: &Script, with_trace: bool) -> Result<Made, 
         Err(Stopped::Memory) => Err(Memory),
         Err(Stopped::Refused(line)) => Ok(Made::Refused {
             line,
-            trace: world.into_trace(),
+            trace: world.leave(),
         }),
         Err(Stopped::Worn(actor)) => Ok(Made::Worn {
             actor,
-            trace: world.into_trace(),
+            trace: world.leave(),
         }),
     }
 }
@@ -54,13 +54,13 @@ fn finish(
             alloc,
             script,
             with_trace,
-            world.into_trace(),
+            world.leave(),
         )?)),
         Ok(Drained::Spent) => unreachable!(),
         Err(DrainError::Memory) => Err(Memory),
         Err(DrainError::Worn(actor)) => Ok(Made::Worn {
             actor,
-            trace: world.into_trace(),
+            trace: world.leave(),
         }),
     }
 }

@@ -1,4 +1,4 @@
 pub mod Spans
-pub mod Growing
+pub mod Longer
 pub mod Naming
 pub mod Numbering

@@ -5,10 +5,7 @@ use Rattle.std.proofs.lemmas.Bool.{cond_both, eqb-true, eqb-false, ne_eqb}
 use Rattle.std.proofs.lemmas.List.{reverse-append, reverse-reverse, length-reverse}
 use Rattle.hx_types.specs.declared.traces.Entry.{Entry}
 use Rattle.hx_model.specs.Runs.{entry_at}
-
-slice_get-last : {A : Type 0} (xs : List A) (x : A) → slice_get (xs ++ x ∷ []) (length xs) ≡ Some x
-slice_get-last [] x = refl
-slice_get-last (y ∷ rest) x = slice_get-last rest x
+use Rattle.hx_trace.proofs.Spans.{get_end}
 
 slice_get-before : {A : Type 0} (xs : List A) (x : A) (i : ℕ) → (i ≡ length xs → ⊥) → slice_get (xs ++ x ∷ []) i ≡ slice_get xs i
 slice_get-before [] x zero h = absurd (h refl)
@@ -31,7 +28,7 @@ entry_of_reverse (x ∷ older) n some =
     (
     λ here. let same = eqb-true n (length older + 1) here in
     let place : n - 1 ≡ length (reverse older) = omega (arith, same, long) in
-    rw place (sym (slice_get-last (reverse older) x))
+    rw place (sym (get_end (reverse older) x))
     )
     (
     λ other. let differ : n ≡ length older + 1 → ⊥ = eqb-false n (length older + 1) other in

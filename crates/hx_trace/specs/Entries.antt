@@ -1,5 +1,4 @@
 -- What an entry of a trace says, as the trace lends it.
-use Rattle.std.specs.Prelude.{List, map}
 use Rattle.hx_types.specs.declared.traces.Entry.{Entry}
 use Rattle.hx_types.specs.declared.traces.Input.{Input}
 use Rattle.hx_types.specs.declared.traces.Input.TheVariants.{Tick, Halt, Deliver}

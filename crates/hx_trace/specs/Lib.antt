@@ -1,4 +1,5 @@
 pub use Rattle.hx_model.specs.Runs
 pub mod Entries
 pub mod Lists
-pub mod Reservations
+pub mod Lending
+pub mod Rooms

@@ -1,5 +1,6 @@
 -- How a trace lies in memory: a head for each entry, and the posts and notes of all entries one after another.
-use Rattle.std.specs.Prelude.{◌≡◌, ℕ, ◌+◌, ◌-◌, ◌<◌, ◌≤◌, ◌^◌, List, length, map, slice_get, slice_range, Option, None, Some, vec_capacity, ⊤}
+-- Entries that are kept whole lie apart.
+use Rattle.std.specs.Prelude.{◌≡◌, ℕ, ◌+◌, ◌<◌, ◌≤◌, ◌^◌, List, length, map, slice_get, slice_range, Option, None, Some, vec_capacity, ⊤}
 use Rattle.std.specs.List.{AllByRecursion}
 use Rattle.hx_types.specs.declared.messages.Post.{Post}
 use Rattle.hx_types.specs.declared.messages.PostId.{PostId}
@@ -7,6 +8,7 @@ use Rattle.hx_types.specs.declared.traces.Entry.{Entry}
 use Rattle.hx_types.specs.declared.traces.Input.{Input}
 use Rattle.hx_types.specs.declared.traces.Note.{Note}
 use Rattle.hx_types.specs.declared.traces.Input.TheVariants.{Tick, Halt, Deliver}
+use Rattle.hx_types.specs.Words.{when_some}
 use Rattle.hx_trace.specs.declared.heads.Head.{Head}
 use Rattle.hx_trace.specs.declared.heads.Span.{Span}
 use Rattle.hx_trace.specs.declared.heads.Taken.{Taken}
@@ -22,25 +24,39 @@ abbrev pub delivery : PostId → Option Post → Input
 delivery id None = Tick
 delivery id (Some p) = Deliver id p.from p.message
 
--- an input that is held
-abbrev pub held : Option Input → Input
-held None = Tick
-held (Some input) = input
+-- the post of an entry at a place
+abbrev pub post_of : Option Entry → ℕ → Option Post
+post_of None place = None
+post_of (Some e) place = slice_get e.outputs place
 
-abbrev pub input_by : List Post → List Input → Taken → Input
-input_by posts inputs a_taken.Tick = Tick
-input_by posts inputs a_taken.Halt = Halt
-input_by posts inputs (a_taken.Sent entry place at) = delivery (record { entry = entry; place = place }) (slice_get posts at)
-input_by posts inputs (a_taken.Held at) = held (slice_get inputs at)
+-- the entry that is kept whole, where the head names one
+abbrev pub whole_by : List Entry → Taken → Option Entry
+whole_by wholes a_taken.Tick = None
+whole_by wholes a_taken.Halt = None
+whole_by wholes (a_taken.Sent entry place at) = None
+whole_by wholes (a_taken.SentWhole entry place at) = None
+whole_by wholes (a_taken.Whole at) = slice_get wholes at
+
+-- what was taken in an entry that isn't kept whole
+abbrev pub input_by : List Post → List Entry → Taken → Input
+input_by posts wholes a_taken.Tick = Tick
+input_by posts wholes a_taken.Halt = Halt
+input_by posts wholes (a_taken.Sent entry place at) = delivery (record { entry = entry; place = place }) (slice_get posts at)
+input_by posts wholes (a_taken.SentWhole entry place at) = delivery (record { entry = entry; place = place }) (post_of (slice_get wholes at) place)
+input_by posts wholes (a_taken.Whole at) = Tick
+
+-- the entry of a head whose posts and notes lie in the lists
+abbrev pub filed_by : List Post → List Note → List Entry → Head → Entry
+filed_by posts notes wholes h =
+    record { actor = h.actor; input = input_by posts wholes h.taken; outputs = spanned posts h.posts; notes = spanned notes h.notes }
 
 -- the entry of a head
-abbrev pub entry_by : List Post → List Note → List Input → Head → Entry
-entry_by posts notes inputs h =
-    record { actor = h.actor; input = input_by posts inputs h.taken; outputs = spanned posts h.posts; notes = spanned notes h.notes }
+abbrev pub entry_by : List Post → List Note → List Entry → Head → Entry
+entry_by posts notes wholes h = when_some (whole_by wholes h.taken) (filed_by posts notes wholes h) (λ whole. whole)
 
 -- the entries of heads of the lists
 abbrev pub entries_by : Lists → List Head → List Entry
-entries_by l heads = map (entry_by l.posts.items l.notes.items l.inputs.items) heads
+entries_by l heads = map (entry_by l.posts.items l.notes.items l.wholes.items) heads
 
 -- the entries of the lists
 abbrev pub entries_in : Lists → List Entry
@@ -48,18 +64,19 @@ entries_in l = entries_by l l.heads.items
 
 -- what the head names lies in the lists
 abbrev pub IsTakenIn : ℕ → ℕ → Taken → Type 0
-IsTakenIn posts inputs a_taken.Tick = ⊤
-IsTakenIn posts inputs a_taken.Halt = ⊤
-IsTakenIn posts inputs (a_taken.Sent entry place at) = at < posts
-IsTakenIn posts inputs (a_taken.Held at) = at < inputs
+IsTakenIn posts wholes a_taken.Tick = ⊤
+IsTakenIn posts wholes a_taken.Halt = ⊤
+IsTakenIn posts wholes (a_taken.Sent entry place at) = at < posts
+IsTakenIn posts wholes (a_taken.SentWhole entry place at) = at < wholes
+IsTakenIn posts wholes (a_taken.Whole at) = at < wholes
 
-pub record IsHeadIn (posts notes inputs : ℕ) (h : Head) : Type 0 where
-  pub taken : IsTakenIn posts inputs h.taken
+pub record IsHeadIn (posts notes wholes : ℕ) (h : Head) : Type 0 where
+  pub taken : IsTakenIn posts wholes h.taken
   pub posts_end : h.posts.start + h.posts.count ≤ posts
   pub notes_end : h.notes.start + h.notes.count ≤ notes
 
 abbrev pub AreHeadsIn : Lists → List Head → Type 0
-AreHeadsIn l heads = AllByRecursion (IsHeadIn (length l.posts.items) (length l.notes.items) (length l.inputs.items)) heads
+AreHeadsIn l heads = AllByRecursion (IsHeadIn (length l.posts.items) (length l.notes.items) (length l.wholes.items)) heads
 
 abbrev pub AreWhole : Lists → Type 0
 AreWhole l = AreHeadsIn l l.heads.items
@@ -73,9 +90,15 @@ pub record HasRoom (l : Lists) (p n : ℕ) : Type 0 where
   pub few_posts : length l.posts.items + p < 2 ^ 32
   pub few_notes : length l.notes.items + n < 2 ^ 32
 
+-- there is room for one entry more that is kept whole
+pub record HasWholeRoom (l : Lists) : Type 0 where
+  pub heads : length l.heads.items < vec_capacity l.heads
+  pub wholes : length l.wholes.items < vec_capacity l.wholes
+  pub few_wholes : length l.wholes.items < 2 ^ 32
+
 -- the items of the lists are the same
 pub record IsSame (old new : Lists) : Type 0 where
   pub heads : new.heads.items ≡ old.heads.items
   pub posts : new.posts.items ≡ old.posts.items
   pub notes : new.notes.items ≡ old.notes.items
-  pub inputs : new.inputs.items ≡ old.inputs.items
+  pub wholes : new.wholes.items ≡ old.wholes.items

@@ -57,6 +57,7 @@ impl<'a> Iterator for Entries<'a> {
 
     ghost remaining = { item_count (λ entries. entries) };
 
+    #[inline(always)]
     fn next(&mut self) -> Option<EntryRef<'a>> {
         let (head, rest) = self.heads.split_first()?;
         self.heads = rest;

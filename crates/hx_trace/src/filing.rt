@@ -1,11 +1,12 @@
-ghost use Rattle.std.specs.Prelude.{◌≡◌, ◌+◌, ◌<◌, ◌≤◌, ◌^◌, ◌++◌, [], ◌∷◌, length, nat_lt, vec_capacity, vec_len, OnOk};
-ghost use Rattle.hx_trace.specs.Lists.{AreWhole, HasRoom, IsSame, IsTakenIn, entries_in, input_by};
+ghost use Rattle.std.specs.Prelude.{◌≡◌, ◌+◌, ◌<◌, ◌≤◌, ◌^◌, ◌++◌, [], ◌∷◌, length, None, nat_lt, vec_capacity, vec_len, OnOk};
+ghost use Rattle.hx_trace.specs.Lists.{AreWhole, HasRoom, HasWholeRoom, IsSame, IsTakenIn, entries_in, input_by, whole_by};
 
 use crate::heads::{Head, Span, Taken};
 use crate::lists::Lists;
-use hx_types::{Actor, Input, Memory, Note, Post};
+use hx_types::{Actor, Entry, Memory, Note, Post};
 
 /// Whether a list of so many items with so many more has at most 4,294,967,295: their places are numbers of 32 bits.
+#[inline]
 fn is_few(items: usize, more: usize) -> bool
     ensures { result ≡ nat_lt (items + more) (2 ^ 32) }
 {
@@ -16,6 +17,7 @@ fn is_few(items: usize, more: usize) -> bool
 }
 
 /// Makes room for so many items more. Lists of 4,294,967,296 items have none.
+#[inline]
 pub fn make_room<T: Drop>(list: &mut Vec<T>, more: usize) -> Result<(), Memory>
     ensures items { list.new.items ≡ list.old.items }
     ensures room { OnOk result (length list.new.items + more ≤ vec_capacity list.new) }
@@ -29,6 +31,7 @@ pub fn make_room<T: Drop>(list: &mut Vec<T>, more: usize) -> Result<(), Memory>
 }
 
 /// Makes room for an entry more with so many posts and notes.
+#[inline]
 pub fn reserve(lists: &mut Lists, posts: usize, notes: usize) -> Result<(), Memory>
     ensures same { IsSame lists.old lists.new }
     ensures room { OnOk result (HasRoom lists.new posts notes) }
@@ -38,7 +41,17 @@ pub fn reserve(lists: &mut Lists, posts: usize, notes: usize) -> Result<(), Memo
     make_room(&mut lists.notes, notes)
 }
 
+/// Makes room for one entry more that is kept whole.
+pub fn reserve_whole(lists: &mut Lists) -> Result<(), Memory>
+    ensures same { IsSame lists.old lists.new }
+    ensures room { OnOk result (HasWholeRoom lists.new) }
+{
+    make_room(&mut lists.heads, 1)?;
+    make_room(&mut lists.wholes, 1)
+}
+
 /// The run that items will be at the end of a list.
+#[inline]
 fn span_of<T>(list: &Vec<T>, more: &Vec<T>) -> Span
     requires { length list.now.items + length more.now.items < 2 ^ 32 }
     ensures { result ≡ record { start = length list.now.items; count = length more.now.items } }
@@ -50,10 +63,14 @@ fn span_of<T>(list: &Vec<T>, more: &Vec<T>) -> Span
 }
 
 /// Moves items to the end of a list that has room for them.
+#[inline]
 fn append<T: Drop>(list: &mut Vec<T>, more: Vec<T>)
     requires { length list.old.items + length more.items ≤ vec_capacity list.old }
     ensures { list.new.items ≡ list.old.items ++ more.items }
 {
+    if more.is_empty() {
+        return;
+    }
     let mut more = more;
     let _ = list.append(&mut more);
 }
@@ -62,10 +79,11 @@ fn append<T: Drop>(list: &mut Vec<T>, more: Vec<T>)
 pub fn file(lists: &mut Lists, actor: Actor, taken: Taken, outputs: Vec<Post>, notes: Vec<Note>)
     requires whole { AreWhole lists.old }
     requires room { HasRoom lists.old (length outputs.items) (length notes.items) }
-    requires taken { IsTakenIn (length lists.old.posts.items) (length lists.old.inputs.items) taken }
+    requires taken { IsTakenIn (length lists.old.posts.items) (length lists.old.wholes.items) taken }
+    requires filed { whole_by lists.old.wholes.items taken ≡ None }
     ensures whole { AreWhole lists.new }
     ensures entries { entries_in lists.new ≡ entries_in lists.old
-        ++ record { actor = actor; input = input_by lists.old.posts.items lists.old.inputs.items taken; outputs = outputs.items; notes = notes.items } ∷ [] }
+        ++ record { actor = actor; input = input_by lists.old.posts.items lists.old.wholes.items taken; outputs = outputs.items; notes = notes.items } ∷ [] }
 {
     let head = Head {
         actor,
@@ -78,24 +96,22 @@ pub fn file(lists: &mut Lists, actor: Actor, taken: Taken, outputs: Vec<Post>, n
     lists.heads.push_reserved(head);
 }
 
-/// Holds an input where it is a delivery, so that an entry can name it.
-pub fn hold(lists: &mut Lists, input: Input) -> Taken
+/// Keeps a whole entry at the end. There is room, so it takes no memory.
+pub fn keep(lists: &mut Lists, entry: Entry)
     requires whole { AreWhole lists.old }
-    requires room { length lists.old.inputs.items < vec_capacity lists.old.inputs }
-    requires few { length lists.old.inputs.items < 2 ^ 32 }
+    requires room { HasWholeRoom lists.old }
     ensures whole { AreWhole lists.new }
-    ensures entries { entries_in lists.new ≡ entries_in lists.old }
-    ensures input { input_by lists.new.posts.items lists.new.inputs.items result ≡ input }
-    ensures taken { IsTakenIn (length lists.new.posts.items) (length lists.new.inputs.items) result }
-    ensures others { (lists.new.heads ≡ lists.old.heads) × (lists.new.posts ≡ lists.old.posts) × (lists.new.notes ≡ lists.old.notes) }
+    ensures entries { entries_in lists.new ≡ entries_in lists.old ++ entry ∷ [] }
 {
-    match input {
-        Input::Tick => Taken::Tick,
-        Input::Halt => Taken::Halt,
-        delivery => {
-            let at = lists.inputs.len() as u32;
-            lists.inputs.push_reserved(delivery);
-            Taken::Held { at }
-        }
-    }
+    let none = Span { start: 0, count: 0 };
+    let head = Head {
+        actor: entry.actor,
+        taken: Taken::Whole {
+            at: lists.wholes.len() as u32,
+        },
+        posts: none,
+        notes: none,
+    };
+    lists.wholes.push_reserved(entry);
+    lists.heads.push_reserved(head);
 }

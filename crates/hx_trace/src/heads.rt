@@ -7,14 +7,17 @@ pub struct Span {
     pub count: u32,
 }
 
-/// What an actor took. A post of the trace is named and not held once more; `at` is where it lies among all posts.
+/// What an actor took, or the whole entry where that is kept. A post of the trace is named and not held once more.
 #[derive(Clone, Copy)]
 pub enum Taken {
     Tick,
     Halt,
+    /// A delivery of a post of the trace; `at` is where it lies among all posts.
     Sent { entry: u32, place: u32, at: u32 },
-    /// A delivery of a post that may not stand in the trace; `at` is its place among such inputs.
-    Held { at: u32 },
+    /// A delivery of a post of an entry that is kept whole; `at` is the place of that entry among these.
+    SentWhole { entry: u32, place: u32, at: u32 },
+    /// An entry that is kept whole; `at` is its place among these. All that the head says besides counts for nothing.
+    Whole { at: u32 },
 }
 
 /// An entry without its posts and notes.
@@ -24,4 +27,11 @@ pub struct Head {
     pub taken: Taken,
     pub posts: Span,
     pub notes: Span,
+}
+
+/// How many posts and notes an entry may have.
+#[derive(Clone, Copy)]
+pub struct Room {
+    pub posts: usize,
+    pub notes: usize,
 }

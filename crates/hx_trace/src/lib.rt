@@ -2,8 +2,8 @@
 //!
 //! Contracts see a [`Trace`] as the list of its entries. In memory it is a short head for each entry and
 //! the posts and the notes of all entries, one after another. An entry that delivers a post of the trace names
-//! that post, and doesn't hold its message once more. That form is this project's choice: memory that is
-//! touched for the first time is the dearest part of a run.
+//! that post, and doesn't hold its message once more. An entry that is pushed is kept whole, as it is. That form
+//! is this project's choice: memory that is touched for the first time is the dearest part of a run.
 //!
 //! No contract says that there is memory, so a function that always answered
 //! [`Memory`](hx_types::Memory) would be proved. The tests in `hx_tests` make traces and read them.
@@ -11,11 +11,12 @@
 
 mod entries;
 mod filing;
+mod growing;
 mod heads;
 mod lists;
-mod reserved;
 mod traces;
 
 pub use entries::{Entries, EntryRef, InputRef};
-pub use reserved::ReservedTrace;
+pub use growing::GrowingTrace;
+pub use heads::Room;
 pub use traces::Trace;

@@ -1,21 +1,21 @@
 ghost use Rattle.std.specs.Prelude.{◌≡◌, ◌+◌, ◌<◌, ◌≤◌, ◌^◌, ◌++◌, [], ◌∷◌, length, slice_get};
 ghost use Rattle.std.specs.Option.{option_copied};
 ghost use Rattle.hx_trace.specs.Entries.{entry_seen, input_seen};
-ghost use Rattle.hx_trace.specs.Lists.{AreWhole, IsHeadIn, IsTakenIn, entries_in, entry_by, input_by, spanned};
+ghost use Rattle.hx_trace.specs.Lists.{AreWhole, IsHeadIn, delivery, entries_in, entry_by, input_by, post_of, spanned, whole_by};
 
 use crate::entries::{EntryRef, InputRef};
 use crate::heads::{Head, Span, Taken};
-use hx_types::{Input, Note, Post, PostId};
+use hx_types::{Entry, Input, Note, Post, PostId};
 use std::alloc::Global;
 
 /// The lists in which a trace lies: a head for each entry, and the posts and notes of all entries one after
-/// another. Inputs that may be no delivery of a post of the trace are held apart.
+/// another. Entries that are kept whole lie apart, with their own posts and notes.
 #[derive(Drop)]
 pub struct Lists {
     pub heads: Vec<Head>,
     pub posts: Vec<Post>,
     pub notes: Vec<Note>,
-    pub inputs: Vec<Input>,
+    pub wholes: Vec<Entry>,
 }
 
 /// Lists without an entry.
@@ -27,11 +27,12 @@ pub fn empty(alloc: Global) -> Lists
         heads: Vec::new(alloc),
         posts: Vec::new(alloc),
         notes: Vec::new(alloc),
-        inputs: Vec::new(alloc),
+        wholes: Vec::new(alloc),
     }
 }
 
 /// The head at a place from 0, or `None` past the end.
+#[inline]
 pub fn head_at(lists: &Lists, place: usize) -> Option<&Head>
     ensures { option_copied result ≡ slice_get lists.now.heads.items place }
 {
@@ -39,14 +40,16 @@ pub fn head_at(lists: &Lists, place: usize) -> Option<&Head>
 }
 
 /// The post of a head at a place from 0, or `None` past the last.
+#[inline]
 pub fn post_at<'a>(lists: &'a Lists, head: &Head, place: u32) -> Option<&'a Post>
-    requires { IsHeadIn (length lists.now.posts.items) (length lists.now.notes.items) (length lists.now.inputs.items) head.now }
-    ensures { option_copied result ≡ slice_get (spanned lists.now.posts.items head.now.posts) place }
+    requires { IsHeadIn (length lists.now.posts.items) (length lists.now.notes.items) (length lists.now.wholes.items) head.now }
+    ensures { option_copied result ≡ slice_get (entry_by lists.now.posts.items lists.now.notes.items lists.now.wholes.items head.now).outputs place }
 {
     posts_of(lists, head).get(place as usize)
 }
 
 /// The items of a run.
+#[inline(always)]
 fn items_of<T>(list: &[T], span: Span) -> &[T]
     requires { span.start + span.count ≤ length list.now }
     ensures { result.now ≡ spanned list.now span }
@@ -55,38 +58,75 @@ fn items_of<T>(list: &[T], span: Span) -> &[T]
     &list[start..start + span.count as usize]
 }
 
-/// The posts of a head.
-pub fn posts_of<'a>(lists: &'a Lists, head: &Head) -> &'a [Post]
-    requires { IsHeadIn (length lists.now.posts.items) (length lists.now.notes.items) (length lists.now.inputs.items) head.now }
-    ensures { result.now ≡ spanned lists.now.posts.items head.now.posts }
+/// The entry that is kept whole, if the head names one.
+#[inline(always)]
+fn whole_of(lists: &Lists, taken: Taken) -> Option<&Entry>
+    ensures { option_copied result ≡ whole_by lists.now.wholes.items taken }
 {
-    items_of(lists.posts.as_slice(), head.posts)
+    match taken {
+        Taken::Whole { at } => lists.wholes.get(at as usize),
+        Taken::Tick | Taken::Halt | Taken::Sent { .. } | Taken::SentWhole { .. } => None,
+    }
 }
 
-/// What the actor took.
+/// The posts of a head.
+#[inline(always)]
+pub fn posts_of<'a>(lists: &'a Lists, head: &Head) -> &'a [Post]
+    requires { IsHeadIn (length lists.now.posts.items) (length lists.now.notes.items) (length lists.now.wholes.items) head.now }
+    ensures { result.now ≡ (entry_by lists.now.posts.items lists.now.notes.items lists.now.wholes.items head.now).outputs }
+{
+    match whole_of(lists, head.taken) {
+        Some(whole) => whole.outputs.as_slice(),
+        None => items_of(lists.posts.as_slice(), head.posts),
+    }
+}
+
+/// The post at a place of an entry that is kept whole.
+fn whole_post(lists: &Lists, at: u32, place: u32) -> Option<&Post>
+    ensures { option_copied result ≡ post_of (slice_get lists.now.wholes.items at) place }
+{
+    match lists.wholes.get(at as usize) {
+        Some(whole) => whole.outputs.as_slice().get(place as usize),
+        None => None,
+    }
+}
+
+/// The delivery of a post, lent.
+#[inline(always)]
+fn delivered(entry: u32, place: u32, post: Option<&Post>) -> InputRef<'_>
+    ensures { input_seen result ≡ delivery (record { entry = entry; place = place }) (option_copied post.entry) }
+{
+    match post {
+        Some(post) => InputRef::Deliver {
+            id: PostId {
+                entry: u64::from(entry),
+                place,
+            },
+            from: post.from,
+            message: &post.message,
+        },
+        None => InputRef::Tick,
+    }
+}
+
+/// What the actor took, where the entry isn't kept whole.
+#[inline(always)]
 fn input_of<'a>(lists: &'a Lists, taken: Taken) -> InputRef<'a>
-    requires { IsTakenIn (length lists.now.posts.items) (length lists.now.inputs.items) taken }
-    ensures { input_seen result ≡ input_by lists.now.posts.items lists.now.inputs.items taken }
+    ensures { input_seen result ≡ input_by lists.now.posts.items lists.now.wholes.items taken }
 {
     match taken {
         Taken::Tick => InputRef::Tick,
         Taken::Halt => InputRef::Halt,
-        Taken::Sent { entry, place, at } => {
-            let post = &lists.posts[at as usize];
-            InputRef::Deliver {
-                id: PostId {
-                    entry: u64::from(entry),
-                    place,
-                },
-                from: post.from,
-                message: &post.message,
-            }
+        Taken::Sent { entry, place, at } => delivered(entry, place, lists.posts.get(at as usize)),
+        Taken::SentWhole { entry, place, at } => {
+            delivered(entry, place, whole_post(lists, at, place))
         }
-        Taken::Held { at } => lent(&lists.inputs[at as usize]),
+        Taken::Whole { .. } => InputRef::Tick,
     }
 }
 
 /// An input, lent.
+#[inline(always)]
 fn lent(input: &Input) -> InputRef<'_>
     ensures { input_seen result ≡ input.now }
 {
@@ -101,15 +141,32 @@ fn lent(input: &Input) -> InputRef<'_>
     }
 }
 
-/// The entry of a head.
-pub fn entry_of<'a>(lists: &'a Lists, head: &Head) -> EntryRef<'a>
-    requires { IsHeadIn (length lists.now.posts.items) (length lists.now.notes.items) (length lists.now.inputs.items) head.now }
-    ensures { entry_seen result ≡ entry_by lists.now.posts.items lists.now.notes.items lists.now.inputs.items head.now }
+/// An entry, lent.
+#[inline(always)]
+fn lent_entry(entry: &Entry) -> EntryRef<'_>
+    ensures { entry_seen result ≡ entry.now }
 {
     EntryRef {
-        actor: head.actor,
-        input: input_of(lists, head.taken),
-        outputs: posts_of(lists, head),
-        notes: items_of(lists.notes.as_slice(), head.notes),
+        actor: entry.actor,
+        input: lent(&entry.input),
+        outputs: entry.outputs.as_slice(),
+        notes: entry.notes.as_slice(),
+    }
+}
+
+/// The entry of a head.
+#[inline(always)]
+pub fn entry_of<'a>(lists: &'a Lists, head: &Head) -> EntryRef<'a>
+    requires { IsHeadIn (length lists.now.posts.items) (length lists.now.notes.items) (length lists.now.wholes.items) head.now }
+    ensures { entry_seen result ≡ entry_by lists.now.posts.items lists.now.notes.items lists.now.wholes.items head.now }
+{
+    match whole_of(lists, head.taken) {
+        Some(whole) => lent_entry(whole),
+        None => EntryRef {
+            actor: head.actor,
+            input: input_of(lists, head.taken),
+            outputs: items_of(lists.posts.as_slice(), head.posts),
+            notes: items_of(lists.notes.as_slice(), head.notes),
+        },
     }
 }

@@ -40,15 +40,15 @@ pub fn actor_takes(
     alloc: Global,
     cluster: &mut Cluster,
     actor: Actor,
-    input: &Input,
+    input: Input,
 ) -> Result<(), StepError>
     requires world { IsWorld cluster.old }
     requires actor { is_actor cluster.old.script.now actor ≡ true }
-    requires may { MayTake (reverse cluster.old.log.trace) actor input.now }
+    requires may { MayTake (reverse cluster.old.log.trace) actor input }
     ensures world { IsWorld cluster.new }
     ensures script { cluster.new.script.now ≡ cluster.old.script.now }
-    ensures ok { OnOk result (HasTurn cluster.old.script.now (reverse cluster.old.log.trace) (reverse cluster.new.log.trace) actor input.now) }
-    ensures err { IfErr result (HasNoTurn cluster.old.script.now (reverse cluster.old.log.trace) actor input.now) }
+    ensures ok { OnOk result (HasTurn cluster.old.script.now (reverse cluster.old.log.trace) (reverse cluster.new.log.trace) actor input) }
+    ensures err { IfErr result (HasNoTurn cluster.old.script.now (reverse cluster.old.log.trace) actor input) }
     ensures same { OnErr result (cluster.new.log.trace ≡ cluster.old.log.trace) }
 {
     if has_halted(cluster, actor) {
@@ -62,13 +62,14 @@ pub fn actor_takes(
 }
 
 /// Gives an input to the coordinator.
-fn to_coordinator(alloc: Global, cluster: &mut Cluster, input: &Input) -> Result<(), StepError>
+#[inline(never)]
+fn to_coordinator(alloc: Global, cluster: &mut Cluster, input: Input) -> Result<(), StepError>
     requires world { IsWorld cluster.old }
-    requires may { MayTake (reverse cluster.old.log.trace) an_actor.Coordinator input.now }
+    requires may { MayTake (reverse cluster.old.log.trace) an_actor.Coordinator input }
     ensures world { IsWorld cluster.new }
     ensures script { cluster.new.script.now ≡ cluster.old.script.now }
-    ensures ok { OnOk result (HasTurn cluster.old.script.now (reverse cluster.old.log.trace) (reverse cluster.new.log.trace) an_actor.Coordinator input.now) }
-    ensures err { IfErr result (HasNoTurn cluster.old.script.now (reverse cluster.old.log.trace) an_actor.Coordinator input.now) }
+    ensures ok { OnOk result (HasTurn cluster.old.script.now (reverse cluster.old.log.trace) (reverse cluster.new.log.trace) an_actor.Coordinator input) }
+    ensures err { IfErr result (HasNoTurn cluster.old.script.now (reverse cluster.old.log.trace) an_actor.Coordinator input) }
     ensures same { OnErr result (cluster.new.log.trace ≡ cluster.old.log.trace) }
 {
     coordinator_takes(
@@ -85,16 +86,16 @@ fn to_server(
     alloc: Global,
     cluster: &mut Cluster,
     server: ServerId,
-    input: &Input,
+    input: Input,
 ) -> Result<(), StepError>
     requires world { IsWorld cluster.old }
     requires actor { is_actor cluster.old.script.now (an_actor.Server server) ≡ true }
     requires running { has_halted cluster.old.script.now (reverse cluster.old.log.trace) (an_actor.Server server) ≡ false }
-    requires may { MayTake (reverse cluster.old.log.trace) (an_actor.Server server) input.now }
+    requires may { MayTake (reverse cluster.old.log.trace) (an_actor.Server server) input }
     ensures world { IsWorld cluster.new }
     ensures script { cluster.new.script.now ≡ cluster.old.script.now }
-    ensures ok { OnOk result (HasTurn cluster.old.script.now (reverse cluster.old.log.trace) (reverse cluster.new.log.trace) (an_actor.Server server) input.now) }
-    ensures err { IfErr result (HasNoTurn cluster.old.script.now (reverse cluster.old.log.trace) (an_actor.Server server) input.now) }
+    ensures ok { OnOk result (HasTurn cluster.old.script.now (reverse cluster.old.log.trace) (reverse cluster.new.log.trace) (an_actor.Server server) input) }
+    ensures err { IfErr result (HasNoTurn cluster.old.script.now (reverse cluster.old.log.trace) (an_actor.Server server) input) }
     ensures same { OnErr result (cluster.new.log.trace ≡ cluster.old.log.trace) }
 {
     let counted = &mut cluster.actors.servers[server.0 as usize - 1];
@@ -107,15 +108,15 @@ fn to_session(
     alloc: Global,
     cluster: &mut Cluster,
     session: SessionId,
-    input: &Input,
+    input: Input,
 ) -> Result<(), StepError>
     requires world { IsWorld cluster.old }
     requires actor { is_actor cluster.old.script.now (an_actor.Session session) ≡ true }
-    requires may { MayTake (reverse cluster.old.log.trace) (an_actor.Session session) input.now }
+    requires may { MayTake (reverse cluster.old.log.trace) (an_actor.Session session) input }
     ensures world { IsWorld cluster.new }
     ensures script { cluster.new.script.now ≡ cluster.old.script.now }
-    ensures ok { OnOk result (HasTurn cluster.old.script.now (reverse cluster.old.log.trace) (reverse cluster.new.log.trace) (an_actor.Session session) input.now) }
-    ensures err { IfErr result (HasNoTurn cluster.old.script.now (reverse cluster.old.log.trace) (an_actor.Session session) input.now) }
+    ensures ok { OnOk result (HasTurn cluster.old.script.now (reverse cluster.old.log.trace) (reverse cluster.new.log.trace) (an_actor.Session session) input) }
+    ensures err { IfErr result (HasNoTurn cluster.old.script.now (reverse cluster.old.log.trace) (an_actor.Session session) input) }
     ensures same { OnErr result (cluster.new.log.trace ≡ cluster.old.log.trace) }
 {
     let counted = &mut cluster.actors.sessions[session.0 as usize - 1];

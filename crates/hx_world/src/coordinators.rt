@@ -27,15 +27,15 @@ pub fn coordinator_takes(
     alloc: Global,
     counted: &mut CountedCoordinator,
     log: &mut Log,
-    input: &Input,
+    input: Input,
 ) -> Result<(), StepError>
-    requires can { CanTake counted.old.coordinator input.now }
-    requires may { MayTake (reverse log.old.trace) an_actor.Coordinator input.now }
+    requires can { CanTake counted.old.coordinator input }
+    requires may { MayTake (reverse log.old.trace) an_actor.Coordinator input }
     requires ascending { AreAscending log.old.waiting.items }
-    ensures log { OnOk result (Files log.old log.new (coordinator_entry counted.old.coordinator input.now)) }
-    ensures taken { OnOk result (HasTaken counted.old counted.new input.now) }
-    ensures admitted { OnOk result (IsAdmitted (coordinator_entry counted.old.coordinator input.now) counted.old.entries) }
-    ensures barred { IfErr result (IsBarred (coordinator_entry counted.old.coordinator input.now) counted.old.entries) }
+    ensures log { OnOk result (Files log.old log.new (coordinator_entry counted.old.coordinator input)) }
+    ensures taken { OnOk result (HasTaken counted.old counted.new input) }
+    ensures admitted { OnOk result (IsAdmitted (coordinator_entry counted.old.coordinator input) counted.old.entries) }
+    ensures barred { IfErr result (IsBarred (coordinator_entry counted.old.coordinator input) counted.old.entries) }
     ensures same_log { OnErr result (IsSameLog log.old log.new) }
     ensures same { OnErr result (IsSameCoordinator counted.old counted.new) }
 {
@@ -43,11 +43,12 @@ pub fn coordinator_takes(
         return Err(StepError::Memory);
     };
     admit(plan.entry(), counted.entries)?;
-    let Ok(reserved) = reserve_entry(alloc, log, plan.entry()) else {
+    let trace = log.trace.growing();
+    if reserve_entry(trace, &mut log.waiting, plan.entry()).is_err() {
         return Err(StepError::Memory);
-    };
+    }
     let entry = counted.coordinator.apply(plan);
-    append_entry(log, reserved, entry);
+    append_entry(trace, &mut log.waiting, entry);
     counted.entries += 1;
     Ok(())
 }

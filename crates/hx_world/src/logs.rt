@@ -1,13 +1,14 @@
-ghost use Rattle.std.specs.Prelude.{◌≡◌, [], ◌++◌, ◌∷◌, ◌<◌, ◌≤◌, ◌+◌, ◌^◌, IfOk, OnOk, OnErr, length, reverse};
+ghost use Rattle.std.specs.Prelude.{◌≡◌, [], ◌++◌, ◌∷◌, ◌<◌, ◌≤◌, ◌+◌, ◌^◌, IfOk, OnOk, length, reverse};
 ghost use Rattle.std.specs.Option.{option_copied};
 ghost use Rattle.std.specs.VecDeque.{deque_len, deque_capacity};
 ghost use Rattle.hx_model.specs.Runs.{MayTake, post_named};
 ghost use Rattle.hx_model.specs.Schedule.{without_delivered};
+ghost use Rattle.hx_trace.specs.Rooms.{IsRoomFor};
 ghost use Rattle.hx_world.specs.Filing.{names_after};
 ghost use Rattle.hx_world.specs.Names.{AreAscending};
 
 use crate::waiting::{push_names, take_out};
-use hx_trace::{ReservedTrace, Trace};
+use hx_trace::{GrowingTrace, Trace};
 use hx_types::{Entry, Input, Memory, Post, PostId};
 use std::alloc::Global;
 use std::collections::VecDeque;
@@ -48,39 +49,38 @@ fn posts_of(entry: &Entry) -> Result<u32, Memory>
     }
 }
 
-/// Takes all memory for an entry. Where it is there, the trace is handed out and the log is without it
-/// until [`append_entry`] hands it back.
-pub fn reserve_entry(alloc: Global, log: &mut Log, entry: &Entry) -> Result<ReservedTrace, Memory>
-    ensures entries { IfOk result (λ made. made.entries ≡ log.old.trace) }
-    ensures posts { IfOk result (λ made. made.posts ≡ length entry.now.outputs) }
-    ensures notes { IfOk result (λ made. made.notes ≡ length entry.now.notes) }
-    ensures waiting { log.new.waiting.items ≡ log.old.waiting.items }
-    ensures names { OnOk result (deque_len log.new.waiting + length entry.now.outputs ≤ deque_capacity log.new.waiting) }
+/// Takes all memory for an entry: room at the end of the trace, and for the names of its posts.
+pub fn reserve_entry(
+    trace: &mut GrowingTrace,
+    waiting: &mut VecDeque<PostId>,
+    entry: &Entry,
+) -> Result<(), Memory>
+    ensures entries { trace.new.entries ≡ trace.old.entries }
+    ensures room { OnOk result (IsRoomFor trace.new.room (length entry.now.outputs) (length entry.now.notes)) }
+    ensures waiting { waiting.new.items ≡ waiting.old.items }
+    ensures names { OnOk result (deque_len waiting.new + length entry.now.outputs ≤ deque_capacity waiting.new) }
     ensures few { OnOk result (length entry.now.outputs < 2 ^ 32) }
-    ensures err { OnErr result (log.new.trace ≡ log.old.trace) }
 {
     let posts = posts_of(entry)?;
-    log.waiting.reserve(posts as usize)?;
-    log.trace
-        .reserve_entry(alloc, entry.outputs.len(), entry.notes.len())
+    waiting.reserve(posts as usize)?;
+    trace.reserve(entry.outputs.len(), entry.notes.len())
 }
 
-/// Puts an entry at the end of the trace that was handed out, and this into the log. A delivery takes the
-/// name of its post out, and the names of the entry's own posts wait after the others.
-pub fn append_entry(log: &mut Log, reserved: ReservedTrace, entry: Entry)
-    requires posts { length entry.outputs ≤ reserved.posts }
-    requires notes { length entry.notes ≤ reserved.notes }
-    requires may { MayTake (reverse reserved.entries) entry.actor entry.input }
-    requires name_room { deque_len log.old.waiting + length entry.outputs ≤ deque_capacity log.old.waiting }
+/// Puts an entry at the end of the trace. A delivery takes the name of its post out, and the names of the
+/// entry's own posts wait after the others.
+pub fn append_entry(trace: &mut GrowingTrace, waiting: &mut VecDeque<PostId>, entry: Entry)
+    requires room { IsRoomFor trace.old.room (length entry.outputs) (length entry.notes) }
+    requires may { MayTake (reverse trace.old.entries) entry.actor entry.input }
+    requires name_room { deque_len waiting.old + length entry.outputs ≤ deque_capacity waiting.old }
     requires few_posts { length entry.outputs < 2 ^ 32 }
-    requires ascending { AreAscending log.old.waiting.items }
-    ensures trace { log.new.trace ≡ reserved.entries ++ entry ∷ [] }
-    ensures waiting { log.new.waiting.items ≡ names_after (length reserved.entries) entry log.old.waiting.items }
+    requires ascending { AreAscending waiting.old.items }
+    ensures trace { trace.new.entries ≡ trace.old.entries ++ entry ∷ [] }
+    ensures waiting { waiting.new.items ≡ names_after (length trace.old.entries) entry waiting.old.items }
 {
     let posts = entry.outputs.len() as u32;
-    drop_delivered(&mut log.waiting, &entry.input);
-    log.trace = reserved.append_entry(entry);
-    push_names(&mut log.waiting, log.trace.len() as u64, posts);
+    drop_delivered(waiting, &entry.input);
+    trace.append(entry);
+    push_names(waiting, trace.len() as u64, posts);
 }
 
 /// The post of a delivery waits no longer.

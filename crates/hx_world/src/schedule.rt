@@ -105,6 +105,7 @@ fn is_received(cluster: &Cluster, id: PostId) -> bool
 }
 
 /// The lowest session with a call left and none under way, by its place from 0.
+#[inline(never)]
 fn first_idle(sessions: &[CountedSession]) -> Option<usize>
     ensures { MatchOption result (IsNoneIdle sessions.now) (IsFirstIdle sessions.now) }
 {

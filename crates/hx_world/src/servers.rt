@@ -27,15 +27,15 @@ pub fn server_takes(
     alloc: Global,
     counted: &mut CountedServer,
     log: &mut Log,
-    input: &Input,
+    input: Input,
 ) -> Result<(), StepError>
-    requires can { CanTake counted.old.server.space counted.old.server.state input.now }
-    requires may { MayTake (reverse log.old.trace) (an_actor.Server counted.old.server.state.id) input.now }
+    requires can { CanTake counted.old.server.space counted.old.server.state input }
+    requires may { MayTake (reverse log.old.trace) (an_actor.Server counted.old.server.state.id) input }
     requires ascending { AreAscending log.old.waiting.items }
-    ensures log { OnOk result (Files log.old log.new (server_entry counted.old.server.space counted.old.server.state input.now)) }
-    ensures taken { OnOk result (HasTaken counted.old counted.new input.now) }
-    ensures admitted { OnOk result (IsAdmitted (server_entry counted.old.server.space counted.old.server.state input.now) counted.old.entries) }
-    ensures barred { IfErr result (IsBarred (server_entry counted.old.server.space counted.old.server.state input.now) counted.old.entries) }
+    ensures log { OnOk result (Files log.old log.new (server_entry counted.old.server.space counted.old.server.state input)) }
+    ensures taken { OnOk result (HasTaken counted.old counted.new input) }
+    ensures admitted { OnOk result (IsAdmitted (server_entry counted.old.server.space counted.old.server.state input) counted.old.entries) }
+    ensures barred { IfErr result (IsBarred (server_entry counted.old.server.space counted.old.server.state input) counted.old.entries) }
     ensures same_log { OnErr result (IsSameLog log.old log.new) }
     ensures same { OnErr result (IsSameServer counted.old counted.new) }
 {
@@ -43,11 +43,12 @@ pub fn server_takes(
         return Err(StepError::Memory);
     };
     admit(plan.entry(), counted.entries)?;
-    let Ok(reserved) = reserve_entry(alloc, log, plan.entry()) else {
+    let trace = log.trace.growing();
+    if reserve_entry(trace, &mut log.waiting, plan.entry()).is_err() {
         return Err(StepError::Memory);
-    };
+    }
     let entry = counted.server.apply(plan);
-    append_entry(log, reserved, entry);
+    append_entry(trace, &mut log.waiting, entry);
     counted.entries += 1;
     Ok(())
 }

@@ -27,15 +27,15 @@ pub fn session_takes(
     alloc: Global,
     counted: &mut CountedSession,
     log: &mut Log,
-    input: &Input,
+    input: Input,
 ) -> Result<(), StepError>
-    requires can { CanTake counted.old.session.space counted.old.session.state input.now }
-    requires may { MayTake (reverse log.old.trace) (an_actor.Session counted.old.session.state.id) input.now }
+    requires can { CanTake counted.old.session.space counted.old.session.state input }
+    requires may { MayTake (reverse log.old.trace) (an_actor.Session counted.old.session.state.id) input }
     requires ascending { AreAscending log.old.waiting.items }
-    ensures log { OnOk result (Files log.old log.new (session_entry counted.old.session.space counted.old.session.state input.now)) }
-    ensures taken { OnOk result (HasTaken counted.old counted.new input.now) }
-    ensures admitted { OnOk result (IsAdmitted (session_entry counted.old.session.space counted.old.session.state input.now) counted.old.entries) }
-    ensures barred { IfErr result (IsBarred (session_entry counted.old.session.space counted.old.session.state input.now) counted.old.entries) }
+    ensures log { OnOk result (Files log.old log.new (session_entry counted.old.session.space counted.old.session.state input)) }
+    ensures taken { OnOk result (HasTaken counted.old counted.new input) }
+    ensures admitted { OnOk result (IsAdmitted (session_entry counted.old.session.space counted.old.session.state input) counted.old.entries) }
+    ensures barred { IfErr result (IsBarred (session_entry counted.old.session.space counted.old.session.state input) counted.old.entries) }
     ensures same_log { OnErr result (IsSameLog log.old log.new) }
     ensures same { OnErr result (IsSameSession counted.old counted.new) }
 {
@@ -43,11 +43,12 @@ pub fn session_takes(
         return Err(StepError::Memory);
     };
     admit(plan.entry(), counted.entries)?;
-    let Ok(reserved) = reserve_entry(alloc, log, plan.entry()) else {
+    let trace = log.trace.growing();
+    if reserve_entry(trace, &mut log.waiting, plan.entry()).is_err() {
         return Err(StepError::Memory);
-    };
+    }
     let entry = counted.session.apply(plan);
-    append_entry(log, reserved, entry);
+    append_entry(trace, &mut log.waiting, entry);
     counted.entries += 1;
     Ok(())
 }

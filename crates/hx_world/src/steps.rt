@@ -45,7 +45,7 @@ fn deliver(alloc: Global, cluster: &mut Cluster, id: PostId) -> Result<(), StepE
     let Ok(input) = delivery(alloc, id, post) else {
         return Err(StepError::Memory);
     };
-    actor_takes(alloc, cluster, to, &input)?;
+    actor_takes(alloc, cluster, to, input)?;
     Ok(())
 }
 
@@ -61,6 +61,7 @@ fn delivery(alloc: Global, id: PostId, post: &Post) -> Result<Input, Memory>
 }
 
 /// An actor has its own turn.
+#[inline(never)]
 fn tick(alloc: Global, cluster: &mut Cluster, actor: Actor) -> Result<(), StepError>
     requires world { IsWorld cluster.old }
     requires actor { is_actor cluster.old.script.now actor ≡ true }
@@ -70,11 +71,12 @@ fn tick(alloc: Global, cluster: &mut Cluster, actor: Actor) -> Result<(), StepEr
     ensures refused { IfErr result (Refuses cluster.old.script.now (reverse cluster.old.log.trace) (a_step.Tick actor)) }
     ensures err { OnErr result (cluster.new.log.trace ≡ cluster.old.log.trace) }
 {
-    actor_takes(alloc, cluster, actor, &Input::Tick)?;
+    actor_takes(alloc, cluster, actor, Input::Tick)?;
     Ok(())
 }
 
 /// A server halts.
+#[inline(never)]
 fn halt(alloc: Global, cluster: &mut Cluster, actor: Actor) -> Result<(), StepError>
     requires world { IsWorld cluster.old }
     requires actor { is_actor cluster.old.script.now actor ≡ true }
@@ -86,7 +88,7 @@ fn halt(alloc: Global, cluster: &mut Cluster, actor: Actor) -> Result<(), StepEr
 {
     match actor {
         Actor::Server(_) => {
-            actor_takes(alloc, cluster, actor, &Input::Halt)?;
+            actor_takes(alloc, cluster, actor, Input::Halt)?;
             Ok(())
         }
         _ => Err(StepError::NotServer),

@@ -14,6 +14,7 @@ use hx_trace::Trace;
 use hx_types::{Memory, Script, Step};
 use std::alloc::Global;
 use std::marker::Model;
+use std::mem::ManuallyDrop;
 
 /// All actors of a script, and the trace of their steps so far. The script is borrowed.
 ///
@@ -70,6 +71,20 @@ impl<'a> World<'a> {
         ensures few { HasFewEntries (reverse result) }
     {
         let cluster = self.cluster;
+        let log = cluster.log;
+        log.trace
+    }
+
+    /// The trace by itself, for a program that is about to end: the memory of the actors is not given back, which
+    /// would take long, but left to the system. Elsewhere use [`World::into_trace`].
+    pub fn leave(self) -> Trace
+        ensures trace { result ≡ self.entry.trace }
+        ensures valid { IsScript self.entry.script }
+        ensures run { IsRun self.entry.script (reverse result) }
+        ensures few { HasFewEntries (reverse result) }
+    {
+        let cluster = self.cluster;
+        let _left = ManuallyDrop::new(cluster.actors);
         let log = cluster.log;
         log.trace
     }

@@ -12,7 +12,7 @@ pub returns-then-is_worn-clause-fault : goal.returns-then-is_worn-clause-fault
 returns-then-is_worn-clause-fault g c = (
   refl,
   c.is_worn.ensures.most c.if-is_worn.true,
-  more-to-make c.args.script.now c.args.clock.now c.args.boxes.now c.requires.desk.0 c.args.desk.now c.args.input.now c.requires.desk.1 c.requires.running c.requires.given c.requires.enough,
+  more-to-make c.args.script.now c.args.clock.now c.args.boxes.now c.requires.desk.0 c.args.desk.now c.args.input c.requires.desk.1 c.requires.running c.requires.given c.requires.enough,
 )
 
 pub returns-else-is_worn-clause-fault : goal.returns-else-is_worn-clause-fault

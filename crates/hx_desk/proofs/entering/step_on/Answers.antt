@@ -16,8 +16,8 @@ settle-requires-clause-desk g c =
     let w = c.requires.desk.0 in
     let d = c.foresee.new.desk in (
       w,
-      desk-told c.args.script.now c.args.clock.now c.args.boxes.now w c.args.desk.now d c.args.input.now (entry_in c.in-Ok.plan).input c.foresee.ensures.same (ready-own c.args.script.now d c.args.input.now c.in-Ok.plan c.in-Ok.ensures.ready)
-          (c.foresee.ensures.desk c.args.boxes.now w (told_by c.args.desk.now.actor c.args.input.now) c.requires.desk.1),
+      desk-told c.args.script.now c.args.clock.now c.args.boxes.now w c.args.desk.now d c.args.input (entry_in c.in-Ok.plan).input c.foresee.ensures.same (ready-own c.args.script.now d c.args.input c.in-Ok.plan c.in-Ok.ensures.ready)
+          (c.foresee.ensures.desk c.args.boxes.now w (told_by c.args.desk.now.actor c.args.input) c.requires.desk.1),
     )
 
 pub settle-requires-clause-step : goal.settle-requires-clause-step
@@ -25,7 +25,7 @@ settle-requires-clause-step g c =
     let s = c.foresee.ensures.same in
     let d = c.foresee.new.desk in
     let r = c.in-Ok.ensures.ready in
-    let i = c.args.input.now in (
+    let i = c.args.input in (
       ready-input c.args.script.now d i c.in-Ok.plan r,
       step-enough c.args.script.now d i c.in-Ok.plan r
           (at-same (λ (a : Actor) xs. makes_enough i (made_of c.args.script.now (entries_before xs) a i) ≡ true) c.args.desk.now.actor d.actor c.args.desk.now.part.items d.part.items s.actor s.part c.requires.enough),
@@ -42,15 +42,15 @@ returns-in-Ok-clause-desk g c =
     let d = c.foresee.new.desk in
     match-map _ _ _ _ c.settle.result
     (λ _ k w h. k w
-    (desk-told c.args.script.now c.args.clock.now c.args.boxes.now w c.args.desk.now d c.args.input.now (entry_in c.in-Ok.plan).input c.foresee.ensures.same (ready-own c.args.script.now d c.args.input.now c.in-Ok.plan c.in-Ok.ensures.ready)
-    (c.foresee.ensures.desk c.args.boxes.now w (told_by c.args.desk.now.actor c.args.input.now) h)))
+    (desk-told c.args.script.now c.args.clock.now c.args.boxes.now w c.args.desk.now d c.args.input (entry_in c.in-Ok.plan).input c.foresee.ensures.same (ready-own c.args.script.now d c.args.input c.in-Ok.plan c.in-Ok.ensures.ready)
+    (c.foresee.ensures.desk c.args.boxes.now w (told_by c.args.desk.now.actor c.args.input) h)))
     (λ _ k w rest h. k w rest (c.foresee.ensures.desk c.args.boxes.now w rest h)) c.settle.ensures.desk
 
 pub returns-in-Ok-clause-turn : goal.returns-in-Ok-clause-turn
 returns-in-Ok-clause-turn g c =
     let s = c.foresee.ensures.same in
     let d = c.foresee.new.desk in
-    let i = c.args.input.now in
+    let i = c.args.input in
     match-map _ _ _ _ c.settle.result
     (λ _ k. (
       k.0,

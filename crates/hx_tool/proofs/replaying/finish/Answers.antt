@@ -5,10 +5,10 @@ use Rattle.hx_tool.proofs.replaying.finish.Goals as goal
 
 pub answered-requires-clause-whole : goal.answered-requires-clause-whole
 answered-requires-clause-whole c =
-    whole_run c.args.script.now c.args.world c.drain.new.self c.into_trace.result 18446744073709551615
+    whole_run c.args.script.now c.args.world c.drain.new.self c.leave.result 18446744073709551615
     c.requires.taken c.requires.script c.requires.stepped
     (quietly c.args.world.script 18446744073709551615 (reverse c.args.world.trace) (reverse c.drain.new.self.trace) c.in-Ok-Quiet.field-0 c.in-Ok-Quiet.ensures.drained c.in-Ok-Quiet.field-0-is)
-    c.into_trace.ensures.trace c.in-Ok-Quiet.ensures.script c.into_trace.ensures.run c.into_trace.ensures.few
+    c.leave.ensures.trace c.in-Ok-Quiet.ensures.script c.leave.ensures.run c.leave.ensures.few
 
 pub unreachable-requires : goal.unreachable-requires
 unreachable-requires c =

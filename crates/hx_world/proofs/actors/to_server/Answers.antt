@@ -13,12 +13,12 @@ index_mut-counted-requires c = server_in c.args.cluster.now.script.now c.args.cl
 pub server_takes-requires-clause-can : goal.server_takes-requires-clause-can
 server_takes-requires-clause-can c =
     can_serve c.args.cluster.now.script.now c.args.cluster.now.actors c.args.cluster.now.log c.requires.world c.args.server c.requires.actor
-    c.index_mut-counted.result.now c.index_mut-counted.ensures.value c.args.input.now c.requires.running c.requires.may
+    c.index_mut-counted.result.now c.index_mut-counted.ensures.value c.args.input c.requires.running c.requires.may
 
 pub server_takes-requires-clause-may : goal.server_takes-requires-clause-may
 server_takes-requires-clause-may c =
     may_serve c.args.cluster.now.script.now c.args.cluster.now.actors c.args.cluster.now.log c.requires.world c.args.server c.requires.actor
-    c.index_mut-counted.result.now c.index_mut-counted.ensures.value c.args.input.now c.requires.may
+    c.index_mut-counted.result.now c.index_mut-counted.ensures.value c.args.input c.requires.may
 
 pub server_takes-requires-clause-ascending : goal.server_takes-requires-clause-ascending
 server_takes-requires-clause-ascending c = ascending c.args.cluster.now.script.now c.args.cluster.now.actors c.args.cluster.now.log c.requires.world
@@ -28,13 +28,13 @@ returns-in_err-server_takes-clause-world c =
     let after : Actors =
     record { coordinator = c.args.cluster.now.actors.coordinator; servers = with_item c.args.cluster.now.actors.servers (c.args.server.0 - 1) c.server_takes.new.counted; sessions = c.args.cluster.now.actors.sessions } in
     unserved c.args.cluster.now.script.now c.args.cluster.now.actors c.args.cluster.now.log c.requires.world c.args.server c.requires.actor
-    c.index_mut-counted.result.now c.index_mut-counted.ensures.value c.args.input.now c.requires.running c.requires.may c.server_takes.new.counted after c.server_takes.new.log c.in_err-server_takes.ensures.same c.in_err-server_takes.ensures.same_log refl refl refl
+    c.index_mut-counted.result.now c.index_mut-counted.ensures.value c.args.input c.requires.running c.requires.may c.server_takes.new.counted after c.server_takes.new.log c.in_err-server_takes.ensures.same c.in_err-server_takes.ensures.same_log refl refl refl
 
 pub returns-in_err-server_takes-clause-err : goal.returns-in_err-server_takes-clause-err
 returns-in_err-server_takes-clause-err c =
     let why =
     not_served c.args.cluster.now.script.now c.args.cluster.now.actors c.args.cluster.now.log c.requires.world c.args.server c.requires.actor
-    c.index_mut-counted.result.now c.index_mut-counted.ensures.value c.args.input.now c.requires.running c.requires.may c.in_err-server_takes.field-0.0 c.in_err-server_takes.ensures.barred in
+    c.index_mut-counted.result.now c.index_mut-counted.ensures.value c.args.input c.requires.running c.requires.may c.in_err-server_takes.field-0.0 c.in_err-server_takes.ensures.barred in
     search (rules, why)
 
 pub returns-clause-world : goal.returns-clause-world
@@ -42,7 +42,7 @@ returns-clause-world c =
     let after : Actors =
     record { coordinator = c.args.cluster.now.actors.coordinator; servers = with_item c.args.cluster.now.actors.servers (c.args.server.0 - 1) c.server_takes.new.counted; sessions = c.args.cluster.now.actors.sessions } in
     (served c.args.cluster.now.script.now c.args.cluster.now.actors c.args.cluster.now.log c.requires.world c.args.server c.requires.actor
-    c.index_mut-counted.result.now c.index_mut-counted.ensures.value c.args.input.now c.requires.running c.requires.may c.server_takes.new.counted after c.server_takes.new.log
+    c.index_mut-counted.result.now c.index_mut-counted.ensures.value c.args.input c.requires.running c.requires.may c.server_takes.new.counted after c.server_takes.new.log
     c.in_ok-server_takes.ensures.log c.in_ok-server_takes.ensures.taken c.in_ok-server_takes.ensures.admitted refl refl refl).world
 
 pub returns-clause-ok : goal.returns-clause-ok
@@ -50,5 +50,5 @@ returns-clause-ok c =
     let after : Actors =
     record { coordinator = c.args.cluster.now.actors.coordinator; servers = with_item c.args.cluster.now.actors.servers (c.args.server.0 - 1) c.server_takes.new.counted; sessions = c.args.cluster.now.actors.sessions } in
     (served c.args.cluster.now.script.now c.args.cluster.now.actors c.args.cluster.now.log c.requires.world c.args.server c.requires.actor
-    c.index_mut-counted.result.now c.index_mut-counted.ensures.value c.args.input.now c.requires.running c.requires.may c.server_takes.new.counted after c.server_takes.new.log
+    c.index_mut-counted.result.now c.index_mut-counted.ensures.value c.args.input c.requires.running c.requires.may c.server_takes.new.counted after c.server_takes.new.log
     c.in_ok-server_takes.ensures.log c.in_ok-server_takes.ensures.taken c.in_ok-server_takes.ensures.admitted refl refl refl).turn

@@ -13,12 +13,12 @@ index_mut-counted-requires c = session_in c.args.cluster.now.script.now c.args.c
 pub session_takes-requires-clause-can : goal.session_takes-requires-clause-can
 session_takes-requires-clause-can c =
     can_attend c.args.cluster.now.script.now c.args.cluster.now.actors c.args.cluster.now.log c.requires.world c.args.session c.requires.actor
-    c.index_mut-counted.result.now c.index_mut-counted.ensures.value c.args.input.now c.requires.may
+    c.index_mut-counted.result.now c.index_mut-counted.ensures.value c.args.input c.requires.may
 
 pub session_takes-requires-clause-may : goal.session_takes-requires-clause-may
 session_takes-requires-clause-may c =
     may_attend c.args.cluster.now.script.now c.args.cluster.now.actors c.args.cluster.now.log c.requires.world c.args.session c.requires.actor
-    c.index_mut-counted.result.now c.index_mut-counted.ensures.value c.args.input.now c.requires.may
+    c.index_mut-counted.result.now c.index_mut-counted.ensures.value c.args.input c.requires.may
 
 pub session_takes-requires-clause-ascending : goal.session_takes-requires-clause-ascending
 session_takes-requires-clause-ascending c = ascending c.args.cluster.now.script.now c.args.cluster.now.actors c.args.cluster.now.log c.requires.world
@@ -28,13 +28,13 @@ returns-in_err-session_takes-clause-world c =
     let after : Actors =
     record { coordinator = c.args.cluster.now.actors.coordinator; servers = c.args.cluster.now.actors.servers; sessions = with_item c.args.cluster.now.actors.sessions (c.args.session.0 - 1) c.session_takes.new.counted } in
     unattended c.args.cluster.now.script.now c.args.cluster.now.actors c.args.cluster.now.log c.requires.world c.args.session c.requires.actor
-    c.index_mut-counted.result.now c.index_mut-counted.ensures.value c.args.input.now c.session_takes.new.counted after c.session_takes.new.log c.in_err-session_takes.ensures.same c.in_err-session_takes.ensures.same_log refl refl refl
+    c.index_mut-counted.result.now c.index_mut-counted.ensures.value c.args.input c.session_takes.new.counted after c.session_takes.new.log c.in_err-session_takes.ensures.same c.in_err-session_takes.ensures.same_log refl refl refl
 
 pub returns-in_err-session_takes-clause-err : goal.returns-in_err-session_takes-clause-err
 returns-in_err-session_takes-clause-err c =
     let why =
     not_attended c.args.cluster.now.script.now c.args.cluster.now.actors c.args.cluster.now.log c.requires.world c.args.session c.requires.actor
-    c.index_mut-counted.result.now c.index_mut-counted.ensures.value c.args.input.now c.in_err-session_takes.field-0.0 c.in_err-session_takes.ensures.barred in
+    c.index_mut-counted.result.now c.index_mut-counted.ensures.value c.args.input c.in_err-session_takes.field-0.0 c.in_err-session_takes.ensures.barred in
     search (rules, why)
 
 pub returns-clause-world : goal.returns-clause-world
@@ -42,7 +42,7 @@ returns-clause-world c =
     let after : Actors =
     record { coordinator = c.args.cluster.now.actors.coordinator; servers = c.args.cluster.now.actors.servers; sessions = with_item c.args.cluster.now.actors.sessions (c.args.session.0 - 1) c.session_takes.new.counted } in
     (attended c.args.cluster.now.script.now c.args.cluster.now.actors c.args.cluster.now.log c.requires.world c.args.session c.requires.actor
-    c.index_mut-counted.result.now c.index_mut-counted.ensures.value c.args.input.now c.session_takes.new.counted after c.session_takes.new.log c.requires.may
+    c.index_mut-counted.result.now c.index_mut-counted.ensures.value c.args.input c.session_takes.new.counted after c.session_takes.new.log c.requires.may
     c.in_ok-session_takes.ensures.log c.in_ok-session_takes.ensures.taken c.in_ok-session_takes.ensures.admitted refl refl refl).world
 
 pub returns-clause-ok : goal.returns-clause-ok
@@ -50,5 +50,5 @@ returns-clause-ok c =
     let after : Actors =
     record { coordinator = c.args.cluster.now.actors.coordinator; servers = c.args.cluster.now.actors.servers; sessions = with_item c.args.cluster.now.actors.sessions (c.args.session.0 - 1) c.session_takes.new.counted } in
     (attended c.args.cluster.now.script.now c.args.cluster.now.actors c.args.cluster.now.log c.requires.world c.args.session c.requires.actor
-    c.index_mut-counted.result.now c.index_mut-counted.ensures.value c.args.input.now c.session_takes.new.counted after c.session_takes.new.log c.requires.may
+    c.index_mut-counted.result.now c.index_mut-counted.ensures.value c.args.input c.session_takes.new.counted after c.session_takes.new.log c.requires.may
     c.in_ok-session_takes.ensures.log c.in_ok-session_takes.ensures.taken c.in_ok-session_takes.ensures.admitted refl refl refl).turn

@@ -1,22 +1,21 @@
 use Rattle.std.proofs.Common.{◌≡◌, ◌++◌, ◌<◌, List, ap, arith, map, subst, sym, ◌∙◌}
 use Rattle.std.specs.List.{flat_map}
-use Rattle.std.proofs.lemmas.Result.{IfOk-weaker}
 use Rattle.hx_types.specs.declared.configs.Config.{Config}
 use Rattle.hx_types.specs.declared.ids.RegionId.{RegionId}
 use Rattle.hx_types.specs.declared.messages.Post.{Post}
-use Rattle.hx_model.specs.ServerSteps.{adopted_posts, install_at, listed_regions, replica_or_new, server_step}
+use Rattle.hx_model.specs.ServerSteps.{adopted_posts, install_at, listed_regions, replica_or_new}
 use Rattle.hx_folds.specs.Folding.{folded_server}
 use Rattle.hx_replica.specs.declared.replicas.Replica.{Replica}
 use Rattle.hx_replica.specs.Inside.{value_of}
-use Rattle.hx_replica.specs.Plans.{IsPlanOn}
+use Rattle.hx_replica.specs.Plans.{IsStepMade}
 use Rattle.hx_replica.specs.Replicas.{new_replica, views_of}
 use Rattle.hx_replica.specs.Servers.{ServerValue}
 use Rattle.hx_replica.specs.Ticking.{standing}
-use Rattle.hx_replica.proofs.Installed.{adoption_planned}
+use Rattle.hx_replica.proofs.Installed.{adoption_made}
 use Rattle.hx_replica.proofs.servers.Server.install.Goals as goal
 
-pub returns-clause-plan : goal.returns-clause-plan
-returns-clause-plan c =
+pub returns : goal.returns
+returns c =
     let i = c.self.inside in
     let config = c.args.config.now in
     let mine = ap (λ (k : Config). k.epoch.0) c.deref-2.ensures in
@@ -27,14 +26,9 @@ returns-clause-plan c =
     c.in_ok-post_adoption.ensures ∙ ap (λ (ps : List Post). ps ++ all c.deref-3.result.now c.as_slice.result.now) c.new-posts.ensures
     ∙ ap (λ (k : Config). all k c.as_slice.result.now) c.deref-3.ensures ∙ ap (all config) c.as_slice.ensures.value in
     let new : c.in_ok-replicas.replicas.items ≡ map (new_replica i.space) (listed_regions config i.id) = c.in_ok-replicas.ensures ∙ ap (λ (k : Config). map (new_replica i.space) (listed_regions k i.id)) c.deref-4.ensures in
-    IfOk-weaker c.said.result _ _
+    subst (λ (v : ServerValue). IsStepMade v (install_at v.space v.state config) c.said.result) c.self.view_is
     (
-    λ plan e. subst (λ (v : ServerValue). IsPlanOn v plan) c.self.view_is
-    (
-    adoption_planned (value_of i) c.args.input.now config c.in_ok-config.config c.in_ok-replicas.replicas c.post_adoption.new.posts plan newer
+    adoption_made (value_of i) config c.in_ok-config.config c.in_ok-replicas.replicas c.post_adoption.new.posts c.said.result newer
     (subst (λ (v : ServerValue). folded_server v.state ≡ v.state) (sym c.self.view_is) c.requires.bare)
-    (subst (λ (v : ServerValue). server_step v.space v.state c.args.input.now ≡ install_at v.space v.state config) (sym c.self.view_is) c.requires.step)
-    posts new c.in_ok-config.ensures e
+    posts new c.in_ok-config.ensures c.said.ensures
     )
-    )
-    c.said.ensures

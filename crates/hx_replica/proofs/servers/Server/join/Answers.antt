@@ -1,18 +1,17 @@
 use Rattle.std.proofs.Common.{◌≡◌, ◌++◌, Some, ap, map, refl, slice_get, subst, sym, ◌∙◌}
 use Rattle.std.specs.Option.{option_map}
-use Rattle.std.proofs.lemmas.Result.{IfOk-weaker}
 use Rattle.hx_types.specs.declared.configs.Config.{Config}
 use Rattle.hx_folds.specs.Folding.{folded, folded_server}
-use Rattle.hx_model.specs.ServerSteps.{Replica as ReplicaState, hearing, installed_slots, ready_post, server_step, snapped}
+use Rattle.hx_model.specs.ServerSteps.{Replica as ReplicaState, hearing, installed_slots, ready_post, snapped}
 use Rattle.hx_replica.specs.Inside.{value_of}
-use Rattle.hx_replica.specs.Plans.{IsPlanOn}
+use Rattle.hx_replica.specs.Plans.{IsStepMade}
 use Rattle.hx_replica.specs.Servers.{ServerValue}
 use Rattle.hx_replica.specs.Ticking.{standing}
-use Rattle.hx_replica.proofs.Snapped.{IsHeardBy, heard_by, join_planned, ready_planned}
+use Rattle.hx_replica.proofs.Snapped.{IsHeardBy, heard_by, join_made, ready_made}
 use Rattle.hx_replica.proofs.servers.Server.join.Goals as goal
 
-pub returns-then-index-clause-plan : goal.returns-then-index-clause-plan
-returns-then-index-clause-plan c =
+pub returns-then-index : goal.returns-then-index
+returns-then-index c =
     let i = c.self.inside in
     let g = c.args.region in
     let snapshot = c.args.snapshot.now in
@@ -20,22 +19,17 @@ returns-then-index-clause-plan c =
     let heard : IsHeardBy (value_of i) c.args.epoch g c.in-Some.number c.index.result.now =
     heard_by i c.args.epoch g c.in-Some.number c.index.result.now c.index.ensures
     (subst (λ (v : ServerValue). Some (slice_get v.state.replicas c.in-Some.number) ≡ option_map (λ (r : ReplicaState). Some r) (hearing v.state c.args.epoch g)) (sym c.self.view_is) c.in-Some.ensures) in
-    IfOk-weaker c.said.result _ _
+    subst (λ (v : ServerValue). IsStepMade v (snapped v.space v.state snapshot pending (hearing v.state c.args.epoch g)) c.said.result) c.self.view_is
     (
-    λ plan e. subst (λ (v : ServerValue). IsPlanOn v plan) c.self.view_is
-    (
-    ready_planned (value_of i) c.args.input.now c.args.epoch g snapshot pending
+    ready_made (value_of i) c.args.epoch g snapshot pending
     (subst (λ (v : ServerValue). folded_server v.state ≡ v.state) (sym c.self.view_is) c.requires.bare)
-    (subst (λ (v : ServerValue). server_step v.space v.state c.args.input.now ≡ snapped v.space v.state snapshot pending (hearing v.state c.args.epoch g)) (sym c.self.view_is) c.requires.step)
-    c.in-Some.number c.index.result.now heard c.new-posts.result c.tell_ready.new.posts plan c.if-index.true c.new-posts.ensures
+    c.in-Some.number c.index.result.now heard c.new-posts.result c.tell_ready.new.posts c.said.result c.if-index.true c.new-posts.ensures
     (c.in_ok-tell_ready.ensures ∙ ap (λ (k : Config). c.new-posts.result ++ ready_post (standing k i.id) g) c.deref.ensures)
-    e
-    )
-    )
     c.said.ensures
+    )
 
-pub returns-clause-plan : goal.returns-clause-plan
-returns-clause-plan c =
+pub returns : goal.returns
+returns c =
     let i = c.self.inside in
     let g = c.args.region in
     let snapshot = c.args.snapshot.now in
@@ -44,19 +38,14 @@ returns-clause-plan c =
     let heard : IsHeardBy (value_of i) c.args.epoch g c.in-Some.number c.index.result.now =
     heard_by i c.args.epoch g c.in-Some.number c.index.result.now c.index.ensures
     (subst (λ (v : ServerValue). Some (slice_get v.state.replicas c.in-Some.number) ≡ option_map (λ (r : ReplicaState). Some r) (hearing v.state c.args.epoch g)) (sym c.self.view_is) c.in-Some.ensures) in
-    IfOk-weaker c.said-2.result _ _
+    subst (λ (v : ServerValue). IsStepMade v (snapped v.space v.state snapshot pending (hearing v.state c.args.epoch g)) c.said-2.result) c.self.view_is
     (
-    λ plan e. subst (λ (v : ServerValue). IsPlanOn v plan) c.self.view_is
-    (
-    join_planned (value_of i) c.args.input.now c.args.epoch g snapshot pending
+    join_made (value_of i) c.args.epoch g snapshot pending
     (subst (λ (v : ServerValue). folded_server v.state ≡ v.state) (sym c.self.view_is) c.requires.bare)
-    (subst (λ (v : ServerValue). server_step v.space v.state c.args.input.now ≡ snapped v.space v.state snapshot pending (hearing v.state c.args.epoch g)) (sym c.self.view_is) c.requires.step)
-    c.in-Some.number c.index.result.now heard c.in-Ok.store c.in-Ok-joined_replica.replica c.new-posts.result (c.new-posts.result ++ (slots i.config).posts) c.installed.new.posts plan c.if-index.false c.new-posts.ensures refl
+    c.in-Some.number c.index.result.now heard c.in-Ok.store c.in-Ok-joined_replica.replica c.new-posts.result (c.new-posts.result ++ (slots i.config).posts) c.installed.new.posts c.said-2.result c.if-index.false c.new-posts.ensures refl
     (c.in-Ok.ensures.posts ∙ ap (λ (k : Config). (c.new-posts.result ++ (slots k).posts) ++ ready_post (standing k i.id) g) c.deref.ensures)
     c.in-Ok.ensures.region c.in-Ok.ensures.marks
     (c.in-Ok.ensures.states ∙ ap (λ (k : Config). map (folded g) (slots k).states) c.deref.ensures)
     c.in-Ok-joined_replica.ensures
-    e
-    )
-    )
     c.said-2.ensures
+    )

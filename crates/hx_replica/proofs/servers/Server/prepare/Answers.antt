@@ -1,26 +1,21 @@
-use Rattle.std.proofs.Common.{◌∙◌}
-use Rattle.hx_replica.specs.Servers.{server_entry}
-use Rattle.hx_replica.proofs.Inside.{ok_both}
+use Rattle.std.proofs.Common.{refl, ap, sym, ◌∙◌}
+use Rattle.hx_model.specs.ServerSteps.{ServerState}
+use Rattle.hx_replica.specs.Servers.{ServerValue, server_entry}
 use Rattle.hx_replica.proofs.Naming.{entry_named}
+use Rattle.hx_replica.proofs.Planning.{made_planned}
 use Rattle.hx_replica.proofs.Sounding.{entry_sound}
 use Rattle.hx_replica.proofs.servers.Server.prepare.Goals as goal
 
-pub returns-in-Tick-clause-sound : goal.returns-in-Tick-clause-sound
-returns-in-Tick-clause-sound c =
-    ok_both c.tick.result _ _ _ (λ plan is e. entry_sound c.args.self.now c.args.input.now plan.entry is.entry e) c.tick.ensures.plan c.tick.ensures.input
+pub returns-clause-plan : goal.returns-clause-plan
+returns-clause-plan c =
+    made_planned c.made_on.new.self c.args.input c.self.inside.id c.in-Ok.made _ (ap (λ (v : ServerValue). v.state.id) c.self.view_is ∙ ap (λ (s : ServerState). s.id) (sym c.made_on.ensures.state)) c.in-Ok.ensures.made refl
 
-pub returns-in-Deliver-clause-sound : goal.returns-in-Deliver-clause-sound
-returns-in-Deliver-clause-sound c =
-    ok_both c.deliver.result _ _ _
-    (λ plan is e. entry_sound c.args.self.now c.args.input.now plan.entry (is.entry ∙ (λ i. server_entry (c.deliver.ensures.space i) (c.deliver.ensures.state i) plan.entry.input)) e)
-    c.deliver.ensures.plan c.deliver.ensures.input
+pub returns-clause-named : goal.returns-clause-named
+returns-clause-named c =
+    let is = made_planned c.made_on.new.self c.args.input c.self.inside.id c.in-Ok.made _ (ap (λ (v : ServerValue). v.state.id) c.self.view_is ∙ ap (λ (s : ServerState). s.id) (sym c.made_on.ensures.state)) c.in-Ok.ensures.made refl in
+    entry_named c.args.self.now c.args.input _ (is.entry ∙ (λ i. server_entry (c.made_on.ensures.space i) (c.made_on.ensures.state i) c.args.input)) refl
 
-pub returns-in-Tick-clause-named : goal.returns-in-Tick-clause-named
-returns-in-Tick-clause-named c =
-    ok_both c.tick.result _ _ _ (λ plan is e. entry_named c.args.self.now c.args.input.now plan.entry is.entry e) c.tick.ensures.plan c.tick.ensures.input
-
-pub returns-in-Deliver-clause-named : goal.returns-in-Deliver-clause-named
-returns-in-Deliver-clause-named c =
-    ok_both c.deliver.result _ _ _
-    (λ plan is e. entry_named c.args.self.now c.args.input.now plan.entry (is.entry ∙ (λ i. server_entry (c.deliver.ensures.space i) (c.deliver.ensures.state i) plan.entry.input)) e)
-    c.deliver.ensures.plan c.deliver.ensures.input
+pub returns-clause-sound : goal.returns-clause-sound
+returns-clause-sound c =
+    let is = made_planned c.made_on.new.self c.args.input c.self.inside.id c.in-Ok.made _ (ap (λ (v : ServerValue). v.state.id) c.self.view_is ∙ ap (λ (s : ServerState). s.id) (sym c.made_on.ensures.state)) c.in-Ok.ensures.made refl in
+    entry_sound c.args.self.now c.args.input _ (is.entry ∙ (λ i. server_entry (c.made_on.ensures.space i) (c.made_on.ensures.state i) c.args.input)) refl

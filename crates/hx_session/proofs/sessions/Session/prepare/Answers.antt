@@ -7,13 +7,13 @@ use Rattle.hx_session.proofs.sessions.Session.prepare.Goals as goal
 
 pub returns-clause-of_space : goal.returns-clause-of_space
 returns-clause-of_space c =
-    subst (ArePostsOf c.args.self.now.space) (sym c.in_ok-made.ensures.posts)
-    (posts_of_space c.args.self.now.space c.args.self.now.state (subst (λ (v : SessionValue). IsStateOf v.space v.state) c.self.view_is c.self.invariant.of_space) c.args.input.now c.requires)
+    subst (ArePostsOf c.args.self.now.space) (sym c.in-Ok.ensures.posts)
+    (posts_of_space c.args.self.now.space c.args.self.now.state (subst (λ (v : SessionValue). IsStateOf v.space v.state) c.self.view_is c.self.invariant.of_space) c.args.input c.requires)
 
 pub returns-clause-named : goal.returns-clause-named
 returns-clause-named c =
-    subst (NameOnly (known_to c.args.self.now.state c.args.input.now)) (sym c.in_ok-made.ensures.posts) (posts_named c.args.self.now.space c.args.self.now.state c.args.input.now)
+    subst (NameOnly (known_to c.args.self.now.state c.args.input)) (sym c.in-Ok.ensures.posts) (posts_named c.args.self.now.space c.args.self.now.state c.args.input)
 
 pub returns-clause-small : goal.returns-clause-small
 returns-clause-small c = λ most low brings.
-    subst (PostsUpTo most) (sym c.in_ok-made.ensures.posts) (posts_small c.args.self.now.space c.args.self.now.state c.args.input.now most low brings)
+    subst (PostsUpTo most) (sym c.in-Ok.ensures.posts) (posts_small c.args.self.now.space c.args.self.now.state c.args.input most low brings)

@@ -1,0 +1,17 @@
+use Rattle.std.proofs.Common.{◌≡◌, length, ◌∙◌}
+use Rattle.hx_trace.proofs.filing.keep.Goals as goal
+use Rattle.hx_trace.proofs.Longer.{entries_kept, heads_kept}
+
+pub returns-clause-whole : goal.returns-clause-whole
+returns-clause-whole c =
+    let l = c.args.lists.now in
+    let n : c.len.result ≡ length l.wholes.items = c.len.ensures ∙ l.wholes.ok.0 in
+    rw (c.push_reserved-2.ensures.items, c.push_reserved.ensures.items, n)
+    (heads_kept c.args.entry.actor l.posts.items l.notes.items l.wholes.items c.args.entry l.heads.items c.requires.whole)
+
+pub returns-clause-entries : goal.returns-clause-entries
+returns-clause-entries c =
+    let l = c.args.lists.now in
+    let n : c.len.result ≡ length l.wholes.items = c.len.ensures ∙ l.wholes.ok.0 in
+    rw (c.push_reserved-2.ensures.items, c.push_reserved.ensures.items, n)
+    (entries_kept c.args.entry.actor l.posts.items l.notes.items l.wholes.items c.args.entry l.heads.items c.requires.whole)

@@ -1,0 +1,154 @@
+ghost use Rattle.std.specs.Prelude.{◌≡◌, ◌<◌, ◌≤◌, ◌^◌, ◌++◌, [], ◌∷◌, length, reverse, Some, None, OnErr, OnOk};
+ghost use Rattle.hx_types.specs.Words.{post};
+ghost use Rattle.hx_types.specs.declared.traces.Input.TheVariants as an_input;
+ghost use Rattle.hx_model.specs.Runs.{MayTake, post_named};
+ghost use Rattle.hx_trace.specs.Lists.{AreWhole, IsTakenIn, entries_in, input_by, whole_by};
+ghost use Rattle.hx_trace.specs.Rooms.{IsRoomFor};
+
+use crate::filing::{file, keep, reserve, reserve_whole};
+use crate::heads::{Room, Taken};
+use crate::lists::{Lists, empty, head_at};
+use hx_types::{Actor, Entry, Input, Memory, Message, PostId};
+use std::alloc::Global;
+use std::marker::Model;
+
+/// The entries of a trace, which grow at their end. Contracts see them, and how many posts and notes the next
+/// entry may have, if there is room for it. Each entry that is put at the end uses the room up.
+#[derive(Drop)]
+pub struct GrowingTrace {
+    lists: Lists,
+    room: Option<Room>,
+}
+
+impl Model for GrowingTrace {
+    ghost use Rattle.hx_trace.specs.Rooms.{Growth, IsGrowing};
+    ghost use Rattle.hx_trace.specs.Lists.{entries_in};
+
+    ghost Value = { Growth };
+
+    ghost view = { λ g. record { entries = entries_in g.lists; room = g.room } };
+
+    ghost invariant = { λ g. IsGrowing g.lists g.room };
+}
+
+/// What is kept of an input that an actor may take: of a delivery its post's place in the trace.
+fn taken_of(lists: &Lists, actor: Actor, input: &Input) -> Taken
+    requires whole { AreWhole lists.now }
+    requires few_heads { length lists.now.heads.items < 2 ^ 32 }
+    requires few_posts { length lists.now.posts.items < 2 ^ 32 }
+    requires may { MayTake (reverse (entries_in lists.now)) actor input.now }
+    ensures taken { IsTakenIn (length lists.now.posts.items) (length lists.now.wholes.items) result }
+    ensures filed { whole_by lists.now.wholes.items result ≡ None }
+    ensures input { input_by lists.now.posts.items lists.now.wholes.items result ≡ input.now }
+{
+    match input {
+        Input::Tick => Taken::Tick,
+        Input::Halt => Taken::Halt,
+        Input::Deliver { id, from, message } => sent_at(lists, actor, *id, *from, message),
+    }
+}
+
+/// A post of the trace, with the place where it lies.
+fn sent_at(lists: &Lists, to: Actor, id: PostId, from: Actor, message: &Message) -> Taken
+    requires whole { AreWhole lists.now }
+    requires few_heads { length lists.now.heads.items < 2 ^ 32 }
+    requires few_posts { length lists.now.posts.items < 2 ^ 32 }
+    requires sent { post_named id (reverse (entries_in lists.now)) ≡ Some (post from to message.now) }
+    ensures taken { IsTakenIn (length lists.now.posts.items) (length lists.now.wholes.items) result }
+    ensures filed { whole_by lists.now.wholes.items result ≡ None }
+    ensures input { input_by lists.now.posts.items lists.now.wholes.items result ≡ an_input.Deliver id from message.now }
+{
+    let Some(head) = head_at(lists, id.entry as usize - 1) else {
+        unreachable!()
+    };
+    let entry = id.entry as u32;
+    let place = id.place;
+    match head.taken {
+        Taken::Whole { at } => Taken::SentWhole { entry, place, at },
+        _ => Taken::Sent {
+            entry,
+            place,
+            at: head.posts.start + id.place,
+        },
+    }
+}
+
+impl GrowingTrace {
+    /// No entries, and no room. It takes no memory.
+    pub fn new(alloc: Global) -> GrowingTrace
+        ensures entries { result.entries ≡ [] }
+        ensures room { result.room ≡ None }
+    {
+        GrowingTrace {
+            lists: empty(alloc),
+            room: None,
+        }
+    }
+
+    /// How many entries there are.
+    #[inline]
+    pub fn len(&self) -> usize
+        ensures { result ≡ length self.now.entries }
+    {
+        self.lists.heads.len()
+    }
+
+    /// Takes memory for the heads of so many entries more.
+    pub(crate) fn reserve_heads(&mut self, entries: usize) -> Result<(), Memory>
+        ensures { self.new.entries ≡ self.old.entries }
+    {
+        self.lists.heads.reserve_exact(entries)?;
+        Ok(())
+    }
+
+    /// The lists of the entries.
+    #[inline(always)]
+    pub(crate) fn lists(&self) -> &Lists
+        ensures whole { AreWhole result.now }
+        ensures entries { entries_in result.now ≡ self.now.entries }
+    {
+        &self.lists
+    }
+
+    /// Makes room for one entry with so many posts and notes. It takes all memory that the entry needs. Where
+    /// there is none, the entries stay all the same. A trace of 4,294,967,295 entries, posts or notes has no room for more.
+    pub fn reserve(&mut self, posts: usize, notes: usize) -> Result<(), Memory>
+        ensures entries { self.new.entries ≡ self.old.entries }
+        ensures room { OnOk result (self.new.room ≡ Some (record { posts = posts; notes = notes })) }
+    {
+        self.room = None;
+        reserve(&mut self.lists, posts, notes)?;
+        self.room = Some(Room { posts, notes });
+        Ok(())
+    }
+
+    /// Puts an entry at the end. It takes no memory: of a post that the entry delivers only its name is kept, and
+    /// the message is let go.
+    pub fn append(&mut self, entry: Entry)
+        requires room { IsRoomFor self.old.room (length entry.outputs) (length entry.notes) }
+        requires may { MayTake (reverse self.old.entries) entry.actor entry.input }
+        ensures entries { self.new.entries ≡ self.old.entries ++ entry ∷ [] }
+        ensures room { self.new.room ≡ None }
+    {
+        self.room = None;
+        let taken = taken_of(&self.lists, entry.actor, &entry.input);
+        file(
+            &mut self.lists,
+            entry.actor,
+            taken,
+            entry.outputs.into_vec(),
+            entry.notes.into_vec(),
+        );
+    }
+
+    /// Keeps a whole entry at the end, with its message. Where there is no memory the entries stay.
+    pub(crate) fn push(&mut self, entry: Entry) -> Result<(), Memory>
+        ensures ok { OnOk result (self.new.entries ≡ self.old.entries ++ entry ∷ []) }
+        ensures err { OnErr result (self.new.entries ≡ self.old.entries) }
+    {
+        self.room = None;
+        reserve_whole(&mut self.lists)?;
+        keep(&mut self.lists, entry);
+        Ok(())
+    }
+}
