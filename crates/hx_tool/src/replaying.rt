@@ -50,12 +50,7 @@ fn finish(
 {
     let mut world = world;
     match world.drain(alloc, u64::MAX) {
-        Ok(Drained::Quiet) => Ok(Made::Whole(answered(
-            alloc,
-            script,
-            with_trace,
-            world.leave(),
-        )?)),
+        Ok(Drained::Quiet) => Ok(Made::Whole(answered(alloc, script, with_trace, world.leave())?)),
         Ok(Drained::Spent) => unreachable!(),
         Err(DrainError::Memory) => Err(Memory),
         Err(DrainError::Worn(actor)) => Ok(Made::Worn {
