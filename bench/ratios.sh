@@ -4,15 +4,16 @@
 #
 #     bench/ratios.sh OTHER [RUNS]
 #
-# For each script it prints the least times of both (RUNS runs each, 5 where none is said), the greatest
-# memory of both, and the two ratios; `differs` where the bytes aren't the same.
+# For each script it prints the least times of both (RUNS runs each, 5 where none is said) and the greatest
+# memory of both, with their ratios, and the median of the ratios of each run to the shorter of the two runs of the other
+# program beside it, which tells more where the machine's speed swings; `differs` where the bytes aren't the same.
 set -eu
 other=${1:?usage: bench/ratios.sh OTHER [RUNS]}
 runs=${2:-5}
 . "$(dirname "${BASH_SOURCE[0]}")/common.sh"
 
 python3 - "$program" "$other" "$runs" "$work" <<'EOT'
-import os, random, subprocess, sys, time
+import os, random, statistics, subprocess, sys, time
 
 mine, other, runs, work = sys.argv[1], sys.argv[2], int(sys.argv[3]), sys.argv[4]
 rng = random.Random(1)
@@ -90,16 +91,19 @@ def memory(program, path):
 
 
 for name, text in loads:
-    path, best = os.path.join(work, "script"), [9e9, 9e9]
+    path, best, ratios = os.path.join(work, "script"), [9e9, 9e9], []
     with open(path, "w") as out:
         out.write(text)
     for _ in range(runs):
-        for i, program in enumerate([mine, other]):
+        taken = []
+        for i in (1, 0, 1):
             with open(os.path.join(work, "out%d" % i), "wb") as out:
-                best[i] = min(best[i], run(program, path, out))
+                taken.append(run([mine, other][i], path, out))
+                best[i] = min(best[i], taken[-1])
+        ratios.append(taken[1] / min(taken[0], taken[2]))
     most = [memory(program, path) for program in (mine, other)]
     with open(os.path.join(work, "out0"), "rb") as a, open(os.path.join(work, "out1"), "rb") as b:
         same = "" if a.read() == b.read() else ", differs"
-    print(f"{name}: {1000 * best[0]:.1f} and {1000 * best[1]:.1f} ms, {best[0] / best[1]:.2f} times; "
+    print(f"{name}: {1000 * best[0]:.1f} and {1000 * best[1]:.1f} ms, {best[0] / best[1]:.2f} times, side by side {statistics.median(ratios):.2f}; "
           f"{most[0]:.0f} and {most[1]:.0f} MB, {most[0] / most[1]:.2f} times{same}", flush=True)
 EOT

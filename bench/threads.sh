@@ -4,7 +4,8 @@
 #
 #     bench/threads.sh OTHER [RUNS]
 #
-# For each it prints the least times of both (RUNS runs each, 5 where none is said) and their ratio;
+# For each it prints the least times of both (RUNS runs each, 5 where none is said), their ratio, and the median of the
+# ratios of each run to the shorter of the two runs of the other program beside it;
 # `differs` where two summaries of one soak aren't the same. The reports of `run` differ from run to run
 # by the order of their entries, so they aren't compared.
 set -eu
@@ -13,7 +14,7 @@ runs=${2:-5}
 . "$(dirname "${BASH_SOURCE[0]}")/common.sh"
 
 python3 - "$program" "$other" "$runs" "$work" <<'EOT'
-import os, random, subprocess, sys, time
+import os, random, statistics, subprocess, sys, time
 
 mine, other, runs, work = sys.argv[1], sys.argv[2], int(sys.argv[3]), sys.argv[4]
 rng = random.Random(1)
@@ -54,13 +55,16 @@ def run(program, words):
 
 
 def both(words, compared):
-    best, written = [9e9, 9e9], [None, None]
+    best, written, ratios = [9e9, 9e9], [None, None], []
     for _ in range(runs):
-        for i, program in enumerate([mine, other]):
-            taken, written[i] = run(program, words)
-            best[i] = min(best[i], taken)
+        taken = []
+        for i in (1, 0, 1):
+            seconds, written[i] = run([mine, other][i], words)
+            taken.append(seconds)
+            best[i] = min(best[i], seconds)
+        ratios.append(taken[1] / min(taken[0], taken[2]))
     differs = ", differs" if compared and written[0] != written[1] else ""
-    print(f"{' '.join(words)}: {1000 * best[0]:.1f} and {1000 * best[1]:.1f} ms, {best[0] / best[1]:.2f} times{differs}", flush=True)
+    print(f"{' '.join(words)}: {1000 * best[0]:.1f} and {1000 * best[1]:.1f} ms, {best[0] / best[1]:.2f} times, side by side {statistics.median(ratios):.2f}{differs}", flush=True)
 
 
 print("4,096 calls of all kinds, 256 keys, 4 sessions")
