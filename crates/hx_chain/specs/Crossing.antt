@@ -7,11 +7,11 @@ use Rattle.hx_types.specs.declared.spaces.Space.{Space}
 use Rattle.hx_types.specs.declared.snapshots.Touch.{Touch}
 use Rattle.hx_types.specs.declared.values.Value.{Value}
 use Rattle.hx_types.specs.Words.{provided, same_region, when_some}
-use Rattle.hx_model.specs.Places.{place_after, regions_between, touched_in}
+use Rattle.hx_model.specs.Places.{placed_after, regions_between, touched_in}
 
 -- the places in a subspace
 abbrev pub places_in : Space → List ℕ → Option (List Value) → Option (List Value) → List Touch → ℕ → List Place
-places_in space key old new touches s = map (place_after space s key new touches) (regions_between space s key old new)
+places_in space key old new touches s = map (placed_after space s key new touches) (regions_between space s key old new)
 
 -- the region before the update, and after it the one after the update if it differs
 abbrev pub crossed : Option RegionId → Option RegionId → List RegionId

@@ -1,6 +1,6 @@
 ghost use Rattle.std.specs.Prelude.{◌≡◌, ◌<◌, ◌^◌, length, is_some, IfSome};
 ghost use Rattle.std.specs.Option.{option_copied};
-ghost use Rattle.hx_model.specs.Neighbours.{enters, enters_last, hop_at, last_member, member_after, member_before, members_at, next_of, place_before, place_number, prev_of};
+ghost use Rattle.hx_model.specs.Neighbours.{enters, enters_last, hop_at, last_member, member_after, member_before, members_at, next_of, preceding_place, place_number, prev_of};
 ghost use Rattle.hx_model.specs.Slots.{has_place};
 
 use hx_types::{Config, Hop, Member, Place, Places, RegionId, ServerId, Update};
@@ -39,7 +39,7 @@ pub fn prev(config: &Config, update: &Update, place: u32, server: ServerId) -> H
     match member_before(members, server) {
         Some(server) => Hop::At { server, place },
         None => {
-            let before = place_before(&update.places, place);
+            let before = preceding_place(&update.places, place);
             enters_last(config, place.saturating_sub(1), before)
         }
     }
@@ -139,8 +139,8 @@ fn enters_last(config: &Config, place: u32, before: Option<&Place>) -> Hop
     }
 }
 
-fn place_before(places: &Places, place: u32) -> Option<&Place>
-    ensures { option_copied result ≡ place_before places.now place }
+fn preceding_place(places: &Places, place: u32) -> Option<&Place>
+    ensures { option_copied result ≡ preceding_place places.now place }
 {
     if place == 0 {
         return None;

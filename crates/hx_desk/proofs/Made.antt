@@ -9,7 +9,7 @@ use Rattle.hx_types.specs.declared.traces.Input.TheVariants.{Tick, Halt, Deliver
 use Rattle.hx_types.specs.declared.traces.Script.{Script}
 use Rattle.hx_types.specs.Posts.{IsSoundPost}
 use Rattle.hx_types.specs.Words.{IsIn}
-use Rattle.hx_model.specs.Runs.{entry_of, made_of, makes_enough}
+use Rattle.hx_model.specs.Runs.{entry_of, made_of, does_something}
 use Rattle.hx_clock.specs.declared.parts.Stamped.{Stamped}
 use Rattle.hx_clock.specs.declared.view.View.{View}
 use Rattle.hx_clock.specs.Parts.{stamped, DeliveryMeets, InputMeets}
@@ -34,7 +34,7 @@ pub record IsNext (script : Script) (d : Desk) (r : Entry) : Type 0 where
   pub step : r ≡ entry_of d.actor r.input (made_of script (entries_before d.part.items) d.actor r.input)
   pub takes : CanTake script d.actor (past_of d.part.items) r.input
   pub given : CanBeGiven script d r.input
-  pub enough : makes_enough r.input (record { posts = r.outputs; notes = r.notes }) ≡ true
+  pub enough : does_something r.input (record { posts = r.outputs; notes = r.notes }) ≡ true
 
 pub next-of : (script : Script) (d : Desk) (p : Plan) (r : Entry) → r ≡ entry_in p → IsReady script d (entry_in p).input p → MakesEnough (entry_in p).input p → IsNext script d r
 next-of script d p r e ready enough = subst (IsNext script d) (sym e) (record { step = ready.step; takes = ready.takes; given = ready.given; enough = enough })

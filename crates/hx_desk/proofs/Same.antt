@@ -10,7 +10,7 @@ use Rattle.hx_types.specs.declared.traces.Entry.{Entry}
 use Rattle.hx_types.specs.declared.traces.Input.{Input}
 use Rattle.hx_types.specs.declared.traces.Input.TheVariants.{Tick, Halt, Deliver}
 use Rattle.hx_types.specs.declared.traces.Script.{Script}
-use Rattle.hx_model.specs.Runs.{entry_of, has_halted, made_of, makes_enough, Made}
+use Rattle.hx_model.specs.Runs.{entry_of, has_halted, made_of, does_something, Output}
 use Rattle.hx_clock.specs.declared.parts.Stamped.{Stamped}
 use Rattle.hx_clock.specs.Seats.{Seated}
 use Rattle.hx_law_threads.specs.Cuts.{is_began, is_retry, is_tick, is_waiting}
@@ -69,16 +69,16 @@ pub turn-taken : (boxes : List Boxed) (d d' e : Desk) (o p : Outbox) (t u : Tota
 turn-taken boxes d d' e o p t u k l xs s out total h = turn-both boxes d d' e o o p t u k l xs (turn-none boxes d d' o t k s.actor s.part s.kept s.ins out total) h
 
 -- the step of an input that makes something does so
-pub step-enough : (script : Script) (d : Desk) (input : Input) (p : Plan) → IsReady script d input p → makes_enough input (made_of script (entries_before d.part.items) d.actor input) ≡ true → MakesEnough (entry_in p).input p
-step-enough script d input p r e = subst (λ (y : Entry). makes_enough y.input (record { posts = y.outputs; notes = y.notes }) ≡ true) (sym r.step) e
+pub step-enough : (script : Script) (d : Desk) (input : Input) (p : Plan) → IsReady script d input p → does_something input (made_of script (entries_before d.part.items) d.actor input) ≡ true → MakesEnough (entry_in p).input p
+step-enough script d input p r e = subst (λ (y : Entry). does_something y.input (record { posts = y.outputs; notes = y.notes }) ≡ true) (sym r.step) e
 
 pub ready-input : (script : Script) (d : Desk) (input : Input) (p : Plan) → IsReady script d input p → IsReady script d (entry_in p).input p
 ready-input script d input p r = subst (λ (i : Input). IsReady script d i p) (sym (ap (λ (x : Entry). x.input) r.step)) r
 
-pub no-tick : (a : Actor) (input : Input) (m : Made) → is_tick input ≡ false → is_retry (entry_of a input m) ≡ false
+pub no-tick : (a : Actor) (input : Input) (m : Output) → is_tick input ≡ false → is_retry (entry_of a input m) ≡ false
 no-tick a input m e = ap (λ b. b && not (list_any is_began m.notes)) e
 
-pub taken-enough : (input : Input) (m : Made) → is_tick input ≡ false → makes_enough input m ≡ true
+pub taken-enough : (input : Input) (m : Output) → is_tick input ≡ false → does_something input m ≡ true
 taken-enough Tick m e = absurd (true≢false e)
 taken-enough Halt m e = refl
 taken-enough (Deliver id from message) m e = refl

@@ -21,7 +21,7 @@ use Rattle.hx_types.specs.declared.outcomes.Planned.{Planned}
 use Rattle.hx_types.specs.declared.outcomes.Planned.TheVariants as a_plan
 use Rattle.hx_types.specs.Configs.{is_lost}
 use Rattle.hx_model.specs.CoordinatorSteps.{coordinator_tick, CoordinatorState, Phase, Sealing, Steady}
-use Rattle.hx_model.specs.Runs.{coordinator_of, entry_of, has_halted, made_of, makes_enough, server_of, session_of}
+use Rattle.hx_model.specs.Runs.{coordinator_of, entry_of, has_halted, made_of, does_something, server_of, session_of}
 use Rattle.hx_model.specs.Schedule.{is_idle}
 use Rattle.hx_model.specs.ServerSteps.{server_step, tick_step, unmoved, ServerState, ServerStep}
 use Rattle.hx_model.specs.SessionSteps.{ask_regions, begin, send, send_to, session_tick, staying, with_poll, SessionState, SessionStep}
@@ -113,13 +113,13 @@ tick-retries script own a e = ap not (quiet script own a e)
 pub tick-begins : (script : Script) (own : List Entry) (a : Actor) → is_idle_actor script own a ≡ true → is_retry (entry_of a Tick (made_of script own a Tick)) ≡ false
 tick-begins script own a e = ap not (begins script own a e)
 
-some-enough : (posts : List Post) (notes : List Note) → list_any is_began notes ≡ true → makes_enough Tick (record { posts = posts; notes = notes }) ≡ true
+some-enough : (posts : List Post) (notes : List Note) → list_any is_began notes ≡ true → does_something Tick (record { posts = posts; notes = notes }) ≡ true
 some-enough posts [] e = absurd (true≢false (sym e))
 some-enough [] (n ∷ notes) e = refl
 some-enough (p ∷ posts) (n ∷ notes) e = refl
 
 -- an idle session's tick makes something
-pub idle-enough : (script : Script) (own : List Entry) (a : Actor) → is_idle_actor script own a ≡ true → makes_enough Tick (made_of script own a Tick) ≡ true
+pub idle-enough : (script : Script) (own : List Entry) (a : Actor) → is_idle_actor script own a ≡ true → does_something Tick (made_of script own a Tick) ≡ true
 idle-enough script own a e = some-enough (made_of script own a Tick).posts (made_of script own a Tick).notes (begins script own a e)
 
 pub idle-runs : (script : Script) (own : List Entry) (a : Actor) → is_idle_actor script own a ≡ true → has_halted script own a ≡ false
@@ -129,8 +129,8 @@ idle-runs script own (Session u) e = refl
 
 -- what the plan of a tick makes
 pub plan-enough : (script : Script) (d : Desk) (p : Plan) → IsReady script d Tick p
-    → makes_enough Tick (record { posts = (entry_in p).outputs; notes = (entry_in p).notes }) ≡ makes_enough Tick (made_of script (entries_before d.part.items) d.actor Tick)
-plan-enough script d p ready = ap (λ (y : Entry). makes_enough Tick (record { posts = y.outputs; notes = y.notes })) ready.step
+    → does_something Tick (record { posts = (entry_in p).outputs; notes = (entry_in p).notes }) ≡ does_something Tick (made_of script (entries_before d.part.items) d.actor Tick)
+plan-enough script d p ready = ap (λ (y : Entry). does_something Tick (record { posts = y.outputs; notes = y.notes })) ready.step
 
 and-parts : (h i m : Bool) → not h && not i && m ≡ true → (h ≡ false) × (i ≡ false) × (m ≡ true)
 and-parts true true true e = absurd (true≢false (sym e))
@@ -152,7 +152,7 @@ pub waits-busy : (script : Script) (d : Desk) → is_waiting script (entries_bef
 waits-busy script d e h = true≢false (sym h ∙ (and-parts _ _ _ e).1)
 
 pub retried-one : (script : Script) (d d' : Desk) (x : Stamped) → has_halted script (entries_before d.part.items) d.actor ≡ false → is_idle_actor script (entries_before d.part.items) d.actor ≡ false
-    → makes_enough Tick (made_of script (entries_before d.part.items) d.actor Tick) ≡ true → x.entry ≡ entry_of d.actor Tick (made_of script (entries_before d.part.items) d.actor Tick) → d'.part.items ≡ d.part.items ++ x ∷ []
+    → does_something Tick (made_of script (entries_before d.part.items) d.actor Tick) ≡ true → x.entry ≡ entry_of d.actor Tick (made_of script (entries_before d.part.items) d.actor Tick) → d'.part.items ≡ d.part.items ++ x ∷ []
     → HasRetried script d d'
 retried-one script d d' x h i m is part =
     let waits : is_waiting script (entries_before d.part.items) d.actor ≡ true = and_from (not (has_halted script (entries_before d.part.items) d.actor) && not (is_idle_actor script (entries_before d.part.items) d.actor)) _ (and_from (not (has_halted script (entries_before d.part.items) d.actor)) _ (ap not h) (ap not i)) m in

@@ -9,7 +9,7 @@ use Rattle.hx_types.specs.declared.traces.Script.{Script}
 use Rattle.hx_types.specs.declared.traces.Input.TheVariants.{Tick, Halt, Deliver}
 use Rattle.hx_types.specs.Posts.{IsSoundPost}
 use Rattle.hx_types.specs.Words.{post}
-use Rattle.hx_model.specs.Runs.{entry_of, made_of, makes_enough}
+use Rattle.hx_model.specs.Runs.{entry_of, made_of, does_something}
 use Rattle.hx_clock.specs.declared.parts.Stamped.{Stamped}
 use Rattle.hx_clock.specs.Views.{Knows}
 use Rattle.hx_machine.specs.declared.plans.Plan.{Plan}
@@ -50,7 +50,7 @@ IsMadeOf script d input x = x.entry ≡ entry_of d.actor input (made_of script (
 
 -- the step makes something, where it is a tick
 abbrev pub MakesEnough : Input → Plan → Type 0
-MakesEnough input plan = makes_enough input (record { posts = (entry_in plan).outputs; notes = (entry_in plan).notes }) ≡ true
+MakesEnough input plan = does_something input (record { posts = (entry_in plan).outputs; notes = (entry_in plan).notes }) ≡ true
 
 -- there is room for one more entry, and to keep two envelopes for each of its posts
 pub record HasPlaces (d : Desk) (posts : ℕ) : Type 0 where

@@ -5,7 +5,7 @@ use Rattle.hx_types.specs.declared.totals.Totals.{Totals}
 use Rattle.hx_types.specs.declared.traces.Input.{Input}
 use Rattle.hx_types.specs.declared.traces.Script.{Script}
 use Rattle.hx_types.specs.declared.traces.Input.TheVariants.{Halt}
-use Rattle.hx_model.specs.Runs.{has_halted, made_of, makes_enough}
+use Rattle.hx_model.specs.Runs.{has_halted, made_of, does_something}
 use Rattle.hx_clock.specs.declared.parts.Stamped.{Stamped}
 use Rattle.hx_mail.specs.declared.views.Mailed.{Mailed}
 use Rattle.hx_mail.specs.Boxes.{Boxed}
@@ -48,7 +48,7 @@ pub record HasMoreToMake (script : Script) (d : Desk) : Type 0 where
   pub running : has_halted script (entries_before d.part.items) d.actor ≡ false
   -- it was told of all that was taken but for this
   pub told : told d.part.items ++ told_by d.actor input ≡ map (λ s. s.mailed) (ins_of d.inbox)
-  pub enough : makes_enough input (made_of script (entries_before d.part.items) d.actor input) ≡ true
+  pub enough : does_something input (made_of script (entries_before d.part.items) d.actor input) ≡ true
 
 -- an actor is worn that has made the most entries that it may make, and has one more to make
 abbrev pub IsFaultOf : Script → Desk → Fault → Type 0

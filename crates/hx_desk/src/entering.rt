@@ -3,7 +3,7 @@ ghost use Rattle.std.specs.Prelude.{ℕ, ◌≡◌, ◌<◌, ◌^◌, true, fals
 ghost use Rattle.hx_types.specs.declared.limits.TheConstants.{MOST_ENTRIES};
 ghost use Rattle.hx_types.specs.declared.traces.Input.TheVariants.{Tick};
 ghost use Rattle.hx_types.specs.Fitting.{IsScript};
-ghost use Rattle.hx_model.specs.Runs.{has_halted, made_of, makes_enough};
+ghost use Rattle.hx_model.specs.Runs.{has_halted, made_of, does_something};
 ghost use Rattle.hx_clock.specs.declared.parts.Stamped.{Stamped};
 ghost use Rattle.hx_mail.specs.declared.views.Mailed.{Mailed};
 ghost use Rattle.hx_machine.specs.Machines.{entry_in};
@@ -132,7 +132,7 @@ fn step_on<R: Wait, G: Gate>(
     requires desk { (w : ℕ) × IsDesk script.now clock.now boxes.now w (told_by desk.old.actor input) desk.old }
     requires running { has_halted script.now (entries_before desk.old.part.items) desk.old.actor ≡ false }
     requires given { CanBeGiven script.now desk.old input }
-    requires enough { makes_enough input (made_of script.now (entries_before desk.old.part.items) desk.old.actor input) ≡ true }
+    requires enough { does_something input (made_of script.now (entries_before desk.old.part.items) desk.old.actor input) ≡ true }
     requires out { IsOutbox boxes.now out.old }
     requires room { HasRoom out.old desk.old totals.old }
     ensures desk { MatchResult result (λ _. (w : ℕ) → IsDesk script.now clock.now boxes.now w (told_by desk.old.actor input) desk.old → IsDesk script.now clock.now boxes.now w [] desk.new) (λ _. (w : ℕ) (rest : List Mailed) → IsDesk script.now clock.now boxes.now w rest desk.old → IsDesk script.now clock.now boxes.now w rest desk.new) }
@@ -166,7 +166,7 @@ fn enter_unless_worn<R: Wait, G: Gate>(
     requires desk { (w : ℕ) × IsDesk script.now clock.now boxes.now w (told_by desk.old.actor input) desk.old }
     requires running { has_halted script.now (entries_before desk.old.part.items) desk.old.actor ≡ false }
     requires given { CanBeGiven script.now desk.old input }
-    requires enough { makes_enough input (made_of script.now (entries_before desk.old.part.items) desk.old.actor input) ≡ true }
+    requires enough { does_something input (made_of script.now (entries_before desk.old.part.items) desk.old.actor input) ≡ true }
     requires out { IsOutbox boxes.now out.old }
     requires room { HasRoom out.old desk.old totals.old }
     ensures desk { MatchResult result (λ _. (w : ℕ) → IsDesk script.now clock.now boxes.now w (told_by desk.old.actor input) desk.old → IsDesk script.now clock.now boxes.now w [] desk.new) (λ _. (w : ℕ) (rest : List Mailed) → IsDesk script.now clock.now boxes.now w rest desk.old → IsDesk script.now clock.now boxes.now w rest desk.new) }
@@ -202,7 +202,7 @@ pub(crate) fn enter<R: Wait, G: Gate>(
     requires desk { (w : ℕ) × IsDesk script.now clock.now boxes.now w (told_by desk.old.actor input) desk.old }
     requires running { has_halted script.now (entries_before desk.old.part.items) desk.old.actor ≡ false }
     requires given { CanBeGiven script.now desk.old input }
-    requires enough { makes_enough input (made_of script.now (entries_before desk.old.part.items) desk.old.actor input) ≡ true }
+    requires enough { does_something input (made_of script.now (entries_before desk.old.part.items) desk.old.actor input) ≡ true }
     requires out { IsOutbox boxes.now out.old }
     requires room { HasRoom out.old desk.old totals.old }
     ensures desk { MatchResult result (λ _. (w : ℕ) → IsDesk script.now clock.now boxes.now w (told_by desk.old.actor input) desk.old → IsDesk script.now clock.now boxes.now w [] desk.new) (λ _. (w : ℕ) (rest : List Mailed) → IsDesk script.now clock.now boxes.now w rest desk.old → IsDesk script.now clock.now boxes.now w rest desk.new) }

@@ -4,7 +4,7 @@ ghost use Rattle.hx_types.specs.declared.traces.Entry.{Entry as EntrySeen};
 ghost use Rattle.hx_types.specs.declared.traces.Script.{Script as ScriptSeen};
 ghost use Rattle.hx_types.specs.declared.traces.Input.TheVariants.{Tick};
 ghost use Rattle.hx_types.specs.Fitting.{IsScript};
-ghost use Rattle.hx_model.specs.Runs.{has_halted, makes_enough};
+ghost use Rattle.hx_model.specs.Runs.{has_halted, does_something};
 ghost use Rattle.hx_clock.specs.declared.parts.Stamped.{Stamped};
 ghost use Rattle.hx_law_threads.specs.Cuts.{is_idle_actor};
 ghost use Rattle.hx_mail.specs.declared.views.Mailed.{Mailed};
@@ -38,7 +38,7 @@ fn rests(machine: &Machine) -> bool
 
 /// Whether a step posts or notes anything.
 fn makes_anything(plan: &Plan) -> bool
-    ensures { result ≡ makes_enough Tick (record { posts = (entry_in plan.now).outputs; notes = (entry_in plan.now).notes }) }
+    ensures { result ≡ does_something Tick (record { posts = (entry_in plan.now).outputs; notes = (entry_in plan.now).notes }) }
 {
     let entry = plan.entry();
     !(entry.outputs.is_empty() && entry.notes.is_empty())

@@ -24,7 +24,7 @@ use Rattle.hx_types.specs.Fitting.{IsScript, call_of, calls_of, numbered}
 use Rattle.hx_model.specs.Causes.{config_noted, is_fulfilled, issued_after}
 use Rattle.hx_model.specs.CoordinatorSteps.{CoordinatorState, CoordinatorStep, any_joining, coordinator_step}
 use Rattle.hx_model.specs.SessionSteps.{SessionState}
-use Rattle.hx_model.specs.Runs.{IsRun, Made, MayTake, coordinator_after, coordinator_of, made_of, server_of, session_after, session_of}
+use Rattle.hx_model.specs.Runs.{IsRun, Output, MayTake, coordinator_after, coordinator_of, made_of, server_of, session_after, session_of}
 use Rattle.hx_law_lemmas.specs.Words.{posts_of}
 use Rattle.hx_law_lemmas.proofs.Lists.{in-append}
 use Rattle.hx_law_lemmas.proofs.Traces.{BeganAt, arrived}
@@ -237,7 +237,7 @@ module _ (script : Script) (valid : IsScript script) (older : List Entry) (befor
       elsewhere
       (λ u. rests u (ap (λ (a : Actor). session_after script.space u a x.input (session_of script u older)) acts))
       (ap (λ (a : Actor). coordinator_after a x.input (coordinator_of script older)) acts)
-      (λ p j. server-asks p.message (plain.posts p (subst (λ (ps : List Post). IsIn p ps) (sym (ap (λ (m : Made). m.posts) made)) j)) p.from p.to)
+      (λ p j. server-asks p.message (plain.posts p (subst (λ (ps : List Post). IsIn p ps) (sym (ap (λ (m : Output). m.posts) made)) j)) p.from p.to)
 
   -- ---- an entry of a session
   session-asks : (u : SessionId) (s : SessionState) → s.calls ≡ calls_of script u → (n : ℕ) × BeganAt (x ∷ older) (record { session = u; number = s.begun }) n → (m : Message) → Asks s m
@@ -317,9 +317,9 @@ module _ (script : Script) (valid : IsScript script) (older : List Entry) (befor
       let does = coordinated (Asked script older) (OutcomeCause script older) (coordinator_of script older) x.input before.answers
       (λ id from m e. before.asks (post from Coordinator m) (arrived id older (post from Coordinator m) (subst (MayTake older Coordinator) e may))) in
       let plain = coordinator-plain (coordinator_of script older) x.input in
-      let out : (p : Post) → IsIn p x.outputs → IsIn p step.posts = λ p j. subst (λ (ps : List Post). IsIn p ps) (sym (ap (λ (m : Made). m.posts) made)) j in
+      let out : (p : Post) → IsIn p x.outputs → IsIn p step.posts = λ p j. subst (λ (ps : List Post). IsIn p ps) (sym (ap (λ (m : Output). m.posts) made)) j in
       let given : (c : Caller) (a : Answer) → Given (Asked script older) (OutcomeCause script older) (ByStep (Asked script older) (OutcomeCause script older) (coordinator_of script older) step) c a → OutcomeCause script (x ∷ older) c a =
-      λ c a. by step state (sym (ap (λ (m : Made). m.notes) made)) c a in
+      λ c a. by step state (sym (ap (λ (m : Output). m.notes) made)) c a in
       record {
         running = λ u. rests u (ap (λ (a : Actor). session_after script.space u a x.input (session_of script u older)) acts);
         asks = λ p i. elim (in-append x.outputs (posts_of older) p i) [ inl j ↦ coordinator-asks p.message (plain.posts p (out p j)) p.from | inr j ↦ asks-still p.from p.message (before.asks p j) ];

@@ -24,7 +24,7 @@ use Rattle.hx_types.specs.declared.spaces.Space.{Space}
 use Rattle.hx_model.specs.Causes.{AnsweredCall, IsDoubted, IsRefusedFor, IsRefusedWrite, refused_place}
 use Rattle.hx_model.specs.Histories.{line_of}
 use Rattle.hx_model.specs.Lines.{line_object, upto}
-use Rattle.hx_model.specs.Places.{declared_subspaces, place_after, places_of, regions_between}
+use Rattle.hx_model.specs.Places.{declared_subspaces, placed_after, places_of, regions_between}
 use Rattle.hx_model.specs.Regions.{key_region}
 use Rattle.hx_model.specs.Runs.{IsRun}
 use Rattle.hx_model.specs.Slots.{top_above, touches_after}
@@ -44,10 +44,10 @@ pub place-real : (space : Space) → IsSpace space → (key : List ℕ) (old new
     → (p : Place) → IsIn p (places_of space key old new changes top touches) → IsRegionOf space p.region
 place-real space valid key old new changes top touches p (inl e) = subst (λ (q : Place). IsRegionOf space q.region) (sym e) (key-real space valid key)
 place-real space valid key old new changes top touches p (inr i) =
-    let f = in-flat_map (λ s. map (place_after space s key new touches) (regions_between space s key old new)) (declared_subspaces space) p (in-provided changes _ p i).1 in
+    let f = in-flat_map (λ s. map (placed_after space s key new touches) (regions_between space s key old new)) (declared_subspaces space) p (in-provided changes _ p i).1 in
     let d = in-map (λ n. n + 1) (below (length space.subspaces)) f.0 f.1 in
     let l = in-below (length space.subspaces) d.0 d.1 in
-    let m = in-map (place_after space f.0 key new touches) (regions_between space f.0 key old new) p f.2 in
+    let m = in-map (placed_after space f.0 key new touches) (regions_between space f.0 key old new) p f.2 in
     let b = between-places space f.0 key old new m.0 m.1 in
     subst (λ (q : Place). IsRegionOf space q.region) (sym m.2)
     (subst (IsRegionOf space) (sym b.1) (place-region space valid f.0 key b.0 (let e = d.2 in omega (arith, l, e))))

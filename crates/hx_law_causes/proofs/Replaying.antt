@@ -14,7 +14,7 @@ use Rattle.hx_types.specs.declared.traces.Input.TheVariants.{Tick}
 use Rattle.hx_types.specs.Words.{IsIn, below, first_some, when_some}
 use Rattle.hx_types.specs.Fitting.{IsScript, numbered}
 use Rattle.hx_types.specs.Posts.{ActorExists}
-use Rattle.hx_model.specs.Runs.{IsRun, MayTake, has_halted, is_actor, is_empty, made_of, makes_enough, post_named, session_of}
+use Rattle.hx_model.specs.Runs.{IsRun, MayTake, has_halted, is_actor, is_empty, made_of, does_something, post_named, session_of}
 use Rattle.hx_model.specs.Schedule.{Next, delivery_of, entry_by, first_delivery, idle_among, is_idle, next_input, scheduled, undelivered, with_entry}
 use Rattle.hx_model.specs.SessionSteps.{SessionState, SessionStep, begin, session_tick, staying}
 use Rattle.hx_law_lemmas.proofs.Lists.{in-below, when_some_both}
@@ -27,7 +27,7 @@ record MayCome (script : Script) (older : List Entry) (next : Next) : Type 0 whe
   pub actor : is_actor script next.actor ≡ true
   pub running : has_halted script older next.actor ≡ false
   pub input : MayTake older next.actor next.input
-  pub enough : makes_enough next.input (made_of script older next.actor next.input) ≡ true
+  pub enough : does_something next.input (made_of script older next.actor next.input) ≡ true
 
 -- an actor that exists is one of the script's
 actor-exists : (script : Script) (n : ℕ) (a : Actor) → ActorExists (bounds script.space (length script.sessions) n) a → is_actor script a ≡ true
@@ -36,7 +36,7 @@ actor-exists script n (Server s) h = and_from (ltb 0 s.0) (leb s.0 script.space.
 actor-exists script n (Session u) h = and_from (ltb 0 u.0) (leb u.0 (length script.sessions)) (lt-ltb 0 u.0 h.0) (le-leb u.0 (length script.sessions) h.1)
 
 -- a call that begins is noted
-begun-enough : (space : Space) (s : SessionState) (op : Op) → makes_enough Tick (record { posts = (begin space s op).posts; notes = (begin space s op).notes }) ≡ true
+begun-enough : (space : Space) (s : SessionState) (op : Op) → does_something Tick (record { posts = (begin space s op).posts; notes = (begin space s op).notes }) ≡ true
 begun-enough space s op = of (begin space s op).posts
   where
     of : (ps : List Post) → not (is_empty ps && false) ≡ true
@@ -44,12 +44,12 @@ begun-enough space s op = of (begin space s op).posts
     of (p ∷ ps) = refl
 
 -- so the tick of an idle session makes enough
-idle-enough : (space : Space) (s : SessionState) → is_idle s ≡ true → makes_enough Tick (record { posts = (session_tick space s).posts; notes = (session_tick space s).notes }) ≡ true
+idle-enough : (space : Space) (s : SessionState) → is_idle s ≡ true → does_something Tick (record { posts = (session_tick space s).posts; notes = (session_tick space s).notes }) ≡ true
 idle-enough space s t =
     let a = and_parts (not s.under_way) (ltb s.begun (length s.calls)) t in
     let i = index-some s.calls s.begun (ltb-true s.begun (length s.calls) a.1) in
     let e : numbered s.calls (s.begun + 1) ≡ Some i.0 = ap (numbered s.calls) (add-one s.begun) ∙ i.1 in
-    subst (λ (x : SessionStep). makes_enough Tick (record { posts = x.posts; notes = x.notes }) ≡ true) (sym (tick (flip s.under_way a.0) ∙ ap (λ (o : Option Op). when_some o (staying s) (begin space s)) e)) (begun-enough space s i.0)
+    subst (λ (x : SessionStep). does_something Tick (record { posts = x.posts; notes = x.notes }) ≡ true) (sym (tick (flip s.under_way a.0) ∙ ap (λ (o : Option Op). when_some o (staying s) (begin space s)) e)) (begun-enough space s i.0)
   where
     flip : (b : Bool) → not b ≡ true → b ≡ false
     flip true e = absurd (false≢true e)

@@ -16,7 +16,7 @@ use Rattle.hx_types.specs.Spaces.{IsSpace}
 use Rattle.hx_types.specs.Subspaces.{is_key_region}
 use Rattle.hx_model.specs.Holders.{snap_state}
 use Rattle.hx_model.specs.Leading.{StuckAt, stuck_of}
-use Rattle.hx_model.specs.ServerSteps.{Replica, ServerState, Spot, adopted, adopted_posts, adopted_replica, adopted_state, doubt_in, doubts_from, is_active, leader_doubts, listed_regions, move_posts, passed_on, ready_post, replica_of, replica_or_new, resumed, resumed_posts, snap_posts, state_in, with_config}
+use Rattle.hx_model.specs.ServerSteps.{Replica, ServerState, SlotContext, adopted, adopted_posts, adopted_replica, adopted_state, doubt_in, doubts_from, is_active, leader_doubts, listed_regions, move_posts, passed_on, ready_post, replica_of, replica_or_new, resumed, resumed_posts, snap_posts, state_in, with_config}
 use Rattle.hx_model.specs.Slots.{Forget, KeyState, Move, moved, moved_all, new_state, pending_of, pending_of_all, snapshot_of, state_among}
 use Rattle.hx_model.proofs.Laws.{base-moved_all}
 use Rattle.hx_law_lemmas.proofs.LeaderLines.{pending-in}
@@ -41,7 +41,7 @@ use Rattle.hx_law_chains.proofs.Serving.{Acts, Asked, KeyActs, Late, Scene, Sent
 use Rattle.hx_law_chains.proofs.Slotted.{ends-here, view-now}
 use Rattle.hx_law_chains.proofs.Snapshots.{replica-ascends}
 use Rattle.hx_law_chains.proofs.Ticks.{known-in, ready-snap}
-use Rattle.hx_law_chains.proofs.World.{KeyOk, Valid, World, around, lawful-sorted, spot}
+use Rattle.hx_law_chains.proofs.World.{KeyOk, Valid, World, around, lawful-sorted, context}
 
 -- what keeps the bases of slots keeps which one is found
 states-mapped : (marks : Bool) (key : List ℕ) (f : KeyState → KeyState) → ((t : KeyState) → (f t).base ≡ t.base) → f (new_state marks key) ≡ new_state marks key → (states : List KeyState)
@@ -54,21 +54,21 @@ states-mapped marks key f same new (t ∷ rest) =
     (λ e. cond-false (same_text t.base.key key) (f t) (state_among marks key (map f rest)) e ∙ states-mapped marks key f same new rest)
 
 -- what a slot is after it
-adopted-base : (at : Spot) (active : Bool) (t : KeyState) → (adopted_state at active t).base ≡ t.base
+adopted-base : (at : SlotContext) (active : Bool) (t : KeyState) → (adopted_state at active t).base ≡ t.base
 adopted-base at true t = base-moved_all (resumed at t) t
 adopted-base at false t = refl
 
 -- an empty slot stays empty
-adopted-new : (at : Spot) (active : Bool) (marks : Bool) (key : List ℕ) → adopted_state at active (new_state marks key) ≡ new_state marks key
+adopted-new : (at : SlotContext) (active : Bool) (marks : Bool) (key : List ℕ) → adopted_state at active (new_state marks key) ≡ new_state marks key
 adopted-new at true marks key = refl
 adopted-new at false marks key = refl
 
 -- the moves
-abbrev pub adopting : Spot → Bool → KeyState → List Move
+abbrev pub adopting : SlotContext → Bool → KeyState → List Move
 adopting at active t = cond active (resumed at t) (Forget ∷ [])
 
 -- from what the slot is worth in the new epoch
-adopted-moves : (at : Spot) (active : Bool) (t : KeyState) → adopted_state at active t ≡ moved_all (adopting at active (moved Forget t)) (moved Forget t)
+adopted-moves : (at : SlotContext) (active : Bool) (t : KeyState) → adopted_state at active t ≡ moved_all (adopting at active (moved Forget t)) (moved Forget t)
 adopted-moves at true t = refl
 adopted-moves at false t = refl
 
@@ -99,8 +99,8 @@ module _ (e : Scene) (asked : Asked) (valid : IsSpace e.script.space) (ok : (key
   new = flat_map (adopted_posts e.script.space now-at) kept-ones
 
   -- where its slots stand
-  abbrev at : RegionId → Spot
-  at h = spot e.script (world e) h i
+  abbrev at : RegionId → SlotContext
+  at h = context e.script (world e) h i
 
   -- what a slot was worth
   seen : (t : KeyState) → view e.config was t ≡ moved Forget t

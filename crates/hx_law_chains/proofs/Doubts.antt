@@ -34,7 +34,7 @@ use Rattle.hx_model.specs.Causes.{pending_at}
 use Rattle.hx_model.specs.Leading.{StuckAt, by_mark, decide, first_lost, fresh, stuck_among, stuck_of}
 use Rattle.hx_model.specs.Lines.{line_object}
 use Rattle.hx_model.specs.Regions.{key_region}
-use Rattle.hx_model.specs.ServerSteps.{ServerState, Spot, ack_to, get_answer, move_posts, next_at, passed_on, prev_at, reply, told_to, update_to}
+use Rattle.hx_model.specs.ServerSteps.{ServerState, SlotContext, ack_to, get_answer, move_posts, next_at, passed_on, prev_at, reply, told_to, update_to}
 use Rattle.hx_model.specs.Slots.{Acknowledge, Commit, Forget, Hold, KeyState, Move, Take, has_place, mark_of}
 use Rattle.hx_law_lemmas.proofs.Chains.{place-in}
 use Rattle.hx_law_lemmas.proofs.Lists.{in-flat_map, when_some_both}
@@ -101,11 +101,11 @@ law-sure script known key older u l = elim l.effect [
 ]
 
 -- a reply whose answer is no doubt says nothing of doubts
-pub sure-says : (script : Script) (st : ServerState) (i : ServerId) (at : Spot) (caller : Caller) (v : Version) (a : Answer) → is_doubt a ≡ false → Says script st i (reply at caller v a)
+pub sure-says : (script : Script) (st : ServerState) (i : ServerId) (at : SlotContext) (caller : Caller) (v : Version) (a : Answer) → is_doubt a ≡ false → Says script st i (reply at caller v a)
 sure-says script st i at caller v a s g epoch e = absurd (false≢true (sym s ∙ ap is_doubt e))
 
 -- moves whose updates are sure tell of none
-pub moves-say : (script : Script) (st : ServerState) (i : ServerId) (at : Spot) (ms : List Move) → AllKnown Sure ms → (p : Post) → IsIn p (flat_map (move_posts at) ms) → Says script st i p
+pub moves-say : (script : Script) (st : ServerState) (i : ServerId) (at : SlotContext) (ms : List Move) → AllKnown Sure ms → (p : Post) → IsIn p (flat_map (move_posts at) ms) → Says script st i p
 moves-say script st i at ms known p j =
     let r = in-flat_map (move_posts at) ms p j in
     by r.0 (known r.0 r.1) r.2
@@ -131,7 +131,7 @@ moves-say script st i at ms known p j =
     by Forget s k = absurd k
 
 -- an update to the next replica says nothing
-pub passed-says : (script : Script) (st : ServerState) (i : ServerId) (at : Spot) (u : Update) (p : Post) → IsIn p (passed_on at u) → Says script st i p
+pub passed-says : (script : Script) (st : ServerState) (i : ServerId) (at : SlotContext) (u : Update) (p : Post) → IsIn p (passed_on at u) → Says script st i p
 passed-says script st i at u p = by (next_at at u)
   where
     by : (y : Hop) → IsIn p (update_to at u y) → Says script st i p
@@ -141,7 +141,7 @@ passed-says script st i at u p = by (next_at at u)
     by (At y n) (inr k) = absurd k
 
 -- nor does an acknowledgement
-pub acked-says : (script : Script) (st : ServerState) (i : ServerId) (at : Spot) (u : Update) (y : Hop) (p : Post) → IsIn p (ack_to at u y) → Says script st i p
+pub acked-says : (script : Script) (st : ServerState) (i : ServerId) (at : SlotContext) (u : Update) (y : Hop) (p : Post) → IsIn p (ack_to at u y) → Says script st i p
 acked-says script st i at u End p k = absurd k
 acked-says script st i at u (Blocked r) p k = absurd k
 acked-says script st i at u (At y n) p (inl q) = subst (Says script st i) (sym q) tt

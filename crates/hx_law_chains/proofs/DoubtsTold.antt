@@ -20,7 +20,7 @@ use Rattle.hx_types.specs.Configs.{is_lost}
 use Rattle.hx_types.specs.Effects.{key_of}
 use Rattle.hx_types.specs.Fitting.{IsScript, call_of}
 use Rattle.hx_model.specs.Causes.{AnsweredCall, IsDoubtTold}
-use Rattle.hx_model.specs.Runs.{IsRun, Made, MayTake, coordinator_of, has_halted, is_actor, made_of, server_after, server_of, session_of}
+use Rattle.hx_model.specs.Runs.{IsRun, Output, MayTake, coordinator_of, has_halted, is_actor, made_of, server_after, server_of, session_of}
 use Rattle.hx_model.specs.ServerSteps.{ServerState, server_step}
 use Rattle.hx_law_lemmas.specs.Words.{posts_of}
 use Rattle.hx_law_lemmas.proofs.Lists.{in-append}
@@ -64,7 +64,7 @@ module _ (script : Script) (valid : IsScript script) where
       let here : server_of script i (x ∷ older) ≡ step.state = ap (λ (a : Actor). server_after script.space i a x.input (server_of script i older)) acts
       ∙ cond-true (same_server i i) step.state (server_of script i older) (eq-eqb i.0 i.0 refl) in
       subst (λ (st : ServerState). Told i st x.outputs) (sym here)
-      (subst (λ (m : Made). Told i step.state m.posts) made (λ p j. ((does.posts p j).0, tells p j)))
+      (subst (λ (m : Output). Told i step.state m.posts) made (λ p j. ((does.posts p j).0, tells p j)))
 
   module _ (trace : List Entry) (caller : Caller) (op0 : Op) (begin : ℕ) (version : Version) (g : RegionId) (epoch : Epoch) (op : Op) (key : List ℕ) (called : call_of script caller ≡ Some op) (on_key : key_of op ≡ Some key) where
     -- the call where these entries were before its answer
@@ -109,10 +109,10 @@ module _ (script : Script) (valid : IsScript script) where
         by (Server i) e = here-doubtful x older run i e from j
         by Coordinator e =
             let made : made_of script older Coordinator x.input ≡ record { posts = x.outputs; notes = x.notes } = subst (λ (a : Actor). made_of script older a x.input ≡ record { posts = x.outputs; notes = x.notes }) e run.0.made in
-            absurd ((coordinator-plain (coordinator_of script older) x.input).posts (doubt from) (subst (λ (ps : List Post). IsIn (doubt from) ps) (sym (ap (λ (m : Made). m.posts) made)) j))
+            absurd ((coordinator-plain (coordinator_of script older) x.input).posts (doubt from) (subst (λ (ps : List Post). IsIn (doubt from) ps) (sym (ap (λ (m : Output). m.posts) made)) j))
         by (Session u) e =
             let made : made_of script older (Session u) x.input ≡ record { posts = x.outputs; notes = x.notes } = subst (λ (a : Actor). made_of script older a x.input ≡ record { posts = x.outputs; notes = x.notes }) e run.0.made in
-            absurd (((session_turn script.space x.input (session_of script u older)).turn.says (doubt from) (subst (λ (ps : List Post). IsIn (doubt from) ps) (sym (ap (λ (m : Made). m.posts) made)) j)).1)
+            absurd (((session_turn script.space x.input (session_of script u older)).turn.says (doubt from) (subst (λ (ps : List Post). IsIn (doubt from) ps) (sym (ap (λ (m : Output). m.posts) made)) j)).1)
 
     -- every run
     run-doubtful : (t : List Entry) → IsRun script t → (from : Actor) → IsIn (doubt from) (posts_of t) → Doubtful (call_at t) key g epoch

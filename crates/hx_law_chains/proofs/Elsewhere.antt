@@ -21,7 +21,7 @@ use Rattle.hx_types.specs.Words.{IsIn, post}
 use Rattle.hx_types.specs.Configs.{lists}
 use Rattle.hx_types.specs.Fitting.{IsScript, call_of, calls_of, numbered}
 use Rattle.hx_model.specs.Histories.{line_notes, line_of}
-use Rattle.hx_model.specs.Runs.{IsStep, Made, coordinator_after, coordinator_of, made_of, server_after, server_of, session_of}
+use Rattle.hx_model.specs.Runs.{IsStep, Output, coordinator_after, coordinator_of, made_of, server_after, server_of, session_of}
 use Rattle.hx_model.specs.CoordinatorSteps.{CoordinatorState, coordinator_step}
 use Rattle.hx_model.specs.ServerSteps.{ServerState, state_in}
 use Rattle.hx_model.specs.SessionSteps.{SessionState, session_step}
@@ -308,9 +308,9 @@ module _ (script : Script) (valid : IsScript script) (older : List Entry) (epoch
 
   -- an entry of whoever is no server
   by-actor : (a : Actor) (input : Input) (ps : List Post) (ns : List Note) → ((i : ServerId) → a ≡ Server i → ⊥) → made_of script older a input ≡ record { posts = ps; notes = ns } → Keeps script valid older epochs a input ps ns → KeptAfter a input ps ns
-  by-actor Coordinator input ps ns none made keeps = subst (λ (m : Made). Keeps script valid older epochs Coordinator input m.posts m.notes → KeptAfter Coordinator input m.posts m.notes) made (coordinator-after-kept input) keeps
+  by-actor Coordinator input ps ns none made keeps = subst (λ (m : Output). Keeps script valid older epochs Coordinator input m.posts m.notes → KeptAfter Coordinator input m.posts m.notes) made (coordinator-after-kept input) keeps
   by-actor (Server i) input ps ns none made keeps = absurd (none i refl)
-  by-actor (Session u) input ps ns none made keeps = subst (λ (m : Made). KeptAfter (Session u) input m.posts m.notes) made (session-after-kept u input)
+  by-actor (Session u) input ps ns none made keeps = subst (λ (m : Output). KeptAfter (Session u) input m.posts m.notes) made (session-after-kept u input)
 
 -- an entry of the coordinator or of a session keeps all keys and posts, and what is fixed
 pub elsewhere-kept : (script : Script) (valid : IsScript script) (older : List Entry) (epochs : EpochsRun script older)

@@ -29,7 +29,7 @@ use Rattle.hx_types.specs.Spaces.{IsSpace}
 use Rattle.hx_types.specs.Subspaces.{is_key_region}
 use Rattle.hx_model.specs.CoordinatorSteps.{Joined, Phase}
 use Rattle.hx_model.specs.Regions.{key_region}
-use Rattle.hx_model.specs.ServerSteps.{Replica, ServerState, ServerStep, acked, adopted, asked, at_slot, call_at, call_step, called, called_by, halting, hearing, if_installed, input_step, install_at, message_step, replica_of, replica_tick, saying, seal_at, server_step, snapped, spot_of, state_in, tick_step, unmoved, updated, with_config}
+use Rattle.hx_model.specs.ServerSteps.{Replica, ServerState, ServerStep, acked, adopted, asked, at_slot, call_at, call_step, called, called_by, halting, replica_in_epoch, if_installed, input_step, install_at, message_step, replica_of, replica_tick, saying, seal_at, server_step, snapped, context_of, state_in, tick_step, unmoved, updated, with_config}
 use Rattle.hx_model.specs.Slots.{Forget, KeyState, found_in, moved}
 use Rattle.hx_law_lemmas.proofs.Lists.{in-provided, when_some_both}
 use Rattle.hx_law_lemmas.proofs.Replicas.{replica-found}
@@ -41,7 +41,7 @@ use Rattle.hx_law_epochs.specs.Epochs.{FollowsOn}
 use Rattle.hx_law_epochs.proofs.Facts.{EpochsKept, Installed}
 use Rattle.hx_law_epochs.proofs.Follows.{member-ready}
 use Rattle.hx_law_epochs.proofs.Next.{IsOrderly}
-use Rattle.hx_law_epochs.proofs.Replicas.{Shaped, hearing-is, installed-is}
+use Rattle.hx_law_epochs.proofs.Replicas.{Shaped, replica_in_epoch-is, installed-is}
 use Rattle.hx_law_chains.proofs.Adopting.{adopted-served}
 use Rattle.hx_law_chains.proofs.Holders.{Up, live-of}
 use Rattle.hx_law_chains.proofs.Joining.{Twin, key_joined}
@@ -200,9 +200,9 @@ module _ (e : Scene) (asks : Asked) (valid : IsSpace e.script.space) (gone : Lis
     pub alive : is_lost e.config r.region ≡ false
     pub own : epoch ≡ e.config.epoch
 
-  hears : (epoch : Epoch) (g : RegionId) (r : Replica) → hearing st0 epoch g ≡ Some r → Hearing epoch g r
+  hears : (epoch : Epoch) (g : RegionId) (r : Replica) → replica_in_epoch st0 epoch g ≡ Some r → Hearing epoch g r
   hears epoch g r z =
-      let h = hearing-is st0 epoch g r z in
+      let h = replica_in_epoch-is st0 epoch g r z in
       let f = (replica-found g st0.replicas r h.found).1 in
       let c = config-now h.not_sealed in
       record {
@@ -214,34 +214,34 @@ module _ (e : Scene) (asks : Asked) (valid : IsSpace e.script.space) (gone : Lis
       }
 
   -- an update
-  update-fine : (epoch : Epoch) (g : RegionId) (u : Update) → UpdateOk e.script (world e) epoch g u i → (o : Option Replica) → if_installed (hearing st0 epoch g) ≡ o → Fine (updated e.script.space st0 u o)
+  update-fine : (epoch : Epoch) (g : RegionId) (u : Update) → UpdateOk e.script (world e) epoch g u i → (o : Option Replica) → if_installed (replica_in_epoch st0 epoch g) ≡ o → Fine (updated e.script.space st0 u o)
   update-fine epoch g u v None z = still
   update-fine epoch g u v (Some r) z =
-      let n = installed-is (hearing st0 epoch g) r z in
+      let n = installed-is (replica_in_epoch st0 epoch g) r z in
       let h = hears epoch g r n.0 in
       by-parts h.opened (λ x. updated e.script.space x u (Some r))
       (update-served e asks valid ok differ i here st0.replicas (same h.opened) r h.found n.1 h.alive u
       (subst (λ (x : RegionId). Sending e.script (world e) u.key x i u) (sym h.region) (v.1 (ap (λ (x : Epoch). x.0) h.own))))
 
   -- an acknowledgement
-  ack-fine : (epoch : Epoch) (g : RegionId) (key : List ℕ) (n : ℕ) → AckOk e.script (world e) epoch g key n i → (o : Option Replica) → if_installed (hearing st0 epoch g) ≡ o → Fine (acked e.script.space st0 key n o)
+  ack-fine : (epoch : Epoch) (g : RegionId) (key : List ℕ) (n : ℕ) → AckOk e.script (world e) epoch g key n i → (o : Option Replica) → if_installed (replica_in_epoch st0 epoch g) ≡ o → Fine (acked e.script.space st0 key n o)
   ack-fine epoch g key n v None z = still
   ack-fine epoch g key n v (Some r) z =
-      let m = installed-is (hearing st0 epoch g) r z in
+      let m = installed-is (replica_in_epoch st0 epoch g) r z in
       let h = hears epoch g r m.0 in
       by-parts h.opened (λ x. acked e.script.space x key n (Some r))
       (ack-served e asks valid ok differ i here st0.replicas (same h.opened) r h.found m.1 h.alive key n
       (subst (λ (x : RegionId). Acking e.script (world e) key x i n) (sym h.region) (v.1 (ap (λ (x : Epoch). x.0) h.own))))
 
   -- a search
-  ask-fine : (from : Actor) (epoch : Epoch) (number : ℕ) (g : RegionId) (terms : List Term) → asks.ask from epoch number g terms → (o : Option Replica) → if_installed (hearing st0 epoch g) ≡ o → Fine (asked st0 from epoch number terms o)
+  ask-fine : (from : Actor) (epoch : Epoch) (number : ℕ) (g : RegionId) (terms : List Term) → asks.ask from epoch number g terms → (o : Option Replica) → if_installed (replica_in_epoch st0 epoch g) ≡ o → Fine (asked st0 from epoch number terms o)
   ask-fine from epoch number g terms a None z = still
   ask-fine from epoch number g terms a (Some r) z =
-      let h = hears epoch g r (installed-is (hearing st0 epoch g) r z).0 in
+      let h = hears epoch g r (installed-is (replica_in_epoch st0 epoch g) r z).0 in
       quiet-served st0 _ refl refl (λ p j. elim (in-provided (lists_ready st0.config r.region st0.id) (post (Server st0.id) from (a_message.Found epoch number r.region (found_in r.region terms r.states)) ∷ []) p j).1 [
         | inl q ↦ subst (λ (x : Post). Valid e.script (world e) x.from x.to x.message × Late e asks i x.to x.message × NoSnap x.message) (sym q) (
           tt,
-          (terms, subst (λ (x : RegionId). asks.ask from epoch number x terms) (sym h.region) a, (r, subst (λ (x : RegionId). if_installed (hearing st0 epoch x) ≡ Some r) (sym h.region) z, refl)),
+          (terms, subst (λ (x : RegionId). asks.ask from epoch number x terms) (sym h.region) a, (r, subst (λ (x : RegionId). if_installed (replica_in_epoch st0 epoch x) ≡ Some r) (sym h.region) z, refl)),
           tt,
         )
         | inr k ↦ absurd k
@@ -249,7 +249,7 @@ module _ (e : Scene) (asks : Asked) (valid : IsSpace e.script.space) (gone : Lis
 
   -- a snapshot
   snap-fine : (from : Actor) (epoch : Epoch) (g : RegionId) (snapshot : List Kept) (pending : List Update) → IsIn (post from (Server i) (a_message.Snap epoch g snapshot pending)) e.posts → Carries e.script.space g snapshot pending
-      → (o : Option Replica) → hearing st0 epoch g ≡ o → Fine (snapped e.script.space st0 snapshot pending o)
+      → (o : Option Replica) → replica_in_epoch st0 epoch g ≡ o → Fine (snapped e.script.space st0 snapshot pending o)
   snap-fine from epoch g snapshot pending arrived carries None z = still
   snap-fine from epoch g snapshot pending arrived carries (Some r) z =
       let h = hears epoch g r z in
@@ -266,7 +266,7 @@ module _ (e : Scene) (asks : Asked) (valid : IsSpace e.script.space) (gone : Lis
   -- a call at a replica
   call-fine : (r : Replica) (epoch : Epoch) (key : List ℕ) → Hearing epoch (key_region e.script.space key) r → (caller : Caller) (op : Op) → call_of e.script caller ≡ Some op → key_of op ≡ Some key → asks.call caller → Fine (call_at e.script.space st0 r key caller op)
   call-fine r epoch key h caller op called on_key a = by-parts h.opened (λ x. call_at e.script.space x r key caller op)
-      (cond_both (leads e.script.space e.config i r.region) (at_slot (standing e.config i st0.replicas) r (state_in e.script.space r key) (call_step (spot_of e.script.space (standing e.config i st0.replicas) r.region) (state_in e.script.space r key) caller op)) (unmoved (standing e.config i st0.replicas)) Fine
+      (cond_both (leads e.script.space e.config i r.region) (at_slot (standing e.config i st0.replicas) r (state_in e.script.space r key) (call_step (context_of e.script.space (standing e.config i st0.replicas) r.region) (state_in e.script.space r key) caller op)) (unmoved (standing e.config i st0.replicas)) Fine
       (λ l. let b = and_parts (is_key_region e.script.space r.region && not (is_lost e.config r.region)) (is_server i (head_of e.config r.region)) l in
       let k = and_parts (is_key_region e.script.space r.region) (not (is_lost e.config r.region)) b.0 in
       let head = lead-of (head_of e.config r.region) b.1 in
@@ -288,7 +288,7 @@ module _ (e : Scene) (asks : Asked) (valid : IsSpace e.script.space) (gone : Lis
       by : (o : Option (List ℕ)) → key_of op ≡ o → Fine (called e.script.space st0 epoch (record { session = u; number = number }) op o)
       by None z = still
       by (Some key) z =
-          when_some_both (hearing st0 epoch (key_region e.script.space key)) (unmoved st0) (λ (r : Replica). call_at e.script.space st0 r key (record { session = u; number = number }) op) Fine
+          when_some_both (replica_in_epoch st0 epoch (key_region e.script.space key)) (unmoved st0) (λ (r : Replica). call_at e.script.space st0 r key (record { session = u; number = number }) op) Fine
           (λ q. still)
           (λ r q. call-fine r epoch key (hears epoch (key_region e.script.space key) r q) (record { session = u; number = number }) op v z (a u refl))
 
@@ -299,9 +299,9 @@ module _ (e : Scene) (asks : Asked) (valid : IsSpace e.script.space) (gone : Lis
       → Fine (message_step e.script.space st0 from m)
   message-fine from (a_message.Call epoch number op) j v s a b = called-fine from epoch number op v (λ u z. a u epoch number op z refl)
   message-fine from (a_message.Reply number version answer) j v s a b = still
-  message-fine from (a_message.Update epoch g u) j v s a b = update-fine epoch g u v (if_installed (hearing st0 epoch g)) refl
-  message-fine from (a_message.Ack epoch g key version) j v s a b = ack-fine epoch g key version.0 v (if_installed (hearing st0 epoch g)) refl
-  message-fine from (a_message.Ask epoch number g terms) j v s a b = ask-fine from epoch number g terms (b epoch number g terms refl) (if_installed (hearing st0 epoch g)) refl
+  message-fine from (a_message.Update epoch g u) j v s a b = update-fine epoch g u v (if_installed (replica_in_epoch st0 epoch g)) refl
+  message-fine from (a_message.Ack epoch g key version) j v s a b = ack-fine epoch g key version.0 v (if_installed (replica_in_epoch st0 epoch g)) refl
+  message-fine from (a_message.Ask epoch number g terms) j v s a b = ask-fine from epoch number g terms (b epoch number g terms refl) (if_installed (replica_in_epoch st0 epoch g)) refl
   message-fine from (a_message.Found epoch number g rows) j v s a b = still
   message-fine from (a_message.Seal epoch) j v s a b = seal-fine epoch
   message-fine from (a_message.Sealed epoch) j v s a b = still
@@ -311,7 +311,7 @@ module _ (e : Scene) (asks : Asked) (valid : IsSpace e.script.space) (gone : Lis
   message-fine from (a_message.StopServer number server) j v s a b = still
   message-fine from (a_message.AddReplica number server g) j v s a b = still
   message-fine from (a_message.Outcome number answer) j v s a b = still
-  message-fine from (a_message.Snap epoch g snapshot pending) j v s a b = snap-fine from epoch g snapshot pending j s (hearing st0 epoch g) refl
+  message-fine from (a_message.Snap epoch g snapshot pending) j v s a b = snap-fine from epoch g snapshot pending j s (replica_in_epoch st0 epoch g) refl
   message-fine from (a_message.Ready epoch g) j v s a b = still
   message-fine from (a_message.Poll epoch) j v s a b = still
 

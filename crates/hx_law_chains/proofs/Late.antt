@@ -22,13 +22,13 @@ use Rattle.hx_types.specs.Configs.{members_of}
 use Rattle.hx_types.specs.Effects.{is_write}
 use Rattle.hx_types.specs.Fitting.{call_of}
 use Rattle.hx_types.specs.Spaces.{IsSpace}
-use Rattle.hx_model.specs.ServerSteps.{Spot, ack_to, doubt_in, move_posts, next_at, passed_on, prev_at, reply, told_to, update_to}
+use Rattle.hx_model.specs.ServerSteps.{SlotContext, ack_to, doubt_in, move_posts, next_at, passed_on, prev_at, reply, told_to, update_to}
 use Rattle.hx_model.specs.Slots.{Acknowledge, Commit, Forget, Hold, Move, Take}
 use Rattle.hx_law_lemmas.proofs.Lists.{in-flat_map}
 use Rattle.hx_law_lemmas.proofs.Chains.{Differ}
 use Rattle.hx_law_chains.proofs.Posts.{Committed, MoveOk, Seat, law}
 use Rattle.hx_law_chains.proofs.Serving.{Asked, Late, Scene}
-use Rattle.hx_law_chains.proofs.World.{KeyOk, Valid, World, spot}
+use Rattle.hx_law_chains.proofs.World.{KeyOk, Valid, World, context}
 
 -- the message is no snapshot
 abbrev pub NoSnap : Message → Type 0
@@ -36,7 +36,7 @@ NoSnap (a_message.Snap epoch g snapshot pending) = ⊥
 NoSnap other = ⊤
 
 -- an update to the next replica is none
-pub passed-nosnap : (at : Spot) (u : Update) (p : Post) → IsIn p (passed_on at u) → NoSnap p.message
+pub passed-nosnap : (at : SlotContext) (u : Update) (p : Post) → IsIn p (passed_on at u) → NoSnap p.message
 passed-nosnap at u p = by (next_at at u)
   where
     by : (y : Hop) → IsIn p (update_to at u y) → NoSnap p.message
@@ -46,7 +46,7 @@ passed-nosnap at u p = by (next_at at u)
     by (At y n) (inl q) = subst (λ (x : Post). NoSnap x.message) (sym q) tt
 
 -- no move sends one
-pub moves-nosnap : (at : Spot) (ms : List Move) (p : Post) → IsIn p (flat_map (move_posts at) ms) → NoSnap p.message
+pub moves-nosnap : (at : SlotContext) (ms : List Move) (p : Post) → IsIn p (flat_map (move_posts at) ms) → NoSnap p.message
 moves-nosnap at ms p j = (let r = in-flat_map (move_posts at) ms p j in by r.0 r.2)
   where
     update : (u : Update) (y : Hop) → IsIn p (update_to at u y) → NoSnap p.message
@@ -75,7 +75,7 @@ SlotLate e asked i p = Late e asked i p.to p.message × NoSnap p.message
 
 module _ (e : Scene) (asked : Asked) (i : ServerId) where
   -- a reply about a write
-  pub write-late : (script : Script) (w : World) (g : RegionId) (caller : Caller) (v : Version) (a : Answer) (op : Op) → script ≡ e.script → call_of script caller ≡ Some op → is_write op ≡ true → (p : Post) → p ≡ reply (spot script w g i) caller v a → SlotLate e asked i p
+  pub write-late : (script : Script) (w : World) (g : RegionId) (caller : Caller) (v : Version) (a : Answer) (op : Op) → script ≡ e.script → call_of script caller ≡ Some op → is_write op ≡ true → (p : Post) → p ≡ reply (context script w g i) caller v a → SlotLate e asked i p
   write-late script w g caller v a op s called writes p q = subst (SlotLate e asked i) (sym q) (
     (λ key get. absurd (let z : Some op ≡ Some (Get key) = sym called ∙ ap (λ (x : Script). call_of x caller) s ∙ get in let o : op ≡ Get key = cc in false≢true (ap is_write (sym o) ∙ writes))),
     tt,
@@ -83,47 +83,47 @@ module _ (e : Scene) (asked : Asked) (i : ServerId) where
 
   module _ (w : World) (valid : IsSpace e.script.space) (ok : (key : List _) → KeyOk e.script w key) (differ : (g : RegionId) → Differ (members_of w.config g)) (g : RegionId) (seat : Seat e.script w g i) where
     -- an update to the next replica
-    pub passed-late : (u : Update) (p : Post) → IsIn p (passed_on (spot e.script w g i) u) → SlotLate e asked i p
-    passed-late u p = by (next_at (spot e.script w g i) u)
+    pub passed-late : (u : Update) (p : Post) → IsIn p (passed_on (context e.script w g i) u) → SlotLate e asked i p
+    passed-late u p = by (next_at (context e.script w g i) u)
       where
-        by : (y : Hop) → IsIn p (update_to (spot e.script w g i) u y) → SlotLate e asked i p
+        by : (y : Hop) → IsIn p (update_to (context e.script w g i) u y) → SlotLate e asked i p
         by End j = absurd j
         by (Blocked r) j = absurd j
         by (At y n) (inr j) = absurd j
         by (At y n) (inl q) = subst (SlotLate e asked i) (sym q) (tt, tt)
 
     -- an acknowledgement to the one before
-    pub ack-late : (u : Update) (y : Hop) (p : Post) → IsIn p (ack_to (spot e.script w g i) u y) → SlotLate e asked i p
+    pub ack-late : (u : Update) (y : Hop) (p : Post) → IsIn p (ack_to (context e.script w g i) u y) → SlotLate e asked i p
     ack-late u End p j = absurd j
     ack-late u (Blocked r) p j = absurd j
     ack-late u (At y n) p (inr j) = absurd j
     ack-late u (At y n) p (inl q) = subst (SlotLate e asked i) (sym q) (tt, tt)
 
     -- an answer of a committed update
-    pub reply-late : (u : Update) → Committed e.script valid w ok differ g i seat u → (p : Post) → p ≡ reply (spot e.script w g i) u.caller u.version u.answer → SlotLate e asked i p
+    pub reply-late : (u : Update) → Committed e.script valid w ok differ g i seat u → (p : Post) → p ≡ reply (context e.script w g i) u.caller u.version u.answer → SlotLate e asked i p
     reply-late u c p q = let l = law e.script valid w ok differ g i seat u c.known in write-late e.script w g u.caller u.version u.answer l.1.op refl l.1.called l.1.writes p q
 
     -- what is posted with moves
-    pub moves-late : (ms : List Move) → ((m : Move) → IsIn m ms → MoveOk e.script valid w ok differ g i seat m) → (p : Post) → IsIn p (flat_map (move_posts (spot e.script w g i)) ms) → SlotLate e asked i p
+    pub moves-late : (ms : List Move) → ((m : Move) → IsIn m ms → MoveOk e.script valid w ok differ g i seat m) → (p : Post) → IsIn p (flat_map (move_posts (context e.script w g i)) ms) → SlotLate e asked i p
     moves-late ms f p j =
-        let r = in-flat_map (move_posts (spot e.script w g i)) ms p j in
+        let r = in-flat_map (move_posts (context e.script w g i)) ms p j in
         by r.0 (f r.0 r.1) r.2
       where
-        by : (m : Move) → MoveOk e.script valid w ok differ g i seat m → IsIn p (move_posts (spot e.script w g i) m) → SlotLate e asked i p
+        by : (m : Move) → MoveOk e.script valid w ok differ g i seat m → IsIn p (move_posts (context e.script w g i) m) → SlotLate e asked i p
         by (Take u) k x = passed-late u p x
         by (Hold u) k x = absurd x
         by (Acknowledge v) k x = absurd x
         by Forget k x = absurd x
-        by (Commit u) k x = told (prev_at (spot e.script w g i) u) x
+        by (Commit u) k x = told (prev_at (context e.script w g i) u) x
           where
-            told : (y : Hop) → IsIn p (told_to (spot e.script w g i) u y) → SlotLate e asked i p
+            told : (y : Hop) → IsIn p (told_to (context e.script w g i) u y) → SlotLate e asked i p
             told (At y n) x = ack-late u (At y n) p x
             told (Blocked r) x = absurd x
             told End (inl z) = reply-late u k p z
             told End (inr x) = absurd x
 
   -- a doubt about a write says nothing but that
-  pub doubt-fine : (w : World) (g : RegionId) (caller : Caller) (op : Op) → call_of e.script caller ≡ Some op → is_write op ≡ true → (v : Version) (d : RegionId) (p : Post) → p ≡ doubt_in (spot e.script w g i) caller v d
+  pub doubt-fine : (w : World) (g : RegionId) (caller : Caller) (op : Op) → call_of e.script caller ≡ Some op → is_write op ≡ true → (v : Version) (d : RegionId) (p : Post) → p ≡ doubt_in (context e.script w g i) caller v d
       → Valid e.script w p.from p.to p.message × SlotLate e asked i p
   doubt-fine w g caller op called writes v d p q = (
     subst (λ (x : Post). Valid e.script w x.from x.to x.message) (sym q)

@@ -24,7 +24,7 @@ use Rattle.hx_types.specs.Subspaces.{is_key_region}
 use Rattle.hx_model.specs.Leading.{StuckAt, decide, stuck_of}
 use Rattle.hx_model.specs.Neighbours.{place_number}
 use Rattle.hx_model.specs.Regions.{key_region}
-use Rattle.hx_model.specs.ServerSteps.{Replica, ServerState, SlotStep, Spot, accepting, ack_step, ack_to, at_slot, by_moves, by_posts, call_step, decided, doubt_in, get_answer, get_step, known_to, move_posts, prev_at, replica_of, reply, state_in, update_step, waiting_doubt, write_step}
+use Rattle.hx_model.specs.ServerSteps.{Replica, ServerState, SlotStep, SlotContext, accepting, ack_step, ack_to, at_slot, by_moves, by_posts, call_step, decided, doubt_in, get_answer, get_step, known_to, move_posts, prev_at, replica_of, reply, state_in, update_step, waiting_doubt, write_step}
 use Rattle.hx_model.specs.Slots.{KeyState, Move, acknowledged, follows, has_place, object_in, object_of, offered, top_of}
 use Rattle.hx_model.proofs.States.{same_text_self}
 use Rattle.hx_law_lemmas.proofs.LeaderLines as leader_lines
@@ -55,7 +55,7 @@ use Rattle.hx_law_chains.proofs.Rows.{middle, moving-served, posts-served, quiet
 use Rattle.hx_law_chains.proofs.Serving.{Asked, Scene, Sent, Served, world}
 use Rattle.hx_law_chains.proofs.Shown.{object-same, shows-line, floor-part}
 use Rattle.hx_law_chains.proofs.Slotted.{between-ok, ends-here, held-between, only-between, seat-now, this-key, twins}
-use Rattle.hx_law_chains.proofs.World.{Acking, Along, KeyOk, Law, Lawful, Sending, Told, Valid, World, around, law-of, lawful-made, lawful-numbered, lawful-sorted, lawful-upto, spot}
+use Rattle.hx_law_chains.proofs.World.{Acking, Along, KeyOk, Law, Lawful, Sending, Told, Valid, World, around, law-of, lawful-made, lawful-numbered, lawful-sorted, lawful-upto, context}
 
 module _ (e : Scene) (asked : Asked) (valid : IsSpace e.script.space) (ok : (key : List ℕ) → KeyOk e.script (world e) key) (differ : (g : RegionId) → Differ (members_of e.config g)) (i : ServerId) (here : Up e.Real e.servers i)
     (rs : List Replica) (same : e.servers i ≡ standing e.config i rs) (r : Replica) (found : replica_of r.region rs ≡ Some r) (installed : r.installed ≡ true) (alive : is_lost e.config r.region ≡ false) where
@@ -72,8 +72,8 @@ module _ (e : Scene) (asked : Asked) (valid : IsSpace e.script.space) (ok : (key
   seat = seat-now e valid ok differ i here rs same r.region at0 alive
 
   -- where its slots stand
-  abbrev at : Spot
-  at = spot e.script (world e) r.region i
+  abbrev at : SlotContext
+  at = context e.script (world e) r.region i
 
   module _ (key : List ℕ) where
     -- the slot

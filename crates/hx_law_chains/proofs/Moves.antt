@@ -10,7 +10,7 @@ use Rattle.hx_types.specs.Words.{IsIn, provided, when_some}
 use Rattle.hx_model.specs.Holders.{IsPrefix, only_in}
 use Rattle.hx_model.specs.Neighbours.{is_end}
 use Rattle.hx_model.specs.Slots.{Acknowledge, Commit, Forget, Hold, KeyState, Move, Take, acknowledged, after_at, commits, follows, has_place, is_pending, marks_after, moved, moved_all, offered, other_version, pending_above, pending_of, settled, taken, top_of, touches_after, turns, kept_row, waits_below}
-use Rattle.hx_model.specs.ServerSteps.{Spot, accepting, end_marks, next_at, resumed, with_commits}
+use Rattle.hx_model.specs.ServerSteps.{SlotContext, accepting, tail_acks, next_at, resumed, with_commits}
 use Rattle.hx_law_lemmas.proofs.Lists.{any-in, in-append, in-filter, in-find, in_left, in_right, when_some_both}
 use Rattle.hx_law_lemmas.proofs.Lines.{Sorted, in-only, in-upto, in-upto_from, only-in, only-sorted, same_version, upto-low, upto-sorted}
 use Rattle.hx_law_lemmas.proofs.Passing.{Following}
@@ -423,17 +423,17 @@ module _ (line : List Update) (g : RegionId) (a : Around) (line_sorted : Sorted 
   taken-in (Forget ∷ ms) t own k u i = taken-in ms (moved Forget t) (later-one t Forget own k.0).own k.1 u i
 
   -- where an update's chain ends nothing stands after it
-  abbrev pub Ends : Spot → Type 0
-  Ends spot = (u : Update) → IsIn u line → has_place g u ≡ true → is_end (next_at spot u) ≡ true → a.after u × a.closed u
+  abbrev pub Ends : SlotContext → Type 0
+  Ends context = (u : Update) → IsIn u line → has_place g u ≡ true → is_end (next_at context u) ≡ true → a.after u × a.closed u
 
   -- moves that take updates, with all that they bring
-  pub accepting-allowed : (spot : Spot) (t : KeyState) (ms : List Move) → Ends spot → Own line g a t → AllAllowed line g a t ms → AllAllowed line g a t (accepting spot t ms)
-  accepting-allowed spot t ms ends own k =
+  pub accepting-allowed : (context : SlotContext) (t : KeyState) (ms : List Move) → Ends context → Own line g a t → AllAllowed line g a t ms → AllAllowed line g a t (accepting context t ms)
+  accepting-allowed context t ms ends own k =
       let l = (later-all ms t own k).own in
-      with_commits-allowed t (ms ++ end_marks spot (taken ms)) own
-      (allowed-append ms (end_marks spot (taken ms)) t k
-      (marks-allowed (filter (λ (u : Update). is_end (next_at spot u)) (taken ms)) (moved_all ms t) l
-      (λ u i. let f = in-filter (λ (x : Update). is_end (next_at spot x)) (taken ms) u i in
+      with_commits-allowed t (ms ++ tail_acks context (taken ms)) own
+      (allowed-append ms (tail_acks context (taken ms)) t k
+      (marks-allowed (filter (λ (u : Update). is_end (next_at context u)) (taken ms)) (moved_all ms t) l
+      (λ u i. let f = in-filter (λ (x : Update). is_end (next_at context x)) (taken ms) u i in
       let b = taken-in ms t own k u f.0 in
       let e = ends u b.0 b.1 f.1 in (b.0, b.1, b.2, e.0, e.1))))
 
@@ -472,14 +472,14 @@ module _ (line : List Update) (g : RegionId) (a : Around) (line_sorted : Sorted 
       by true true = (k, settled-allowed (moved (Acknowledge v) t) (later-one t (Acknowledge v) own k).own)
 
   -- what a slot does when its server adopts a configuration is allowed
-  pub resumed-allowed : (spot : Spot) (t : KeyState) → Ends spot → Own line g a t → AllAllowed line g a t (resumed spot t)
-  resumed-allowed spot t ends own =
+  pub resumed-allowed : (context : SlotContext) (t : KeyState) → Ends context → Own line g a t → AllAllowed line g a t (resumed context t)
+  resumed-allowed context t ends own =
       let own' = own_forget line g a a t (λ u h. h) (λ u h. h) own in
       let p = pending-is t.floor t.accepted (accepted-sorted t own) in
-      with_commits-allowed t (Forget ∷ end_marks spot (pending_of t)) own (
+      with_commits-allowed t (Forget ∷ tail_acks context (pending_of t)) own (
         tt,
-        marks-allowed (filter (λ (u : Update). is_end (next_at spot u)) (pending_of t)) (moved Forget t) own'
-            (λ u i. let f = in-filter (λ (x : Update). is_end (next_at spot x)) (pending_of t) u i in
+        marks-allowed (filter (λ (u : Update). is_end (next_at context u)) (pending_of t)) (moved Forget t) own'
+            (λ u i. let f = in-filter (λ (x : Update). is_end (next_at context x)) (pending_of t) u i in
             let b = accepted-in t u own (p.0 u f.0).0 in
             let e = ends u b.0 b.1 f.1 in (b.0, b.1, b.2, e.0, e.1)),
       )

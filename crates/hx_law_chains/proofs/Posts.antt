@@ -27,7 +27,7 @@ use Rattle.hx_law_epochs.proofs.Neighbours.{leader-first, leader-stands, next-is
 use Rattle.hx_law_epochs.proofs.Positions.{HasPlace, number-placed, number-region, place-at, placed-number, stands-trans}
 use Rattle.hx_law_chains.proofs.Moves.{Promise}
 use Rattle.hx_law_chains.proofs.Places.{key-first}
-use Rattle.hx_law_chains.proofs.World.{Acking, After, Along, Before, Closed, Filled, Here, KeyOk, Law, Sending, Told, Valid, World, around, law-of, lawful-made, spot}
+use Rattle.hx_law_chains.proofs.World.{Acking, After, Along, Before, Closed, Filled, Here, KeyOk, Law, Sending, Told, Valid, World, around, law-of, lawful-made, context}
 
 -- an installed replica in a region that isn't lost, with its slots
 pub record Seat (script : Script) (w : World) (g : RegionId) (i : ServerId) : Type 0 where
@@ -83,7 +83,7 @@ module _ (script : Script) (valid : IsSpace script.space) (w : World) (ok : (key
     key-placed = placed-number u.places (key_region script.space u.key) (passes-key script.space u.key law.0 u law.1.made)
 
     -- an update to the next replica
-    sending : (y : ServerId) (n : ℕ) → next_at (spot script w g i) u ≡ At y n → Sending script w u.key (region_at u.places n) y u
+    sending : (y : ServerId) (n : ℕ) → next_at (context script w g i) u ≡ At y n → Sending script w u.key (region_at u.places n) y u
     sending y n e =
         let r = next-is w.config u.places apart differ g here-placed i (listed u.key) y n e in
         record {
@@ -99,10 +99,10 @@ module _ (script : Script) (valid : IsSpace script.space) (w : World) (ok : (key
         }
 
     -- what is posted of it to the next replica is valid
-    pub passed-fine : (p : Post) → IsIn p (passed_on (spot script w g i) u) → Fine p
-    passed-fine p = by (next_at (spot script w g i) u) refl
+    pub passed-fine : (p : Post) → IsIn p (passed_on (context script w g i) u) → Fine p
+    passed-fine p = by (next_at (context script w g i) u) refl
       where
-        by : (y : Hop) → next_at (spot script w g i) u ≡ y → IsIn p (update_to (spot script w g i) u y) → Fine p
+        by : (y : Hop) → next_at (context script w g i) u ≡ y → IsIn p (update_to (context script w g i) u y) → Fine p
         by End e j = absurd j
         by (Blocked r) e j = absurd j
         by (At y n) e (inr j) = absurd j
@@ -113,7 +113,7 @@ module _ (script : Script) (valid : IsSpace script.space) (w : World) (ok : (key
   after u c = ((ok u.key).own g i (seat.slot u.key) (seat.held u.key)).freed u c.known.stands c.known.placed c.done
 
   -- an acknowledgement to the previous replica
-  acking : (u : Update) (c : Committed u) (y : ServerId) (n : ℕ) → prev_at (spot script w g i) u ≡ At y n → Acking script w u.key (region_at u.places n) y u.version.0
+  acking : (u : Update) (c : Committed u) (y : ServerId) (n : ℕ) → prev_at (context script w g i) u ≡ At y n → Acking script w u.key (region_at u.places n) y u.version.0
   acking u c y n e =
       let r = previous-is w.config u.places (apart u c.known) differ g (here-placed u c.known) i (listed u.key) y n e in
       record {
@@ -138,10 +138,10 @@ module _ (script : Script) (valid : IsSpace script.space) (w : World) (ok : (key
           subst (λ (z : RegionId). w.installed z i) (sym (region-is u.places (place_number g u.places) p.0 p.1 ∙ p.2)) seat.installed)
 
   -- an acknowledgement to the previous replica is valid
-  pub ack-fine : (u : Update) → Committed u → (p : Post) → IsIn p (ack_to (spot script w g i) u (prev_at (spot script w g i) u)) → Fine p
-  ack-fine u c p = by (prev_at (spot script w g i) u) refl
+  pub ack-fine : (u : Update) → Committed u → (p : Post) → IsIn p (ack_to (context script w g i) u (prev_at (context script w g i) u)) → Fine p
+  ack-fine u c p = by (prev_at (context script w g i) u) refl
     where
-      by : (y : Hop) → prev_at (spot script w g i) u ≡ y → IsIn p (ack_to (spot script w g i) u y) → Fine p
+      by : (y : Hop) → prev_at (context script w g i) u ≡ y → IsIn p (ack_to (context script w g i) u y) → Fine p
       by End e j = absurd j
       by (Blocked r) e j = absurd j
       by (At y n) e (inr j) = absurd j
@@ -161,7 +161,7 @@ module _ (script : Script) (valid : IsSpace script.space) (w : World) (ok : (key
       ]
 
   -- an answer of a committed update is valid
-  pub reply-fine : (u : Update) → Committed u → g ≡ key_region script.space u.key → head_of w.config g ≡ Some i → Fine (reply (spot script w g i) u.caller u.version u.answer)
+  pub reply-fine : (u : Update) → Committed u → g ≡ key_region script.space u.key → head_of w.config g ≡ Some i → Fine (reply (context script w g i) u.caller u.version u.answer)
   reply-fine u c q head op key called on_key =
       let l = law u c.known in
       let e : Some l.1.op ≡ Some op = sym l.1.called ∙ called in
@@ -171,11 +171,11 @@ module _ (script : Script) (valid : IsSpace script.space) (w : World) (ok : (key
       (inr (inl (sym (ap is_write o) ∙ l.1.writes, (u, c.known.stands, refl, refl, refl), λ x j b. lead-along u.key q head x j (let d = c.done in omega (arith, b, d)))))
 
   -- what is told of a committed update is valid
-  pub told-fine : (u : Update) → Committed u → (p : Post) → IsIn p (told_to (spot script w g i) u (prev_at (spot script w g i) u)) → Fine p
-  told-fine u c p = by (prev_at (spot script w g i) u) refl
+  pub told-fine : (u : Update) → Committed u → (p : Post) → IsIn p (told_to (context script w g i) u (prev_at (context script w g i) u)) → Fine p
+  told-fine u c p = by (prev_at (context script w g i) u) refl
     where
-      by : (y : Hop) → prev_at (spot script w g i) u ≡ y → IsIn p (told_to (spot script w g i) u y) → Fine p
-      by (At y n) e j = ack-fine u c p (subst (λ (z : Hop). IsIn p (ack_to (spot script w g i) u z)) (sym e) j)
+      by : (y : Hop) → prev_at (context script w g i) u ≡ y → IsIn p (told_to (context script w g i) u y) → Fine p
+      by (At y n) e j = ack-fine u c p (subst (λ (z : Hop). IsIn p (ack_to (context script w g i) u z)) (sym e) j)
       by (Blocked r) e j = absurd j
       by End e (inr j) = absurd j
       by End e (inl q) =
@@ -217,12 +217,12 @@ module _ (script : Script) (valid : IsSpace script.space) (w : World) (ok : (key
       }
 
   -- then what is posted with it is valid
-  pub moves-fine : (ms : List Move) → ((m : Move) → IsIn m ms → MoveOk m) → (p : Post) → IsIn p (flat_map (move_posts (spot script w g i)) ms) → Fine p
+  pub moves-fine : (ms : List Move) → ((m : Move) → IsIn m ms → MoveOk m) → (p : Post) → IsIn p (flat_map (move_posts (context script w g i)) ms) → Fine p
   moves-fine ms f p j =
-      let r = in-flat_map (move_posts (spot script w g i)) ms p j in
+      let r = in-flat_map (move_posts (context script w g i)) ms p j in
       by r.0 (f r.0 r.1) r.2
     where
-      by : (m : Move) → MoveOk m → IsIn p (move_posts (spot script w g i) m) → Fine p
+      by : (m : Move) → MoveOk m → IsIn p (move_posts (context script w g i) m) → Fine p
       by (Take u) k x = passed-fine u k p x
       by (Hold u) k x = absurd x
       by (Acknowledge v) k x = absurd x

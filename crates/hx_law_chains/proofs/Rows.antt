@@ -9,7 +9,7 @@ use Rattle.hx_types.specs.declared.traces.Note.{Note}
 use Rattle.hx_types.specs.Words.{IsIn, same_text}
 use Rattle.hx_types.specs.Configs.{is_lost, members_of}
 use Rattle.hx_types.specs.Spaces.{IsSpace}
-use Rattle.hx_model.specs.ServerSteps.{Replica, ServerState, Spot, move_posts, replica_of, state_in, with_slot}
+use Rattle.hx_model.specs.ServerSteps.{Replica, ServerState, SlotContext, move_posts, replica_of, state_in, with_slot}
 use Rattle.hx_model.specs.Slots.{KeyState, Move, moved_all}
 use Rattle.hx_model.proofs.States.{eq_of_same_text}
 use Rattle.hx_law_lemmas.specs.Words.{noted, standing}
@@ -22,7 +22,7 @@ use Rattle.hx_law_chains.proofs.Moves.{AllAllowed}
 use Rattle.hx_law_chains.proofs.Posts.{MoveOk, Seat, moves-fine, promise-ok}
 use Rattle.hx_law_chains.proofs.Serving.{Acts, Asked, Assigns, KeyActs, Late, Scene, Served, after, change, fixed-after, kept, keys-after, mid-ok, still-after, turn, world}
 use Rattle.hx_law_chains.proofs.Slotted.{at-after, between, between-ok, held-between, slot-acts, slot-after, this-key}
-use Rattle.hx_law_chains.proofs.World.{KeyOk, Valid, World, around, spot}
+use Rattle.hx_law_chains.proofs.World.{KeyOk, Valid, World, around, context}
 
 module _ (e : Scene) (asked : Asked) (valid : IsSpace e.script.space) (ok : (key : List ℕ) → KeyOk e.script (world e) key) (differ : (g : RegionId) → Differ (members_of e.config g)) (i : ServerId) (here : Up e.Real e.servers i)
     (rs : List Replica) (same : e.servers i ≡ standing e.config i rs) where
@@ -45,8 +45,8 @@ module _ (e : Scene) (asked : Asked) (valid : IsSpace e.script.space) (ok : (key
     slot = state_in e.script.space r key
 
     -- where it stands
-    abbrev at : Spot
-    at = spot e.script (world e) r.region i
+    abbrev at : SlotContext
+    at = context e.script (world e) r.region i
 
     -- a step that moves the slot, from how the key is kept
     module _ (ms : List Move) (notes : List Note) (others : (j : List ℕ) → same_text key j ≡ false → noted e.line notes j ≡ e.line j) where

@@ -21,7 +21,7 @@ use Rattle.hx_types.specs.Configs.{first_config}
 use Rattle.hx_types.specs.Fitting.{IsScript}
 use Rattle.hx_types.specs.Subspaces.{is_key_region}
 use Rattle.hx_model.specs.Histories.{line_notes, line_of}
-use Rattle.hx_model.specs.Runs.{IsRun, Made, MayTake, coordinator_of, has_halted, is_actor, made_of, server_after, server_of}
+use Rattle.hx_model.specs.Runs.{IsRun, Output, MayTake, coordinator_of, has_halted, is_actor, made_of, server_after, server_of}
 use Rattle.hx_model.specs.ServerSteps.{Replica, ServerState, ServerStep, listed_regions, server_at_start, server_step, state_in}
 use Rattle.hx_model.specs.Slots.{Forget, KeyState, moved, new_state, state_among}
 use Rattle.hx_law_lemmas.specs.Words.{noted, posts_of, view}
@@ -171,7 +171,7 @@ module _ (script : Script) (valid : IsScript script) where
       by (Server i) e =
           let made : made_of script older (Server i) x.input ≡ record { posts = x.outputs; notes = x.notes } = subst (λ (a : Actor). made_of script older a x.input ≡ record { posts = x.outputs; notes = x.notes }) e run.0.made in
           subst (λ (a : Actor). KeptAfter script valid older epochs (IsKnown script (x ∷ older)) (known-still script valid older epochs x run.0) had a x.input x.outputs x.notes) (sym e)
-          (subst (λ (m : Made). KeptAfter script valid older epochs (IsKnown script (x ∷ older)) (known-still script valid older epochs x run.0) had (Server i) x.input m.posts m.notes) made
+          (subst (λ (m : Output). KeptAfter script valid older epochs (IsKnown script (x ∷ older)) (known-still script valid older epochs x run.0) had (Server i) x.input m.posts m.notes) made
           (server-kept script valid older epochs (IsKnown script (x ∷ older)) (known-still script valid older epochs x run.0) had i x.input (delivered x) (serves script valid x older run had i e)))
 
   -- every run keeps all keys and posts
@@ -189,10 +189,10 @@ module _ (script : Script) (valid : IsScript script) where
       → (key : List ℕ) → (line_of key (x ∷ older) ≡ line_of key older) ⊎ Assigns (scene script older) (delivered x) key (line_of key (x ∷ older))
   lines-run x older run i e key =
       let made : made_of script older (Server i) x.input ≡ record { posts = x.outputs; notes = x.notes } = subst (λ (a : Actor). made_of script older a x.input ≡ record { posts = x.outputs; notes = x.notes }) e run.0.made in
-      subst (λ (m : Made). (line_notes key (line_of key older) m.notes ≡ line_of key older) ⊎ Assigns (scene script older) (delivered x) key (line_notes key (line_of key older) m.notes)) made ((serves script valid x older run (chained-run older run.1) i e).lines key)
+      subst (λ (m : Output). (line_notes key (line_of key older) m.notes ≡ line_of key older) ⊎ Assigns (scene script older) (delivered x) key (line_notes key (line_of key older) m.notes)) made ((serves script valid x older run (chained-run older run.1) i e).lines key)
 
   -- what its posts say
   pub late-run : (x : Entry) (older : List Entry) → IsRun script (x ∷ older) → (i : ServerId) → x.actor ≡ Server i → (p : Post) → IsIn p x.outputs → Late (scene script older) (delivered x) i p.to p.message
   late-run x older run i e p j =
       let made : made_of script older (Server i) x.input ≡ record { posts = x.outputs; notes = x.notes } = subst (λ (a : Actor). made_of script older a x.input ≡ record { posts = x.outputs; notes = x.notes }) e run.0.made in
-      (serves script valid x older run (chained-run older run.1) i e).late p (subst (λ (ps : List Post). IsIn p ps) (sym (ap (λ (m : Made). m.posts) made)) j)
+      (serves script valid x older run (chained-run older run.1) i e).late p (subst (λ (ps : List Post). IsIn p ps) (sym (ap (λ (m : Output). m.posts) made)) j)

@@ -34,7 +34,7 @@ use Rattle.hx_model.specs.Regions.{key_region}
 use Rattle.hx_model.specs.Leading.{StuckAt, decide, stuck_of}
 use Rattle.hx_model.specs.Neighbours.{region_at}
 use Rattle.hx_model.specs.Slots.{Acknowledge, Commit, Forget, Hold, KeyState, Move, Take, acknowledged, found_in, moved_all, offered, pending_of, pending_of_all, snapshot_of, state_among, top_of}
-use Rattle.hx_model.specs.ServerSteps.{Replica, ServerState, ServerStep, SlotStep, Slots, Spot, accepting, ack_step, ack_to, acked, adopted, adopted_posts, asked, at_slot, by_moves, by_posts, call_at, call_step, called, called_by, decided, doubt_in, doubts_from, halting, hearing, if_installed, input_step, install_at, installed_slots, is_active, join_keys, join_slot, keys_of, known_to, leader_doubts, listed_regions, message_step, move_posts, next_at, offered_all, passed_on, pending_posts, ready_post, replica_of, replica_or_new, replica_tick, reply, resumed, resumed_posts, saying, seal_at, server_step, snap_posts, snap_to, snapped, spot_of, state_from, state_in, tick_step, told_to, unmoved, update_step, update_to, updated, waiting_doubt, with_config, with_slots, write_step}
+use Rattle.hx_model.specs.ServerSteps.{Replica, ServerState, ServerStep, SlotStep, Slots, SlotContext, accepting, ack_step, ack_to, acked, adopted, adopted_posts, asked, at_slot, by_moves, by_posts, call_at, call_step, called, called_by, decided, doubt_in, doubts_from, halting, replica_in_epoch, if_installed, input_step, install_at, installed_slots, is_active, join_keys, join_slot, keys_of, known_to, leader_doubts, listed_regions, message_step, move_posts, next_at, offered_all, passed_on, pending_posts, ready_post, replica_of, replica_or_new, replica_tick, reply, resumed, resumed_posts, saying, seal_at, server_step, snap_posts, snap_to, snapped, context_of, state_from, state_in, tick_step, told_to, unmoved, update_step, update_to, updated, waiting_doubt, with_config, with_slots, write_step}
 use Rattle.hx_law_lemmas.proofs.Lists.{in-append, in-flat_map, in-map, in-provided, when_some_both}
 use Rattle.hx_law_lemmas.proofs.Replicas.{replica-found}
 
@@ -91,30 +91,30 @@ module _ (Sent : RegionId → List Kept → List Update → Type 0) where
   -- ---- posts of a slot
 
   -- an update that is passed on
-  passed : (spot : Spot) (u : Update) (hop : Hop) → AllOf (update_to spot u hop)
-  passed spot u (At s place) = one (post (Server spot.server) (Server s) (a_message.Update spot.config.epoch (region_at u.places place) u)) tt
-  passed spot u End = none
-  passed spot u (Blocked g) = none
+  passed : (context : SlotContext) (u : Update) (hop : Hop) → AllOf (update_to context u hop)
+  passed context u (At s place) = one (post (Server context.server) (Server s) (a_message.Update context.config.epoch (region_at u.places place) u)) tt
+  passed context u End = none
+  passed context u (Blocked g) = none
 
   -- an acknowledgement
-  acks : (spot : Spot) (u : Update) (hop : Hop) → AllOf (ack_to spot u hop)
-  acks spot u (At s place) = one (post (Server spot.server) (Server s) (a_message.Ack spot.config.epoch (region_at u.places place) u.key u.version)) tt
-  acks spot u End = none
-  acks spot u (Blocked g) = none
+  acks : (context : SlotContext) (u : Update) (hop : Hop) → AllOf (ack_to context u hop)
+  acks context u (At s place) = one (post (Server context.server) (Server s) (a_message.Ack context.config.epoch (region_at u.places place) u.key u.version)) tt
+  acks context u End = none
+  acks context u (Blocked g) = none
 
   -- what is told of a commit
-  told : (spot : Spot) (u : Update) (hop : Hop) → AllOf (told_to spot u hop)
-  told spot u (At s place) = acks spot u (At s place)
-  told spot u End = one (reply spot u.caller u.version u.answer) tt
-  told spot u (Blocked g) = none
+  told : (context : SlotContext) (u : Update) (hop : Hop) → AllOf (told_to context u hop)
+  told context u (At s place) = acks context u (At s place)
+  told context u End = one (reply context u.caller u.version u.answer) tt
+  told context u (Blocked g) = none
 
   -- what is posted with moves
-  moves : (spot : Spot) (m : Move) → AllOf (move_posts spot m)
-  moves spot (Take u) = passed spot u _
-  moves spot (Hold u) = none
-  moves spot (Acknowledge v) = none
-  moves spot (Commit u) = told spot u _
-  moves spot Forget = none
+  moves : (context : SlotContext) (m : Move) → AllOf (move_posts context m)
+  moves context (Take u) = passed context u _
+  moves context (Hold u) = none
+  moves context (Acknowledge v) = none
+  moves context (Commit u) = told context u _
+  moves context Forget = none
 
   -- what is said of a joiner
   readies : (s : ServerState) (g : RegionId) → AllOf (ready_post s g)
@@ -137,37 +137,37 @@ module _ (Sent : RegionId → List Kept → List Update → Type 0) where
     pub notes : AssignsOne step.notes
 
   -- moves
-  by-moves : (spot : Spot) (ms : List Move) → SlotWell (by_moves spot ms)
-  by-moves spot ms = record { posts = each (move_posts spot) ms (moves spot); notes = inl refl }
+  by-moves : (context : SlotContext) (ms : List Move) → SlotWell (by_moves context ms)
+  by-moves context ms = record { posts = each (move_posts context) ms (moves context); notes = inl refl }
 
   -- posts
   by-posts : (ps : List Post) → AllOf ps → SlotWell (by_posts ps)
   by-posts ps h = record { posts = h; notes = inl refl }
 
   -- an update
-  update-well : (spot : Spot) (t : KeyState) (u : Update) → SlotWell (update_step spot t u)
-  update-well spot t u =
-      cond_both (leb u.version.0 (top_of t)) (by_posts (known_to spot t u)) _ SlotWell
-      (λ e. by-posts (known_to spot t u) (under (leb u.version.0 t.floor) _ (acks spot u _)))
-      (λ e. by-moves spot _)
+  update-well : (context : SlotContext) (t : KeyState) (u : Update) → SlotWell (update_step context t u)
+  update-well context t u =
+      cond_both (leb u.version.0 (top_of t)) (by_posts (known_to context t u)) _ SlotWell
+      (λ e. by-posts (known_to context t u) (under (leb u.version.0 t.floor) _ (acks context u _)))
+      (λ e. by-moves context _)
 
   -- a decision
-  decided-well : (spot : Spot) (t : KeyState) (caller : Caller) (d : Decision) → SlotWell (decided spot t caller d)
-  decided-well spot t caller a_decision.Old = by-posts [] none
-  decided-well spot t caller (a_decision.Again v answer) = by-posts (reply spot caller v answer ∷ []) (one (reply spot caller v answer) tt)
-  decided-well spot t caller (a_decision.Wait v) = by-posts (waiting_doubt spot caller v (stuck_of spot.config t)) (by (stuck_of spot.config t))
+  decided-well : (context : SlotContext) (t : KeyState) (caller : Caller) (d : Decision) → SlotWell (decided context t caller d)
+  decided-well context t caller a_decision.Old = by-posts [] none
+  decided-well context t caller (a_decision.Again v answer) = by-posts (reply context caller v answer ∷ []) (one (reply context caller v answer) tt)
+  decided-well context t caller (a_decision.Wait v) = by-posts (waiting_doubt context caller v (stuck_of context.config t)) (by (stuck_of context.config t))
     where
-      by : (o : Option StuckAt) → AllOf (waiting_doubt spot caller v o)
+      by : (o : Option StuckAt) → AllOf (waiting_doubt context caller v o)
       by None = none
-      by (Some x) = under (leb x.version.0 v.0) (doubt_in spot caller v x.region ∷ []) (one (doubt_in spot caller v x.region) tt)
-  decided-well spot t caller (a_decision.Stuck g) = by-posts _ (one (doubt_in spot caller (record { 0 = 0 }) g) tt)
-  decided-well spot t caller (a_decision.Assign u) = record { posts = each (move_posts spot) (accepting spot t (offered spot.region t u)) (moves spot); notes = inr (u, refl) }
+      by (Some x) = under (leb x.version.0 v.0) (doubt_in context caller v x.region ∷ []) (one (doubt_in context caller v x.region) tt)
+  decided-well context t caller (a_decision.Stuck g) = by-posts _ (one (doubt_in context caller (record { 0 = 0 }) g) tt)
+  decided-well context t caller (a_decision.Assign u) = record { posts = each (move_posts context) (accepting context t (offered context.region t u)) (moves context); notes = inr (u, refl) }
 
   -- a call
-  call-well : (spot : Spot) (t : KeyState) (caller : Caller) (op : Op) → SlotWell (call_step spot t caller op)
-  call-well spot t caller op =
-      cond_both (is_write op) (write_step spot t caller op) _ SlotWell
-      (λ e. decided-well spot t caller (decide spot.space spot.config spot.region t caller op))
+  call-well : (context : SlotContext) (t : KeyState) (caller : Caller) (op : Op) → SlotWell (call_step context t caller op)
+  call-well context t caller op =
+      cond_both (is_write op) (write_step context t caller op) _ SlotWell
+      (λ e. decided-well context t caller (decide context.space context.config context.region t caller op))
       (λ e. by-posts _ (λ p i. elim i [ inl q ↦ subst (λ (x : Post). OfServer Sent x.message) (sym q) tt | inr k ↦ absurd k ]))
 
   -- ---- a server's step
@@ -198,21 +198,21 @@ module _ (Sent : RegionId → List Kept → List Update → Type 0) where
       by : (o : Option (List ℕ)) → Plain (called space s epoch (record { session = u; number = number }) op o)
       by None = rests s
       by (Some key) =
-          when_some_both (hearing s epoch (key_region space key)) (unmoved s) (λ (r : Replica). call_at space s r key (record { session = u; number = number }) op) Plain
+          when_some_both (replica_in_epoch s epoch (key_region space key)) (unmoved s) (λ (r : Replica). call_at space s r key (record { session = u; number = number }) op) Plain
           (λ e. rests s)
-          (λ r e. cond_both (leads space s.config s.id r.region) (at_slot s r (state_in space r key) (call_step (spot_of space s r.region) (state_in space r key) (record { session = u; number = number }) op)) (unmoved s) Plain
-          (λ t. at-slot s r (state_in space r key) _ (call-well (spot_of space s r.region) (state_in space r key) (record { session = u; number = number }) op))
+          (λ r e. cond_both (leads space s.config s.id r.region) (at_slot s r (state_in space r key) (call_step (context_of space s r.region) (state_in space r key) (record { session = u; number = number }) op)) (unmoved s) Plain
+          (λ t. at-slot s r (state_in space r key) _ (call-well (context_of space s r.region) (state_in space r key) (record { session = u; number = number }) op))
           (λ t. rests s))
 
   -- an update
   updates : (space : Space) (s : ServerState) (u : Update) (o : Option Replica) → Plain (updated space s u o)
   updates space s u None = rests s
-  updates space s u (Some r) = at-slot s r (state_in space r u.key) _ (update-well (spot_of space s r.region) (state_in space r u.key) u)
+  updates space s u (Some r) = at-slot s r (state_in space r u.key) _ (update-well (context_of space s r.region) (state_in space r u.key) u)
 
   -- an acknowledgement
   acknowledges : (space : Space) (s : ServerState) (key : List ℕ) (v : ℕ) (o : Option Replica) → Plain (acked space s key v o)
   acknowledges space s key v None = rests s
-  acknowledges space s key v (Some r) = at-slot s r (state_in space r key) (ack_step (spot_of space s r.region) (state_in space r key) v) (by-moves (spot_of space s r.region) (acknowledged (state_in space r key) v))
+  acknowledges space s key v (Some r) = at-slot s r (state_in space r key) (ack_step (context_of space s r.region) (state_in space r key) v) (by-moves (context_of space s r.region) (acknowledged (state_in space r key) v))
 
   -- an ask
   asks : (s : ServerState) (from : Actor) (epoch : Epoch) (number : ℕ) (terms : List Term) (o : Option Replica) → Plain (asked s from epoch number terms o)
@@ -222,24 +222,24 @@ module _ (Sent : RegionId → List Kept → List Update → Type 0) where
       (one (post (Server s.id) from (a_message.Found epoch number r.region (found_in r.region terms r.states))) tt))
 
   -- a snapshot that is installed
-  joins : (spot : Spot) (us : List Update) (slots : Slots) → AllOf slots.posts → (keys : List (List ℕ)) → AllOf (join_keys spot us slots keys).posts
-  joins spot us slots h [] = h
-  joins spot us slots h (key ∷ rest) =
+  joins : (context : SlotContext) (us : List Update) (slots : Slots) → AllOf slots.posts → (keys : List (List ℕ)) → AllOf (join_keys context us slots keys).posts
+  joins context us slots h [] = h
+  joins context us slots h (key ∷ rest) =
       let mine = filter (λ (u : Update). same_text u.key key) us in
-      let state = state_among (is_key_region spot.space spot.region) key slots.states in
-      joins spot us (join_slot spot mine slots state)
-      (both slots.posts (flat_map (move_posts spot) (accepting spot state (offered_all spot.region state mine))) h
-      (each (move_posts spot) (accepting spot state (offered_all spot.region state mine)) (moves spot))) rest
+      let state = state_among (is_key_region context.space context.region) key slots.states in
+      joins context us (join_slot context mine slots state)
+      (both slots.posts (flat_map (move_posts context) (accepting context state (offered_all context.region state mine))) h
+      (each (move_posts context) (accepting context state (offered_all context.region state mine)) (moves context))) rest
 
   -- a snapshot
   snapshots : (space : Space) (s : ServerState) (snapshot : List Kept) (pending : List Update) (o : Option Replica) → Plain (snapped space s snapshot pending o)
   snapshots space s snapshot pending None = rests s
   snapshots space s snapshot pending (Some r) =
-      cond_both r.installed (saying s (ready_post s r.region)) (with_slots s r (installed_slots (spot_of space s r.region) snapshot pending)) Plain
+      cond_both r.installed (saying s (ready_post s r.region)) (with_slots s r (installed_slots (context_of space s r.region) snapshot pending)) Plain
       (λ t. says s (ready_post s r.region) (readies s r.region))
       (λ t. record {
-        posts = both (installed_slots (spot_of space s r.region) snapshot pending).posts (ready_post s r.region)
-            (joins (spot_of space s r.region) pending (record { states = map (state_from (is_key_region space r.region)) snapshot; posts = [] }) none (keys_of pending))
+        posts = both (installed_slots (context_of space s r.region) snapshot pending).posts (ready_post s r.region)
+            (joins (context_of space s r.region) pending (record { states = map (state_from (is_key_region space r.region)) snapshot; posts = [] }) none (keys_of pending))
             (readies s r.region);
         notes = inl refl;
       })
@@ -259,32 +259,32 @@ module _ (Sent : RegionId → List Kept → List Update → Type 0) where
   ticks space s may = says s _ (cond_both s.sealed (post (Server s.id) Coordinator (a_message.Sealed s.config.epoch) ∷ []) (flat_map (replica_tick space s) s.replicas) AllOf
       (λ t. one (post (Server s.id) Coordinator (a_message.Sealed s.config.epoch)) tt)
       (λ t. each-in (replica_tick space s) s.replicas (λ r i. under (is_active s.config r) _
-      (both (snap_posts s r ++ pending_posts (spot_of space s r.region) r.states) (ready_post s r.region)
-      (both (snap_posts s r) (pending_posts (spot_of space s r.region) r.states) (snaps s r (joiner_for s.config r.region s.id) (may r i))
-      (each (λ (t : KeyState). flat_map (passed_on (spot_of space s r.region)) (pending_of t)) r.states (λ t. each (passed_on (spot_of space s r.region)) (pending_of t) (λ u. passed (spot_of space s r.region) u _))))
+      (both (snap_posts s r ++ pending_posts (context_of space s r.region) r.states) (ready_post s r.region)
+      (both (snap_posts s r) (pending_posts (context_of space s r.region) r.states) (snaps s r (joiner_for s.config r.region s.id) (may r i))
+      (each (λ (t : KeyState). flat_map (passed_on (context_of space s r.region)) (pending_of t)) r.states (λ t. each (passed_on (context_of space s r.region)) (pending_of t) (λ u. passed (context_of space s r.region) u _))))
       (readies s r.region)))))
 
   -- a configuration that is adopted
   adopts : (space : Space) (s : ServerState) → ((r : Replica) → IsIn r s.replicas → MaySend r) → Plain (adopted space s)
   adopts space s may = record {
     posts = each-in (adopted_posts space s) s.replicas (λ r i. under (is_active s.config r) _
-        (both (snap_posts s r ++ flat_map (resumed_posts (spot_of space s r.region)) r.states) (ready_post s r.region)
-        (both (snap_posts s r) (flat_map (resumed_posts (spot_of space s r.region)) r.states) (snaps s r (joiner_for s.config r.region s.id) (may r i))
-        (each (resumed_posts (spot_of space s r.region)) r.states (resumes (spot_of space s r.region))))
+        (both (snap_posts s r ++ flat_map (resumed_posts (context_of space s r.region)) r.states) (ready_post s r.region)
+        (both (snap_posts s r) (flat_map (resumed_posts (context_of space s r.region)) r.states) (snaps s r (joiner_for s.config r.region s.id) (may r i))
+        (each (resumed_posts (context_of space s r.region)) r.states (resumes (context_of space s r.region))))
         (readies s r.region)));
     notes = inl refl;
   }
     where
-      doubts : (spot : Spot) (t : KeyState) (o : Option StuckAt) → AllOf (doubts_from spot t o)
-      doubts spot t None = none
-      doubts spot t (Some x) = λ p i. (let m = in-map (λ (u : Update). doubt_in spot u.caller u.version x.region) (filter (λ (u : Update). leb x.version.0 u.version.0) (pending_of t)) p i in subst (λ (x : Post). OfServer Sent x.message) (sym m.2) tt)
+      doubts : (context : SlotContext) (t : KeyState) (o : Option StuckAt) → AllOf (doubts_from context t o)
+      doubts context t None = none
+      doubts context t (Some x) = λ p i. (let m = in-map (λ (u : Update). doubt_in context u.caller u.version x.region) (filter (λ (u : Update). leb x.version.0 u.version.0) (pending_of t)) p i in subst (λ (x : Post). OfServer Sent x.message) (sym m.2) tt)
 
-      resumes : (spot : Spot) (t : KeyState) → AllOf (resumed_posts spot t)
-      resumes spot t =
-          both (flat_map (passed_on spot) (pending_of t) ++ flat_map (move_posts spot) (resumed spot t)) (leader_doubts spot (moved_all (resumed spot t) t))
-          (both (flat_map (passed_on spot) (pending_of t)) (flat_map (move_posts spot) (resumed spot t)) (each (passed_on spot) (pending_of t) (λ u. passed spot u (next_at spot u))) (each (move_posts spot) (resumed spot t) (moves spot)))
-          (under (leads spot.space spot.config spot.server spot.region) (doubts_from spot (moved_all (resumed spot t) t) (stuck_of spot.config (moved_all (resumed spot t) t)))
-          (doubts spot (moved_all (resumed spot t) t) (stuck_of spot.config (moved_all (resumed spot t) t))))
+      resumes : (context : SlotContext) (t : KeyState) → AllOf (resumed_posts context t)
+      resumes context t =
+          both (flat_map (passed_on context) (pending_of t) ++ flat_map (move_posts context) (resumed context t)) (leader_doubts context (moved_all (resumed context t) t))
+          (both (flat_map (passed_on context) (pending_of t)) (flat_map (move_posts context) (resumed context t)) (each (passed_on context) (pending_of t) (λ u. passed context u (next_at context u))) (each (move_posts context) (resumed context t) (moves context)))
+          (under (leads context.space context.config context.server context.region) (doubts_from context (moved_all (resumed context t) t) (stuck_of context.config (moved_all (resumed context t) t)))
+          (doubts context (moved_all (resumed context t) t) (stuck_of context.config (moved_all (resumed context t) t))))
 
   -- the replicas of a newer configuration
   newer : (s : ServerState) (c : Config) → ((r : Replica) → IsIn r s.replicas → MaySend r) → ((g : RegionId) → MaySend (record { region = g; installed = false; states = [] }))
@@ -307,9 +307,9 @@ module _ (Sent : RegionId → List Kept → List Update → Type 0) where
   messages : (space : Space) (s : ServerState) → ((r : Replica) → IsIn r s.replicas → MaySend r) → ((g : RegionId) → MaySend (record { region = g; installed = false; states = [] })) → (from : Actor) (m : Message) → Plain (message_step space s from m)
   messages space s may new from (a_message.Call epoch number op) = calls space s from epoch number op
   messages space s may new from (a_message.Reply number version answer) = rests s
-  messages space s may new from (a_message.Update epoch g u) = updates space s u (if_installed (hearing s epoch g))
-  messages space s may new from (a_message.Ack epoch g key version) = acknowledges space s key version.0 (if_installed (hearing s epoch g))
-  messages space s may new from (a_message.Ask epoch number g terms) = asks s from epoch number terms (if_installed (hearing s epoch g))
+  messages space s may new from (a_message.Update epoch g u) = updates space s u (if_installed (replica_in_epoch s epoch g))
+  messages space s may new from (a_message.Ack epoch g key version) = acknowledges space s key version.0 (if_installed (replica_in_epoch s epoch g))
+  messages space s may new from (a_message.Ask epoch number g terms) = asks s from epoch number terms (if_installed (replica_in_epoch s epoch g))
   messages space s may new from (a_message.Found epoch number g rows) = rests s
   messages space s may new from (a_message.Seal epoch) = seals s epoch
   messages space s may new from (a_message.Sealed epoch) = rests s
@@ -319,7 +319,7 @@ module _ (Sent : RegionId → List Kept → List Update → Type 0) where
   messages space s may new from (a_message.StopServer number server) = rests s
   messages space s may new from (a_message.AddReplica number server g) = rests s
   messages space s may new from (a_message.Outcome number answer) = rests s
-  messages space s may new from (a_message.Snap epoch g snapshot pending) = snapshots space s snapshot pending (hearing s epoch g)
+  messages space s may new from (a_message.Snap epoch g snapshot pending) = snapshots space s snapshot pending (replica_in_epoch s epoch g)
   messages space s may new from (a_message.Ready epoch g) = rests s
   messages space s may new from (a_message.Poll epoch) = rests s
 

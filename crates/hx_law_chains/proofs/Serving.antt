@@ -23,7 +23,7 @@ use Rattle.hx_types.specs.Configs.{members_of}
 use Rattle.hx_types.specs.Fitting.{call_of}
 use Rattle.hx_types.specs.Spaces.{IsSpace}
 use Rattle.hx_model.specs.Holders.{snap_state}
-use Rattle.hx_model.specs.ServerSteps.{Replica, ServerState, hearing, if_installed, state_in}
+use Rattle.hx_model.specs.ServerSteps.{Replica, ServerState, replica_in_epoch, if_installed, state_in}
 use Rattle.hx_model.specs.Slots.{KeyState, found_in}
 use Rattle.hx_law_lemmas.proofs.Lists.{in-append}
 use Rattle.hx_law_lemmas.specs.Words.{noted, view}
@@ -66,7 +66,7 @@ Late e asked i to (a_message.Reply number version answer) =
     at_session to (λ u. (key : List ℕ) → call_of e.script (record { session = u; number = number }) ≡ Some (Get key)
     → asked.call (record { session = u; number = number }) × ((v : ℕ) → v ≤ length (e.line key) → Along e.script (world e) key v → v ≤ version.0))
 Late e asked i to (a_message.Found epoch number g rows) =
-    (terms : List Term) × asked.ask to epoch number g terms × ((r : Replica) × (if_installed (hearing (e.servers i) epoch g) ≡ Some r) × (rows ≡ found_in g terms r.states))
+    (terms : List Term) × asked.ask to epoch number g terms × ((r : Replica) × (if_installed (replica_in_epoch (e.servers i) epoch g) ≡ Some r) × (rows ≡ found_in g terms r.states))
 Late e asked i to (a_message.Call epoch number op) = ⊥
 Late e asked i to other = ⊤
 

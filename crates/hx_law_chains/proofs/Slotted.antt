@@ -34,13 +34,13 @@ use Rattle.hx_law_chains.proofs.Moves.{AllAllowed}
 use Rattle.hx_law_chains.proofs.Posts.{Seat}
 use Rattle.hx_law_chains.proofs.Late.{NoSnap}
 use Rattle.hx_law_chains.proofs.Serving.{Acts, KeyActs, Scene, Sent, mid, world}
-use Rattle.hx_law_chains.proofs.World.{Filled, KeyOk, Lawful, World, around, lawful-made, spot}
+use Rattle.hx_law_chains.proofs.World.{Filled, KeyOk, Lawful, World, around, lawful-made, context}
 
 -- where an update's chain ends nobody stands after it, and none can come
 pub ends-here : (e : Scene) → IsSpace e.script.space → (w : World) → (differ : (g : RegionId) → Differ (members_of w.config g)) → (key : List ℕ) (line : List Update) → Lawful e.script w.known key line → (g : RegionId) (i : ServerId)
-    → (u : Update) → IsIn u line → has_place g u ≡ true → is_end (next_at (spot e.script w g i) u) ≡ true → (around e.script w key g i).after u × (around e.script w key g i).closed u
+    → (u : Update) → IsIn u line → has_place g u ≡ true → is_end (next_at (context e.script w g i) u) ≡ true → (around e.script w key g i).after u × (around e.script w key g i).closed u
 ends-here e valid w differ key line lawful g i u j p t =
-    let q = end-is (next_at (spot e.script w g i) u) t in
+    let q = end-is (next_at (context e.script w g i) u) t in
     let apart = places-apart e.script.space valid key line (lawful-made e.script w.known key line lawful) u j in (
       (λ h x t hold a. absurd (next-none w.config u.places apart differ g (placed-number u.places g p) i q h x a)),
       subst (Filled e.script w key u) (sym q) tt,

@@ -14,7 +14,7 @@ use Rattle.hx_types.specs.Words.{IsIn, post}
 use Rattle.hx_types.specs.Configs.{is_lost, lists_joining, members_of}
 use Rattle.hx_types.specs.Spaces.{IsSpace}
 use Rattle.hx_model.specs.Holders.{snap_state}
-use Rattle.hx_model.specs.ServerSteps.{Replica, ServerState, ServerStep, Spot, installed_slots, move_posts, passed_on, ready_post, replica_of, resumed, saying, snapped, state_in, with_replica, with_slots}
+use Rattle.hx_model.specs.ServerSteps.{Replica, ServerState, ServerStep, SlotContext, installed_slots, move_posts, passed_on, ready_post, replica_of, resumed, saying, snapped, state_in, with_replica, with_slots}
 use Rattle.hx_model.specs.Slots.{KeyState, Move, Take, moved_all, pending_of, top_of}
 use Rattle.hx_law_lemmas.proofs.LeaderLines.{pending-in}
 use Rattle.hx_law_lemmas.proofs.Lists.{in-append, in-flat_map, in-provided, in_left}
@@ -34,7 +34,7 @@ use Rattle.hx_law_chains.proofs.Serving.{Acts, Asked, Late, Scene, Sent, Served,
 use Rattle.hx_law_chains.proofs.Slotted.{ends-here, installed-now, live-now, mid-now, quiet-key, view-now}
 use Rattle.hx_law_chains.proofs.Snapshots.{Carries}
 use Rattle.hx_law_chains.proofs.SnapshotsTaken.{Posted, taken-posts, taken-state}
-use Rattle.hx_law_chains.proofs.World.{KeyOk, Valid, World, around, law-of, lawful-sorted, spot}
+use Rattle.hx_law_chains.proofs.World.{KeyOk, Valid, World, around, law-of, lawful-sorted, context}
 
 module _ (e : Scene) (asked : Asked) (valid : IsSpace e.script.space) (ok : (key : List ℕ) → KeyOk e.script (world e) key) (differ : (g : RegionId) → Differ (members_of e.config g)) (i : ServerId) (here : Up e.Real e.servers i)
     (rs : List Replica) (same : e.servers i ≡ standing e.config i rs) where
@@ -72,8 +72,8 @@ module _ (e : Scene) (asked : Asked) (valid : IsSpace e.script.space) (ok : (key
   module _ (r : Replica) (found : replica_of r.region rs ≡ Some r) (empty : r.installed ≡ false) (alive : is_lost e.config r.region ≡ false)
       (from : Actor) (snapshot : List Kept) (pending : List Update) (arrived : IsIn (post from (Server i) (a_message.Snap e.config.epoch r.region snapshot pending)) e.posts) (carries : Carries e.script.space r.region snapshot pending) where
     -- where its slots stand
-    abbrev at : Spot
-    at = spot e.script (world e) r.region i
+    abbrev at : SlotContext
+    at = context e.script (world e) r.region i
 
     -- the replica after
     abbrev joined-replica : Replica
@@ -252,7 +252,7 @@ module _ (e : Scene) (asked : Asked) (valid : IsSpace e.script.space) (ok : (key
       → IsIn (post from (Server i) (a_message.Snap e.config.epoch r.region snapshot pending)) e.posts → Carries e.script.space r.region snapshot pending
       → let step = snapped e.script.space st snapshot pending (Some r) in Served e asked i step.state step.notes step.posts
   snapped-served r found alive from snapshot pending arrived carries =
-      cond_both r.installed (saying st (ready_post st r.region)) (with_slots st r (installed_slots (spot e.script (world e) r.region i) snapshot pending))
+      cond_both r.installed (saying st (ready_post st r.region)) (with_slots st r (installed_slots (context e.script (world e) r.region i) snapshot pending))
       (λ (step : ServerStep). Served e asked i step.state step.notes step.posts)
       (λ t. saying-served (ready_post st r.region) (ready-fine (world e) r.region))
       (λ t. joins-served r found t alive from snapshot pending arrived carries)

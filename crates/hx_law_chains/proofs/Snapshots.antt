@@ -21,7 +21,7 @@ use Rattle.hx_types.specs.Words.{IsIn, post, same_server, text_below}
 use Rattle.hx_types.specs.Fitting.{IsScript}
 use Rattle.hx_types.specs.Subspaces.{is_key_region}
 use Rattle.hx_model.specs.Holders.{snap_state}
-use Rattle.hx_model.specs.Runs.{IsRun, Made, MayTake, coordinator_of, made_of, server_after, server_of, session_of}
+use Rattle.hx_model.specs.Runs.{IsRun, Output, MayTake, coordinator_of, made_of, server_after, server_of, session_of}
 use Rattle.hx_model.specs.ServerSteps.{Replica, ServerState, server_step}
 use Rattle.hx_model.specs.SessionSteps.{SessionState}
 use Rattle.hx_model.specs.Slots.{Forget, KeyState, moved, pending_of_all, snapshot_of, state_among}
@@ -224,7 +224,7 @@ module _ (script : Script) (valid : IsScript script) (older : List Entry) (x : E
   sends-now p i = by x.actor refl
     where
       made-posts : (a : Actor) → x.actor ≡ a → (made_of script older a x.input).posts ≡ x.outputs
-      made-posts a e = ap (λ (m : Made). m.posts) (subst (λ (b : Actor). made_of script older b x.input ≡ record { posts = x.outputs; notes = x.notes }) e run.0.made)
+      made-posts a e = ap (λ (m : Output). m.posts) (subst (λ (b : Actor). made_of script older b x.input ≡ record { posts = x.outputs; notes = x.notes }) e run.0.made)
 
       by : (a : Actor) → x.actor ≡ a → Sends script.space p.message
       by Coordinator e = coordinator-sends script.space p.message ((coordinator-plain (coordinator_of script older) x.input).posts p (subst (λ (ps : List Post). IsIn p ps) (sym (made-posts Coordinator e)) i))

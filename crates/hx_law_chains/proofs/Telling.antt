@@ -20,9 +20,9 @@ use Rattle.hx_types.specs.Subspaces.{is_key_region}
 use Rattle.hx_model.specs.Causes.{pending_at}
 use Rattle.hx_model.specs.Leading.{StuckAt, stuck_of}
 use Rattle.hx_model.specs.Regions.{key_region}
-use Rattle.hx_model.specs.ServerSteps.{Replica, ServerState, SlotStep, Spot, accepting, ack_step, ack_to, by_moves, by_posts, called, doubt_in, known_to, move_posts, passed_on, prev_at, replica_of, resumed, state_in, update_step}
+use Rattle.hx_model.specs.ServerSteps.{Replica, ServerState, SlotStep, SlotContext, accepting, ack_step, ack_to, by_moves, by_posts, called, doubt_in, known_to, move_posts, passed_on, prev_at, replica_of, resumed, state_in, update_step}
 use Rattle.hx_model.specs.Slots.{KeyState, acknowledged, has_place, offered, pending_of, top_of}
-use Rattle.hx_model.specs.Places.{declared_subspaces, place_after, places_of, regions_between}
+use Rattle.hx_model.specs.Places.{declared_subspaces, placed_after, places_of, regions_between}
 use Rattle.hx_model.specs.Regions.{place_of}
 use Rattle.hx_types.specs.declared.snapshots.Touch.{Touch}
 use Rattle.hx_types.specs.declared.spaces.Space.{Space}
@@ -56,9 +56,9 @@ places-at-key : (space : Space) (key : List ℕ) (old new : Option (List Value))
     → is_key_region space p.region ≡ true → p.region ≡ key_region space key
 places-at-key space key old new changes top touches p (inl e) t = ap (λ (q : Place). q.region) e
 places-at-key space key old new changes top touches p (inr i) t =
-    let f = in-flat_map (λ s. map (place_after space s key new touches) (regions_between space s key old new)) (declared_subspaces space) p (in-provided changes (flat_map (λ s. map (place_after space s key new touches) (regions_between space s key old new)) (declared_subspaces space)) p i).1 in
+    let f = in-flat_map (λ s. map (placed_after space s key new touches) (regions_between space s key old new)) (declared_subspaces space) p (in-provided changes (flat_map (λ s. map (placed_after space s key new touches) (regions_between space s key old new)) (declared_subspaces space)) p i).1 in
     let d = in-map (λ n. n + 1) (below (length space.subspaces)) f.0 f.1 in
-    let m = in-map (place_after space f.0 key new touches) (regions_between space f.0 key old new) p f.2 in
+    let m = in-map (placed_after space f.0 key new touches) (regions_between space f.0 key old new) p f.2 in
     let b = between f.0 old new m.0 m.1 in
     let r : p.region ≡ place_of space (suc d.0) key b.0 = ap (λ (q : Place). q.region) m.2 ∙ b.1 ∙ ap (λ k. place_of space k key b.0) (d.2 ∙ add-one d.0) in
     absurd (declared-off space d.0 key b.0 (ap (is_key_region space) (sym r) ∙ t))
@@ -106,7 +106,7 @@ module _ (e : Scene) (valid : IsSpace e.script.space) (ok : (key : List ℕ) →
       }
 
   -- ---- one slot
-  module _ (at : Spot) (q : ServerState) where
+  module _ (at : SlotContext) (q : ServerState) where
     -- an update
     pub update-tells : (t : KeyState) (u : Update) → Held Sure t → Sure u → (p : Post) → IsIn p (update_step at t u).posts → Tells q p
     update-tells t u h s = cond_both (leb u.version.0 (top_of t)) (by_posts (known_to at t u)) (by_moves at (accepting at t (offered at.region t u))) (λ (x : SlotStep). (p : Post) → IsIn p x.posts → Tells q p)
@@ -125,7 +125,7 @@ module _ (e : Scene) (valid : IsSpace e.script.space) (ok : (key : List ℕ) →
     ]
 
   -- a doubt that a stuck version brings
-  pub stuck-tells : (at : Spot) (q : ServerState) (key : List ℕ) (t : KeyState) (x : StuckAt) → at.config ≡ q.config → leads e.script.space q.config i (key_region e.script.space key) ≡ true → pending_at e.script.space q key ≡ pending_of t
+  pub stuck-tells : (at : SlotContext) (q : ServerState) (key : List ℕ) (t : KeyState) (x : StuckAt) → at.config ≡ q.config → leads e.script.space q.config i (key_region e.script.space key) ≡ true → pending_at e.script.space q key ≡ pending_of t
       → stuck_of q.config t ≡ Some x → (caller : Caller) (op : Op) → call_of e.script caller ≡ Some op → key_of op ≡ Some key → (v : Version) → (v.0 ≡ 0) ⊎ (x.version.0 ≤ v.0) → Tells q (doubt_in at caller v x.region)
   stuck-tells at q key t x config lead pending stuck caller op called on_key v low g epoch same op' key' called' on_key' =
       let s = stuck-is q.config (pending_of t) x stuck in

@@ -35,7 +35,7 @@ use Rattle.hx_model.specs.Holders.{snap_state}
 use Rattle.hx_model.specs.CoordinatorSteps.{Joined, Phase}
 use Rattle.hx_model.specs.Leading.{StuckAt, decide, stuck_of}
 use Rattle.hx_model.specs.Regions.{key_region}
-use Rattle.hx_model.specs.ServerSteps.{Replica, ServerState, ServerStep, SlotStep, Spot, accepting, acked, adopted, adopted_replica, asked, at_slot, call_at, call_step, called, called_by, decided, doubt_in, doubts_from, get_step, halting, hearing, if_installed, input_step, install_at, installed_slots, is_active, leader_doubts, listed_regions, message_step, move_posts, passed_on, pending_posts, ready_post, replica_of, replica_or_new, replica_tick, resumed, resumed_posts, saying, seal_at, server_step, snap_posts, snapped, spot_of, state_in, tick_step, unmoved, updated, waiting_doubt, with_config, with_slot, with_slots, write_step}
+use Rattle.hx_model.specs.ServerSteps.{Replica, ServerState, ServerStep, SlotStep, SlotContext, accepting, acked, adopted, adopted_replica, asked, at_slot, call_at, call_step, called, called_by, decided, doubt_in, doubts_from, get_step, halting, replica_in_epoch, if_installed, input_step, install_at, installed_slots, is_active, leader_doubts, listed_regions, message_step, move_posts, passed_on, pending_posts, ready_post, replica_of, replica_or_new, replica_tick, resumed, resumed_posts, saying, seal_at, server_step, snap_posts, snapped, context_of, state_in, tick_step, unmoved, updated, waiting_doubt, with_config, with_slot, with_slots, write_step}
 use Rattle.hx_model.specs.Slots.{Forget, KeyState, Move, has_place, moved, moved_all, offered, pending_of, top_of}
 use Rattle.hx_folds.specs.Folding.{IsJoinableServer}
 use Rattle.hx_types.specs.Words.{provided}
@@ -47,7 +47,7 @@ use Rattle.hx_law_lemmas.proofs.Texts.{state-there}
 use Rattle.hx_law_lemmas.specs.Words.{standing, view}
 use Rattle.hx_types.specs.Configs.{members_of}
 use Rattle.hx_law_epochs.proofs.Facts.{EpochsKept, Installed}
-use Rattle.hx_law_epochs.proofs.Replicas.{Shaped, hearing-is, installed-is}
+use Rattle.hx_law_epochs.proofs.Replicas.{Shaped, replica_in_epoch-is, installed-is}
 use Rattle.hx_law_chains.proofs.Holders.{Up, live-of}
 use Rattle.hx_law_chains.proofs.Keys.{following, low-in}
 use Rattle.hx_law_chains.proofs.Messages.{choice}
@@ -55,7 +55,7 @@ use Rattle.hx_law_chains.proofs.Moves.{accepted-in}
 use Rattle.hx_law_chains.proofs.Serving.{Asked, Scene, world}
 use Rattle.hx_law_chains.proofs.Snapshots.{Carries, Sends, replica-ascends, replica-sent}
 use Rattle.hx_law_chains.proofs.SnapshotsTaken.{taken-posts}
-use Rattle.hx_law_chains.proofs.World.{KeyOk, Law, UpdateOk, Valid, around, law-of, lawful-sorted, spot}
+use Rattle.hx_law_chains.proofs.World.{KeyOk, Law, UpdateOk, Valid, around, law-of, lawful-sorted, context}
 use Rattle.hx_law_lemmas.proofs.Lists.{in-append, in-filter, in-flat_map, in-map, in-provided, when_some_both}
 use Rattle.hx_law_lemmas.proofs.HeldUpdates.{Held, accepting-known, offered-known}
 use Rattle.hx_law_chains.proofs.Doubts.{Sure, decide-stuck, get-sure, law-sure, moves-say, passed-says, sure-says}
@@ -66,7 +66,7 @@ use Rattle.hx_law_chains.proofs.Slotted.{live-now}
 use Rattle.hx_law_chains.proofs.Entries.{head-ready}
 use Rattle.hx_model.specs.Slots.{Acknowledge, Commit, Hold, Take, commits, settled, taken}
 use Rattle.hx_model.specs.Neighbours.{is_end}
-use Rattle.hx_model.specs.ServerSteps.{end_marks, next_at}
+use Rattle.hx_model.specs.ServerSteps.{tail_acks, next_at}
 use Rattle.std.specs.List.{list_any}
 use Rattle.std.proofs.lemmas.Bool.{ne_eqb}
 use Rattle.hx_types.specs.Configs.{lists}
@@ -100,9 +100,9 @@ taken-marks : (us : List Update) → taken (map (λ (u : Update). Acknowledge u.
 taken-marks [] = refl
 taken-marks (u ∷ us) = taken-marks us
 
-accepted-resumed : (at : Spot) (t : KeyState) → (moved_all (resumed at t) t).accepted ≡ t.accepted
+accepted-resumed : (at : SlotContext) (t : KeyState) → (moved_all (resumed at t) t).accepted ≡ t.accepted
 accepted-resumed at t = accepted-moves (resumed at t) t
-    (taken-append (Forget ∷ end_marks at (pending_of t)) (settled (moved_all (Forget ∷ end_marks at (pending_of t)) t)) (taken-marks (filter (λ (u : Update). is_end (next_at at u)) (pending_of t))) (taken-commits (moved_all (Forget ∷ end_marks at (pending_of t)) t).acked (pending_of (moved_all (Forget ∷ end_marks at (pending_of t)) t))))
+    (taken-append (Forget ∷ tail_acks at (pending_of t)) (settled (moved_all (Forget ∷ tail_acks at (pending_of t)) t)) (taken-marks (filter (λ (u : Update). is_end (next_at at u)) (pending_of t))) (taken-commits (moved_all (Forget ∷ tail_acks at (pending_of t)) t).acked (pending_of (moved_all (Forget ∷ tail_acks at (pending_of t)) t))))
 
 -- nothing is asked
 abbrev nothing : Asked
@@ -137,7 +137,7 @@ module _ (e : Scene) (valid : IsSpace e.script.space) (gone : List ServerId) (ph
   -- a tick
   replica-fair : (q x : ServerState) (r : Replica) (p : Post) → IsIn p (replica_tick e.script.space x r) → Fair q p
   replica-fair q x r p j =
-      let at = spot_of e.script.space x r.region in
+      let at = context_of e.script.space x r.region in
       let a = (in-provided (is_active x.config r) (snap_posts x r ++ pending_posts at r.states ++ ready_post x r.region) p j).1 in
       elim (in-append (snap_posts x r ++ pending_posts at r.states) (ready_post x r.region) p a) [
         | inl k ↦ elim (in-append (snap_posts x r) (pending_posts at r.states) p k) [
@@ -190,9 +190,9 @@ module _ (e : Scene) (valid : IsSpace e.script.space) (gone : List ServerId) (ph
     pub alive : is_lost e.config r.region ≡ false
     pub own : epoch ≡ e.config.epoch
 
-  hears : (epoch : Epoch) (g : RegionId) (r : Replica) → hearing st0 epoch g ≡ Some r → Hearing epoch g r
+  hears : (epoch : Epoch) (g : RegionId) (r : Replica) → replica_in_epoch st0 epoch g ≡ Some r → Hearing epoch g r
   hears epoch g r z =
-      let h = hearing-is st0 epoch g r z in
+      let h = replica_in_epoch-is st0 epoch g r z in
       let f = (replica-found g st0.replicas r h.found).1 in
       let c = config-now h.not_sealed in
       record {
@@ -204,20 +204,20 @@ module _ (e : Scene) (valid : IsSpace e.script.space) (gone : List ServerId) (ph
       }
 
   -- an update
-  update-fine : (epoch : Epoch) (g : RegionId) (u : Update) → UpdateOk e.script (world e) epoch g u i → (o : Option Replica) → if_installed (hearing st0 epoch g) ≡ o → Fine (updated e.script.space st0 u o)
+  update-fine : (epoch : Epoch) (g : RegionId) (u : Update) → UpdateOk e.script (world e) epoch g u i → (o : Option Replica) → if_installed (replica_in_epoch st0 epoch g) ≡ o → Fine (updated e.script.space st0 u o)
   update-fine epoch g u v None z = λ p j. absurd j
   update-fine epoch g u v (Some r) z =
-      let n = installed-is (hearing st0 epoch g) r z in
+      let n = installed-is (replica_in_epoch st0 epoch g) r z in
       let h = hears epoch g r n.0 in
-      update-tells e valid ok differ i (spot_of e.script.space st0 r.region) _ (state_in e.script.space r u.key) u (slot-sure h.opened r h.found n.1 u.key) (line-sure e valid ok differ i u.key u (v.1 (ap (λ (x : Epoch). x.0) h.own)).stands)
+      update-tells e valid ok differ i (context_of e.script.space st0 r.region) _ (state_in e.script.space r u.key) u (slot-sure h.opened r h.found n.1 u.key) (line-sure e valid ok differ i u.key u (v.1 (ap (λ (x : Epoch). x.0) h.own)).stands)
 
   -- an acknowledgement
-  ack-fine : (epoch : Epoch) (g : RegionId) (key : List ℕ) (n : ℕ) → (o : Option Replica) → if_installed (hearing st0 epoch g) ≡ o → Fine (acked e.script.space st0 key n o)
+  ack-fine : (epoch : Epoch) (g : RegionId) (key : List ℕ) (n : ℕ) → (o : Option Replica) → if_installed (replica_in_epoch st0 epoch g) ≡ o → Fine (acked e.script.space st0 key n o)
   ack-fine epoch g key n None z = λ p j. absurd j
   ack-fine epoch g key n (Some r) z =
-      let m = installed-is (hearing st0 epoch g) r z in
+      let m = installed-is (replica_in_epoch st0 epoch g) r z in
       let h = hears epoch g r m.0 in
-      ack-tells e valid ok differ i (spot_of e.script.space st0 r.region) _ (state_in e.script.space r key) n (slot-sure h.opened r h.found m.1 key)
+      ack-tells e valid ok differ i (context_of e.script.space st0 r.region) _ (state_in e.script.space r key) n (slot-sure h.opened r h.found m.1 key)
 
   -- a search
   ask-fine : (from : Actor) (epoch : Epoch) (number : ℕ) (terms : List Term) → (o : Option Replica) → Fine (asked st0 from epoch number terms o)
@@ -226,15 +226,15 @@ module _ (e : Scene) (valid : IsSpace e.script.space) (gone : List ServerId) (ph
 
   -- a snapshot
   snap-fine : (from : Actor) (epoch : Epoch) (g : RegionId) (snapshot : List Kept) (pending : List Update) → IsIn (post from (Server i) (a_message.Snap epoch g snapshot pending)) e.posts → Carries e.script.space g snapshot pending
-      → (o : Option Replica) → hearing st0 epoch g ≡ o → Fine (snapped e.script.space st0 snapshot pending o)
+      → (o : Option Replica) → replica_in_epoch st0 epoch g ≡ o → Fine (snapped e.script.space st0 snapshot pending o)
   snap-fine from epoch g snapshot pending arrived carries None z = λ p j. absurd j
   snap-fine from epoch g snapshot pending arrived carries (Some r) z =
       let h = hears epoch g r z in
-      cond_both r.installed (saying st0 (ready_post st0 r.region)) (with_slots st0 r (installed_slots (spot_of e.script.space st0 r.region) snapshot pending)) Fine
+      cond_both r.installed (saying st0 (ready_post st0 r.region)) (with_slots st0 r (installed_slots (context_of e.script.space st0 r.region) snapshot pending)) Fine
       (λ t p j. ready-fair st0 st0 r.region p j)
-      (λ t p j. elim (in-append (installed_slots (spot_of e.script.space st0 r.region) snapshot pending).posts (ready_post st0 r.region) p j) [
-        | inl k ↦ (let w = taken-posts (spot_of e.script.space st0 r.region) snapshot pending (subst (λ (x : RegionId). Carries e.script.space x snapshot pending) (sym h.region) carries) p k in
-            resumed-tells e valid ok differ i (spot_of e.script.space st0 r.region) _ (snap_state e.script.space r.region w.0 snapshot pending) (sent-sure w.0 r h t) p w.1)
+      (λ t p j. elim (in-append (installed_slots (context_of e.script.space st0 r.region) snapshot pending).posts (ready_post st0 r.region) p j) [
+        | inl k ↦ (let w = taken-posts (context_of e.script.space st0 r.region) snapshot pending (subst (λ (x : RegionId). Carries e.script.space x snapshot pending) (sym h.region) carries) p k in
+            resumed-tells e valid ok differ i (context_of e.script.space st0 r.region) _ (snap_state e.script.space r.region w.0 snapshot pending) (sent-sure w.0 r h t) p w.1)
         | inr k ↦ ready-fair _ st0 r.region p k
       ])
     where
@@ -261,8 +261,8 @@ module _ (e : Scene) (valid : IsSpace e.script.space) (gone : List ServerId) (ph
     t = state_in e.script.space r key
 
     -- where it stands
-    abbrev at : Spot
-    at = spot e.script (world e) r.region i
+    abbrev at : SlotContext
+    at = context e.script (world e) r.region i
 
     -- the state after a step that moves nothing
     abbrev q0 : ServerState
@@ -353,11 +353,11 @@ module _ (e : Scene) (valid : IsSpace e.script.space) (gone : List ServerId) (ph
       by : (o : Option (List ℕ)) → key_of op ≡ o → Fine (called e.script.space st0 epoch (record { session = u; number = number }) op o)
       by None z = λ p j. absurd j
       by (Some key) z =
-          when_some_both (hearing st0 epoch (key_region e.script.space key)) (unmoved st0) (λ (r : Replica). call_at e.script.space st0 r key (record { session = u; number = number }) op) Fine
+          when_some_both (replica_in_epoch st0 epoch (key_region e.script.space key)) (unmoved st0) (λ (r : Replica). call_at e.script.space st0 r key (record { session = u; number = number }) op) Fine
           (λ q p j. absurd j)
           (λ r q. let h = hears epoch (key_region e.script.space key) r q in
           by-parts h.opened (λ x. call_at e.script.space x r key (record { session = u; number = number }) op)
-          (cond_both (leads e.script.space e.config i r.region) (at_slot (standing e.config i st0.replicas) r (state_in e.script.space r key) (call_step (spot_of e.script.space (standing e.config i st0.replicas) r.region) (state_in e.script.space r key) (record { session = u; number = number }) op)) (unmoved (standing e.config i st0.replicas)) Fine
+          (cond_both (leads e.script.space e.config i r.region) (at_slot (standing e.config i st0.replicas) r (state_in e.script.space r key) (call_step (context_of e.script.space (standing e.config i st0.replicas) r.region) (state_in e.script.space r key) (record { session = u; number = number }) op)) (unmoved (standing e.config i st0.replicas)) Fine
           (λ l. call-fine r epoch key h (record { session = u; number = number }) op v z l)
           (λ l p j. absurd j)))
 
@@ -378,8 +378,8 @@ module _ (e : Scene) (valid : IsSpace e.script.space) (gone : List ServerId) (ph
     -- what a replica posts
     module _ (r : Replica) (found : replica_of r.region st0.replicas ≡ Some r) (installed : r.installed ≡ true) (active : is_active e.config r ≡ true) (alive : is_lost e.config r.region ≡ false) (t : KeyState) (there : IsIn t r.states) where
       -- where its slot stands
-      abbrev spot1 : Spot
-      spot1 = spot e.script (world e) r.region i
+      abbrev context1 : SlotContext
+      context1 = context e.script (world e) r.region i
 
       -- the slot of its key
       is-slot : state_in e.script.space r t.base.key ≡ t
@@ -396,7 +396,7 @@ module _ (e : Scene) (valid : IsSpace e.script.space) (gone : List ServerId) (ph
 
       -- the slot after
       abbrev after : KeyState
-      after = moved_all (resumed spot1 t) t
+      after = moved_all (resumed context1 t) t
 
       -- what is accepted of its key stands in the line
       after-line : (u : Update) → IsIn u after.accepted → (older : List Update) × Law e.script e.known t.base.key older u × (has_place r.region u ≡ true)
@@ -404,7 +404,7 @@ module _ (e : Scene) (valid : IsSpace e.script.space) (gone : List ServerId) (ph
           let o = (ok t.base.key).own r.region i (view e.config st0 (state_in e.script.space r t.base.key)) (inl (live-of e.script.space e.Real e.servers e.config t.base.key r.region i st0 refl here (record { replica = r; found = found; installed = installed }))) in
           let law = (ok t.base.key).lawful in
           let a = accepted-in (e.line t.base.key) r.region (around e.script (world e) t.base.key r.region i) (lawful-sorted e.script e.known t.base.key (e.line t.base.key) law) (low-in e.script (world e) t.base.key (e.line t.base.key) law) (following e.script (world e) t.base.key (e.line t.base.key) law r.region)
-          (view e.config st0 (state_in e.script.space r t.base.key)) u o (subst (λ (x : KeyState). IsIn u x.accepted) (sym worth) (subst (λ (us : List Update). IsIn u us) (accepted-resumed spot1 t) j)) in
+          (view e.config st0 (state_in e.script.space r t.base.key)) u o (subst (λ (x : KeyState). IsIn u x.accepted) (sym worth) (subst (λ (us : List Update). IsIn u us) (accepted-resumed context1 t) j)) in
           let l = law-of e.script e.known t.base.key (e.line t.base.key) u law a.0 in
           (l.0, l.1, a.1)
 
@@ -415,27 +415,27 @@ module _ (e : Scene) (valid : IsSpace e.script.space) (gone : List ServerId) (ph
           pending-found e.script.space done key (adopted_replica e.script.space (standing e.config i (map (replica_or_new st0.replicas) (listed_regions e.config i))) r) f
           ∙ ap (λ (y : List ℕ). pending_of (state_in e.script.space (adopted_replica e.script.space (standing e.config i (map (replica_or_new st0.replicas) (listed_regions e.config i))) r) y)) k
           ∙ ap pending_of (slot-moved e nothing valid ok differ i here st0.config st0.sealed st0.replicas parts lower joins listed t.base.key r.region r refl
-          ∙ ap (λ b. moved_all (cond b (resumed spot1 (moved Forget (state_in e.script.space r t.base.key))) (Forget ∷ [])) (moved Forget (state_in e.script.space r t.base.key))) active
-          ∙ ap (λ (x : KeyState). moved_all (resumed spot1 (moved Forget x)) (moved Forget x)) is-slot)
+          ∙ ap (λ b. moved_all (cond b (resumed context1 (moved Forget (state_in e.script.space r t.base.key))) (Forget ∷ [])) (moved Forget (state_in e.script.space r t.base.key))) active
+          ∙ ap (λ (x : KeyState). moved_all (resumed context1 (moved Forget x)) (moved Forget x)) is-slot)
 
       -- a doubt
-      doubts-fair : leads e.script.space e.config i r.region ≡ true → (o : Option StuckAt) → stuck_of e.config after ≡ o → (p : Post) → IsIn p (doubts_from spot1 after o) → Fair done p
+      doubts-fair : leads e.script.space e.config i r.region ≡ true → (o : Option StuckAt) → stuck_of e.config after ≡ o → (p : Post) → IsIn p (doubts_from context1 after o) → Fair done p
       doubts-fair l None z p j = absurd j
       doubts-fair l (Some x) z p j =
-          let m = in-map (λ (u : Update). doubt_in spot1 u.caller u.version x.region) (filter (λ (u : Update). leb x.version.0 u.version.0) (pending_of after)) p j in
+          let m = in-map (λ (u : Update). doubt_in context1 u.caller u.version x.region) (filter (λ (u : Update). leb x.version.0 u.version.0) (pending_of after)) p j in
           let f = in-filter (λ (u : Update). leb x.version.0 u.version.0) (pending_of after) m.0 m.1 in
           let u = pending-in after.floor after.accepted m.0 f.0 in
           let w = after-line m.0 u.0 in
           let k = (and_parts (is_key_region e.script.space r.region) (not (is_lost e.config r.region)) (and_parts (is_key_region e.script.space r.region && not (is_lost e.config r.region)) (is_server i (head_of e.config r.region)) l).0).0 in
           let g = key-place-is e.script.space t.base.key w.0 m.0 w.1.made r.region w.2 k in
           subst (Fair done) (sym m.2)
-          (stuck-tells e valid ok differ i spot1 done t.base.key after x refl (ap (leads e.script.space e.config i) (sym g) ∙ l) (after-pending t.base.key refl g) z m.0.caller w.1.op w.1.called w.1.on_key m.0.version (inr (leb-true x.version.0 m.0.version.0 f.1)))
+          (stuck-tells e valid ok differ i context1 done t.base.key after x refl (ap (leads e.script.space e.config i) (sym g) ∙ l) (after-pending t.base.key refl g) z m.0.caller w.1.op w.1.called w.1.on_key m.0.version (inr (leb-true x.version.0 m.0.version.0 f.1)))
 
       -- all that goes on
-      goes-fair : (p : Post) → IsIn p (resumed_posts spot1 t) → Fair done p
-      goes-fair p j = elim (in-append (flat_map (passed_on spot1) (pending_of t) ++ flat_map (move_posts spot1) (resumed spot1 t)) (leader_doubts spot1 after) p j) [
-        | inl m ↦ resumed-tells e valid ok differ i spot1 done (moved Forget t) sure-slot p m
-        | inr m ↦ (let a = in-provided (leads e.script.space e.config i r.region) (doubts_from spot1 after (stuck_of e.config after)) p m in doubts-fair a.0 (stuck_of e.config after) refl p a.1)
+      goes-fair : (p : Post) → IsIn p (resumed_posts context1 t) → Fair done p
+      goes-fair p j = elim (in-append (flat_map (passed_on context1) (pending_of t) ++ flat_map (move_posts context1) (resumed context1 t)) (leader_doubts context1 after) p j) [
+        | inl m ↦ resumed-tells e valid ok differ i context1 done (moved Forget t) sure-slot p m
+        | inr m ↦ (let a = in-provided (leads e.script.space e.config i r.region) (doubts_from context1 after (stuck_of e.config after)) p m in doubts-fair a.0 (stuck_of e.config after) refl p a.1)
       ]
 
     -- the step
@@ -444,7 +444,7 @@ module _ (e : Scene) (valid : IsSpace e.script.space) (gone : List ServerId) (ph
         let a = poster e nothing valid ok differ i here st0.config st0.sealed st0.replicas parts lower joins listed p j in
         elim a.posted [
           | inl k ↦ snap-fair done (standing e.config i (map (replica_or_new st0.replicas) (listed_regions e.config i))) a.replica p k
-          | inr (inl k) ↦ (let b = in-flat_map (resumed_posts (spot e.script (world e) a.replica.region i)) a.replica.states p k in goes-fair a.replica a.found a.installed a.active a.alive b.0 b.1 p b.2)
+          | inr (inl k) ↦ (let b = in-flat_map (resumed_posts (context e.script (world e) a.replica.region i)) a.replica.states p k in goes-fair a.replica a.found a.installed a.active a.alive b.0 b.1 p b.2)
           | inr (inr k) ↦ ready-fair done (standing e.config i (map (replica_or_new st0.replicas) (listed_regions e.config i))) a.replica.region p k
         ])
 
@@ -464,9 +464,9 @@ module _ (e : Scene) (valid : IsSpace e.script.space) (gone : List ServerId) (ph
   message-fine : (from : Actor) (m : Message) → IsIn (post from (Server i) m) e.posts → Valid e.script (world e) from (Server i) m → Sends e.script.space m → Fine (message_step e.script.space st0 from m)
   message-fine from (a_message.Call epoch number op) j v s = called-fine from epoch number op v
   message-fine from (a_message.Reply number version answer) j v s = λ p k. absurd k
-  message-fine from (a_message.Update epoch g u) j v s = update-fine epoch g u v (if_installed (hearing st0 epoch g)) refl
-  message-fine from (a_message.Ack epoch g key version) j v s = ack-fine epoch g key version.0 (if_installed (hearing st0 epoch g)) refl
-  message-fine from (a_message.Ask epoch number g terms) j v s = ask-fine from epoch number terms (if_installed (hearing st0 epoch g))
+  message-fine from (a_message.Update epoch g u) j v s = update-fine epoch g u v (if_installed (replica_in_epoch st0 epoch g)) refl
+  message-fine from (a_message.Ack epoch g key version) j v s = ack-fine epoch g key version.0 (if_installed (replica_in_epoch st0 epoch g)) refl
+  message-fine from (a_message.Ask epoch number g terms) j v s = ask-fine from epoch number terms (if_installed (replica_in_epoch st0 epoch g))
   message-fine from (a_message.Found epoch number g rows) j v s = λ p k. absurd k
   message-fine from (a_message.Seal epoch) j v s = seal-fine epoch
   message-fine from (a_message.Sealed epoch) j v s = λ p k. absurd k
@@ -476,7 +476,7 @@ module _ (e : Scene) (valid : IsSpace e.script.space) (gone : List ServerId) (ph
   message-fine from (a_message.StopServer number server) j v s = λ p k. absurd k
   message-fine from (a_message.AddReplica number server g) j v s = λ p k. absurd k
   message-fine from (a_message.Outcome number answer) j v s = λ p k. absurd k
-  message-fine from (a_message.Snap epoch g snapshot pending) j v s = snap-fine from epoch g snapshot pending j s (hearing st0 epoch g) refl
+  message-fine from (a_message.Snap epoch g snapshot pending) j v s = snap-fine from epoch g snapshot pending j s (replica_in_epoch st0 epoch g) refl
   message-fine from (a_message.Ready epoch g) j v s = λ p k. absurd k
   message-fine from (a_message.Poll epoch) j v s = λ p k. absurd k
 

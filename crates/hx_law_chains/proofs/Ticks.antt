@@ -17,7 +17,7 @@ use Rattle.hx_types.specs.Words.{IsIn, post}
 use Rattle.hx_types.specs.Configs.{is_lost, lists_joining, members_of}
 use Rattle.hx_types.specs.Spaces.{IsSpace}
 use Rattle.hx_types.specs.Subspaces.{is_key_region}
-use Rattle.hx_model.specs.ServerSteps.{Replica, ServerState, Spot, is_active, next_at, passed_on, pending_posts, ready_post, replica_tick, snap_posts, state_in, update_to}
+use Rattle.hx_model.specs.ServerSteps.{Replica, ServerState, SlotContext, is_active, next_at, passed_on, pending_posts, ready_post, replica_tick, snap_posts, state_in, update_to}
 use Rattle.hx_model.specs.Holders.{snap_state}
 use Rattle.hx_model.specs.Slots.{KeyState, pending_of, pending_of_all, snapshot_of, top_of}
 use Rattle.hx_law_lemmas.proofs.LeaderLines.{pending-in}
@@ -40,7 +40,7 @@ use Rattle.hx_law_chains.proofs.Sending.{IsSnap, snap-is, twin-of}
 use Rattle.hx_law_chains.proofs.Serving.{Acts, Asked, Late, Scene, Sent, Served, still-after, world}
 use Rattle.hx_law_chains.proofs.Slotted.{live-now, quiet-key, seat-now, view-now}
 use Rattle.hx_law_chains.proofs.Snapshots.{replica-ascends}
-use Rattle.hx_law_chains.proofs.World.{KeyOk, Valid, World, around, law-of, lawful-sorted, spot}
+use Rattle.hx_law_chains.proofs.World.{KeyOk, Valid, World, around, law-of, lawful-sorted, context}
 
 -- what a seat has accepted it knows
 pub known-in : (e : Scene) (valid : IsSpace e.script.space) (w : World) (ok : (key : List ℕ) → KeyOk e.script w key) (differ : (g : RegionId) → Differ (members_of w.config g)) (g : RegionId) (i : ServerId) (seat : Seat e.script w g i)
@@ -56,7 +56,7 @@ known-in e valid w ok differ g i seat key u j =
     }
 
 -- an update to the next replica is no snapshot
-pub passed-snap : (at : Spot) (u : Update) (from : Actor) (s : ServerId) (epoch : Epoch) (g : RegionId) (snapshot : List Kept) (pending : List Update) → IsIn (post from (Server s) (a_message.Snap epoch g snapshot pending)) (passed_on at u) → ⊥
+pub passed-snap : (at : SlotContext) (u : Update) (from : Actor) (s : ServerId) (epoch : Epoch) (g : RegionId) (snapshot : List Kept) (pending : List Update) → IsIn (post from (Server s) (a_message.Snap epoch g snapshot pending)) (passed_on at u) → ⊥
 passed-snap at u from s epoch g snapshot pending = by (next_at at u)
   where
     by : (y : Hop) → IsIn (post from (Server s) (a_message.Snap epoch g snapshot pending)) (update_to at u y) → ⊥
@@ -94,12 +94,12 @@ module _ (e : Scene) (asked : Asked) (valid : IsSpace e.script.space) (ok : (key
 
   -- what a replica posts
   posted-by : (r : Replica) (p : Post) → IsIn p (replica_tick e.script.space st r)
-      → (is_active e.config r ≡ true) × (IsIn p (snap_posts st r) ⊎ (IsIn p (pending_posts (spot e.script (world e) r.region i) r.states) ⊎ IsIn p (ready_post st r.region)))
+      → (is_active e.config r ≡ true) × (IsIn p (snap_posts st r) ⊎ (IsIn p (pending_posts (context e.script (world e) r.region i) r.states) ⊎ IsIn p (ready_post st r.region)))
   posted-by r p j =
-      let a = in-provided (is_active e.config r) (snap_posts st r ++ pending_posts (spot e.script (world e) r.region i) r.states ++ ready_post st r.region) p j in (
+      let a = in-provided (is_active e.config r) (snap_posts st r ++ pending_posts (context e.script (world e) r.region i) r.states ++ ready_post st r.region) p j in (
         a.0,
-        elim (in-append (snap_posts st r ++ pending_posts (spot e.script (world e) r.region i) r.states) (ready_post st r.region) p a.1) [
-          | inl k ↦ elim (in-append (snap_posts st r) (pending_posts (spot e.script (world e) r.region i) r.states) p k) [ inl m ↦ inl m | inr m ↦ inr (inl m) ]
+        elim (in-append (snap_posts st r ++ pending_posts (context e.script (world e) r.region i) r.states) (ready_post st r.region) p a.1) [
+          | inl k ↦ elim (in-append (snap_posts st r) (pending_posts (context e.script (world e) r.region i) r.states) p k) [ inl m ↦ inl m | inr m ↦ inr (inl m) ]
           | inr k ↦ inr (inr k)
         ],
       )
@@ -118,9 +118,9 @@ module _ (e : Scene) (asked : Asked) (valid : IsSpace e.script.space) (ok : (key
       let b = posted-by a.0 _ a.2 in
       elim b.1 [
         | inl j ↦ of a.0 a.1 b.0 (snap-is st a.0 _ j)
-        | inr (inl j) ↦ (let c = in-flat_map (λ (x : KeyState). flat_map (passed_on (spot e.script (world e) a.0.region i)) (pending_of x)) a.0.states _ j in
-            let d = in-flat_map (passed_on (spot e.script (world e) a.0.region i)) (pending_of c.0) _ c.2 in
-            absurd (passed-snap (spot e.script (world e) a.0.region i) d.0 w.from s e.config.epoch g w.snapshot w.pending d.2))
+        | inr (inl j) ↦ (let c = in-flat_map (λ (x : KeyState). flat_map (passed_on (context e.script (world e) a.0.region i)) (pending_of x)) a.0.states _ j in
+            let d = in-flat_map (passed_on (context e.script (world e) a.0.region i)) (pending_of c.0) _ c.2 in
+            absurd (passed-snap (context e.script (world e) a.0.region i) d.0 w.from s e.config.epoch g w.snapshot w.pending d.2))
         | inr (inr j) ↦ absurd (ready-snap st a.0.region w.from s e.config.epoch g w.snapshot w.pending j)
       ]
     where
@@ -160,11 +160,11 @@ module _ (e : Scene) (asked : Asked) (valid : IsSpace e.script.space) (ok : (key
         ]
       ]
     where
-      pend : (r : Replica) → IsIn r rs → is_active e.config r ≡ true → IsIn p (pending_posts (spot e.script (world e) r.region i) r.states) → Valid e.script (world e) p.from p.to p.message × Late e asked i p.to p.message
+      pend : (r : Replica) → IsIn r rs → is_active e.config r ≡ true → IsIn p (pending_posts (context e.script (world e) r.region i) r.states) → Valid e.script (world e) p.from p.to p.message × Late e asked i p.to p.message
       pend r k active m =
           let seat = seat-now e valid ok differ i here rs same r.region (installed-at r k active) (active-parts r active).1 in
-          let a = in-flat_map (λ (t : KeyState). flat_map (passed_on (spot e.script (world e) r.region i)) (pending_of t)) r.states p m in
-          let b = in-flat_map (passed_on (spot e.script (world e) r.region i)) (pending_of a.0) p a.2 in
+          let a = in-flat_map (λ (t : KeyState). flat_map (passed_on (context e.script (world e) r.region i)) (pending_of t)) r.states p m in
+          let b = in-flat_map (passed_on (context e.script (world e) r.region i)) (pending_of a.0) p a.2 in
           let u = pending-in a.0.floor a.0.accepted b.0 b.1 in
           let there = state-there (is_key_region e.script.space r.region) r.states a.0 (replica-ascends e.script.space st joinable r k) a.1 in (
             passed-fine e.script valid (world e) ok differ r.region i seat b.0 (known-in e valid (world e) ok differ r.region i seat a.0.base.key b.0 (subst (λ (y : KeyState). IsIn b.0 y.accepted) (sym there) u.0)) p b.2,

@@ -31,7 +31,7 @@ use Rattle.hx_model.specs.Places.{places_of}
 use Rattle.hx_model.specs.Leading.{first_lost}
 use Rattle.hx_model.specs.Neighbours.{region_at}
 use Rattle.hx_model.specs.Slots.{KeyState, has_place, top_of, touches_after}
-use Rattle.hx_model.specs.ServerSteps.{Spot, get_answer, next_at}
+use Rattle.hx_model.specs.ServerSteps.{SlotContext, get_answer, next_at}
 use Rattle.hx_law_lemmas.proofs.Numbered.{Numbered}
 use Rattle.hx_law_lemmas.proofs.Lines.{Sorted, numbered-sorted}
 use Rattle.hx_law_lemmas.proofs.Placed.{AllMade, Made}
@@ -113,8 +113,8 @@ pub record World : Type 1 where
   pub known : Config → Type 0
 
 -- where a slot stands
-abbrev pub spot : Script → World → RegionId → ServerId → Spot
-spot script w g s = record { space = script.space; config = w.config; server = s; region = g }
+abbrev pub context : Script → World → RegionId → ServerId → SlotContext
+context script w g s = record { space = script.space; config = w.config; server = s; region = g }
 
 module _ (script : Script) (w : World) (key : List ℕ) where
   -- one position stands before another in an update's chain
@@ -145,7 +145,7 @@ module _ (script : Script) (w : World) (key : List ℕ) where
 
   -- no joiner can come to stand right after the position: the chain ends there, or the next replica is installed
   abbrev pub Closed : RegionId → ServerId → Update → Type 0
-  Closed g s u = Filled u (next_at (spot script w g s) u)
+  Closed g s u = Filled u (next_at (context script w g s) u)
 
   -- what is said at a position
   abbrev pub around : RegionId → ServerId → Around

@@ -9,7 +9,7 @@ use Rattle.hx_types.specs.declared.outcomes.Hop.TheVariants.{At, End, Blocked}
 use Rattle.hx_types.specs.declared.updates.Place.{Place}
 use Rattle.hx_types.specs.Words.{IsBefore, IsIn}
 use Rattle.hx_types.specs.Configs.{head_of, is_lost, members_of}
-use Rattle.hx_model.specs.Neighbours.{enters, enters_last, hop_at, last_member, member_after, member_before, next_of, place_before, place_number, prev_of, region_at}
+use Rattle.hx_model.specs.Neighbours.{enters, enters_last, hop_at, last_member, member_after, member_before, next_of, preceding_place, place_number, prev_of, region_at}
 use Rattle.hx_law_lemmas.proofs.FirstMembers.{first-listed, last-some}
 use Rattle.hx_law_lemmas.proofs.Chains.{Apart, Differ, after-before, after-last, number-is, region-is}
 use Rattle.hx_law_lemmas.proofs.Order.{after-nobody, head-nobody, head-order, in-listed, last-server}
@@ -103,7 +103,7 @@ module _ (c : Config) (places : List Place) (apart : Apart places) (differ : (g 
           record {
             number = ap (λ (h : RegionId). place_number h places) r ∙ num ∙ u;
             adjacent = subst (λ (h : RegionId). Adjacent c places g s h y) (sym r) a;
-            back = λ t. ap (λ j. prev_of c places j y) (sym u ∙ sym num) ∙ prev-across c places apart differ q.region there y (head-before c q.region y h) ∙ ap (λ j. enters_last c (j - 1) (place_before places j)) num ∙ last k at t m;
+            back = λ t. ap (λ j. prev_of c places j y) (sym u ∙ sym num) ∙ prev-across c places apart differ q.region there y (head-before c q.region y h) ∙ ap (λ j. enters_last c (j - 1) (preceding_place places j)) num ∙ last k at t m;
           }
         where
           last : (k : ℕ) → k ≡ place_number g places → is_lost c g ≡ false → member_after s (members_of c g) ≡ None → enters_last c (suc k - 1) (slice_get places k) ≡ At s (place_number g places)
@@ -162,7 +162,7 @@ module _ (c : Config) (places : List Place) (apart : Apart places) (differ : (g 
               ∙ ap (hop_at j) first
               ∙ ap (At s) at
 
-      outside : (k : ℕ) → place_number g places ≡ k → member_before None s (members_of c g) ≡ None → enters_last c (k - 1) (place_before places k) ≡ At y n → IsPrevious c places g s y n
+      outside : (k : ℕ) → place_number g places ≡ k → member_before None s (members_of c g) ≡ None → enters_last c (k - 1) (preceding_place places k) ≡ At y n → IsPrevious c places g s y n
       outside zero at m q = absurd (cc)
       outside (suc k) at m q = across k at m (entered_last c (suc k - 1) (slice_get places k) y n q)
 
@@ -192,7 +192,7 @@ module _ (c : Config) (places : List Place) (apart : Apart places) (differ : (g 
   pub previous-none : (g : RegionId) → HasPlace places g → (s : ServerId) → IsIn s (order c g) → prev_of c places (place_number g places) s ≡ End → (place_number g places ≡ 0) × (head_of c g ≡ Some s)
   previous-none g l s i e = by (member_before None s (members_of c g)) refl
     where
-      number : (k : ℕ) → place_number g places ≡ k → enters_last c (k - 1) (place_before places k) ≡ End → k ≡ 0
+      number : (k : ℕ) → place_number g places ≡ k → enters_last c (k - 1) (preceding_place places k) ≡ End → k ≡ 0
       number zero at q = refl
       number (suc k) at q =
           let none = begins-nowhere c (suc k - 1) (slice_get places k) q in

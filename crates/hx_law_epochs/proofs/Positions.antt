@@ -10,7 +10,7 @@ use Rattle.hx_types.specs.declared.outcomes.Hop.TheVariants.{At}
 use Rattle.hx_types.specs.declared.updates.Place.{Place}
 use Rattle.hx_types.specs.Words.{IsBefore, IsIn, same_region, when_some}
 use Rattle.hx_types.specs.Configs.{head_of, members_of}
-use Rattle.hx_model.specs.Neighbours.{enters, enters_last, member_after, member_before, members_at, next_of, place_before, place_number, prev_of}
+use Rattle.hx_model.specs.Neighbours.{enters, enters_last, member_after, member_before, members_at, next_of, preceding_place, place_number, prev_of}
 use Rattle.hx_model.specs.Slots.{place_in}
 use Rattle.hx_law_lemmas.proofs.Chains.{Apart, Differ, at-number, members-is}
 use Rattle.hx_law_lemmas.proofs.Order.{after-nobody, after-order, before-in, before-trans, head-nobody, head-order, order-cases, servers_of}
@@ -204,11 +204,11 @@ module _ (c : Config) (places : List Place) (apart : Apart places) (differ : (g 
   -- the same before
   pub prev-within : (g : RegionId) → HasPlace places g → (s x : ServerId) → member_before None s (members_of c g) ≡ Some x → prev_of c places (place_number g places) s ≡ At x (place_number g places)
   prev-within g l s x e =
-      ap (λ (ms : List Member). when_some (member_before None s ms) (enters_last c (place_number g places - 1) (place_before places (place_number g places))) (λ (y : ServerId). At y (place_number g places))) (members-at g l)
-      ∙ ap (λ (o : Option ServerId). when_some o (enters_last c (place_number g places - 1) (place_before places (place_number g places))) (λ (y : ServerId). At y (place_number g places))) e
+      ap (λ (ms : List Member). when_some (member_before None s ms) (enters_last c (place_number g places - 1) (preceding_place places (place_number g places))) (λ (y : ServerId). At y (place_number g places))) (members-at g l)
+      ∙ ap (λ (o : Option ServerId). when_some o (enters_last c (place_number g places - 1) (preceding_place places (place_number g places))) (λ (y : ServerId). At y (place_number g places))) e
 
   pub prev-across : (g : RegionId) → HasPlace places g → (s : ServerId) → member_before None s (members_of c g) ≡ None
-      → prev_of c places (place_number g places) s ≡ enters_last c (place_number g places - 1) (place_before places (place_number g places))
+      → prev_of c places (place_number g places) s ≡ enters_last c (place_number g places - 1) (preceding_place places (place_number g places))
   prev-across g l s e =
-      ap (λ (ms : List Member). when_some (member_before None s ms) (enters_last c (place_number g places - 1) (place_before places (place_number g places))) (λ (y : ServerId). At y (place_number g places))) (members-at g l)
-      ∙ ap (λ (o : Option ServerId). when_some o (enters_last c (place_number g places - 1) (place_before places (place_number g places))) (λ (y : ServerId). At y (place_number g places))) e
+      ap (λ (ms : List Member). when_some (member_before None s ms) (enters_last c (place_number g places - 1) (preceding_place places (place_number g places))) (λ (y : ServerId). At y (place_number g places))) (members-at g l)
+      ∙ ap (λ (o : Option ServerId). when_some o (enters_last c (place_number g places - 1) (preceding_place places (place_number g places))) (λ (y : ServerId). At y (place_number g places))) e

@@ -9,7 +9,7 @@ use Rattle.hx_types.specs.declared.spaces.Space.{Space}
 use Rattle.hx_types.specs.Words.{IsIn, when_some}
 use Rattle.hx_types.specs.Configs.{first_config, is_lost, lists}
 use Rattle.hx_model.specs.Slots.{KeyState}
-use Rattle.hx_model.specs.ServerSteps.{Replica, ServerState, adopted, adopted_replica, adopted_state, hearing, if_installed, is_active, listed_regions, replica_of, replica_or_new, server_at_start, spot_of, with_config, with_replica}
+use Rattle.hx_model.specs.ServerSteps.{Replica, ServerState, adopted, adopted_replica, adopted_state, replica_in_epoch, if_installed, is_active, listed_regions, replica_of, replica_or_new, server_at_start, context_of, with_config, with_replica}
 use Rattle.hx_law_lemmas.proofs.Lists.{in-map}
 use Rattle.hx_law_lemmas.proofs.Replicas.{in-with_replica, replica-found, replica-here, replica-other}
 use Rattle.hx_law_lemmas.proofs.Cases.{which-region}
@@ -53,8 +53,8 @@ pub record Hears (st : ServerState) (epoch : Epoch) (g : RegionId) (r : Replica)
   pub own : epoch.0 ≡ st.config.epoch.0
   pub not_lost : is_lost st.config g ≡ false
 
-pub hearing-is : (st : ServerState) (epoch : Epoch) (g : RegionId) (r : Replica) → hearing st epoch g ≡ Some r → Hears st epoch g r
-hearing-is st epoch g r = by st.sealed refl (eqb epoch.0 st.config.epoch.0) refl (is_lost st.config g) refl
+pub replica_in_epoch-is : (st : ServerState) (epoch : Epoch) (g : RegionId) (r : Replica) → replica_in_epoch st epoch g ≡ Some r → Hears st epoch g r
+replica_in_epoch-is st epoch g r = by st.sealed refl (eqb epoch.0 st.config.epoch.0) refl (is_lost st.config g) refl
   where
     by : (a : Bool) → st.sealed ≡ a → (b : Bool) → eqb epoch.0 st.config.epoch.0 ≡ b → (c : Bool) → is_lost st.config g ≡ c
         → cond (a || not b || c) None (replica_of g st.replicas) ≡ Some r → Hears st epoch g r
@@ -161,7 +161,7 @@ module _ (space : Space) (s : ServerId) (st : ServerState) (shaped : Shaped s st
     once = mapped-once (adopted_replica space mid) (λ r. refl) mid.replicas mid-shaped.once;
     empty = λ r i. (let m = in-map (adopted_replica space mid) mid.replicas r i in
         subst (λ (x : Replica). x.installed ≡ false → x.states ≡ []) (sym m.2)
-        (λ t. ap (λ (l : List KeyState). map (adopted_state (spot_of space mid m.0.region) (is_active mid.config m.0)) l) (mid-shaped.empty m.0 m.1 t)));
+        (λ t. ap (λ (l : List KeyState). map (adopted_state (context_of space mid m.0.region) (is_active mid.config m.0)) l) (mid-shaped.empty m.0 m.1 t)));
   }
 
   -- what was installed and is still listed stays installed

@@ -27,7 +27,7 @@ use Rattle.hx_model.specs.Causes.{config_noted, config_of}
 use Rattle.hx_model.specs.ServerSteps.{ServerState, server_step}
 use Rattle.hx_model.specs.CoordinatorSteps.{CoordinatorState, coordinator_step}
 use Rattle.hx_model.specs.SessionSteps.{SessionState, session_step}
-use Rattle.hx_model.specs.Runs.{IsRun, IsStep, Made, MayTake, coordinator_after, coordinator_of, has_halted, is_actor, made_of, server_after, server_of, session_after, session_of}
+use Rattle.hx_model.specs.Runs.{IsRun, IsStep, Output, MayTake, coordinator_after, coordinator_of, has_halted, is_actor, made_of, server_after, server_of, session_after, session_of}
 use Rattle.hx_law_lemmas.specs.Words.{posts_of}
 use Rattle.hx_law_lemmas.proofs.Lists.{in-append, in-below, in-map, in_left, in_right}
 use Rattle.hx_law_lemmas.proofs.FirstMembers.{all-ready}
@@ -253,9 +253,9 @@ module _ (script : Script) (valid : IsScript script) (older : List Entry) (kept 
 
   -- each entry
   keeps : (a : Actor) (input : Input) (ps : List Post) (ns : List Note) → is_actor script a ≡ true → has_halted script older a ≡ false → MayTake older a input → made_of script older a input ≡ record { posts = ps; notes = ns } → Keeps a input ps ns
-  keeps Coordinator input ps ns real up may made = subst (λ (m : Made). Keeps Coordinator input m.posts m.notes) made (coordinator-keeps input may)
-  keeps (Server i) input ps ns real up may made = subst (λ (m : Made). Keeps (Server i) input m.posts m.notes) made (server-keeps i input real up may)
-  keeps (Session u) input ps ns real up may made = subst (λ (m : Made). Keeps (Session u) input m.posts m.notes) made (session-keeps u input)
+  keeps Coordinator input ps ns real up may made = subst (λ (m : Output). Keeps Coordinator input m.posts m.notes) made (coordinator-keeps input may)
+  keeps (Server i) input ps ns real up may made = subst (λ (m : Output). Keeps (Server i) input m.posts m.notes) made (server-keeps i input real up may)
+  keeps (Session u) input ps ns real up may made = subst (λ (m : Output). Keeps (Session u) input m.posts m.notes) made (session-keeps u input)
 
   pub keeps-entry : (x : Entry) → IsStep script older x → Keeps x.actor x.input x.outputs x.notes
   keeps-entry x step = keeps x.actor x.input x.outputs x.notes step.actor step.running step.input step.made

@@ -28,12 +28,12 @@ use Rattle.hx_types.specs.Subspaces.{is_key_region}
 use Rattle.hx_model.specs.Causes.{config_noted}
 use Rattle.hx_model.specs.Regions.{key_region}
 use Rattle.hx_model.specs.Slots.{KeyState, moved_all, pending_of, pending_of_all, snapshot_of, state_among}
-use Rattle.hx_model.specs.ServerSteps.{Replica, ServerState, ServerStep, SlotStep, Slots, Spot, accepting, acked, ack_step, adopted, adopted_posts, asked, at_slot, call_at, call_step, called, called_by, halting, hearing, if_installed, input_step, install_at, installed_slots, is_active, join_keys, join_slot, keys_of, message_step, move_posts, offered_all, passed_on, pending_posts, ready_post, replica_of, replica_tick, resumed_posts, saying, seal_at, server_step, snap_posts, snap_to, snapped, spot_of, state_from, state_in, tick_step, unmoved, update_step, updated, with_config, with_slots}
+use Rattle.hx_model.specs.ServerSteps.{Replica, ServerState, ServerStep, SlotStep, Slots, SlotContext, accepting, acked, ack_step, adopted, adopted_posts, asked, at_slot, call_at, call_step, called, called_by, halting, replica_in_epoch, if_installed, input_step, install_at, installed_slots, is_active, join_keys, join_slot, keys_of, message_step, move_posts, offered_all, passed_on, pending_posts, ready_post, replica_of, replica_tick, resumed_posts, saying, seal_at, server_step, snap_posts, snap_to, snapped, context_of, state_from, state_in, tick_step, unmoved, update_step, updated, with_config, with_slots}
 use Rattle.hx_law_lemmas.proofs.Lists.{in-append, in-flat_map, in-provided}
 use Rattle.hx_law_lemmas.proofs.Replicas.{replica-found, replica-here, with_slot_at}
 use Rattle.hx_law_lemmas.proofs.ReplicaLists.{once-found}
 use Rattle.hx_law_epochs.proofs.Facts.{FromServer, Installed, SendsSnapshot}
-use Rattle.hx_law_epochs.proofs.Replicas.{Shaped, done-installed, done-shaped, hearing-is, installed-is, mid-installed, mid-shaped, replaced-installed, replaced-shaped}
+use Rattle.hx_law_epochs.proofs.Replicas.{Shaped, done-installed, done-shaped, replica_in_epoch-is, installed-is, mid-installed, mid-shaped, replaced-installed, replaced-shaped}
 use Rattle.hx_law_epochs.proofs.SlotPosts.{OfSlot, SlotSays, SlotTells, ack-tells, call-tells, moves-of, pending-of, resumed-of, update-tells}
 
 -- the server goes on in its configuration
@@ -118,11 +118,11 @@ module _ (space : Space) (s : ServerId) (st : ServerState) (shaped : Shaped s st
   one after q h p i = elim i [ inl e ↦ subst (Mine after) (sym e) h | inr j ↦ absurd j ]
 
   -- a slot's posts are the server's
-  of-slot : (after : ServerState) (g : RegionId) → after.config ≡ st.config → (p : Post) → OfSlot (spot_of space st g) p → Mine after p
+  of-slot : (after : ServerState) (g : RegionId) → after.config ≡ st.config → (p : Post) → OfSlot (context_of space st g) p → Mine after p
   of-slot after g e p h = (h.0 ∙ ap Server shaped.id, slot-tells s after st.config p.to p.message (sym e) h.1)
 
   -- a step of one slot
-  slot-does : (r : Replica) (t : KeyState) (step : SlotStep) → replica_of r.region st.replicas ≡ Some r → r.installed ≡ true → SlotTells (spot_of space st r.region) step → Does s st May (at_slot st r t step)
+  slot-does : (r : Replica) (t : KeyState) (step : SlotStep) → replica_of r.region st.replicas ≡ Some r → r.installed ≡ true → SlotTells (context_of space st r.region) step → Does s st May (at_slot st r t step)
   slot-does r t step found there tells = record {
     shaped = replaced-shaped s st shaped r (with_slot_at r (moved_all step.moves t)) found (λ e. absurd (false≢true (sym e ∙ there)));
     change = inl (record {
@@ -143,13 +143,13 @@ module _ (space : Space) (s : ServerId) (st : ServerState) (shaped : Shaped s st
 
   -- where a key's leader hears, it is installed
   module _ (leads_installed : (g : RegionId) → st.sealed ≡ false → leads space st.config st.id g ≡ true → Installed st g) where
-    call-does : (epoch : Epoch) (g : RegionId) (r : Replica) → hearing st epoch g ≡ Some r → (key : List ℕ) (caller : Caller) (op : Op) → Does s st May (call_at space st r key caller op)
+    call-does : (epoch : Epoch) (g : RegionId) (r : Replica) → replica_in_epoch st epoch g ≡ Some r → (key : List ℕ) (caller : Caller) (op : Op) → Does s st May (call_at space st r key caller op)
     call-does epoch g r e key caller op =
-        let h = hearing-is st epoch g r e in
-        cond_both (leads space st.config st.id r.region) (at_slot st r (state_in space r key) (call_step (spot_of space st r.region) (state_in space r key) caller op)) (unmoved st) (Does s st May)
+        let h = replica_in_epoch-is st epoch g r e in
+        cond_both (leads space st.config st.id r.region) (at_slot st r (state_in space r key) (call_step (context_of space st r.region) (state_in space r key) caller op)) (unmoved st) (Does s st May)
         (
-        λ t. slot-does r (state_in space r key) (call_step (spot_of space st r.region) (state_in space r key) caller op) (own-name g r h.found)
-        (same (own-name g r h.found) (leads_installed r.region h.not_sealed t)) (call-tells (spot_of space st r.region) (state_in space r key) caller op)
+        λ t. slot-does r (state_in space r key) (call_step (context_of space st r.region) (state_in space r key) caller op) (own-name g r h.found)
+        (same (own-name g r h.found) (leads_installed r.region h.not_sealed t)) (call-tells (context_of space st r.region) (state_in space r key) caller op)
         )
         (λ t. rests)
       where
@@ -161,44 +161,44 @@ module _ (space : Space) (s : ServerId) (st : ServerState) (shaped : Shaped s st
     called-does (Server other) epoch number op = rests
     called-does (Session u) epoch number op = on (key_of op)
       where
-        hears : (key : List ℕ) (o : Option Replica) → hearing st epoch (key_region space key) ≡ o → Does s st May (when_some o (unmoved st) (λ (r : Replica). call_at space st r key (record { session = u; number = number }) op))
+        hears : (key : List ℕ) (o : Option Replica) → replica_in_epoch st epoch (key_region space key) ≡ o → Does s st May (when_some o (unmoved st) (λ (r : Replica). call_at space st r key (record { session = u; number = number }) op))
         hears key None e = rests
         hears key (Some r) e = call-does epoch (key_region space key) r e key (record { session = u; number = number }) op
 
         on : (o : Option (List ℕ)) → Does s st May (called space st epoch (record { session = u; number = number }) op o)
         on None = rests
-        on (Some key) = hears key (hearing st epoch (key_region space key)) refl
+        on (Some key) = hears key (replica_in_epoch st epoch (key_region space key)) refl
 
   -- Update
-  updated-does : (epoch : Epoch) (g : RegionId) (u : Update) → Does s st May (updated space st u (if_installed (hearing st epoch g)))
-  updated-does epoch g u = by (if_installed (hearing st epoch g)) refl
+  updated-does : (epoch : Epoch) (g : RegionId) (u : Update) → Does s st May (updated space st u (if_installed (replica_in_epoch st epoch g)))
+  updated-does epoch g u = by (if_installed (replica_in_epoch st epoch g)) refl
     where
-      by : (o : Option Replica) → if_installed (hearing st epoch g) ≡ o → Does s st May (updated space st u o)
+      by : (o : Option Replica) → if_installed (replica_in_epoch st epoch g) ≡ o → Does s st May (updated space st u o)
       by None e = rests
       by (Some r) e =
-          let i = installed-is (hearing st epoch g) r e in
-          slot-does r (state_in space r u.key) (update_step (spot_of space st r.region) (state_in space r u.key) u) (own-name g r (hearing-is st epoch g r i.0).found) i.1
-          (update-tells (spot_of space st r.region) (state_in space r u.key) u)
+          let i = installed-is (replica_in_epoch st epoch g) r e in
+          slot-does r (state_in space r u.key) (update_step (context_of space st r.region) (state_in space r u.key) u) (own-name g r (replica_in_epoch-is st epoch g r i.0).found) i.1
+          (update-tells (context_of space st r.region) (state_in space r u.key) u)
 
   -- Ack
-  acked-does : (epoch : Epoch) (g : RegionId) (key : List ℕ) (v : ℕ) → Does s st May (acked space st key v (if_installed (hearing st epoch g)))
-  acked-does epoch g key v = by (if_installed (hearing st epoch g)) refl
+  acked-does : (epoch : Epoch) (g : RegionId) (key : List ℕ) (v : ℕ) → Does s st May (acked space st key v (if_installed (replica_in_epoch st epoch g)))
+  acked-does epoch g key v = by (if_installed (replica_in_epoch st epoch g)) refl
     where
-      by : (o : Option Replica) → if_installed (hearing st epoch g) ≡ o → Does s st May (acked space st key v o)
+      by : (o : Option Replica) → if_installed (replica_in_epoch st epoch g) ≡ o → Does s st May (acked space st key v o)
       by None e = rests
       by (Some r) e =
-          let i = installed-is (hearing st epoch g) r e in
-          slot-does r (state_in space r key) (ack_step (spot_of space st r.region) (state_in space r key) v) (own-name g r (hearing-is st epoch g r i.0).found) i.1
-          (ack-tells (spot_of space st r.region) (state_in space r key) v)
+          let i = installed-is (replica_in_epoch st epoch g) r e in
+          slot-does r (state_in space r key) (ack_step (context_of space st r.region) (state_in space r key) v) (own-name g r (replica_in_epoch-is st epoch g r i.0).found) i.1
+          (ack-tells (context_of space st r.region) (state_in space r key) v)
 
   -- Ask
-  asked-does : (from : Actor) (epoch : Epoch) (number : ℕ) (g : RegionId) (terms : List Term) → Does s st May (asked st from epoch number terms (if_installed (hearing st epoch g)))
-  asked-does from epoch number g terms = by (if_installed (hearing st epoch g)) refl
+  asked-does : (from : Actor) (epoch : Epoch) (number : ℕ) (g : RegionId) (terms : List Term) → Does s st May (asked st from epoch number terms (if_installed (replica_in_epoch st epoch g)))
+  asked-does from epoch number g terms = by (if_installed (replica_in_epoch st epoch g)) refl
     where
-      by : (o : Option Replica) → if_installed (hearing st epoch g) ≡ o → Does s st May (asked st from epoch number terms o)
+      by : (o : Option Replica) → if_installed (replica_in_epoch st epoch g) ≡ o → Does s st May (asked st from epoch number terms o)
       by None e = rests
       by (Some r) e =
-          let h = hearing-is st epoch g r (installed-is (hearing st epoch g) r e).0 in
+          let h = replica_in_epoch-is st epoch g r (installed-is (replica_in_epoch st epoch g) r e).0 in
           says _ (λ p i. one st _ (ap Server shaped.id, (let q = h.own in λ j. record { 0 = q j })) p (in-provided (lists_ready st.config r.region st.id) _ p i).1)
 
   -- a post that says that a joiner is ready
@@ -208,29 +208,29 @@ module _ (space : Space) (s : ServerId) (st : ServerState) (shaped : Shaped s st
       (in-provided (lists_joining st.config g st.id) (post (Server st.id) Coordinator (a_message.Ready st.config.epoch g) ∷ []) p i).1
 
   -- slots that take the pending updates post as slots do
-  join-posts : (spot : Spot) (us : List Update) (keys : List (List ℕ)) (slots : Slots) → ((p : Post) → IsIn p slots.posts → OfSlot spot p) → (p : Post) → IsIn p (join_keys spot us slots keys).posts → OfSlot spot p
-  join-posts spot us [] slots f = f
-  join-posts spot us (key ∷ keys) slots f =
+  join-posts : (context : SlotContext) (us : List Update) (keys : List (List ℕ)) (slots : Slots) → ((p : Post) → IsIn p slots.posts → OfSlot context p) → (p : Post) → IsIn p (join_keys context us slots keys).posts → OfSlot context p
+  join-posts context us [] slots f = f
+  join-posts context us (key ∷ keys) slots f =
       let mine : List Update = filter (λ (u : Update). same_text u.key key) us in
-      let state : KeyState = state_among (is_key_region spot.space spot.region) key slots.states in
-      join-posts spot us keys (join_slot spot mine slots state)
-      (λ p i. elim (in-append slots.posts (flat_map (move_posts spot) (accepting spot state (offered_all spot.region state mine))) p i) [ inl j ↦ f p j | inr j ↦ moves-of spot (accepting spot state (offered_all spot.region state mine)) p j ])
+      let state : KeyState = state_among (is_key_region context.space context.region) key slots.states in
+      join-posts context us keys (join_slot context mine slots state)
+      (λ p i. elim (in-append slots.posts (flat_map (move_posts context) (accepting context state (offered_all context.region state mine))) p i) [ inl j ↦ f p j | inr j ↦ moves-of context (accepting context state (offered_all context.region state mine)) p j ])
 
   -- Snap
-  snapped-does : (epoch : Epoch) (g : RegionId) (snapshot : List Kept) (pending : List Update) → Does s st May (snapped space st snapshot pending (hearing st epoch g))
-  snapped-does epoch g snapshot pending = by (hearing st epoch g) refl
+  snapped-does : (epoch : Epoch) (g : RegionId) (snapshot : List Kept) (pending : List Update) → Does s st May (snapped space st snapshot pending (replica_in_epoch st epoch g))
+  snapped-does epoch g snapshot pending = by (replica_in_epoch st epoch g) refl
     where
-      by : (o : Option Replica) → hearing st epoch g ≡ o → Does s st May (snapped space st snapshot pending o)
+      by : (o : Option Replica) → replica_in_epoch st epoch g ≡ o → Does s st May (snapped space st snapshot pending o)
       by None e = rests
       by (Some r) e =
-          let found = own-name g r (hearing-is st epoch g r e).found in
-          let slots = installed_slots (spot_of space st r.region) snapshot pending in
+          let found = own-name g r (replica_in_epoch-is st epoch g r e).found in
+          let slots = installed_slots (context_of space st r.region) snapshot pending in
           cond_both r.installed (saying st (ready_post st r.region)) (with_slots st r slots) (Does s st May)
           (λ t. says (ready_post st r.region) (ready-mine st r.region refl (record { replica = r; found = found; installed = t })))
           (λ t. installs r found slots
-          (join-posts (spot_of space st r.region) pending (keys_of pending) (record { states = map (state_from (is_key_region space r.region)) snapshot; posts = [] }) (λ p i. absurd i)))
+          (join-posts (context_of space st r.region) pending (keys_of pending) (record { states = map (state_from (is_key_region space r.region)) snapshot; posts = [] }) (λ p i. absurd i)))
         where
-          installs : (r : Replica) → replica_of r.region st.replicas ≡ Some r → (slots : Slots) → ((p : Post) → IsIn p slots.posts → OfSlot (spot_of space st r.region) p) → Does s st May (with_slots st r slots)
+          installs : (r : Replica) → replica_of r.region st.replicas ≡ Some r → (slots : Slots) → ((p : Post) → IsIn p slots.posts → OfSlot (context_of space st r.region) p) → Does s st May (with_slots st r slots)
           installs r found slots f = record {
             shaped = replaced-shaped s st shaped r x found (λ e. absurd (false≢true (sym e)));
             change = inl (record { config = refl; sealed = λ e. e; halted = λ e. e; installed = replaced-installed s st shaped r x found (λ e. refl) });
@@ -303,14 +303,14 @@ module _ (space : Space) (s : ServerId) (st : ServerState) (shaped : Shaped s st
   -- what a replica sends again
   replica-mine : (r : Replica) → IsIn r st.replicas → (p : Post) → IsIn p (replica_tick space st r) → Mine st p
   replica-mine r i p j =
-      let a = in-provided (is_active st.config r) (snap_posts st r ++ pending_posts (spot_of space st r.region) r.states ++ ready_post st r.region) p j in
+      let a = in-provided (is_active st.config r) (snap_posts st r ++ pending_posts (context_of space st r.region) r.states ++ ready_post st r.region) p j in
       let b = active-is r a.0 in
       let h : Installed st r.region = record { replica = r; found = listed-found r i; installed = b.0 } in
-      elim (in-append (snap_posts st r ++ pending_posts (spot_of space st r.region) r.states) (ready_post st r.region) p a.1) [
-        | inl k ↦ elim (in-append (snap_posts st r) (pending_posts (spot_of space st r.region) r.states) p k) [
+      elim (in-append (snap_posts st r ++ pending_posts (context_of space st r.region) r.states) (ready_post st r.region) p a.1) [
+        | inl k ↦ elim (in-append (snap_posts st r) (pending_posts (context_of space st r.region) r.states) p k) [
           | inl m ↦ snap-mine st r refl h b.1 p m
-          | inr m ↦ (let c = in-flat_map (λ (state : KeyState). flat_map (passed_on (spot_of space st r.region)) (pending_of state)) r.states p m in
-              of-slot st r.region refl p (pending-of (spot_of space st r.region) (pending_of c.0) p c.2))
+          | inr m ↦ (let c = in-flat_map (λ (state : KeyState). flat_map (passed_on (context_of space st r.region)) (pending_of state)) r.states p m in
+              of-slot st r.region refl p (pending-of (context_of space st r.region) (pending_of c.0) p c.2))
         ]
         | inr k ↦ ready-mine st r.region refl h p k
       ]
@@ -325,13 +325,13 @@ module _ (space : Space) (s : ServerId) (st : ServerState) (shaped : Shaped s st
   -- what a replica posts when a configuration is adopted, with the server that it has become
   adopted-mine : (after : ServerState) → after.config ≡ st.config → ((g : RegionId) → Installed st g → Installed after g) → (r : Replica) → IsIn r st.replicas → (p : Post) → IsIn p (adopted_posts space st r) → Mine after p
   adopted-mine after e up r i p j =
-      let a = in-provided (is_active st.config r) (snap_posts st r ++ flat_map (resumed_posts (spot_of space st r.region)) r.states ++ ready_post st r.region) p j in
+      let a = in-provided (is_active st.config r) (snap_posts st r ++ flat_map (resumed_posts (context_of space st r.region)) r.states ++ ready_post st r.region) p j in
       let b = active-is r a.0 in
       let h : Installed after r.region = up r.region (record { replica = r; found = listed-found r i; installed = b.0 }) in
-      elim (in-append (snap_posts st r ++ flat_map (resumed_posts (spot_of space st r.region)) r.states) (ready_post st r.region) p a.1) [
-        | inl k ↦ elim (in-append (snap_posts st r) (flat_map (resumed_posts (spot_of space st r.region)) r.states) p k) [
+      elim (in-append (snap_posts st r ++ flat_map (resumed_posts (context_of space st r.region)) r.states) (ready_post st r.region) p a.1) [
+        | inl k ↦ elim (in-append (snap_posts st r) (flat_map (resumed_posts (context_of space st r.region)) r.states) p k) [
           | inl m ↦ snap-mine after r e h b.1 p m
-          | inr m ↦ (let c = in-flat_map (resumed_posts (spot_of space st r.region)) r.states p m in of-slot after r.region e p (resumed-of (spot_of space st r.region) c.0 p c.2))
+          | inr m ↦ (let c = in-flat_map (resumed_posts (context_of space st r.region)) r.states p m in of-slot after r.region e p (resumed-of (context_of space st r.region) c.0 p c.2))
         ]
         | inr k ↦ ready-mine after r.region e h p k
       ]

@@ -23,7 +23,7 @@ use Rattle.hx_model.specs.Causes.{config_noted}
 use Rattle.hx_types.specs.declared.ids.Epoch.{Epoch}
 use Rattle.hx_model.specs.Leading.{StuckAt, decide, stuck_of}
 use Rattle.hx_model.specs.Slots.{Acknowledge, Commit, Forget, Hold, KeyState, Move, Take, moved_all, offered, pending_of}
-use Rattle.hx_model.specs.ServerSteps.{SlotStep, Spot, accepting, ack_step, ack_to, by_moves, by_posts, call_step, decided, doubt_in, doubts_from, get_step, known_to, leader_doubts, move_posts, next_at, passed_on, prev_at, resumed, resumed_posts, told_to, update_step, update_to, waiting_doubt, write_step}
+use Rattle.hx_model.specs.ServerSteps.{SlotStep, SlotContext, accepting, ack_step, ack_to, by_moves, by_posts, call_step, decided, doubt_in, doubts_from, get_step, known_to, leader_doubts, move_posts, next_at, passed_on, prev_at, resumed, resumed_posts, told_to, update_step, update_to, waiting_doubt, write_step}
 use Rattle.hx_law_lemmas.proofs.Lists.{in-append, in-flat_map, in-map, in-provided}
 
 -- a message between replicas is of this epoch, and others are replies
@@ -46,51 +46,51 @@ SlotSays c (a_message.Snap epoch g snapshot pending) = ⊥
 SlotSays c (a_message.Ready epoch g) = ⊥
 SlotSays c (a_message.Poll epoch) = ⊥
 
-module _ (spot : Spot) where
+module _ (context : SlotContext) where
   -- a post of a slot
   abbrev pub OfSlot : Post → Type 0
-  OfSlot p = (p.from ≡ Server spot.server) × SlotSays spot.config p.message
+  OfSlot p = (p.from ≡ Server context.server) × SlotSays context.config p.message
 
   -- one post
   one : (q : Post) → OfSlot q → (p : Post) → IsIn p (q ∷ []) → OfSlot p
   one q h p i = elim i [ inl e ↦ subst OfSlot (sym e) h | inr j ↦ absurd j ]
 
   -- an update to the next replica
-  update-of : (u : Update) (h : Hop) (p : Post) → IsIn p (update_to spot u h) → OfSlot p
+  update-of : (u : Update) (h : Hop) (p : Post) → IsIn p (update_to context u h) → OfSlot p
   update-of u (At s place) p i = one _ (refl, refl) p i
   update-of u End p i = absurd i
   update-of u (Blocked g) p i = absurd i
 
-  pub passed-of : (u : Update) (p : Post) → IsIn p (passed_on spot u) → OfSlot p
-  passed-of u p i = update-of u (next_at spot u) p i
+  pub passed-of : (u : Update) (p : Post) → IsIn p (passed_on context u) → OfSlot p
+  passed-of u p i = update-of u (next_at context u) p i
 
   -- an acknowledgement to the previous one
-  ack-of : (u : Update) (h : Hop) (p : Post) → IsIn p (ack_to spot u h) → OfSlot p
+  ack-of : (u : Update) (h : Hop) (p : Post) → IsIn p (ack_to context u h) → OfSlot p
   ack-of u (At s place) p i = one _ (refl, refl) p i
   ack-of u End p i = absurd i
   ack-of u (Blocked g) p i = absurd i
 
   -- or a reply where there is none
-  told-of : (u : Update) (h : Hop) (p : Post) → IsIn p (told_to spot u h) → OfSlot p
+  told-of : (u : Update) (h : Hop) (p : Post) → IsIn p (told_to context u h) → OfSlot p
   told-of u (At s place) p i = one _ (refl, refl) p i
   told-of u End p i = one _ (refl, tt) p i
   told-of u (Blocked g) p i = absurd i
 
   -- posts of a move
-  pub move-of : (m : Move) (p : Post) → IsIn p (move_posts spot m) → OfSlot p
+  pub move-of : (m : Move) (p : Post) → IsIn p (move_posts context m) → OfSlot p
   move-of (Take u) p i = passed-of u p i
   move-of (Hold u) p i = absurd i
   move-of (Acknowledge v) p i = absurd i
-  move-of (Commit u) p i = told-of u (prev_at spot u) p i
+  move-of (Commit u) p i = told-of u (prev_at context u) p i
   move-of Forget p i = absurd i
 
-  pub moves-of : (ms : List Move) (p : Post) → IsIn p (flat_map (move_posts spot) ms) → OfSlot p
-  moves-of ms p i = let r = in-flat_map (move_posts spot) ms p i in move-of r.0 p r.2
+  pub moves-of : (ms : List Move) (p : Post) → IsIn p (flat_map (move_posts context) ms) → OfSlot p
+  moves-of ms p i = let r = in-flat_map (move_posts context) ms p i in move-of r.0 p r.2
 
   -- a doubt of a write that waits
-  waiting-of : (caller : Caller) (v : Version) (o : Option StuckAt) (p : Post) → IsIn p (waiting_doubt spot caller v o) → OfSlot p
+  waiting-of : (caller : Caller) (v : Version) (o : Option StuckAt) (p : Post) → IsIn p (waiting_doubt context caller v o) → OfSlot p
   waiting-of caller v None p i = absurd i
-  waiting-of caller v (Some x) p i = one (doubt_in spot caller v x.region) (refl, tt) p (in-provided (leb x.version.0 v.0) (doubt_in spot caller v x.region ∷ []) p i).1
+  waiting-of caller v (Some x) p i = one (doubt_in context caller v x.region) (refl, tt) p (in-provided (leb x.version.0 v.0) (doubt_in context caller v x.region ∷ []) p i).1
 
   -- what a step of a slot posts and notes
   pub record SlotTells (step : SlotStep) : Type 0 where
@@ -98,47 +98,47 @@ module _ (spot : Spot) where
     pub notes : (epoch : Epoch) → config_noted epoch step.notes ≡ None
 
   -- moves alone
-  pub moving : (ms : List Move) → SlotTells (by_moves spot ms)
+  pub moving : (ms : List Move) → SlotTells (by_moves context ms)
   moving ms = record { posts = moves-of ms; notes = λ epoch. refl }
 
   -- a call of a write, by the decision
-  decided-tells : (s : KeyState) (caller : Caller) (d : Decision) → SlotTells (decided spot s caller d)
+  decided-tells : (s : KeyState) (caller : Caller) (d : Decision) → SlotTells (decided context s caller d)
   decided-tells s caller a_decision.Old = record { posts = λ p i. absurd i; notes = λ epoch. refl }
   decided-tells s caller (a_decision.Again v answer) = record { posts = one _ (refl, tt); notes = λ epoch. refl }
-  decided-tells s caller (a_decision.Wait v) = record { posts = waiting-of caller v (stuck_of spot.config s); notes = λ epoch. refl }
+  decided-tells s caller (a_decision.Wait v) = record { posts = waiting-of caller v (stuck_of context.config s); notes = λ epoch. refl }
   decided-tells s caller (a_decision.Stuck g) = record { posts = one _ (refl, tt); notes = λ epoch. refl }
-  decided-tells s caller (a_decision.Assign u) = record { posts = moves-of (accepting spot s (offered spot.region s u)); notes = λ epoch. refl }
+  decided-tells s caller (a_decision.Assign u) = record { posts = moves-of (accepting context s (offered context.region s u)); notes = λ epoch. refl }
 
   -- a call
-  pub call-tells : (s : KeyState) (caller : Caller) (op : Op) → SlotTells (call_step spot s caller op)
+  pub call-tells : (s : KeyState) (caller : Caller) (op : Op) → SlotTells (call_step context s caller op)
   call-tells s caller op =
-      cond_both (is_write op) (write_step spot s caller op) (get_step spot s caller) SlotTells
-      (λ t. decided-tells s caller (decide spot.space spot.config spot.region s caller op))
+      cond_both (is_write op) (write_step context s caller op) (get_step context s caller) SlotTells
+      (λ t. decided-tells s caller (decide context.space context.config context.region s caller op))
       (λ t. record { posts = one _ (refl, tt); notes = λ epoch. refl })
 
   -- an update
-  pub update-tells : (s : KeyState) (u : Update) → SlotTells (update_step spot s u)
+  pub update-tells : (s : KeyState) (u : Update) → SlotTells (update_step context s u)
   update-tells s u =
-      cond_both (leb u.version.0 _) (by_posts (known_to spot s u)) _ SlotTells
-      (λ t. record { posts = λ p i. ack-of u (prev_at spot u) p (in-provided (leb u.version.0 s.floor) (ack_to spot u (prev_at spot u)) p i).1; notes = λ epoch. refl })
+      cond_both (leb u.version.0 _) (by_posts (known_to context s u)) _ SlotTells
+      (λ t. record { posts = λ p i. ack-of u (prev_at context u) p (in-provided (leb u.version.0 s.floor) (ack_to context u (prev_at context u)) p i).1; notes = λ epoch. refl })
       (λ t. moving _)
 
   -- an acknowledgement
-  pub ack-tells : (s : KeyState) (v : ℕ) → SlotTells (ack_step spot s v)
+  pub ack-tells : (s : KeyState) (v : ℕ) → SlotTells (ack_step context s v)
   ack-tells s v = moving _
 
   -- what is pending is passed on
-  pub pending-of : (us : List Update) (p : Post) → IsIn p (flat_map (passed_on spot) us) → OfSlot p
-  pending-of us p i = let r = in-flat_map (passed_on spot) us p i in passed-of r.0 p r.2
+  pub pending-of : (us : List Update) (p : Post) → IsIn p (flat_map (passed_on context) us) → OfSlot p
+  pending-of us p i = let r = in-flat_map (passed_on context) us p i in passed-of r.0 p r.2
 
   -- a leader's doubts
-  doubts-of : (s : KeyState) (o : Option StuckAt) (p : Post) → IsIn p (doubts_from spot s o) → OfSlot p
+  doubts-of : (s : KeyState) (o : Option StuckAt) (p : Post) → IsIn p (doubts_from context s o) → OfSlot p
   doubts-of s None p i = absurd i
-  doubts-of s (Some x) p i = let r = in-map (λ (u : Update). doubt_in spot u.caller u.version x.region) _ p i in subst OfSlot (sym r.2) (refl, tt)
+  doubts-of s (Some x) p i = let r = in-map (λ (u : Update). doubt_in context u.caller u.version x.region) _ p i in subst OfSlot (sym r.2) (refl, tt)
 
   -- a slot goes on in a new configuration
-  pub resumed-of : (s : KeyState) (p : Post) → IsIn p (resumed_posts spot s) → OfSlot p
-  resumed-of s p i = elim (in-append (flat_map (passed_on spot) (pending_of s) ++ flat_map (move_posts spot) (resumed spot s)) (leader_doubts spot (moved_all (resumed spot s) s)) p i) [
-    | inl j ↦ elim (in-append (flat_map (passed_on spot) (pending_of s)) (flat_map (move_posts spot) (resumed spot s)) p j) [ inl k ↦ pending-of (pending_of s) p k | inr k ↦ moves-of (resumed spot s) p k ]
-    | inr j ↦ doubts-of (moved_all (resumed spot s) s) (stuck_of spot.config (moved_all (resumed spot s) s)) p (in-provided (leads spot.space spot.config spot.server spot.region) _ p j).1
+  pub resumed-of : (s : KeyState) (p : Post) → IsIn p (resumed_posts context s) → OfSlot p
+  resumed-of s p i = elim (in-append (flat_map (passed_on context) (pending_of s) ++ flat_map (move_posts context) (resumed context s)) (leader_doubts context (moved_all (resumed context s) s)) p i) [
+    | inl j ↦ elim (in-append (flat_map (passed_on context) (pending_of s)) (flat_map (move_posts context) (resumed context s)) p j) [ inl k ↦ pending-of (pending_of s) p k | inr k ↦ moves-of (resumed context s) p k ]
+    | inr j ↦ doubts-of (moved_all (resumed context s) s) (stuck_of context.config (moved_all (resumed context s) s)) p (in-provided (leads context.space context.config context.server context.region) _ p j).1
   ]

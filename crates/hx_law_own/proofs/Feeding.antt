@@ -18,7 +18,7 @@ use Rattle.hx_types.specs.Words.{post, same_server, same_session, IsIn}
 use Rattle.hx_model.specs.CoordinatorSteps.{CoordinatorState, coordinator_step}
 use Rattle.hx_model.specs.ServerSteps.{ServerState, server_step}
 use Rattle.hx_model.specs.SessionSteps.{SessionState, session_step}
-use Rattle.hx_model.specs.Runs.{Made, coordinator_after, coordinator_of, is_actor, server_after, server_of, session_after, session_of}
+use Rattle.hx_model.specs.Runs.{Output, coordinator_after, coordinator_of, is_actor, server_after, server_of, session_after, session_of}
 use Rattle.hx_clock.specs.declared.parts.Stamped.{Stamped}
 use Rattle.hx_law_threads.specs.Own.{IsOwn}
 use Rattle.hx_posts.proofs.Runs.{kept-run}
@@ -70,7 +70,7 @@ module _ (script : Script) (valid : IsScript script) where
         let after : server_of script s (entries_in (x ∷ older)) ≡ (server_step script.space st x.entry.input).state =
         ap (λ (z : Actor). server_after script.space s z x.entry.input st) own.0.actor ∙ cond-true (same_server s s) (server_step script.space st x.entry.input).state st self in (
           subst (IsSoundServer script.space (length script.sessions) (x.stamp.0 + 1) s) (sym after) well.state,
-          more-sound script x older _ (ap (λ (m : Made). m.posts) own.0.made) well.posts before.1,
+          more-sound script x older _ (ap (λ (m : Output). m.posts) own.0.made) well.posts before.1,
         )
 
   -- a session
@@ -89,7 +89,7 @@ module _ (script : Script) (valid : IsScript script) where
         let after : session_of script u (entries_in (x ∷ older)) ≡ (session_step script.space st x.entry.input).state =
         ap (λ (z : Actor). session_after script.space u z x.entry.input st) own.0.actor ∙ cond-true (same_session u u) (session_step script.space st x.entry.input).state st self in (
           subst (session.IsOwn script (x.stamp.0 + 1) u) (sym after) well.own,
-          more-sound script x older _ (ap (λ (m : Made). m.posts) own.0.made) well.posts before.1,
+          more-sound script x older _ (ap (λ (m : Output). m.posts) own.0.made) well.posts before.1,
         )
 
   -- the coordinator
@@ -106,7 +106,7 @@ module _ (script : Script) (valid : IsScript script) where
       (λ id from m e. let d = fed script x.stamp.0 x.entry.actor Coordinator x.entry.input own.0.actor f.1 id from m e in (d.0, d.2)) in
       let after : coordinator_of script (entries_in (x ∷ older)) ≡ (coordinator_step c x.entry.input).state = ap (λ (z : Actor). coordinator_after z x.entry.input c) own.0.actor in (
         subst (coordinator.IsSoundCoordinator script.space (length script.sessions) (x.stamp.0 + 1)) (sym after) well.state,
-        more-sound script x older _ (ap (λ (m : Made). m.posts) own.0.made) well.posts before.1,
+        more-sound script x older _ (ap (λ (m : Output). m.posts) own.0.made) well.posts before.1,
       )
 
 pub actors_stay_sound : ActorsStaySound

@@ -14,7 +14,7 @@ use Rattle.hx_types.specs.declared.messages.Message.TheVariants as a_message
 use Rattle.hx_types.specs.declared.ids.Actor.TheVariants.{Coordinator, Server, Session}
 use Rattle.hx_types.specs.Words.{IsIn, post}
 use Rattle.hx_model.specs.SessionSteps.{session_step}
-use Rattle.hx_model.specs.Runs.{IsRun, IsStep, Made, MayTake, coordinator_of, made_of, server_of, session_after, session_of}
+use Rattle.hx_model.specs.Runs.{IsRun, IsStep, Output, MayTake, coordinator_of, made_of, server_of, session_after, session_of}
 use Rattle.hx_model.specs.Histories.{line_notes, line_of}
 use Rattle.hx_law_lemmas.proofs.Traces.{arrived}
 use Rattle.hx_law_lemmas.proofs.Lines.{in-upto}
@@ -66,8 +66,8 @@ module _ (script : Script) (facts : Facts script) (older : List Entry) (calls : 
   of-coordinator acts =
       let made : made_of script older Coordinator x.input ≡ record { posts = x.outputs; notes = x.notes } = subst (λ (a : Actor). made_of script older a x.input ≡ record { posts = x.outputs; notes = x.notes }) acts run.0.made in
       let plain = coordinator-plain (coordinator_of script older) x.input in
-      let says : (p : Post) → IsIn p x.outputs → OfCoordinator p.message = λ p i. plain.posts p (subst (λ (ps : List Post). IsIn p ps) (sym (ap (λ (m : Made). m.posts) made)) i) in
-      let same : (key : List ℕ) → line_of key (x ∷ older) ≡ line_of key older = λ key. ap (λ ns. line_notes key (line_of key older) ns) (sym (ap (λ (m : Made). m.notes) made)) ∙ issued-line key (line_of key older) (coordinator_step (coordinator_of script older) x.input).notes plain.notes in
+      let says : (p : Post) → IsIn p x.outputs → OfCoordinator p.message = λ p i. plain.posts p (subst (λ (ps : List Post). IsIn p ps) (sym (ap (λ (m : Output). m.posts) made)) i) in
+      let same : (key : List ℕ) → line_of key (x ∷ older) ≡ line_of key older = λ key. ap (λ ns. line_notes key (line_of key older) ns) (sym (ap (λ (m : Output). m.notes) made)) ∙ issued-line key (line_of key older) (coordinator_step (coordinator_of script older) x.input).notes plain.notes in
       other_calls script older calls x
       (λ u e. (let q : Coordinator ≡ Session u = sym acts ∙ e in cc))
       (λ u. ap (λ (a : Actor). session_after script.space u a x.input (session_of script u older)) acts)
@@ -81,7 +81,7 @@ module _ (script : Script) (facts : Facts script) (older : List Entry) (calls : 
       let made : made_of script older (Server i) x.input ≡ record { posts = x.outputs; notes = x.notes } = subst (λ (a : Actor). made_of script older a x.input ≡ record { posts = x.outputs; notes = x.notes }) acts run.0.made in
       let may : MayTake older (Server i) x.input = subst (λ (a : Actor). MayTake older a x.input) acts run.0.input in
       let plain = server-plain AnySnapshot script.space (server_of script i older) x.input (λ r j. tt) (λ g. tt) in
-      let says : (p : Post) → IsIn p x.outputs → OfServer AnySnapshot p.message = λ p j. plain.posts p (subst (λ (ps : List Post). IsIn p ps) (sym (ap (λ (m : Made). m.posts) made)) j) in
+      let says : (p : Post) → IsIn p x.outputs → OfServer AnySnapshot p.message = λ p j. plain.posts p (subst (λ (ps : List Post). IsIn p ps) (sym (ap (λ (m : Output). m.posts) made)) j) in
       let posted : (c : Caller) → DeliversCall x c → WasPosted older c =
       λ c d. (Server i, d.epoch, d.op, arrived d.id older (post (Session c.session) (Server i) (a_message.Call d.epoch c.number d.op)) (subst (MayTake older (Server i)) d.input may)) in
       other_calls script older calls x

@@ -25,7 +25,7 @@ use Rattle.hx_types.specs.Effects.{changed_to, effect_of, is_write, key_of, left
 use Rattle.hx_types.specs.Fitting.{Noted, assigns_well, call_of, ends_well, has_begun, has_ended, is_begin_of, is_cmp_fail, is_done, is_end_of, is_found, is_not_found, is_refused, noted_in, notes_fit, numbered, other_note_fits}
 use Rattle.hx_model.proofs.States.{same_text_self}
 use Rattle.hx_model.specs.Histories.{line_notes, line_of}
-use Rattle.hx_model.specs.Runs.{IsRun, Made, coordinator_of, made_of, server_of, session_of}
+use Rattle.hx_model.specs.Runs.{IsRun, Output, coordinator_of, made_of, server_of, session_of}
 use Rattle.hx_model.specs.ServerSteps.{get_answer}
 use Rattle.hx_law_lemmas.proofs.Lists.{any-in, in-append, in-map, in-reverse, in_left, in_right, of-reverse}
 use Rattle.hx_posts.proofs.SlotPosts.{any-of}
@@ -311,7 +311,7 @@ run-fits script facts [] run = refl
 run-fits script facts (x ∷ older) run = by (run-fits script facts older run.1) x.actor refl
   where
     made-notes : (a : Actor) → x.actor ≡ a → (made_of script older a x.input).notes ≡ x.notes
-    made-notes a e = ap (λ (m : Made). m.notes) (subst (λ (b : Actor). made_of script older b x.input ≡ record { posts = x.outputs; notes = x.notes }) e run.0.made)
+    made-notes a e = ap (λ (m : Output). m.notes) (subst (λ (b : Actor). made_of script older b x.input ≡ record { posts = x.outputs; notes = x.notes }) e run.0.made)
 
     by : notes_fit script (noted_in older) ≡ true → (a : Actor) → x.actor ≡ a → FitsOf script facts older x run x.actor x.notes
     by had Coordinator e =

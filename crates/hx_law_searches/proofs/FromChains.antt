@@ -28,7 +28,7 @@ use Rattle.hx_types.specs.Effects.{key_of}
 use Rattle.hx_types.specs.Subspaces.{is_key_region}
 use Rattle.hx_types.specs.Fitting.{IsScript, call_of, is_refused}
 use Rattle.hx_model.specs.Runs.{IsRun, coordinator_of, has_halted, is_actor, server_of}
-use Rattle.hx_model.specs.ServerSteps.{Replica, ServerState, hearing, if_installed, replica_of, state_in}
+use Rattle.hx_model.specs.ServerSteps.{Replica, ServerState, replica_in_epoch, if_installed, replica_of, state_in}
 use Rattle.hx_model.specs.Slots.{KeyState, found_in, kept_row, object_of}
 use Rattle.hx_model.specs.Histories.{line_of}
 use Rattle.hx_law_lemmas.specs.Words.{posts_of, view}
@@ -36,7 +36,7 @@ use Rattle.hx_law_lemmas.proofs.Replicas.{replica-found}
 use Rattle.hx_law_lemmas.proofs.Texts.{state-there}
 use Rattle.hx_law_lemmas.proofs.Placed.{AllMade}
 use Rattle.hx_folds.specs.Folding.{IsSlotOf}
-use Rattle.hx_law_lemmas.proofs.Hearing.{hearing-found, hearing-open, installed-found}
+use Rattle.hx_law_lemmas.proofs.Hearing.{replica_in_epoch-found, replica_in_epoch-open, installed-found}
 use Rattle.hx_law_chains.proofs.Holders.{seat-of}
 use Rattle.hx_law_chains.proofs.Keys.{along-fixed}
 use Rattle.hx_law_chains.proofs.Posts.{Seat}
@@ -72,8 +72,8 @@ line-lawful script known key [] h = tt
 line-lawful script known key (u ∷ us) h = (after-law script known key us u h.0, line-lawful script known key us h.1)
 
 -- a replica that hears is of a region that isn't lost
-hearing-alive : (s : ServerState) (epoch : Epoch) (g : RegionId) (r : Replica) → hearing s epoch g ≡ Some r → is_lost s.config g ≡ false
-hearing-alive s epoch g r = by (s.sealed) _ (is_lost s.config g)
+replica_in_epoch-alive : (s : ServerState) (epoch : Epoch) (g : RegionId) (r : Replica) → replica_in_epoch s epoch g ≡ Some r → is_lost s.config g ≡ false
+replica_in_epoch-alive s epoch g r = by (s.sealed) _ (is_lost s.config g)
   where
     by : (a b c : _) → (if a || b || c then None else replica_of g s.replicas) ≡ Some r → c ≡ false
     by true b c e = absurd (cc)
@@ -136,7 +136,7 @@ module _ (script : Script) (valid : IsScript script) where
 
   -- ---- rows that are found
 
-  module _ (older : List Entry) (run : IsRun script older) (i : ServerId) (real : Real script i) (up : (server_of script i older).halted ≡ false) (epoch : Epoch) (g : RegionId) (r : Replica) (heard : if_installed (hearing (server_of script i older) epoch g) ≡ Some r) where
+  module _ (older : List Entry) (run : IsRun script older) (i : ServerId) (real : Real script i) (up : (server_of script i older).halted ≡ false) (epoch : Epoch) (g : RegionId) (r : Replica) (heard : if_installed (replica_in_epoch (server_of script i older) epoch g) ≡ Some r) where
     -- the server
     abbrev st : ServerState
     st = server_of script i older
@@ -146,19 +146,19 @@ module _ (script : Script) (valid : IsScript script) where
     c = (coordinator_of script older).config
 
     -- the replica hears
-    hears : hearing st epoch g ≡ Some r
-    hears = installed-found (hearing st epoch g) r heard
+    hears : replica_in_epoch st epoch g ≡ Some r
+    hears = installed-found (replica_in_epoch st epoch g) r heard
 
     -- and is the server's, of the region
     found : replica_of g st.replicas ≡ Some r
-    found = hearing-found st epoch g r hears
+    found = replica_in_epoch-found st epoch g r hears
 
     region : IsIn r st.replicas × (r.region ≡ g)
     region = replica-found g st.replicas r found
 
     -- it is installed
     installed : r.installed ≡ true
-    installed = by (hearing st epoch g) heard
+    installed = by (replica_in_epoch st epoch g) heard
       where
         by : (o : Option Replica) → if_installed o ≡ Some r → r.installed ≡ true
         by None = λ e. absurd (cc)
@@ -166,11 +166,11 @@ module _ (script : Script) (valid : IsScript script) where
 
     -- the server has the newest configuration
     newest : st.config ≡ c
-    newest = elim ((epochs-run script valid older run).epochs.near i real up) [ inl e ↦ e | inr e ↦ absurd (false≢true (sym (hearing-open st epoch g r hears) ∙ e.1)) ]
+    newest = elim ((epochs-run script valid older run).epochs.near i real up) [ inl e ↦ e | inr e ↦ absurd (false≢true (sym (replica_in_epoch-open st epoch g r hears) ∙ e.1)) ]
 
     -- so the region isn't lost there
     alive : is_lost c g ≡ false
-    alive = ap (λ (d : Config). is_lost d g) (sym newest) ∙ hearing-alive st epoch g r hears
+    alive = ap (λ (d : Config). is_lost d g) (sym newest) ∙ replica_in_epoch-alive st epoch g r hears
 
     -- it is a seat
     seat : Seat script (world (scene script older)) g i

@@ -21,7 +21,7 @@ use Rattle.hx_types.specs.declared.ids.Actor.TheVariants.{Coordinator, Server, S
 use Rattle.hx_types.specs.Words.{IsIn, post, same_session}
 use Rattle.hx_types.specs.Fitting.{call_of, numbered}
 use Rattle.hx_model.specs.SessionSteps.{SessionState, session_step}
-use Rattle.hx_model.specs.Runs.{IsRun, Made, MayTake, coordinator_of, made_of, server_of, session_after, session_of}
+use Rattle.hx_model.specs.Runs.{IsRun, Output, MayTake, coordinator_of, made_of, server_of, session_after, session_of}
 use Rattle.hx_law_lemmas.specs.Words.{posts_of}
 use Rattle.hx_law_lemmas.proofs.Lists.{in-append}
 use Rattle.hx_law_lemmas.proofs.Traces.{BeganAt, arrived}
@@ -139,7 +139,7 @@ module _ (script : Script) (facts : Facts script) (older : List Entry) (x : Entr
       let made : made_of script older Coordinator x.input ≡ record { posts = x.outputs; notes = x.notes } = subst (λ (a : Actor). made_of script older a x.input ≡ record { posts = x.outputs; notes = x.notes }) acts run.0.made in
       let plain = coordinator-plain (coordinator_of script older) x.input in
       keeps (keeps-parts Coordinator acts (λ u. refl))
-      (λ p i. quiet p.from p.to p.message (plain.posts p (subst (λ (ps : List Post). IsIn p ps) (sym (ap (λ (m : Made). m.posts) made)) i)))
+      (λ p i. quiet p.from p.to p.message (plain.posts p (subst (λ (ps : List Post). IsIn p ps) (sym (ap (λ (m : Output). m.posts) made)) i)))
     where
       quiet : (from to : Actor) (m : Message) → OfCoordinator m → TellsOf script (x ∷ older) from to m
       quiet from to (a_message.Seal epoch) h = tt
@@ -166,7 +166,7 @@ module _ (script : Script) (facts : Facts script) (older : List Entry) (x : Entr
       let made : made_of script older (Server i) x.input ≡ record { posts = x.outputs; notes = x.notes } = subst (λ (a : Actor). made_of script older a x.input ≡ record { posts = x.outputs; notes = x.notes }) acts run.0.made in
       let plain = server-plain AnySnapshot script.space (server_of script i older) x.input (λ r j. tt) (λ g. tt) in
       keeps (keeps-parts (Server i) acts (λ u. refl))
-      (λ p j. says p.from p.to p.message j (plain.posts p (subst (λ (ps : List Post). IsIn p ps) (sym (ap (λ (m : Made). m.posts) made)) j)))
+      (λ p j. says p.from p.to p.message j (plain.posts p (subst (λ (ps : List Post). IsIn p ps) (sym (ap (λ (m : Output). m.posts) made)) j)))
     where
       may : MayTake older (Server i) x.input
       may = subst (λ (a : Actor). MayTake older a x.input) acts run.0.input

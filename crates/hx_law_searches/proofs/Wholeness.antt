@@ -25,7 +25,7 @@ use Rattle.hx_model.specs.SessionSteps.{Part, merged_parts}
 use Rattle.hx_model.specs.Runs.{IsRun}
 use Rattle.hx_model.specs.Histories.{history_of, line_of}
 use Rattle.hx_model.specs.Linear.{began_before, ended_before}
-use Rattle.hx_model.specs.Searching.{Cut, FinishedSearch, IsCutShown, IsSearchWhole, IsShown, changes_object, last_change}
+use Rattle.hx_model.specs.Searching.{ItemWithNewer, FinishedSearch, IsChangeShown, IsSearchWhole, IsShown, changes_object, last_change}
 use Rattle.hx_plan.proofs.Listing.{Contains-below}
 use Rattle.hx_plan.proofs.Planned.{all_asked, asked}
 use Rattle.hx_region.specs.Spans.{subspace_count}
@@ -111,7 +111,7 @@ module _ (script : Script) (valid : IsScript script) (facts : Facts script) (t :
           by None e j = absurd j
           by (Some rows) e j = record { region = p.region; rows = rows; by = known.gathered.parted.each p i rows e; inside = j }
 
-  module _ (key : List ℕ) (cut : Cut) (last : LastChange t s.end [] (history_of script key t) cut) where
+  module _ (key : List ℕ) (cut : ItemWithNewer) (last : LastChange t s.end [] (history_of script key t) cut) where
     -- the items of the key
     abbrev all : List Item
     all = history_of script key t
@@ -259,6 +259,6 @@ module _ (script : Script) (valid : IsScript script) (facts : Facts script) (t :
   pub search-whole : (key : List ℕ) → IsSearchWhole script t key s
   search-whole key = by (last_change t s.end [] (history_of script key t)) refl
     where
-      by : (x : Option Cut) → last_change t s.end [] (history_of script key t) ≡ x → IsCutShown t s key x
+      by : (x : Option ItemWithNewer) → last_change t s.end [] (history_of script key t) ≡ x → IsChangeShown t s key x
       by None e = tt
       by (Some cut) e = λ any. cut-shown key cut (last-is t s.end [] (history_of script key t) cut e) any

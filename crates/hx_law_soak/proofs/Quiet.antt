@@ -25,11 +25,11 @@ use Rattle.hx_types.specs.Words.{IsIn, post, same_server, server_in, when_some}
 use Rattle.hx_types.specs.Configs.{first_config, is_lost, leads, lists_joining, members_of}
 use Rattle.hx_types.specs.Fitting.{IsScript, call_of, calls_of, numbered}
 use Rattle.hx_model.specs.CoordinatorSteps.{CoordinatorState, CoordinatorStep, coordinator_at_start, coordinator_message, coordinator_step, resting, telling}
-use Rattle.hx_model.specs.ServerSteps.{Replica, ServerState, ServerStep, acked, asked, call_at, called, hearing, if_installed, input_step, message_step, server_step, snapped, unmoved, updated}
+use Rattle.hx_model.specs.ServerSteps.{Replica, ServerState, ServerStep, acked, asked, call_at, called, replica_in_epoch, if_installed, input_step, message_step, server_step, snapped, unmoved, updated}
 use Rattle.hx_model.specs.SessionSteps.{SessionState, is_administrative}
 use Rattle.hx_model.specs.Causes.{config_of}
 use Rattle.hx_model.specs.Regions.{key_region}
-use Rattle.hx_model.specs.Runs.{IsRun, Made, MayTake, coordinator_after, coordinator_of, is_actor, made_of, server_after, server_of, session_of}
+use Rattle.hx_model.specs.Runs.{IsRun, Output, MayTake, coordinator_after, coordinator_of, is_actor, made_of, server_after, server_of, session_of}
 use Rattle.hx_law_lemmas.specs.Words.{posts_of}
 use Rattle.hx_law_lemmas.proofs.FirstMembers.{all-ready}
 use Rattle.hx_law_lemmas.proofs.Lists.{any-in, in-append}
@@ -86,7 +86,7 @@ module _ (space : Space) (s : ServerState) (up : s.halted ≡ false) where
 
   up-called : (epoch : Epoch) (c : Caller) (op : Op) (o : Option (List ℕ)) → Up (called space s epoch c op o)
   up-called epoch c op None = up
-  up-called epoch c op (Some key) = by (hearing s epoch (key_region space key))
+  up-called epoch c op (Some key) = by (replica_in_epoch s epoch (key_region space key))
     where
       by : (o : Option Replica) → Up (when_some o (unmoved s) (λ (r : Replica). call_at space s r key c op))
       by None = up
@@ -96,24 +96,24 @@ module _ (space : Space) (s : ServerState) (up : s.halted ≡ false) where
   up-message Coordinator (a_message.Call epoch number op) c = up
   up-message (Server i) (a_message.Call epoch number op) c = up
   up-message (Session u) (a_message.Call epoch number op) c = up-called epoch (record { session = u; number = number }) op _
-  up-message from (a_message.Update epoch g u) c = by (if_installed (hearing s epoch g))
+  up-message from (a_message.Update epoch g u) c = by (if_installed (replica_in_epoch s epoch g))
     where
       by : (o : Option Replica) → Up (updated space s u o)
       by None = up
       by (Some r) = up
-  up-message from (a_message.Ack epoch g key version) c = by (if_installed (hearing s epoch g))
+  up-message from (a_message.Ack epoch g key version) c = by (if_installed (replica_in_epoch s epoch g))
     where
       by : (o : Option Replica) → Up (acked space s key version.0 o)
       by None = up
       by (Some r) = up
-  up-message from (a_message.Ask epoch number g terms) c = by (if_installed (hearing s epoch g))
+  up-message from (a_message.Ask epoch number g terms) c = by (if_installed (replica_in_epoch s epoch g))
     where
       by : (o : Option Replica) → Up (asked s from epoch number terms o)
       by None = up
       by (Some r) = up
   up-message from (a_message.Seal epoch) c = cond_both (eqb epoch.0 s.config.epoch.0) _ (unmoved s) Up (λ t. up) (λ t. up)
   up-message from (a_message.Install config) c = cond_both (ltb s.config.epoch.0 config.epoch.0) _ (unmoved s) Up (λ t. up) (λ t. up)
-  up-message from (a_message.Snap epoch g snapshot pending) c = by (hearing s epoch g)
+  up-message from (a_message.Snap epoch g snapshot pending) c = by (replica_in_epoch s epoch g)
     where
       by : (o : Option Replica) → Up (snapped space s snapshot pending o)
       by None = up
@@ -263,7 +263,7 @@ module _ (script : Script) (valid : IsScript script) (none : NoneAdministers scr
         record {
           rests = ap (λ (a : Actor). coordinator_after a x.input before) acts ∙ ap (λ (c : CoordinatorState). (coordinator_step c x.input).state) q.rests ∙ r.state;
           up = λ s. ap (λ (a : Actor). (server_after script.space s a x.input (server_of script s older)).halted) acts ∙ q.up s;
-          calm = calm-all (λ p i. r.calm p (subst (λ (ps : List Post). IsIn p ps) (sym (ap (λ (m : Made). m.posts) made) ∙ ap (λ (c : CoordinatorState). (coordinator_step c x.input).posts) q.rests) i));
+          calm = calm-all (λ p i. r.calm p (subst (λ (ps : List Post). IsIn p ps) (sym (ap (λ (m : Output). m.posts) made) ∙ ap (λ (c : CoordinatorState). (coordinator_step c x.input).posts) q.rests) i));
         }
 
     of-server : (i : ServerId) → x.actor ≡ Server i → IsQuiet script (x ∷ older)
@@ -280,7 +280,7 @@ module _ (script : Script) (valid : IsScript script) (none : NoneAdministers scr
               ∙ cond_both (same_server i s) (server_step script.space (server_of script s older) x.input).state (server_of script s older) (λ (w : ServerState). w.halted ≡ false)
               (λ t. up-step script.space (server_of script s older) (q.up s) x.input h) (λ t. q.up s);
           calm = calm-all (λ p j. calm-told i (server_step script.space (server_of script i older) x.input).state still p.to p.message
-              (does.posts p (subst (λ (ps : List Post). IsIn p ps) (sym (ap (λ (m : Made). m.posts) made)) j)).1);
+              (does.posts p (subst (λ (ps : List Post). IsIn p ps) (sym (ap (λ (m : Output). m.posts) made)) j)).1);
         }
 
     of-session : (u : SessionId) → x.actor ≡ Session u → IsQuiet script (x ∷ older)

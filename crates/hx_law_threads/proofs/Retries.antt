@@ -12,7 +12,7 @@ use Rattle.hx_types.specs.declared.ids.Actor.TheVariants.{Coordinator, Server, S
 use Rattle.hx_types.specs.declared.traces.Input.TheVariants.{Tick, Halt, Deliver}
 use Rattle.hx_types.specs.Fitting.{numbered}
 use Rattle.hx_types.specs.Words.{when_some}
-use Rattle.hx_model.specs.Runs.{entry_at, has_halted, made_of, makes_enough, session_of, IsRun, Made}
+use Rattle.hx_model.specs.Runs.{entry_at, has_halted, made_of, does_something, session_of, IsRun, Output}
 use Rattle.hx_model.specs.Schedule.{is_idle}
 use Rattle.hx_model.specs.SessionSteps.{SessionState, begin, session_tick, staying}
 use Rattle.hx_law_threads.specs.Own.{own_entries, IsOwn, IsOwnStep}
@@ -63,12 +63,12 @@ retry_waits script a older x s e =
     let tick : x.input ≡ Tick = tick_is x.input both.0 in
     let made : made_of script older a Tick ≡ record { posts = x.outputs; notes = x.notes } =
     subst (λ (i : Input). made_of script older a i ≡ record { posts = x.outputs; notes = x.notes }) tick s.made in
-    let enough : makes_enough Tick (record { posts = x.outputs; notes = x.notes }) ≡ true =
-    subst (λ (i : Input). makes_enough i (record { posts = x.outputs; notes = x.notes }) ≡ true) tick s.enough in
-    let idle = not_idle script older a (ap (λ (m : Made). not (list_any is_began m.notes)) made ∙ both.1) in
-    and_from (not (has_halted script older a) && not (is_idle_actor script older a)) (makes_enough Tick (made_of script older a Tick))
+    let enough : does_something Tick (record { posts = x.outputs; notes = x.notes }) ≡ true =
+    subst (λ (i : Input). does_something i (record { posts = x.outputs; notes = x.notes }) ≡ true) tick s.enough in
+    let idle = not_idle script older a (ap (λ (m : Output). not (list_any is_began m.notes)) made ∙ both.1) in
+    and_from (not (has_halted script older a) && not (is_idle_actor script older a)) (does_something Tick (made_of script older a Tick))
     (and_from (not (has_halted script older a)) (not (is_idle_actor script older a)) (not_false _ s.running) (not_false _ idle))
-    (ap (makes_enough Tick) made ∙ enough)
+    (ap (does_something Tick) made ∙ enough)
 
 pub first_all : (n : ℕ) (xs : List Entry) → length xs ≤ n → first_entries n xs ≡ xs
 first_all n [] le = refl

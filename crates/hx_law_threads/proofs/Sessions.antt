@@ -13,7 +13,7 @@ use Rattle.hx_types.specs.declared.ids.Actor.TheVariants.{Coordinator, Server, S
 use Rattle.hx_types.specs.Fitting.{call_of, calls_of, numbered}
 use Rattle.hx_types.specs.Words.{first_some, same_actor}
 use Rattle.hx_model.specs.Histories.{CallEnd, begin_of, begins_in, ends_in, is_session, note_of_end}
-use Rattle.hx_model.specs.Runs.{made_of, session_after, session_of, IsRun, Made}
+use Rattle.hx_model.specs.Runs.{made_of, session_after, session_of, IsRun, Output}
 use Rattle.hx_model.specs.SessionSteps.{SessionState, session_step}
 use Rattle.hx_law_lemmas.proofs.CallEnds.{CallStop, began_notes, end_notes, goes_on, started, started_same}
 use Rattle.hx_law_lemmas.proofs.SessionMessages.{session_turn}
@@ -30,7 +30,7 @@ AreSteps script u (x ∷ older) =
 
 notes_of_made : (script : Script) (u : SessionId) (older : List Entry) (x : Entry) → made_of script older (Session u) x.input ≡ record { posts = x.outputs; notes = x.notes }
     → x.notes ≡ (session_step script.space (session_of script u older) x.input).notes
-notes_of_made script u older x e = sym (ap (λ (m : Made). m.notes) e)
+notes_of_made script u older x e = sym (ap (λ (m : Output). m.notes) e)
 
 run_steps : (script : Script) (u : SessionId) (trace : List Entry) → IsRun script trace → AreSteps script u trace
 run_steps script u [] r = tt

@@ -16,7 +16,7 @@ use Rattle.hx_types.specs.Words.{same_actor}
 use Rattle.hx_model.specs.CoordinatorSteps.{CoordinatorState, coordinator_step}
 use Rattle.hx_model.specs.ServerSteps.{ServerState, server_step}
 use Rattle.hx_model.specs.SessionSteps.{SessionState, session_step}
-use Rattle.hx_model.specs.Runs.{coordinator_after, coordinator_of, has_halted, made_of, server_after, server_of, session_after, session_of, IsRun, IsStep, Made, MayTake}
+use Rattle.hx_model.specs.Runs.{coordinator_after, coordinator_of, has_halted, made_of, server_after, server_of, session_after, session_of, IsRun, IsStep, Output, MayTake}
 use Rattle.hx_law_threads.specs.Own.{own_entries, IsOwn, IsOwnStep, MayHalt}
 use Rattle.hx_law_threads.specs.Laws.{IsByOwnEntries}
 use Rattle.hx_law_threads.proofs.Actors.{same_actor_is}
@@ -60,7 +60,7 @@ coordinator_own script (x ∷ older) =
     (λ t. ap (coordinator_after x.actor x.input) (coordinator_own script older))
     (λ t. coordinator_own script older ∙ sym (coordinator_other x.actor x.input (coordinator_of script older) t))
 
-abbrev the_made : List Post → List Note → Made
+abbrev the_made : List Post → List Note → Output
 the_made posts notes = record { posts = posts; notes = notes }
 
 pub made_own : (script : Script) (trace : List Entry) (a : Actor) (input : Input) → made_of script (own_entries a trace) a input ≡ made_of script trace a input

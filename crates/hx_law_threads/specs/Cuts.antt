@@ -15,7 +15,7 @@ use Rattle.hx_types.specs.declared.traces.Input.TheVariants.{Tick, Deliver}
 use Rattle.hx_types.specs.declared.traces.Note.TheVariants as a_note
 use Rattle.hx_types.specs.Words.{provided, when_some}
 use Rattle.hx_model.specs.Histories.{begin_of, note_of_end}
-use Rattle.hx_model.specs.Runs.{entry_at, has_halted, made_of, makes_enough, post_named, session_of}
+use Rattle.hx_model.specs.Runs.{entry_at, has_halted, made_of, does_something, post_named, session_of}
 use Rattle.hx_model.specs.Schedule.{entries_of, is_idle, names_from, same_name}
 use Rattle.hx_law_threads.specs.Own.{own_entries}
 
@@ -59,7 +59,7 @@ is_idle_actor script own other = false
 
 -- after its own entries the actor runs, is no idle session, and a tick makes something: it waits for what may be lost
 abbrev pub is_waiting : Script → List Entry → Actor → Bool
-is_waiting script own a = not (has_halted script own a) && not (is_idle_actor script own a) && makes_enough Tick (made_of script own a Tick)
+is_waiting script own a = not (has_halted script own a) && not (is_idle_actor script own a) && does_something Tick (made_of script own a Tick)
 
 -- the entry of an actor with so many older entries of the trace is in the cut
 abbrev pub is_in_cut : Cut → Actor → List Entry → Bool

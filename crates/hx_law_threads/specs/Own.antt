@@ -7,7 +7,7 @@ use Rattle.hx_types.specs.declared.traces.Input.{Input}
 use Rattle.hx_types.specs.declared.traces.Script.{Script}
 use Rattle.hx_types.specs.declared.traces.Input.TheVariants.{Tick, Halt, Deliver}
 use Rattle.hx_types.specs.Words.{same_actor}
-use Rattle.hx_model.specs.Runs.{has_halted, made_of, makes_enough, IsAServer}
+use Rattle.hx_model.specs.Runs.{has_halted, made_of, does_something, IsAServer}
 use Rattle.hx_clock.specs.declared.parts.Stamped.{Stamped}
 
 -- the entries of a part, the newest first
@@ -30,7 +30,7 @@ pub record IsOwnStep (script : Script) (a : Actor) (older : List Entry) (x : Ent
   pub running : has_halted script older a ≡ false
   pub input : MayHalt a x.input
   pub made : made_of script older a x.input ≡ record { posts = x.outputs; notes = x.notes }
-  pub enough : makes_enough x.input (record { posts = x.outputs; notes = x.notes }) ≡ true
+  pub enough : does_something x.input (record { posts = x.outputs; notes = x.notes }) ≡ true
 
 -- each entry is the actor's step after the older ones
 abbrev pub IsOwn : Script → Actor → List Entry → Type 0

@@ -24,7 +24,7 @@ use Rattle.hx_types.specs.Posts.{ActorExists, IsSessionOf, IsSoundPost, is_sessi
 use Rattle.hx_model.specs.Regions.{key_region}
 use Rattle.hx_model.specs.Slots.{KeyState, acknowledged, found_in, object_in, object_of, offered, top_of}
 use Rattle.hx_model.specs.Leading.{decide, stuck_of}
-use Rattle.hx_model.specs.ServerSteps.{Replica, ServerState, ServerStep, SlotStep, accepting, ack_step, acked, asked, at_slot, by_moves, by_posts, call_at, call_step, called, called_by, decided, doubt_in, get_answer, get_step, hearing, known_to, replica_of, reply, spot_of, state_in, unmoved, update_step, updated, waiting_doubt, write_step}
+use Rattle.hx_model.specs.ServerSteps.{Replica, ServerState, ServerStep, SlotStep, accepting, ack_step, acked, asked, at_slot, by_moves, by_posts, call_at, call_step, called, called_by, decided, doubt_in, get_answer, get_step, replica_in_epoch, known_to, replica_of, reply, context_of, state_in, unmoved, update_step, updated, waiting_doubt, write_step}
 use Rattle.hx_law_lemmas.proofs.Lists.{all-of, in-provided, when_some_both}
 use Rattle.hx_law_lemmas.proofs.KnownUpdates.{accepting-known, acknowledged-known, offered-known}
 use Rattle.hx_law_lemmas.proofs.Replicas.{replica-found, state-key}
@@ -37,7 +37,7 @@ use Rattle.hx_posts.proofs.Kept.{object-sound}
 use Rattle.hx_posts.proofs.SlotPosts.{ack_to-sound, reply-sound}
 use Rattle.hx_posts.proofs.Doubts.{doubt-sound, waiting-sound}
 use Rattle.hx_posts.proofs.Deciding.{IsSoundDecision, decide-at}
-use Rattle.hx_posts.proofs.Servers.{DoesWell, IsSoundServer, Relies, hearing-found, here, moves-good, posts-good, saying-good, slot-sound, unmoved-good}
+use Rattle.hx_posts.proofs.Servers.{DoesWell, IsSoundServer, Relies, replica_in_epoch-found, here, moves-good, posts-good, saying-good, slot-sound, unmoved-good}
 
 module _ (space : Space) (sessions n : ℕ) (s : ServerId) (st : ServerState) (relies : Relies space sessions n s st) where
   -- a step that does well
@@ -54,27 +54,27 @@ module _ (space : Space) (sessions n : ℕ) (s : ServerId) (st : ServerState) (r
 
   module _ (r : Replica) (i : IsIn r st.replicas) (t : KeyState) (h : IsSoundSlot space sessions n r.region t) where
     -- an update that may be held is accepted
-    accept-good : (u : Update) → IsSoundAt space sessions n r.region u → IsGood (at_slot st r t (by_moves (spot_of space st r.region) (accepting (spot_of space st r.region) t (offered r.region t u))))
+    accept-good : (u : Update) → IsSoundAt space sessions n r.region u → IsGood (at_slot st r t (by_moves (context_of space st r.region) (accepting (context_of space st r.region) t (offered r.region t u))))
     accept-good u a =
         let held = held-together (u ∷ []) t in
         let known = offered-known (together (u ∷ []) t) r.region t u held (inl refl) in
         moves-good space sessions n s st relies r i (u ∷ []) (λ w j. elim j [ inl e ↦ subst (IsSoundAt space sessions n r.region) (sym e) a | inr k ↦ absurd k ]) t h
-        (accepting (spot_of space st r.region) t (offered r.region t u))
-        (accepting-known (together (u ∷ []) t) (spot_of space st r.region) t (offered r.region t u) held known)
-        (accepting-rise (spot_of space st r.region) (offered r.region t u) t h.ordered (offered-rise r.region t u (λ w j. after-of space sessions n r.region w (h.early w j))))
+        (accepting (context_of space st r.region) t (offered r.region t u))
+        (accepting-known (together (u ∷ []) t) (context_of space st r.region) t (offered r.region t u) held known)
+        (accepting-rise (context_of space st r.region) (offered r.region t u) t h.ordered (offered-rise r.region t u (λ w j. after-of space sessions n r.region w (h.early w j))))
 
     -- a decision
-    decided-good : (caller : Caller) → IsSessionOf sessions caller.session → (d : Decision) → IsSoundDecision space sessions n r.region t d → IsGood (at_slot st r t (decided (spot_of space st r.region) t caller d))
+    decided-good : (caller : Caller) → IsSessionOf sessions caller.session → (d : Decision) → IsSoundDecision space sessions n r.region t d → IsGood (at_slot st r t (decided (context_of space st r.region) t caller d))
     decided-good caller session a_decision.Old k = posts-good space sessions n s st relies r i t h [] (λ p j. absurd j)
     decided-good caller session (a_decision.Again v answer) k =
-        posts-good space sessions n s st relies r i t h (reply (spot_of space st r.region) caller v answer ∷ [])
-        (one-sound (reply (spot_of space st r.region) caller v answer) (reply-sound space sessions n (spot_of space st r.region) (here space sessions n s st relies r i) caller v answer session (let l = k.0 in omega (arith, l)) k.1))
+        posts-good space sessions n s st relies r i t h (reply (context_of space st r.region) caller v answer ∷ [])
+        (one-sound (reply (context_of space st r.region) caller v answer) (reply-sound space sessions n (context_of space st r.region) (here space sessions n s st relies r i) caller v answer session (let l = k.0 in omega (arith, l)) k.1))
     decided-good caller session (a_decision.Wait v) k =
-        posts-good space sessions n s st relies r i t h (waiting_doubt (spot_of space st r.region) caller v (stuck_of st.config t))
-        (waiting-sound space sessions n (spot_of space st r.region) (here space sessions n s st relies r i) r.region t h caller session v k)
+        posts-good space sessions n s st relies r i t h (waiting_doubt (context_of space st r.region) caller v (stuck_of st.config t))
+        (waiting-sound space sessions n (context_of space st r.region) (here space sessions n s st relies r i) r.region t h caller session v k)
     decided-good caller session (a_decision.Stuck g) k =
-        posts-good space sessions n s st relies r i t h (doubt_in (spot_of space st r.region) caller (record { 0 = 0 }) g ∷ [])
-        (one-sound (doubt_in (spot_of space st r.region) caller (record { 0 = 0 }) g) (doubt-sound space sessions n (spot_of space st r.region) (here space sessions n s st relies r i) caller (record { 0 = 0 }) g session (omega arith) k))
+        posts-good space sessions n s st relies r i t h (doubt_in (context_of space st r.region) caller (record { 0 = 0 }) g ∷ [])
+        (one-sound (doubt_in (context_of space st r.region) caller (record { 0 = 0 }) g) (doubt-sound space sessions n (context_of space st r.region) (here space sessions n s st relies r i) caller (record { 0 = 0 }) g session (omega arith) k))
     decided-good caller session (a_decision.Assign u) k = let a = accept-good u k.0 in record { state = a.state; posts = a.posts }
 
     -- the object of a slot
@@ -83,27 +83,27 @@ module _ (space : Space) (sessions n : ℕ) (s : ServerId) (st : ServerState) (r
     slot-object (Some row) q = q.0.object
 
     -- a get
-    get-good : (caller : Caller) → IsSessionOf sessions caller.session → IsGood (at_slot st r t (get_step (spot_of space st r.region) t caller))
+    get-good : (caller : Caller) → IsSessionOf sessions caller.session → IsGood (at_slot st r t (get_step (context_of space st r.region) t caller))
     get-good caller session =
         let answer = get_answer (object_in (object_of r.region t)) in
-        posts-good space sessions n s st relies r i t h (reply (spot_of space st r.region) caller (record { 0 = t.floor }) answer ∷ [])
-        (one-sound (reply (spot_of space st r.region) caller (record { 0 = t.floor }) answer)
-        (reply-sound space sessions n (spot_of space st r.region) (here space sessions n s st relies r i) caller (record { 0 = t.floor }) answer session (let f = h.floor in omega (arith, f))
+        posts-good space sessions n s st relies r i t h (reply (context_of space st r.region) caller (record { 0 = t.floor }) answer ∷ [])
+        (one-sound (reply (context_of space st r.region) caller (record { 0 = t.floor }) answer)
+        (reply-sound space sessions n (context_of space st r.region) (here space sessions n s st relies r i) caller (record { 0 = t.floor }) answer session (let f = h.floor in omega (arith, f))
         (get-sound (bounds space sessions n) (object_in (object_of r.region t)) (slot-object (object_of r.region t) (object-sound space sessions n r.region t h)))))
 
     -- an update of an earlier entry
-    update-good : (u : Update) → IsSoundAt space sessions n r.region u → IsGood (at_slot st r t (update_step (spot_of space st r.region) t u))
+    update-good : (u : Update) → IsSoundAt space sessions n r.region u → IsGood (at_slot st r t (update_step (context_of space st r.region) t u))
     update-good u a =
-        cond_both (leb u.version.0 (top_of t)) (by_posts (known_to (spot_of space st r.region) t u)) (by_moves (spot_of space st r.region) (accepting (spot_of space st r.region) t (offered r.region t u)))
+        cond_both (leb u.version.0 (top_of t)) (by_posts (known_to (context_of space st r.region) t u)) (by_moves (context_of space st r.region) (accepting (context_of space st r.region) t (offered r.region t u)))
         (λ (step : SlotStep). IsGood (at_slot st r t step))
         (
-        λ b. posts-good space sessions n s st relies r i t h (known_to (spot_of space st r.region) t u)
-        (λ p j. ack_to-sound space sessions n (spot_of space st r.region) (here space sessions n s st relies r i) u a.sound p (in-provided (leb u.version.0 t.floor) _ p j).1)
+        λ b. posts-good space sessions n s st relies r i t h (known_to (context_of space st r.region) t u)
+        (λ p j. ack_to-sound space sessions n (context_of space st r.region) (here space sessions n s st relies r i) u a.sound p (in-provided (leb u.version.0 t.floor) _ p j).1)
         )
         (λ b. accept-good u a)
 
     -- an acknowledgement
-    ack-good : (v : ℕ) → IsGood (at_slot st r t (ack_step (spot_of space st r.region) t v))
+    ack-good : (v : ℕ) → IsGood (at_slot st r t (ack_step (context_of space st r.region) t v))
     ack-good v =
         moves-good space sessions n s st relies r i [] (λ w j. absurd j) t h (acknowledged t v)
         (acknowledged-known (together [] t) t v (held-together [] t)) (acknowledged-rise t v h.ordered)
@@ -149,7 +149,7 @@ module _ (space : Space) (sessions n : ℕ) (s : ServerId) (st : ServerState) (r
   module _ (m : ℕ) (before : IsSoundServer space sessions m s st) (less : m < n) where
     -- a write of a key that fits
     write-good : (r : Replica) → IsIn r st.replicas → (key : List ℕ) → KeyFits key → r.region ≡ key_region space key → (caller : Caller) → IsSessionOf sessions caller.session → (op : Op) → Fits space op
-        → IsGood (at_slot st r (state_in space r key) (write_step (spot_of space st r.region) (state_in space r key) caller op))
+        → IsGood (at_slot st r (state_in space r key) (write_step (context_of space st r.region) (state_in space r key) caller op))
     write-good r i key key_fits e caller session op fits =
         let t = state_in space r key in
         let h = slot-sound space sessions n r (relies.sound.replicas r i) key key_fits in
@@ -162,9 +162,9 @@ module _ (space : Space) (sessions n : ℕ) (s : ServerId) (st : ServerState) (r
         → IsGood (call_at space st r key caller op)
     call-good key key_fits r found caller session op fits =
         let k = replica-found (key_region space key) st.replicas r found in
-        cond_both (leads space st.config st.id r.region) (at_slot st r (state_in space r key) (call_step (spot_of space st r.region) (state_in space r key) caller op)) (unmoved st) IsGood
+        cond_both (leads space st.config st.id r.region) (at_slot st r (state_in space r key) (call_step (context_of space st r.region) (state_in space r key) caller op)) (unmoved st) IsGood
         (
-        λ b. cond_both (is_write op) (write_step (spot_of space st r.region) (state_in space r key) caller op) (get_step (spot_of space st r.region) (state_in space r key) caller)
+        λ b. cond_both (is_write op) (write_step (context_of space st r.region) (state_in space r key) caller op) (get_step (context_of space st r.region) (state_in space r key) caller)
         (λ (step : SlotStep). IsGood (at_slot st r (state_in space r key) step))
         (λ w. write-good r k.0 key key_fits k.1 caller session op fits)
         (λ w. get-good r k.0 (state_in space r key) (slot-sound space sessions n r (relies.sound.replicas r k.0) key key_fits) caller session)
@@ -175,9 +175,9 @@ module _ (space : Space) (sessions n : ℕ) (s : ServerId) (st : ServerState) (r
     called-good : (epoch : Epoch) (caller : Caller) → IsSessionOf sessions caller.session → (op : Op) → Fits space op → (o : Option (List ℕ)) → key_of op ≡ o → IsGood (called space st epoch caller op o)
     called-good epoch caller session op fits None e = unmoved-good space sessions n s st relies
     called-good epoch caller session op fits (Some key) e =
-        when_some_both (hearing st epoch (key_region space key)) (unmoved st) (λ (r : Replica). call_at space st r key caller op) IsGood
+        when_some_both (replica_in_epoch st epoch (key_region space key)) (unmoved st) (λ (r : Replica). call_at space st r key caller op) IsGood
         (λ q. unmoved-good space sessions n s st relies)
-        (λ (r : Replica) q. call-good key (fits-key space op key fits e) r (hearing-found st epoch (key_region space key) r q) caller session op fits)
+        (λ (r : Replica) q. call-good key (fits-key space op key fits e) r (replica_in_epoch-found st epoch (key_region space key) r q) caller session op fits)
 
     -- a call of a session
     pub called_by-good : (from : Actor) → ActorExists (bounds space sessions n) from → (epoch : Epoch) (number : ℕ) (op : Op) → Fits space op → IsGood (called_by space st from epoch number op)

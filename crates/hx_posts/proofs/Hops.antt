@@ -14,7 +14,7 @@ use Rattle.hx_types.specs.declared.outcomes.Hop.TheVariants.{At, Blocked}
 use Rattle.hx_types.specs.Words.{IsIn, first_of_list, same_server, when_some}
 use Rattle.hx_types.specs.Configs.{head_of, is_lost, members_of}
 use Rattle.hx_types.specs.Spaces.{IsConfigOf, IsServerOf}
-use Rattle.hx_model.specs.Neighbours.{enters, enters_last, hop_at, last_member, member_after, member_before, members_at, next_of, place_before, prev_of}
+use Rattle.hx_model.specs.Neighbours.{enters, enters_last, hop_at, last_member, member_after, member_before, members_at, next_of, preceding_place, prev_of}
 use Rattle.hx_law_lemmas.proofs.Lists.{when_some_both}
 use Rattle.hx_posts.proofs.Configs.{member-server}
 
@@ -128,10 +128,10 @@ module _ (space : Space) (config : Config) (of_space : IsConfigOf space config) 
   -- the position before
   pub prev-reaches : (places : List Place) (n : ℕ) (s x : ServerId) (m : ℕ) → prev_of config places n s ≡ At x m → Reaches space places x m
   prev-reaches places n s x m =
-      here-or places n (member_before None s (members_at config places n)) (enters_last config (n - 1) (place_before places n)) x m
+      here-or places n (member_before None s (members_at config places n)) (enters_last config (n - 1) (preceding_place places n)) x m
       (λ y e. elim (before-member None s (members_at config places n) y e) [ inl q ↦ absurd (cc) | inr r ↦ r ])
       (by n)
     where
-      by : (n : ℕ) → enters_last config (n - 1) (place_before places n) ≡ At x m → Reaches space places x m
+      by : (n : ℕ) → enters_last config (n - 1) (preceding_place places n) ≡ At x m → Reaches space places x m
       by zero e = absurd (cc)
       by (suc k) e = enters_last-reaches places k (slice_get places k) refl x m (subst (λ i. enters_last config i (slice_get places k) ≡ At x m) (let q : suc k - 1 ≡ k = omega arith in q) e)

@@ -14,7 +14,7 @@ use Rattle.hx_types.specs.Configs.{lists}
 use Rattle.hx_types.specs.Spaces.{IsRegionOf}
 use Rattle.hx_types.specs.Posts.{IsSoundPost}
 use Rattle.hx_model.specs.Slots.{Forget, KeyState, moved_all, pending_of}
-use Rattle.hx_model.specs.ServerSteps.{Replica, ServerState, Spot, adopted, adopted_posts, adopted_replica, adopted_state, end_marks, install_at, is_active, leader_doubts, listed_regions, move_posts, passed_on, pending_posts, ready_post, replica_of, replica_or_new, replica_tick, resumed, resumed_posts, saying, snap_posts, spot_of, tick_step, unmoved, with_config}
+use Rattle.hx_model.specs.ServerSteps.{Replica, ServerState, SlotContext, adopted, adopted_posts, adopted_replica, adopted_state, tail_acks, install_at, is_active, leader_doubts, listed_regions, move_posts, passed_on, pending_posts, ready_post, replica_of, replica_or_new, replica_tick, resumed, resumed_posts, saying, snap_posts, context_of, tick_step, unmoved, with_config}
 use Rattle.hx_model.proofs.Laws.{base-moved_all}
 use Rattle.hx_law_lemmas.proofs.Lists.{in-append, in-below, in-filter, in-flat_map, in-map, in-provided, when_some_both}
 use Rattle.hx_law_lemmas.proofs.KnownUpdates.{AllKnown, Known, marks-known, with_commits-known}
@@ -29,15 +29,15 @@ use Rattle.hx_posts.proofs.Servers.{DoesWell, IsSoundReplica, IsSoundServer, Rel
 use Rattle.hx_posts.proofs.Snapshots.{map-ascends, ready-sound, snap-sound}
 
 -- what a slot does when it goes on in another configuration is known
-resumed-known : (spot : Spot) (t : KeyState) → AllKnown (together [] t) (resumed spot t)
-resumed-known spot t =
-    with_commits-known (together [] t) t (Forget ∷ end_marks spot (pending_of t)) (held-together [] t)
-    (λ m i. elim i [ inl e ↦ subst (Known (together [] t)) (sym e) tt | inr j ↦ marks-known (together [] t) spot (pending_of t) m j ])
+resumed-known : (context : SlotContext) (t : KeyState) → AllKnown (together [] t) (resumed context t)
+resumed-known context t =
+    with_commits-known (together [] t) t (Forget ∷ tail_acks context (pending_of t)) (held-together [] t)
+    (λ m i. elim i [ inl e ↦ subst (Known (together [] t)) (sym e) tt | inr j ↦ marks-known (together [] t) context (pending_of t) m j ])
 
 -- an adopted slot has the key that it had
-adopted-key : (spot : Spot) (b : Bool) (t : KeyState) → state_key (adopted_state spot b t) ≡ state_key t
-adopted-key spot true t = ap (λ k. k.key) (base-moved_all (resumed spot t) t)
-adopted-key spot false t = refl
+adopted-key : (context : SlotContext) (b : Bool) (t : KeyState) → state_key (adopted_state context b t) ≡ state_key t
+adopted-key context true t = ap (λ k. k.key) (base-moved_all (resumed context t) t)
+adopted-key context false t = refl
 
 module _ (space : Space) (sessions n : ℕ) (s : ServerId) (st : ServerState) (relies : Relies space sessions n s st) where
   -- a post of the entry that is sound
@@ -45,56 +45,56 @@ module _ (space : Space) (sessions n : ℕ) (s : ServerId) (st : ServerState) (r
   IsSound p = IsSoundPost space sessions n p
 
   module _ (r : Replica) (i : IsIn r st.replicas) where
-    -- the spot of its slots
-    abbrev spot : Spot
-    spot = spot_of space st r.region
+    -- the context of its slots
+    abbrev context : SlotContext
+    context = context_of space st r.region
 
     -- what is pending of a slot is passed on
-    passed-sound : (t : KeyState) → IsIn t r.states → (p : Post) → IsIn p (flat_map (passed_on spot) (pending_of t)) → IsSound p
+    passed-sound : (t : KeyState) → IsIn t r.states → (p : Post) → IsIn p (flat_map (passed_on context) (pending_of t)) → IsSound p
     passed-sound t j p k =
-        let b = in-flat_map (passed_on spot) (pending_of t) p k in
-        update_to-sound space sessions n spot (here space sessions n s st relies r i) b.0 (pending-sound space sessions n r.region t ((relies.sound.replicas r i).slots t j) b.0 b.1).sound p b.2
+        let b = in-flat_map (passed_on context) (pending_of t) p k in
+        update_to-sound space sessions n context (here space sessions n s st relies r i) b.0 (pending-sound space sessions n r.region t ((relies.sound.replicas r i).slots t j) b.0 b.1).sound p b.2
 
     -- what is sent again on a tick
     tick-sound : (p : Post) → IsIn p (replica_tick space st r) → IsSound p
-    tick-sound p j = elim (in-append (snap_posts st r ++ pending_posts spot r.states) (ready_post st r.region) p (in-provided (is_active st.config r) _ p j).1) [
-      | inl k ↦ elim (in-append (snap_posts st r) (pending_posts spot r.states) p k) [
+    tick-sound p j = elim (in-append (snap_posts st r ++ pending_posts context r.states) (ready_post st r.region) p (in-provided (is_active st.config r) _ p j).1) [
+      | inl k ↦ elim (in-append (snap_posts st r) (pending_posts context r.states) p k) [
         | inl q ↦ snap-sound space sessions n s st relies r i p q
-        | inr q ↦ (let a = in-flat_map (λ (t : KeyState). flat_map (passed_on spot) (pending_of t)) r.states p q in passed-sound a.0 a.1 p a.2)
+        | inr q ↦ (let a = in-flat_map (λ (t : KeyState). flat_map (passed_on context) (pending_of t)) r.states p q in passed-sound a.0 a.1 p a.2)
       ]
       | inr k ↦ ready-sound space sessions n s st relies r i p k
     ]
 
     -- a slot goes on
-    resumed-sound : (t : KeyState) → IsIn t r.states → IsSoundSlot space sessions n r.region (moved_all (resumed spot t) t)
+    resumed-sound : (t : KeyState) → IsIn t r.states → IsSoundSlot space sessions n r.region (moved_all (resumed context t) t)
     resumed-sound t j =
         let h = (relies.sound.replicas r i).slots t j in
-        slot-moved space sessions n r.region [] (λ u k. absurd k) t h (resumed spot t) (resumed-known spot t) (resumed-rise spot t h.ordered)
+        slot-moved space sessions n r.region [] (λ u k. absurd k) t h (resumed context t) (resumed-known context t) (resumed-rise context t h.ordered)
 
     -- what is posted of a slot that goes on
-    resumed-posts : (t : KeyState) → IsIn t r.states → (p : Post) → IsIn p (resumed_posts spot t) → IsSound p
-    resumed-posts t j p k = elim (in-append (flat_map (passed_on spot) (pending_of t) ++ flat_map (move_posts spot) (resumed spot t)) (leader_doubts spot (moved_all (resumed spot t) t)) p k) [
-      | inl q ↦ elim (in-append (flat_map (passed_on spot) (pending_of t)) (flat_map (move_posts spot) (resumed spot t)) p q) [
+    resumed-posts : (t : KeyState) → IsIn t r.states → (p : Post) → IsIn p (resumed_posts context t) → IsSound p
+    resumed-posts t j p k = elim (in-append (flat_map (passed_on context) (pending_of t) ++ flat_map (move_posts context) (resumed context t)) (leader_doubts context (moved_all (resumed context t) t)) p k) [
+      | inl q ↦ elim (in-append (flat_map (passed_on context) (pending_of t)) (flat_map (move_posts context) (resumed context t)) p q) [
         | inl w ↦ passed-sound t j p w
-        | inr w ↦ moves-sound space sessions n spot (here space sessions n s st relies r i) (together [] t)
+        | inr w ↦ moves-sound space sessions n context (here space sessions n s st relies r i) (together [] t)
             (λ u x. (together-sound space sessions n r.region [] (λ v y. absurd y) t ((relies.sound.replicas r i).slots t j) u x).sound)
-            (resumed spot t) (resumed-known spot t) p w
+            (resumed context t) (resumed-known context t) p w
       ]
-      | inr q ↦ leader-sound space sessions n spot (here space sessions n s st relies r i) r.region (moved_all (resumed spot t) t) (resumed-sound t j) p q
+      | inr q ↦ leader-sound space sessions n context (here space sessions n s st relies r i) r.region (moved_all (resumed context t) t) (resumed-sound t j) p q
     ]
 
     -- what is posted of a replica when a configuration is adopted
     adopted-posts : (p : Post) → IsIn p (adopted_posts space st r) → IsSound p
-    adopted-posts p j = elim (in-append (snap_posts st r ++ flat_map (resumed_posts spot) r.states) (ready_post st r.region) p (in-provided (is_active st.config r) _ p j).1) [
-      | inl k ↦ elim (in-append (snap_posts st r) (flat_map (resumed_posts spot) r.states) p k) [
+    adopted-posts p j = elim (in-append (snap_posts st r ++ flat_map (resumed_posts context) r.states) (ready_post st r.region) p (in-provided (is_active st.config r) _ p j).1) [
+      | inl k ↦ elim (in-append (snap_posts st r) (flat_map (resumed_posts context) r.states) p k) [
         | inl q ↦ snap-sound space sessions n s st relies r i p q
-        | inr q ↦ (let a = in-flat_map (resumed_posts spot) r.states p q in resumed-posts a.0 a.1 p a.2)
+        | inr q ↦ (let a = in-flat_map (resumed_posts context) r.states p q in resumed-posts a.0 a.1 p a.2)
       ]
       | inr k ↦ ready-sound space sessions n s st relies r i p k
     ]
 
     -- a slot of an adopted replica
-    adopted-slot : (b : Bool) (t : KeyState) → IsIn t r.states → IsSoundSlot space sessions n r.region (adopted_state spot b t)
+    adopted-slot : (b : Bool) (t : KeyState) → IsIn t r.states → IsSoundSlot space sessions n r.region (adopted_state context b t)
     adopted-slot true t j = resumed-sound t j
     adopted-slot false t j = let h = (relies.sound.replicas r i).slots t j in record { base = h.base; ordered = record { descends = h.ordered.descends; floor = h.ordered.floor }; floor = h.floor; accepted = h.accepted; early = λ u k. absurd k }
 
@@ -102,8 +102,8 @@ module _ (space : Space) (sessions n : ℕ) (s : ServerId) (st : ServerState) (r
     adopted-sound : IsSoundReplica space sessions n (adopted_replica space st r)
     adopted-sound = record {
       region = (relies.sound.replicas r i).region;
-      slots = λ t j. (let m = in-map (adopted_state spot (is_active st.config r)) r.states t j in subst (IsSoundSlot space sessions n r.region) (sym m.2) (adopted-slot (is_active st.config r) m.0 m.1));
-      ascend = map-ascends state_key state_key (adopted_state spot (is_active st.config r)) (adopted-key spot (is_active st.config r)) r.states (relies.sound.replicas r i).ascend;
+      slots = λ t j. (let m = in-map (adopted_state context (is_active st.config r)) r.states t j in subst (IsSoundSlot space sessions n r.region) (sym m.2) (adopted-slot (is_active st.config r) m.0 m.1));
+      ascend = map-ascends state_key state_key (adopted_state context (is_active st.config r)) (adopted-key context (is_active st.config r)) r.states (relies.sound.replicas r i).ascend;
     }
 
   -- a tick

@@ -10,7 +10,7 @@ use Rattle.hx_types.specs.declared.updates.Update.{Update}
 use Rattle.hx_types.specs.Words.{IsIn, provided, same_region, when_some}
 use Rattle.hx_model.specs.Neighbours.{is_end}
 use Rattle.hx_model.specs.Slots.{Acknowledge, Commit, Forget, Hold, KeyState, Move, Take, acknowledged, commits, follows, is_pending, moved, moved_all, offered, pending_of, place_in, settled, taken, top_above, top_of, turns, waits_below}
-use Rattle.hx_model.specs.ServerSteps.{Spot, accepting, end_marks, next_at, offered_all, resumed, with_commits}
+use Rattle.hx_model.specs.ServerSteps.{SlotContext, accepting, tail_acks, next_at, offered_all, resumed, with_commits}
 use Rattle.hx_law_lemmas.proofs.Lists.{all-in, in-find, when_some_both}
 use Rattle.hx_law_lemmas.proofs.LeaderLines.{pending-in}
 use Rattle.hx_law_lemmas.proofs.KnownUpdates.{AllKnown, Held, held-moved_all, known-append, offered-known}
@@ -116,8 +116,8 @@ acknowledge-rise [] t = tt
 acknowledge-rise (u ∷ us) t = (tt, acknowledge-rise us (moved (Acknowledge u.version.0) t))
 
 -- marks of chains that end here
-pub marks-rise : (spot : Spot) (us : List Update) (t : KeyState) → AllRise t (end_marks spot us)
-marks-rise spot us t = acknowledge-rise (filter (λ (u : Update). is_end (next_at spot u)) us) t
+pub marks-rise : (context : SlotContext) (us : List Update) (t : KeyState) → AllRise t (tail_acks context us)
+marks-rise context us t = acknowledge-rise (filter (λ (u : Update). is_end (next_at context u)) us) t
 
 -- commits of versions that aren't below the base
 commits-rise : (acked : List ℕ) (us : List Update) (t : KeyState) → ((u : Update) → IsIn u us → t.base.floor.0 ≤ u.version.0) → AllRise t (commits acked us)
@@ -138,8 +138,8 @@ pub with_commits-rise : (ms : List Move) (t : KeyState) → IsOrdered t → AllR
 with_commits-rise ms t h r = rise-append ms (settled (moved_all ms t)) t r (settled-rise (moved_all ms t) (ordered-moved_all ms t h r))
 
 -- newly taken updates with what they bring
-pub accepting-rise : (spot : Spot) (ms : List Move) (t : KeyState) → IsOrdered t → AllRise t ms → AllRise t (accepting spot t ms)
-accepting-rise spot ms t h r = with_commits-rise (ms ++ end_marks spot (taken ms)) t h (rise-append ms (end_marks spot (taken ms)) t r (marks-rise spot (taken ms) (moved_all ms t)))
+pub accepting-rise : (context : SlotContext) (ms : List Move) (t : KeyState) → IsOrdered t → AllRise t ms → AllRise t (accepting context t ms)
+accepting-rise context ms t h r = with_commits-rise (ms ++ tail_acks context (taken ms)) t h (rise-append ms (tail_acks context (taken ms)) t r (marks-rise context (taken ms) (moved_all ms t)))
 
 -- an acknowledgement with what it brings
 pub acknowledged-rise : (t : KeyState) (v : ℕ) → IsOrdered t → AllRise t (acknowledged t v)
@@ -152,8 +152,8 @@ acknowledged-rise t v h =
     by true true = (tt, settled-rise (moved (Acknowledge v) t) (ordered-moved (Acknowledge v) t h tt))
 
 -- a slot that goes on in another configuration
-pub resumed-rise : (spot : Spot) (t : KeyState) → IsOrdered t → AllRise t (resumed spot t)
-resumed-rise spot t h = with_commits-rise (Forget ∷ end_marks spot (pending_of t)) t h (tt, marks-rise spot (pending_of t) (moved Forget t))
+pub resumed-rise : (context : SlotContext) (t : KeyState) → IsOrdered t → AllRise t (resumed context t)
+resumed-rise context t h = with_commits-rise (Forget ∷ tail_acks context (pending_of t)) t h (tt, marks-rise context (pending_of t) (moved Forget t))
 
 -- updates of a list that are offered one after another are known
 pub offered_all-known : (line : List Update) (g : RegionId) (t : KeyState) (us : List Update) → Held line t → ((u : Update) → IsIn u us → IsIn u line) → AllKnown line (offered_all g t us)

@@ -15,10 +15,10 @@ use Rattle.hx_types.specs.declared.ids.Actor.TheVariants.{Coordinator, Server}
 use Rattle.hx_types.specs.declared.traces.Input.TheVariants.{Tick, Halt, Deliver}
 use Rattle.hx_types.specs.Words.{IsIn, post}
 use Rattle.hx_types.specs.Posts.{IsSoundKept, IsSoundPost, IsSoundUpdate, has_place_in, is_session_actor}
-use Rattle.hx_model.specs.ServerSteps.{ServerState, ServerStep, halting, hearing, if_installed, input_step, message_step, seal_at, server_step, unmoved}
+use Rattle.hx_model.specs.ServerSteps.{ServerState, ServerStep, halting, replica_in_epoch, if_installed, input_step, message_step, seal_at, server_step, unmoved}
 use Rattle.hx_law_lemmas.proofs.Lists.{all-in}
 use Rattle.hx_posts.proofs.Bounds.{bounds, exists-up, received}
-use Rattle.hx_posts.proofs.Servers.{DoesWell, IsSoundServer, Relies, hearing-found, installed-found, unmoved-good}
+use Rattle.hx_posts.proofs.Servers.{DoesWell, IsSoundServer, Relies, replica_in_epoch-found, installed-found, unmoved-good}
 use Rattle.hx_posts.proofs.Calls.{acked-good, asked-good, called_by-good, updated-good}
 use Rattle.hx_posts.proofs.Snapshots.{snapped-good}
 use Rattle.hx_posts.proofs.Installs.{install-good, tick-good}
@@ -60,11 +60,11 @@ module _ (space : Space) (sessions n : ℕ) (s : ServerId) (st : ServerState) (r
   message-good k l from (a_message.Call epoch number op) h = called_by-good space sessions n s st relies m before less from (exists-up space sessions k n from h.from) epoch number op h.message.1
   message-good k l from (a_message.Reply number version answer) h = stays
   message-good k l from (a_message.Update epoch g u) h =
-      updated-good space sessions n s st relies g u (received space sessions k n (omega (arith, l, less)) g u h.message.2 h.message.3) (if_installed (hearing st epoch g)) (λ r e. installed-found st epoch g r e)
-  message-good k l from (a_message.Ack epoch g key version) h = acked-good space sessions n s st relies g key h.message.2 version.0 (if_installed (hearing st epoch g)) (λ r e. installed-found st epoch g r e)
+      updated-good space sessions n s st relies g u (received space sessions k n (omega (arith, l, less)) g u h.message.2 h.message.3) (if_installed (replica_in_epoch st epoch g)) (λ r e. installed-found st epoch g r e)
+  message-good k l from (a_message.Ack epoch g key version) h = acked-good space sessions n s st relies g key h.message.2 version.0 (if_installed (replica_in_epoch st epoch g)) (λ r e. installed-found st epoch g r e)
   message-good k l from (a_message.Ask epoch number g terms) h =
       asked-good space sessions n s st relies from (exists-up space sessions k n from h.from) (and_parts (is_session_actor from) true h.between).0 epoch (let e = h.message.0 in omega (arith, e, l, less)) number g terms
-      (if_installed (hearing st epoch g)) (λ r e. installed-found st epoch g r e)
+      (if_installed (replica_in_epoch st epoch g)) (λ r e. installed-found st epoch g r e)
   message-good k l from (a_message.Found epoch number g rows) h = stays
   message-good k l from (a_message.Seal epoch) h = seal-good epoch (let e = h.message in omega (arith, e, l, less))
   message-good k l from (a_message.Sealed epoch) h = stays
@@ -76,7 +76,7 @@ module _ (space : Space) (sessions n : ℕ) (s : ServerId) (st : ServerState) (r
   message-good k l from (a_message.Outcome number answer) h = stays
   message-good k l from (a_message.Snap epoch g snapshot pending) h =
       snapped-good space sessions n s st relies k (omega (arith, l, less)) g snapshot (λ x i. all-in (IsSoundKept (bounds space sessions k)) snapshot x h.message.2 i) h.message.3
-      pending (λ u i. all-in (λ (w : Update). IsSoundUpdate (bounds space sessions k) w × (has_place_in g w.places ≡ true)) pending u h.message.4 i) (hearing st epoch g) (λ r e. hearing-found st epoch g r e)
+      pending (λ u i. all-in (λ (w : Update). IsSoundUpdate (bounds space sessions k) w × (has_place_in g w.places ≡ true)) pending u h.message.4 i) (replica_in_epoch st epoch g) (λ r e. replica_in_epoch-found st epoch g r e)
   message-good k l from (a_message.Ready epoch g) h = stays
   message-good k l from (a_message.Poll epoch) h = stays
 

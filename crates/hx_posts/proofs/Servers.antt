@@ -13,14 +13,14 @@ use Rattle.hx_types.specs.Configs.{is_lost}
 use Rattle.hx_types.specs.Spaces.{IsRegionOf, IsServerOf, IsSpace, KeyFits}
 use Rattle.hx_types.specs.Posts.{IsSoundPost}
 use Rattle.hx_model.specs.Slots.{KeyState, Move, moved_all}
-use Rattle.hx_model.specs.ServerSteps.{Replica, ServerState, ServerStep, SlotStep, at_slot, by_moves, by_posts, hearing, if_installed, replica_of, saying, spot_of, state_in, unmoved, with_replica}
+use Rattle.hx_model.specs.ServerSteps.{Replica, ServerState, ServerStep, SlotStep, at_slot, by_moves, by_posts, replica_in_epoch, if_installed, replica_of, saying, context_of, state_in, unmoved, with_replica}
 use Rattle.hx_law_lemmas.proofs.KnownUpdates.{AllKnown}
 use Rattle.hx_law_lemmas.proofs.Replicas.{in-with_replica, in-with_state, state-from, with_slot_at}
 use Rattle.hx_posts.proofs.Texts.{Ascend, state_key, with_state-ascends}
 use Rattle.hx_posts.proofs.Bounds.{IsSoundAt, IsSoundConfig, config-up}
 use Rattle.hx_posts.proofs.Moves.{AllRise}
 use Rattle.hx_posts.proofs.Slots.{IsSoundSlot, new-sound, slot-moved, slot-up, together, together-sound}
-use Rattle.hx_posts.proofs.SlotPosts.{IsSpot, moves-sound}
+use Rattle.hx_posts.proofs.SlotPosts.{IsContext, moves-sound}
 
 -- a replica after so many entries: a region of the space, with sound slots in byte order of their keys
 pub record IsSoundReplica (space : Space) (sessions n : ℕ) (r : Replica) : Type 0 where
@@ -46,13 +46,13 @@ server-up space sessions m n l s st h = record {
 }
 
 -- a replica that hears is found
-pub hearing-found : (st : ServerState) (epoch : Epoch) (g : RegionId) (r : Replica) → hearing st epoch g ≡ Some r → replica_of g st.replicas ≡ Some r
-hearing-found st epoch g r =
+pub replica_in_epoch-found : (st : ServerState) (epoch : Epoch) (g : RegionId) (r : Replica) → replica_in_epoch st epoch g ≡ Some r → replica_of g st.replicas ≡ Some r
+replica_in_epoch-found st epoch g r =
     cond_both (st.sealed || not (eqb epoch.0 st.config.epoch.0) || is_lost st.config g) None (replica_of g st.replicas) (λ o. o ≡ Some r → replica_of g st.replicas ≡ Some r) (λ t e. absurd (cc)) (λ t e. e)
 
 -- an installed replica that hears is found
-pub installed-found : (st : ServerState) (epoch : Epoch) (g : RegionId) (r : Replica) → if_installed (hearing st epoch g) ≡ Some r → replica_of g st.replicas ≡ Some r
-installed-found st epoch g r e = hearing-found st epoch g r (by (hearing st epoch g) e)
+pub installed-found : (st : ServerState) (epoch : Epoch) (g : RegionId) (r : Replica) → if_installed (replica_in_epoch st epoch g) ≡ Some r → replica_of g st.replicas ≡ Some r
+installed-found st epoch g r e = replica_in_epoch-found st epoch g r (by (replica_in_epoch st epoch g) e)
   where
     by : (o : Option Replica) → if_installed o ≡ Some r → o ≡ Some r
     by None = λ e. absurd (cc)
@@ -85,8 +85,8 @@ module _ (space : Space) (sessions n : ℕ) (s : ServerId) (st : ServerState) (r
   abbrev pub IsSound : Post → Type 0
   IsSound p = IsSoundPost space sessions n p
 
-  -- the spot of a slot at a replica
-  pub here : (r : Replica) → IsIn r st.replicas → IsSpot space n (spot_of space st r.region)
+  -- the context of a slot at a replica
+  pub here : (r : Replica) → IsIn r st.replicas → IsContext space n (context_of space st r.region)
   here r i = record { exists = relies.exists; config = relies.sound.config; region = (relies.sound.replicas r i).region }
 
   -- posts alone
@@ -125,11 +125,11 @@ module _ (space : Space) (sessions n : ℕ) (s : ServerId) (st : ServerState) (r
 
   -- moves of updates that may be held
   pub moves-good : (r : Replica) → IsIn r st.replicas → (us : List Update) → ((u : Update) → IsIn u us → IsSoundAt space sessions n r.region u) → (t : KeyState) → IsSoundSlot space sessions n r.region t
-      → (ms : List Move) → AllKnown (together us t) ms → AllRise t ms → IsGood (at_slot st r t (by_moves (spot_of space st r.region) ms))
+      → (ms : List Move) → AllKnown (together us t) ms → AllRise t ms → IsGood (at_slot st r t (by_moves (context_of space st r.region) ms))
   moves-good r i us f t h ms known rise =
-      slot-good r i t (by_moves (spot_of space st r.region) ms) (slot-moved space sessions n r.region us f t h ms known rise)
+      slot-good r i t (by_moves (context_of space st r.region) ms) (slot-moved space sessions n r.region us f t h ms known rise)
       (
-      moves-sound space sessions n (spot_of space st r.region) (here r i) (together us t)
+      moves-sound space sessions n (context_of space st r.region) (here r i) (together us t)
       (λ u j. (together-sound space sessions n r.region us f t h u j).sound) ms known
       )
 

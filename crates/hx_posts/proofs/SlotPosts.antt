@@ -18,7 +18,7 @@ use Rattle.hx_types.specs.Spaces.{IsRegionOf, IsServerOf}
 use Rattle.hx_types.specs.Posts.{IsSessionOf, IsSoundAnswer, IsSoundPost, IsSoundUpdate, has_place_in}
 use Rattle.hx_model.specs.Neighbours.{place_number, region_at}
 use Rattle.hx_model.specs.Slots.{Acknowledge, Commit, Forget, Hold, Move, Take}
-use Rattle.hx_model.specs.ServerSteps.{Spot, ack_to, move_posts, next_at, prev_at, reply, told_to, update_to}
+use Rattle.hx_model.specs.ServerSteps.{SlotContext, ack_to, move_posts, next_at, prev_at, reply, told_to, update_to}
 use Rattle.hx_law_lemmas.proofs.Lists.{all-in, in-flat_map, in-slice_get}
 use Rattle.hx_law_lemmas.proofs.KnownUpdates.{AllKnown, Known}
 use Rattle.hx_posts.proofs.Bounds.{IsSoundConfig, bounds}
@@ -34,19 +34,19 @@ any-of test (y ∷ xs) x (inr i) t = or_right (test y) (list_any test xs) (any-o
 region-reached : (space : Space) (places : List Place) (x : ServerId) (n : ℕ) (r : Reaches space places x n) → region_at places n ≡ r.place.region
 region-reached space places x n r = ap (λ (o : Option Place). when_some o (record { 0 = 0 }) (λ (p : Place). p.region)) r.at
 
--- the spot of a slot: its server and region exist, and its configuration is of the space
-pub record IsSpot (space : Space) (n : ℕ) (spot : Spot) : Type 0 where
-  pub exists : IsServerOf space spot.server
-  pub config : IsSoundConfig space n spot.config
-  pub region : IsRegionOf space spot.region
+-- the context of a slot: its server and region exist, and its configuration is of the space
+pub record IsContext (space : Space) (n : ℕ) (context : SlotContext) : Type 0 where
+  pub exists : IsServerOf space context.server
+  pub config : IsSoundConfig space n context.config
+  pub region : IsRegionOf space context.region
 
-module _ (space : Space) (sessions n : ℕ) (spot : Spot) (here : IsSpot space n spot) where
+module _ (space : Space) (sessions n : ℕ) (context : SlotContext) (here : IsContext space n context) where
   -- a post of the entry that is sound
   abbrev pub IsSound : Post → Type 0
   IsSound p = IsSoundPost space sessions n p
 
   -- a reply with a sound answer
-  pub reply-sound : (caller : Caller) (version : Version) (answer : Answer) → IsSessionOf sessions caller.session → version.0 ≤ n + 1 → IsSoundAnswer (bounds space sessions n) answer → IsSound (reply spot caller version answer)
+  pub reply-sound : (caller : Caller) (version : Version) (answer : Answer) → IsSessionOf sessions caller.session → version.0 ≤ n + 1 → IsSoundAnswer (bounds space sessions n) answer → IsSound (reply context caller version answer)
   reply-sound caller version answer session v a = record { from = here.exists; to = session; between = refl; message = (v, a) }
 
   -- the region of a position is one of the space, and the update has a place there
@@ -59,12 +59,12 @@ module _ (space : Space) (sessions n : ℕ) (spot : Spot) (here : IsSpot space n
       )
 
   -- an update to the next replica
-  pub update_to-sound : (u : Update) → IsSoundUpdate (bounds space sessions n) u → (p : Post) → IsIn p (update_to spot u (next_at spot u)) → IsSound p
-  update_to-sound u sound p = by (next_at spot u) refl
+  pub update_to-sound : (u : Update) → IsSoundUpdate (bounds space sessions n) u → (p : Post) → IsIn p (update_to context u (next_at context u)) → IsSound p
+  update_to-sound u sound p = by (next_at context u) refl
     where
-      by : (h : Hop) → next_at spot u ≡ h → IsIn p (update_to spot u h) → IsSound p
+      by : (h : Hop) → next_at context u ≡ h → IsIn p (update_to context u h) → IsSound p
       by (At x m) e i =
-          let r = next-reaches space spot.config here.config.of_space u.places (place_number spot.region u.places) spot.server x m e in
+          let r = next-reaches space context.config here.config.of_space u.places (place_number context.region u.places) context.server x m e in
           let q = reached-region u x m sound r in
           elim i [
             | inl f ↦ subst IsSound (sym f) (record { from = here.exists; to = r.server; between = refl; message = (here.config.epoch, q.0, sound, q.1) })
@@ -74,28 +74,28 @@ module _ (space : Space) (sessions n : ℕ) (spot : Spot) (here : IsSpot space n
       by (Blocked h) e i = absurd i
 
   -- an acknowledgement to the replica before
-  ack-at-sound : (u : Update) (x : ServerId) (m : ℕ) → IsSoundUpdate (bounds space sessions n) u → prev_at spot u ≡ At x m → (p : Post) → IsIn p (ack_to spot u (At x m)) → IsSound p
+  ack-at-sound : (u : Update) (x : ServerId) (m : ℕ) → IsSoundUpdate (bounds space sessions n) u → prev_at context u ≡ At x m → (p : Post) → IsIn p (ack_to context u (At x m)) → IsSound p
   ack-at-sound u x m sound e p i =
-      let r = prev-reaches space spot.config here.config.of_space u.places (place_number spot.region u.places) spot.server x m e in
+      let r = prev-reaches space context.config here.config.of_space u.places (place_number context.region u.places) context.server x m e in
       let q = reached-region u x m sound r in
       elim i [
         | inl f ↦ subst IsSound (sym f) (record { from = here.exists; to = r.server; between = refl; message = (here.config.epoch, q.0, sound.of_space.key, sound.version) })
         | inr j ↦ absurd j
       ]
 
-  pub ack_to-sound : (u : Update) → IsSoundUpdate (bounds space sessions n) u → (p : Post) → IsIn p (ack_to spot u (prev_at spot u)) → IsSound p
-  ack_to-sound u sound p = by (prev_at spot u) refl
+  pub ack_to-sound : (u : Update) → IsSoundUpdate (bounds space sessions n) u → (p : Post) → IsIn p (ack_to context u (prev_at context u)) → IsSound p
+  ack_to-sound u sound p = by (prev_at context u) refl
     where
-      by : (h : Hop) → prev_at spot u ≡ h → IsIn p (ack_to spot u h) → IsSound p
+      by : (h : Hop) → prev_at context u ≡ h → IsIn p (ack_to context u h) → IsSound p
       by (At x m) e i = ack-at-sound u x m sound e p i
       by End e i = absurd i
       by (Blocked h) e i = absurd i
 
   -- what is posted of a committed update
-  told_to-sound : (u : Update) → IsSoundUpdate (bounds space sessions n) u → (p : Post) → IsIn p (told_to spot u (prev_at spot u)) → IsSound p
-  told_to-sound u sound p = by (prev_at spot u) refl
+  told_to-sound : (u : Update) → IsSoundUpdate (bounds space sessions n) u → (p : Post) → IsIn p (told_to context u (prev_at context u)) → IsSound p
+  told_to-sound u sound p = by (prev_at context u) refl
     where
-      by : (h : Hop) → prev_at spot u ≡ h → IsIn p (told_to spot u h) → IsSound p
+      by : (h : Hop) → prev_at context u ≡ h → IsIn p (told_to context u h) → IsSound p
       by (At x m) e i = ack-at-sound u x m sound e p i
       by End e i = elim i [
         | inl f ↦ subst IsSound (sym f) (reply-sound u.caller u.version u.answer sound.session sound.version (sound.of_space.answer, sound.answer))
@@ -104,12 +104,12 @@ module _ (space : Space) (sessions n : ℕ) (spot : Spot) (here : IsSpot space n
       by (Blocked h) e i = absurd i
 
   -- what is posted with moves of sound updates
-  pub moves-sound : (us : List Update) → ((u : Update) → IsIn u us → IsSoundUpdate (bounds space sessions n) u) → (ms : List Move) → AllKnown us ms → (p : Post) → IsIn p (flat_map (move_posts spot) ms) → IsSound p
+  pub moves-sound : (us : List Update) → ((u : Update) → IsIn u us → IsSoundUpdate (bounds space sessions n) u) → (ms : List Move) → AllKnown us ms → (p : Post) → IsIn p (flat_map (move_posts context) ms) → IsSound p
   moves-sound us sound ms known p i =
-      let f = in-flat_map (move_posts spot) ms p i in
+      let f = in-flat_map (move_posts context) ms p i in
       by f.0 (known f.0 f.1) f.2
     where
-      by : (m : Move) → Known us m → IsIn p (move_posts spot m) → IsSound p
+      by : (m : Move) → Known us m → IsIn p (move_posts context m) → IsSound p
       by (Take u) k x = update_to-sound u (sound u k) p x
       by (Hold u) k x = absurd x
       by (Acknowledge v) k x = absurd x

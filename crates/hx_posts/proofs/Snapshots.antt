@@ -16,7 +16,7 @@ use Rattle.hx_types.specs.Configs.{joiner_for, joiner_in, lists_joining, members
 use Rattle.hx_types.specs.Spaces.{IsServerOf, KeyFits}
 use Rattle.hx_types.specs.Posts.{IsSoundKept, IsSoundPost, IsSoundUpdate, has_place_in, keys_ascend}
 use Rattle.hx_model.specs.Slots.{KeyState, kept_of, moved_all, pending_of, pending_of_all, snapshot_of, state_among}
-use Rattle.hx_model.specs.ServerSteps.{Replica, ServerState, Slots, Spot, accepting, installed_slots, join_keys, join_slot, keys_of, offered_all, ready_post, replica_of, saying, snap_posts, snap_to, snapped, spot_of, state_from, with_key, with_slots}
+use Rattle.hx_model.specs.ServerSteps.{Replica, ServerState, Slots, SlotContext, accepting, installed_slots, join_keys, join_slot, keys_of, offered_all, ready_post, replica_of, saying, snap_posts, snap_to, snapped, context_of, state_from, with_key, with_slots}
 use Rattle.hx_law_lemmas.proofs.Lists.{all-of, in-append, in-filter, in-flat_map, in-map, in-provided, in_left}
 use Rattle.hx_law_lemmas.proofs.KnownUpdates.{accepting-known}
 use Rattle.hx_law_lemmas.proofs.Replicas.{in-with_state, replica-found, state-from}
@@ -26,7 +26,7 @@ use Rattle.hx_posts.proofs.Configs.{member-server}
 use Rattle.hx_posts.proofs.Moves.{accepting-rise, offered_all-known, offered_all-rise}
 use Rattle.hx_posts.proofs.Slots.{IsSoundSlot, after-of, base-sound, held-together, new-sound, pending-sound, slot-moved, together, together-sound}
 use Rattle.hx_posts.proofs.Kept.{kept_of-sound}
-use Rattle.hx_posts.proofs.SlotPosts.{IsSpot, moves-sound}
+use Rattle.hx_posts.proofs.SlotPosts.{IsContext, moves-sound}
 use Rattle.hx_posts.proofs.Servers.{DoesWell, IsSoundReplica, Relies, here, saying-good, unmoved-good, with_replica-sound}
 use Rattle.std.specs.Option.{option_map}
 
@@ -170,40 +170,40 @@ keys-fit (u ∷ us) f k i = elim (in-with_key u.key (keys_of us) k i) [
   | inr j ↦ keys-fit us (λ w q. f w (inr q)) k j
 ]
 
-module _ (space : Space) (sessions n : ℕ) (spot : Spot) (at : IsSpot space n spot) (us : List Update) (f : (u : Update) → IsIn u us → IsSoundAt space sessions n spot.region u) where
+module _ (space : Space) (sessions n : ℕ) (context : SlotContext) (at : IsContext space n context) (us : List Update) (f : (u : Update) → IsIn u us → IsSoundAt space sessions n context.region u) where
   -- one slot takes pending updates
-  joined-sound : (ws : List Update) → ((u : Update) → IsIn u ws → IsIn u us) → (slots : Slots) → AreSoundSlots space sessions n spot.region slots → (t : KeyState) → IsSoundSlot space sessions n spot.region t
-      → AreSoundSlots space sessions n spot.region (join_slot spot ws slots t)
+  joined-sound : (ws : List Update) → ((u : Update) → IsIn u ws → IsIn u us) → (slots : Slots) → AreSoundSlots space sessions n context.region slots → (t : KeyState) → IsSoundSlot space sessions n context.region t
+      → AreSoundSlots space sessions n context.region (join_slot context ws slots t)
   joined-sound ws w slots h t a =
       let held = held-together us t in
-      let all = together-sound space sessions n spot.region us f t a in
+      let all = together-sound space sessions n context.region us f t a in
       let inside = λ (u : Update) (i : IsIn u ws). in_left us (t.accepted ++ t.early) u (w u i) in
-      let known = accepting-known (together us t) spot t (offered_all spot.region t ws) held (offered_all-known (together us t) spot.region t ws held inside) in
-      let rise = accepting-rise spot (offered_all spot.region t ws) t a.ordered
-      (offered_all-rise (together us t) (λ u i. after-of space sessions n spot.region u (all u i)) spot.region t ws held inside) in
-      let moves = accepting spot t (offered_all spot.region t ws) in
+      let known = accepting-known (together us t) context t (offered_all context.region t ws) held (offered_all-known (together us t) context.region t ws held inside) in
+      let rise = accepting-rise context (offered_all context.region t ws) t a.ordered
+      (offered_all-rise (together us t) (λ u i. after-of space sessions n context.region u (all u i)) context.region t ws held inside) in
+      let moves = accepting context t (offered_all context.region t ws) in
       record {
         each = λ x i. elim (in-with_state (moved_all moves t) slots.states x i) [
-          | inl e ↦ subst (IsSoundSlot space sessions n spot.region) (sym e) (slot-moved space sessions n spot.region us f t a moves known rise)
+          | inl e ↦ subst (IsSoundSlot space sessions n context.region) (sym e) (slot-moved space sessions n context.region us f t a moves known rise)
           | inr j ↦ h.each x j
         ];
         ascend = with_state-ascends (moved_all moves t) slots.states h.ascend;
         posts = λ p i. elim (in-append slots.posts _ p i) [
           | inl j ↦ h.posts p j
-          | inr j ↦ moves-sound space sessions n spot at (together us t) (λ u k. (all u k).sound) moves known p j
+          | inr j ↦ moves-sound space sessions n context at (together us t) (λ u k. (all u k).sound) moves known p j
         ];
       }
 
   -- each key's slot
-  keys-sound : (keys : List (List ℕ)) → ((k : List ℕ) → IsIn k keys → KeyFits k) → (slots : Slots) → AreSoundSlots space sessions n spot.region slots → AreSoundSlots space sessions n spot.region (join_keys spot us slots keys)
+  keys-sound : (keys : List (List ℕ)) → ((k : List ℕ) → IsIn k keys → KeyFits k) → (slots : Slots) → AreSoundSlots space sessions n context.region slots → AreSoundSlots space sessions n context.region (join_keys context us slots keys)
   keys-sound [] fit slots h = h
   keys-sound (key ∷ rest) fit slots h =
-      let t = state_among (is_key_region spot.space spot.region) key slots.states in
-      let a : IsSoundSlot space sessions n spot.region t = elim (state-from (is_key_region spot.space spot.region) key slots.states) [
-        | inl e ↦ subst (IsSoundSlot space sessions n spot.region) (sym e) (new-sound space sessions n spot.region (is_key_region spot.space spot.region) key (fit key (inl refl)))
+      let t = state_among (is_key_region context.space context.region) key slots.states in
+      let a : IsSoundSlot space sessions n context.region t = elim (state-from (is_key_region context.space context.region) key slots.states) [
+        | inl e ↦ subst (IsSoundSlot space sessions n context.region) (sym e) (new-sound space sessions n context.region (is_key_region context.space context.region) key (fit key (inl refl)))
         | inr i ↦ h.each t i
       ] in
-      keys-sound rest (λ k i. fit k (inr i)) (join_slot spot (filter (λ (u : Update). same_text u.key key) us) slots t)
+      keys-sound rest (λ k i. fit k (inr i)) (join_slot context (filter (λ (u : Update). same_text u.key key) us) slots t)
       (joined-sound (filter (λ (u : Update). same_text u.key key) us) (λ u i. (in-filter (λ (w : Update). same_text w.key key) us u i).0) slots h t a)
 
 -- a slot made of a snapshot
@@ -230,12 +230,12 @@ module _ (space : Space) (sessions n : ℕ) (s : ServerId) (st : ServerState) (r
       → (o : Option Replica) → ((r : Replica) → o ≡ Some r → replica_of g st.replicas ≡ Some r) → DoesWell space sessions n s (snapped space st snapshot pending o)
   snapped-good k l g snapshot kept ascends pending updates None f = unmoved-good space sessions n s st relies
   snapped-good k l g snapshot kept ascends pending updates (Some r) f =
-      cond_both r.installed (saying st (ready_post st r.region)) (with_slots st r (installed_slots (spot_of space st r.region) snapshot pending)) (DoesWell space sessions n s)
+      cond_both r.installed (saying st (ready_post st r.region)) (with_slots st r (installed_slots (context_of space st r.region) snapshot pending)) (DoesWell space sessions n s)
       (λ t. saying-good space sessions n s st relies (ready_post st r.region) (ready-sound space sessions n s st relies r inside))
       (
       λ t. record {
         state = with_replica-sound space sessions n s st relies _ (record { region = (relies.sound.replicas r inside).region; slots = all.each; ascend = all.ascend });
-        posts = λ p i. elim (in-append (installed_slots (spot_of space st r.region) snapshot pending).posts (ready_post st r.region) p i) [
+        posts = λ p i. elim (in-append (installed_slots (context_of space st r.region) snapshot pending).posts (ready_post st r.region) p i) [
           | inl j ↦ all.posts p j
           | inr j ↦ ready-sound space sessions n s st relies r inside p j
         ];
@@ -254,9 +254,9 @@ module _ (space : Space) (sessions n : ℕ) (s : ServerId) (st : ServerState) (r
           let a = kept m.0 m.1 in
           subst (IsSoundSlot space sessions n r.region) (sym m.2) (from-sound space sessions n r.region (is_key_region space r.region) m.0 (kept-up space sessions k n (omega (arith, l)) m.0 a) (let b = a.floor in omega (arith, b, l)))
 
-      all : AreSoundSlots space sessions n r.region (installed_slots (spot_of space st r.region) snapshot pending)
+      all : AreSoundSlots space sessions n r.region (installed_slots (context_of space st r.region) snapshot pending)
       all =
-          keys-sound space sessions n (spot_of space st r.region) (here space sessions n s st relies r inside) pending may-hold (keys_of pending)
+          keys-sound space sessions n (context_of space st r.region) (here space sessions n s st relies r inside) pending may-hold (keys_of pending)
           (keys-fit pending (λ u i. (may-hold u i).sound.of_space.key))
           (record { states = map (state_from (is_key_region space r.region)) snapshot; posts = [] })
           (record {

@@ -6,24 +6,24 @@ use Rattle.hx_types.specs.declared.ids.Version.{Version}
 use Rattle.hx_types.specs.declared.outcomes.Acked.TheVariants as an_ack
 use Rattle.hx_types.specs.declared.updates.Update.{Update}
 use Rattle.hx_types.specs.Words.{provided}
-use Rattle.hx_model.specs.ServerSteps.{Spot as ModelSpot, ack_step, accepting, move_posts, with_commits}
+use Rattle.hx_model.specs.ServerSteps.{SlotContext as ModelContext, ack_step, accepting, move_posts, with_commits}
 use Rattle.hx_model.specs.Slots.{Acknowledge, Commit, KeyState, Move, ack_answer, commits, is_pending, moved, offered, pending_of, settled, waits_below}
 use Rattle.hx_slot.specs.States.{committed_count}
 use Rattle.hx_store.specs.Stores.{accepted}
 use Rattle.hx_replica.specs.Made.{IsAccepted, told_of}
 
 -- the moves of an accepted update are the step's
-pub accepted_moves : (spot : ModelSpot) (s : KeyState) (u : Update) (posts : List Post) (ends : List Version) → IsAccepted spot s u posts ends → accepted spot.region s u ends ≡ accepting spot s (offered spot.region s u)
-accepted_moves spot s u posts ends a = ap (λ (ms : List Move). with_commits s (offered spot.region s u ++ ms)) a.ends_are
+pub accepted_moves : (context : ModelContext) (s : KeyState) (u : Update) (posts : List Post) (ends : List Version) → IsAccepted context s u posts ends → accepted context.region s u ends ≡ accepting context s (offered context.region s u)
+accepted_moves context s u posts ends a = ap (λ (ms : List Move). with_commits s (offered context.region s u ++ ms)) a.ends_are
 
 -- commits take the lowest pending updates, as many as they are
-pub told_first : (spot : ModelSpot) (acked : List ℕ) (us : List Update) → flat_map (told_of spot) (take (length (commits acked us)) us) ≡ flat_map (move_posts spot) (commits acked us)
-told_first spot acked [] = refl
-told_first spot acked (u ∷ rest) = by (list_any (λ v. v == u.version.0) acked) (told_first spot acked rest)
+pub told_first : (context : ModelContext) (acked : List ℕ) (us : List Update) → flat_map (told_of context) (take (length (commits acked us)) us) ≡ flat_map (move_posts context) (commits acked us)
+told_first context acked [] = refl
+told_first context acked (u ∷ rest) = by (list_any (λ v. v == u.version.0) acked) (told_first context acked rest)
   where
-    by : (b : Bool) → flat_map (told_of spot) (take (length (commits acked rest)) rest) ≡ flat_map (move_posts spot) (commits acked rest)
-        → flat_map (told_of spot) (take (length (provided b (Commit u ∷ commits acked rest))) (u ∷ rest)) ≡ flat_map (move_posts spot) (provided b (Commit u ∷ commits acked rest))
-    by true e = ap (λ (ps : List Post). told_of spot u ++ ps) e
+    by : (b : Bool) → flat_map (told_of context) (take (length (commits acked rest)) rest) ≡ flat_map (move_posts context) (commits acked rest)
+        → flat_map (told_of context) (take (length (provided b (Commit u ∷ commits acked rest))) (u ∷ rest)) ≡ flat_map (move_posts context) (provided b (Commit u ∷ commits acked rest))
+    by true e = ap (λ (ps : List Post). told_of context u ++ ps) e
     by false e = refl
 
 commits_within : (acked : List ℕ) (us : List Update) → length (commits acked us) ≤ length us
@@ -35,13 +35,13 @@ commits_within acked (u ∷ rest) = by (list_any (λ v. v == u.version.0) acked)
     by false l = omega arith
 
 -- what is told of where a version is acknowledged
-pub ack_told : (spot : ModelSpot) (s : KeyState) (v : ℕ) → flat_map (told_of spot) (take (committed_count (ack_answer s v)) (pending_of s)) ≡ (ack_step spot s v).posts
-ack_told spot s v = by (is_pending v s) (waits_below s.acked v (pending_of s))
+pub ack_told : (context : ModelContext) (s : KeyState) (v : ℕ) → flat_map (told_of context) (take (committed_count (ack_answer s v)) (pending_of s)) ≡ (ack_step context s v).posts
+ack_told context s v = by (is_pending v s) (waits_below s.acked v (pending_of s))
   where
-    by : (p w : Bool) → flat_map (told_of spot) (take (committed_count (cond (not p) an_ack.Unknown (cond w an_ack.Kept (an_ack.Committed (length (settled (moved (Acknowledge v) s))))))) (pending_of s))
-        ≡ flat_map (move_posts spot) (provided p (Acknowledge v ∷ provided (not w) (settled (moved (Acknowledge v) s))))
+    by : (p w : Bool) → flat_map (told_of context) (take (committed_count (cond (not p) an_ack.Unknown (cond w an_ack.Kept (an_ack.Committed (length (settled (moved (Acknowledge v) s))))))) (pending_of s))
+        ≡ flat_map (move_posts context) (provided p (Acknowledge v ∷ provided (not w) (settled (moved (Acknowledge v) s))))
     by true true = refl
-    by true false = told_first spot (moved (Acknowledge v) s).acked (pending_of s)
+    by true false = told_first context (moved (Acknowledge v) s).acked (pending_of s)
     by false w = refl
 
 pub ack_within : (s : KeyState) (v : ℕ) → committed_count (ack_answer s v) ≤ length (pending_of s)

@@ -10,7 +10,7 @@ use Rattle.hx_types.specs.declared.ids.ServerId.{ServerId}
 use Rattle.hx_types.specs.declared.spaces.Space.{Space}
 use Rattle.hx_types.specs.Configs.{joiner_for, lists}
 use Rattle.hx_types.specs.Words.{provided, when_some}
-use Rattle.hx_model.specs.ServerSteps.{Replica as ReplicaState, ServerState, Spot as ModelSpot, adopted_posts, is_active, ready_post, replica_of, replica_or_new, resumed_posts, snap_posts, snap_to}
+use Rattle.hx_model.specs.ServerSteps.{Replica as ReplicaState, ServerState, SlotContext as ModelContext, adopted_posts, is_active, ready_post, replica_of, replica_or_new, resumed_posts, snap_posts, snap_to}
 use Rattle.hx_replica.specs.declared.replicas.Replica.{Replica}
 use Rattle.hx_replica.specs.Replicas.{AreReplicas, IsReplicaIn, view_of, views_of}
 use Rattle.hx_replica.specs.Ticking.{kept_here, standing}
@@ -24,30 +24,30 @@ snap_kept : (s : ServerState) (r : ReplicaState) (o : Option ServerId) → snap_
 snap_kept s r None = refl
 snap_kept s r (Some joiner) = refl
 
-abbrev spot_at : Space → Config → ServerId → RegionId → ModelSpot
-spot_at space config server g = record { space = space; config = config; server = server; region = g }
+abbrev context_at : Space → Config → ServerId → RegionId → ModelContext
+context_at space config server g = record { space = space; config = config; server = server; region = g }
 
 -- what a replica posts that goes on, one after another
 pub active_posts : (space : Space) (config : Config) (server : ServerId) (g : RegionId) (r : Replica) (old snapped went posts : List Post) → is_active config (view_of r) ≡ true → r.region ≡ g
     → snapped ≡ old ++ snap_posts (standing config server) (kept_here g r.store.states)
-    → went ≡ snapped ++ flat_map (resumed_posts (spot_at space config server g)) r.store.states
+    → went ≡ snapped ++ flat_map (resumed_posts (context_at space config server g)) r.store.states
     → posts ≡ went ++ ready_post (standing config server) g → posts ≡ old ++ adopted_posts space (standing config server) (view_of r)
 active_posts space config server g r old snapped went posts active at a b c =
     let s = standing config server in
     let snap = snap_posts s (kept_here g r.store.states) in
-    let all = flat_map (resumed_posts (spot_at space config server g)) r.store.states in
+    let all = flat_map (resumed_posts (context_at space config server g)) r.store.states in
     let ready = ready_post s g in
     c ∙ ap (λ (ps : List Post). ps ++ ready) (b ∙ ap (λ (ps : List Post). ps ++ all) a)
     ∙ ap (λ (ps : List Post). ps ++ ready) (append_assoc old snap all) ∙ append_assoc old (snap ++ all) ready
-    ∙ ap (λ (x : RegionId). old ++ (snap_posts s (kept_here x r.store.states) ++ flat_map (resumed_posts (spot_at space config server x)) r.store.states ++ ready_post s x)) (sym at)
-    ∙ ap (λ (l : List Post). old ++ (l ++ flat_map (resumed_posts (spot_at space config server r.region)) r.store.states ++ ready_post s r.region)) (snap_kept s (view_of r) (joiner_for config r.region server))
-    ∙ ap (λ b. old ++ provided b (snap_posts s (view_of r) ++ flat_map (resumed_posts (spot_at space config server r.region)) r.store.states ++ ready_post s r.region)) (sym active)
+    ∙ ap (λ (x : RegionId). old ++ (snap_posts s (kept_here x r.store.states) ++ flat_map (resumed_posts (context_at space config server x)) r.store.states ++ ready_post s x)) (sym at)
+    ∙ ap (λ (l : List Post). old ++ (l ++ flat_map (resumed_posts (context_at space config server r.region)) r.store.states ++ ready_post s r.region)) (snap_kept s (view_of r) (joiner_for config r.region server))
+    ∙ ap (λ b. old ++ provided b (snap_posts s (view_of r) ++ flat_map (resumed_posts (context_at space config server r.region)) r.store.states ++ ready_post s r.region)) (sym active)
 
 -- one that doesn't go on posts nothing
 pub idle_posts : (space : Space) (config : Config) (server : ServerId) (r : Replica) (old : List Post) → is_active config (view_of r) ≡ false → old ≡ old ++ adopted_posts space (standing config server) (view_of r)
 idle_posts space config server r old idle =
     sym (append-nil old)
-    ∙ ap (λ b. old ++ provided b (snap_posts (standing config server) (view_of r) ++ flat_map (resumed_posts (spot_at space config server r.region)) r.store.states ++ ready_post (standing config server) r.region)) (sym idle)
+    ∙ ap (λ b. old ++ provided b (snap_posts (standing config server) (view_of r) ++ flat_map (resumed_posts (context_at space config server r.region)) r.store.states ++ ready_post (standing config server) r.region)) (sym idle)
 
 -- the replica at the place is the region's
 pub record IsThere (space : Space) (views : List ReplicaState) (g : RegionId) (y : Replica) : Type 0 where

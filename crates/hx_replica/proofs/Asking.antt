@@ -21,14 +21,14 @@ use Rattle.hx_types.specs.Words.{IsIn, same_region, same_text, when_some}
 use Rattle.hx_model.proofs.States.{eq_of_same_text}
 use Rattle.hx_model.specs.Neighbours.{place_number}
 use Rattle.hx_model.specs.Regions.{key_region}
-use Rattle.hx_model.specs.ServerSteps.{Replica, ServerState, hearing, replica_of, state_in}
+use Rattle.hx_model.specs.ServerSteps.{Replica, ServerState, replica_in_epoch, replica_of, state_in}
 use Rattle.hx_model.specs.Slots.{KeyState, state_among, top_of}
 use Rattle.hx_slot.specs.States.{IsPlacedIn}
 use Rattle.hx_replica.specs.Hearing.{heard, leading}
 use Rattle.hx_replica.specs.Made.{IsSessionActor, IsSlotInput, key_in}
 use Rattle.hx_replica.specs.Plans.{CanHear, CanStep}
 use Rattle.hx_replica.specs.Servers.{HasSmallVersions, IsSoundDelivery, ServerValue}
-use Rattle.hx_replica.proofs.Hearing.{found_region, hearing_found, installed_some, led}
+use Rattle.hx_replica.proofs.Hearing.{found_region, replica_in_epoch_found, installed_some, led}
 use Rattle.hx_replica.proofs.Planning.{found_there}
 
 -- the slot of a key has that key
@@ -86,7 +86,7 @@ call_region space s epoch (Some key) r e =
     let second = and_parts (is_key_region space g) (not (is_lost s.config g)) first.0 in (
       l.region,
       ap (is_key_region space) l.region ∙ second.0,
-      subst (λ (h : RegionId). replica_of h s.replicas ≡ Some r) (sym l.region) (hearing_found s epoch g r l.hears),
+      subst (λ (h : RegionId). replica_of h s.replicas ≡ Some r) (sym l.region) (replica_in_epoch_found s epoch g r l.hears),
     )
 
 -- a call that is heard is on a key
@@ -113,7 +113,7 @@ slot_input space s from (a_message.Call epoch number op) r sound small e marked 
       state_key marks key r.states,
     )
 slot_input space s from (a_message.Update epoch g u) r sound small e marked =
-    let is : r.region ≡ g = found_region g s.replicas r (hearing_found s epoch g r (installed_some (hearing s epoch g) r e)) in
+    let is : r.region ≡ g = found_region g s.replicas r (replica_in_epoch_found s epoch g r (installed_some (replica_in_epoch s epoch g) r e)) in
     let m = sound.sound.message in
     (subst (λ (x : RegionId). IsPlacedIn x u) (sym is) (placed g u.places m.3), m.2.of_space.few, m.2.of_space.after)
 slot_input space s from (a_message.Ack epoch g key version) r sound small e marked = state_key (is_key_region space r.region) key r.states

@@ -16,7 +16,7 @@ use Rattle.hx_types.specs.Effects.{key_of}
 use Rattle.hx_types.specs.Posts.{goes_between}
 use Rattle.hx_types.specs.Words.{same_region, when_some}
 use Rattle.hx_model.specs.Regions.{key_region}
-use Rattle.hx_model.specs.ServerSteps.{Replica, ServerState, acked, at_slot, call_at, call_step, called, hearing, if_installed, message_step, replica_of, spot_of, state_in, unmoved, updated}
+use Rattle.hx_model.specs.ServerSteps.{Replica, ServerState, acked, at_slot, call_at, call_step, called, replica_in_epoch, if_installed, message_step, replica_of, context_of, state_in, unmoved, updated}
 use Rattle.hx_replica.specs.Hearing.{IsOfOneSlot, heard, leading}
 use Rattle.hx_replica.specs.Made.{key_in, slot_step_of}
 
@@ -45,8 +45,8 @@ if_none true r e = absurd cc
 if_none false r e = refl
 
 -- what hears a message is the replica of its region
-pub hearing_found : (s : ServerState) (epoch : Epoch) (g : RegionId) (r : Replica) → hearing s epoch g ≡ Some r → replica_of g s.replicas ≡ Some r
-hearing_found s epoch g r e = unless_some _ (replica_of g s.replicas) r e
+pub replica_in_epoch_found : (s : ServerState) (epoch : Epoch) (g : RegionId) (r : Replica) → replica_in_epoch s epoch g ≡ Some r → replica_of g s.replicas ≡ Some r
+replica_in_epoch_found s epoch g r e = unless_some _ (replica_of g s.replicas) r e
 
 pub installed_some : (o : Option Replica) (r : Replica) → if_installed o ≡ Some r → o ≡ Some r
 installed_some None r e = e
@@ -55,36 +55,36 @@ installed_some (Some x) r e = (if_some x.installed (Some x) r e).1
 -- a call is heard where the server leads the key's region
 pub record IsLed (space : Space) (s : ServerState) (epoch : Epoch) (key : List ℕ) (r : Replica) : Type 0 where
   pub leads_it : leads space s.config s.id (key_region space key) ≡ true
-  pub hears : hearing s epoch (key_region space key) ≡ Some r
+  pub hears : replica_in_epoch s epoch (key_region space key) ≡ Some r
   pub region : r.region ≡ key_region space key
 
 pub led : (space : Space) (s : ServerState) (epoch : Epoch) (key : List ℕ) (r : Replica) → leading space s epoch key ≡ Some r → IsLed space s epoch key r
 led space s epoch key r e =
-    let both = if_some (leads space s.config s.id (key_region space key)) (hearing s epoch (key_region space key)) r e in
-    record { leads_it = both.0; hears = both.1; region = found_region (key_region space key) s.replicas r (hearing_found s epoch (key_region space key) r both.1) }
+    let both = if_some (leads space s.config s.id (key_region space key)) (replica_in_epoch s epoch (key_region space key)) r e in
+    record { leads_it = both.0; hears = both.1; region = found_region (key_region space key) s.replicas r (replica_in_epoch_found s epoch (key_region space key) r both.1) }
 
 called_heard : (space : Space) (s : ServerState) (epoch : Epoch) (caller : Caller) (op : Op) (o : Option (List ℕ)) (r : Replica) → when_some o None (leading space s epoch) ≡ Some r
-    → called space s epoch caller op o ≡ at_slot s r (state_in space r (when_some o [] (λ k. k))) (call_step (spot_of space s r.region) (state_in space r (when_some o [] (λ k. k))) caller op)
+    → called space s epoch caller op o ≡ at_slot s r (state_in space r (when_some o [] (λ k. k))) (call_step (context_of space s r.region) (state_in space r (when_some o [] (λ k. k))) caller op)
 called_heard space s epoch caller op None r e = absurd cc
 called_heard space s epoch caller op (Some key) r e =
     let l = led space s epoch key r e in
     ap (λ (o : Option Replica). when_some o (unmoved s) (λ (x : Replica). call_at space s x key caller op)) l.hears
     ∙ cond-true (leads space s.config s.id r.region) _ (unmoved s) (ap (leads space s.config s.id) l.region ∙ l.leads_it)
 
-not_led : (space : Space) (s : ServerState) (epoch : Epoch) (caller : Caller) (op : Op) (key : List ℕ) (h : Option Replica) → hearing s epoch (key_region space key) ≡ h
+not_led : (space : Space) (s : ServerState) (epoch : Epoch) (caller : Caller) (op : Op) (key : List ℕ) (h : Option Replica) → replica_in_epoch s epoch (key_region space key) ≡ h
     → cond (leads space s.config s.id (key_region space key)) h None ≡ None → when_some h (unmoved s) (λ (x : Replica). call_at space s x key caller op) ≡ unmoved s
 not_led space s epoch caller op key None is e = refl
 not_led space s epoch caller op key (Some r) is e =
-    let region = found_region (key_region space key) s.replicas r (hearing_found s epoch (key_region space key) r is) in
+    let region = found_region (key_region space key) s.replicas r (replica_in_epoch_found s epoch (key_region space key) r is) in
     cond-false (leads space s.config s.id r.region) _ (unmoved s) (ap (leads space s.config s.id) region ∙ if_none (leads space s.config s.id (key_region space key)) r e)
 
 called_unheard : (space : Space) (s : ServerState) (epoch : Epoch) (caller : Caller) (op : Op) (o : Option (List ℕ)) → when_some o None (leading space s epoch) ≡ None → called space s epoch caller op o ≡ unmoved s
 called_unheard space s epoch caller op None e = refl
-called_unheard space s epoch caller op (Some key) e = not_led space s epoch caller op key (hearing s epoch (key_region space key)) refl e
+called_unheard space s epoch caller op (Some key) e = not_led space s epoch caller op key (replica_in_epoch s epoch (key_region space key)) refl e
 
 -- the step of one slot
 pub message_heard : (space : Space) (s : ServerState) (from to : Actor) (m : Message) (r : Replica) → goes_between from to m ≡ true → heard space s m ≡ Some r
-    → message_step space s from m ≡ at_slot s r (state_in space r (key_in m)) (slot_step_of (spot_of space s r.region) (state_in space r (key_in m)) from m)
+    → message_step space s from m ≡ at_slot s r (state_in space r (key_in m)) (slot_step_of (context_of space s r.region) (state_in space r (key_in m)) from m)
 message_heard space s Coordinator to (a_message.Call epoch number op) r b e = absurd (false≢true b)
 message_heard space s (Server x) to (a_message.Call epoch number op) r b e = absurd (false≢true b)
 message_heard space s (Session u) to (a_message.Call epoch number op) r b e = called_heard space s epoch (record { session = u; number = number }) op (key_of op) r e

@@ -13,7 +13,7 @@ use Rattle.hx_types.specs.declared.spaces.Space.{Space}
 use Rattle.hx_types.specs.declared.traces.Input.{Input}
 use Rattle.hx_types.specs.Subspaces.{is_key_region}
 use Rattle.hx_types.specs.Words.{same_text, when_some}
-use Rattle.hx_model.specs.ServerSteps.{Replica as ReplicaState, ServerState, replica_of, server_step, spot_of, state_in, with_replica, with_slot}
+use Rattle.hx_model.specs.ServerSteps.{Replica as ReplicaState, ServerState, replica_of, server_step, context_of, state_in, with_replica, with_slot}
 use Rattle.hx_model.specs.Slots.{KeyState, new_state, state_among}
 use Rattle.hx_store.specs.Stores.{IsPlace, Room, has_slot, StoreState, after_step, key_at, spare_at, state_at}
 use Rattle.hx_folds.specs.Folding.{folded_server}
@@ -117,7 +117,7 @@ pub made_at : (i : Inside) (v : ServerValue) (number : ℕ) (key : List ℕ) (fr
     → IsMade y.region state (key_in m) (slot_step_of (record { space = i.space; config = i.config; server = i.id; region = y.region }) state from m) made
     → IsMadeAt v number from m made
 made_at i v number key from m y state made seen l at is k h r e =
-    let So : ServerValue → ReplicaState → KeyState → Type 0 = λ x z s. IsMade z.region s (key_in m) (slot_step_of (spot_of x.space x.state z.region) s from m) made in
+    let So : ServerValue → ReplicaState → KeyState → Type 0 = λ x z s. IsMade z.region s (key_in m) (slot_step_of (context_of x.space x.state z.region) s from m) made in
     let same : view_of y ≡ r = same_Some (view_of y) r (sym (view_there i v number y seen l at) ∙ e) in
     subst (λ (x : ServerValue). So x r (state_in x.space r (key_in m))) seen
     (subst (λ (z : ReplicaState). So (value_of i) z (state_in i.space z (key_in m))) same

@@ -15,7 +15,7 @@ use Rattle.hx_types.specs.Subspaces.{is_key_region}
 use Rattle.hx_types.specs.Words.{same_text}
 use Rattle.hx_model.proofs.Laws.{base-moved_all}
 use Rattle.hx_model.proofs.States.{others_stay}
-use Rattle.hx_model.specs.ServerSteps.{Slots, Spot as ModelSpot, accepting, end_marks, join_keys, join_slot, move_posts, offered_all, passed_on, resumed, state_from}
+use Rattle.hx_model.specs.ServerSteps.{Slots, SlotContext as ModelContext, accepting, tail_acks, join_keys, join_slot, move_posts, offered_all, passed_on, resumed, state_from}
 use Rattle.hx_model.specs.Slots.{Acknowledge, Commit, Forget, Hold, KeyState, Move, Take, follows, moved, moved_all, new_state, offered, pending_above, pending_of, settled, state_among, taken, top_above, top_of, turns, with_state}
 use Rattle.hx_folds.specs.Folding.{Descends, IsLater, IsSlotOf, folded}
 use Rattle.hx_folds.proofs.Bare.{bare-folded, bare-from}
@@ -62,26 +62,26 @@ all_offers g s [] = tt
 all_offers g s (u ∷ us) = offers_append (offered g s u) (offered_all g (moved_all (offered g s u) s) us) (one_offers g s u) (all_offers g (moved_all (offered g s u) s) us)
 
 -- what such moves take is pending, and passed on
-record AreTaken (spot : ModelSpot) (s : KeyState) (ms : List Move) : Type 0 where
+record AreTaken (context : ModelContext) (s : KeyState) (ms : List Move) : Type 0 where
   pending : pending_of (moved_all ms s) ≡ pending_of s ++ taken ms
   acked : (moved_all ms s).acked ≡ s.acked
-  posts : flat_map (move_posts spot) ms ≡ flat_map (passed_on spot) (taken ms)
+  posts : flat_map (move_posts context) ms ≡ flat_map (passed_on context) (taken ms)
 
-are_taken : (spot : ModelSpot) (g : RegionId) (ms : List Move) (s : KeyState) → AreOffers ms → AllFit g s ms → s.floor ≤ top_of s → AreTaken spot s ms
-are_taken spot g [] s o f l = record { pending = sym (append-nil (pending_of s)); acked = refl; posts = refl }
-are_taken spot g (Take u ∷ ms) s o f l =
+are_taken : (context : ModelContext) (g : RegionId) (ms : List Move) (s : KeyState) → AreOffers ms → AllFit g s ms → s.floor ≤ top_of s → AreTaken context s ms
+are_taken context g [] s o f l = record { pending = sym (append-nil (pending_of s)); acked = refl; posts = refl }
+are_taken context g (Take u ∷ ms) s o f l =
     let t = f.0 in
-    let rest = are_taken spot g ms (moved (Take u) s) o f.1 (omega (arith, l, t)) in
+    let rest = are_taken context g ms (moved (Take u) s) o f.1 (omega (arith, l, t)) in
     record {
       pending = rest.pending ∙ ap (λ (us : List Update). us ++ taken ms) (take_pending u s (omega (arith, l, t))) ∙ append_assoc (pending_of s) (u ∷ []) (taken ms);
       acked = rest.acked;
-      posts = ap (λ (ps : List Post). passed_on spot u ++ ps) rest.posts;
+      posts = ap (λ (ps : List Post). passed_on context u ++ ps) rest.posts;
     }
-are_taken spot g (Hold u ∷ ms) s o f l =
-    let rest = are_taken spot g ms (moved (Hold u) s) o f.1 l in record { pending = rest.pending; acked = rest.acked; posts = rest.posts }
-are_taken spot g (Acknowledge v ∷ ms) s o f l = absurd o
-are_taken spot g (Commit u ∷ ms) s o f l = absurd o
-are_taken spot g (Forget ∷ ms) s o f l = absurd o
+are_taken context g (Hold u ∷ ms) s o f l =
+    let rest = are_taken context g ms (moved (Hold u) s) o f.1 l in record { pending = rest.pending; acked = rest.acked; posts = rest.posts }
+are_taken context g (Acknowledge v ∷ ms) s o f l = absurd o
+are_taken context g (Commit u ∷ ms) s o f l = absurd o
+are_taken context g (Forget ∷ ms) s o f l = absurd o
 
 -- a fresh slot
 slot_fresh : (g : RegionId) (s : KeyState) → IsFresh g s → IsSlotOf g s
@@ -141,23 +141,23 @@ settled_same : (ends : List Version) (s : KeyState) → s.acked ≡ [] → settl
 settled_same ends s none = settled_any ends (record s { acked = [] }) [] ∙ ap (λ (l : List ℕ). settled (moved_all (acknowledging ends) (record s { acked = l }))) (sym none)
 
 -- a slot that was offered the updates of its key
-module _ (spot : ModelSpot) (us : List Update) (s x : KeyState) (fresh : IsFresh spot.region s) (come : All (CanCome spot.region) us) (is : x ≡ moved_all (offered_all spot.region s (of_key s.base.key us)) s) where
+module _ (context : ModelContext) (us : List Update) (s x : KeyState) (fresh : IsFresh context.region s) (come : All (CanCome context.region) us) (is : x ≡ moved_all (offered_all context.region s (of_key s.base.key us)) s) where
   abbrev g : RegionId
-  g = spot.region
+  g = context.region
 
   abbrev ms : List Move
   ms = offered_all g s (of_key s.base.key us)
 
   abbrev marks : List Move
-  marks = end_marks spot (taken ms)
+  marks = tail_acks context (taken ms)
 
   fit : AllFit g s ms
   fit =
       offered_all-fit g s (of_key s.base.key us) (slot_fresh g s fresh)
       (all-filter (IsLater g) (λ (u : Update). same_text u.key s.base.key) us (recursion_from_All (IsLater g) us (All-weaker (CanCome g) (IsLater g) (λ (u : Update) (c : CanCome g u). later-of g u c.after) us come)))
 
-  took : AreTaken spot s ms
-  took = are_taken spot g ms s (all_offers g s (of_key s.base.key us)) fit (floor_fresh g s fresh)
+  took : AreTaken context s ms
+  took = are_taken context g ms s (all_offers g s (of_key s.base.key us)) fit (floor_fresh g s fresh)
 
   pub none_acked : x.acked ≡ []
   none_acked = ap (λ (y : KeyState). y.acked) is ∙ took.acked ∙ fresh.acked
@@ -169,10 +169,10 @@ module _ (spot : ModelSpot) (us : List Update) (s x : KeyState) (fresh : IsFresh
   marked = ap (moved_all marks) is ∙ sym (moved_all_append ms marks s)
 
   -- its state afterwards
-  pub joined_state : (ends : List Version) (next : KeyState) → acknowledging ends ≡ end_marks spot (pending_of x) → next ≡ folded g (moved_all (acknowledging ends ++ settled (moved_all (acknowledging ends) x)) x)
-      → next ≡ folded g (moved_all (joining spot us s) s)
+  pub joined_state : (ends : List Version) (next : KeyState) → acknowledging ends ≡ tail_acks context (pending_of x) → next ≡ folded g (moved_all (acknowledging ends ++ settled (moved_all (acknowledging ends) x)) x)
+      → next ≡ folded g (moved_all (joining context us s) s)
   joined_state ends next e n =
-      n ∙ ap (λ (l : List Move). folded g (moved_all (l ++ settled (moved_all l x)) x)) (e ∙ ap (end_marks spot) pending_are)
+      n ∙ ap (λ (l : List Move). folded g (moved_all (l ++ settled (moved_all l x)) x)) (e ∙ ap (tail_acks context) pending_are)
       ∙ ap (folded g)
       (
       moved_all_append marks (settled (moved_all marks x)) x
@@ -181,24 +181,24 @@ module _ (spot : ModelSpot) (us : List Update) (s x : KeyState) (fresh : IsFresh
       )
 
   -- and all that is posted of it
-  pub joined_posts : (ends : List Version) (old posts : List Post) → acknowledging ends ≡ end_marks spot (pending_of x) → posts ≡ old ++ (flat_map (passed_on spot) (pending_of x) ++ flat_map (move_posts spot) (resumed spot x))
-      → posts ≡ old ++ flat_map (move_posts spot) (joining spot us s)
+  pub joined_posts : (ends : List Version) (old posts : List Post) → acknowledging ends ≡ tail_acks context (pending_of x) → posts ≡ old ++ (flat_map (passed_on context) (pending_of x) ++ flat_map (move_posts context) (resumed context x))
+      → posts ≡ old ++ flat_map (move_posts context) (joining context us s)
   joined_posts ends old posts e p =
-      let f : List Move → List Post = flat_map (move_posts spot) in
-      let them : List Move = end_marks spot (pending_of x) in
+      let f : List Move → List Post = flat_map (move_posts context) in
+      let them : List Move = tail_acks context (pending_of x) in
       let rest : List Move = settled (moved_all (ms ++ marks) s) in
       let settle : settled (moved_all them (moved Forget x)) ≡ rest =
       ap (λ (l : List Move). settled (moved_all l (moved Forget x))) (sym e) ∙ settled_same ends x none_acked
-      ∙ ap (λ (l : List Move). settled (moved_all l x)) (e ∙ ap (end_marks spot) pending_are) ∙ ap settled marked in
-      let goes : f (resumed spot x) ≡ f rest =
-      flat_map-append (move_posts spot) them (settled (moved_all them (moved Forget x)))
-      ∙ ap (λ (ps : List Post). ps ++ f (settled (moved_all them (moved Forget x)))) (no_end_posts spot (pending_of x)) ∙ ap f settle in
-      let whole : f (joining spot us s) ≡ flat_map (passed_on spot) (taken ms) ++ f rest =
-      flat_map-append (move_posts spot) (ms ++ marks) rest
-      ∙ ap (λ (ps : List Post). ps ++ f rest) (flat_map-append (move_posts spot) ms marks ∙ ap (λ (ps : List Post). f ms ++ ps) (no_end_posts spot (taken ms)) ∙ append-nil (f ms) ∙ took.posts) in
+      ∙ ap (λ (l : List Move). settled (moved_all l x)) (e ∙ ap (tail_acks context) pending_are) ∙ ap settled marked in
+      let goes : f (resumed context x) ≡ f rest =
+      flat_map-append (move_posts context) them (settled (moved_all them (moved Forget x)))
+      ∙ ap (λ (ps : List Post). ps ++ f (settled (moved_all them (moved Forget x)))) (no_end_posts context (pending_of x)) ∙ ap f settle in
+      let whole : f (joining context us s) ≡ flat_map (passed_on context) (taken ms) ++ f rest =
+      flat_map-append (move_posts context) (ms ++ marks) rest
+      ∙ ap (λ (ps : List Post). ps ++ f rest) (flat_map-append (move_posts context) ms marks ∙ ap (λ (ps : List Post). f ms ++ ps) (no_end_posts context (taken ms)) ∙ append-nil (f ms) ∙ took.posts) in
       p
-      ∙ ap (λ (l : List Update). old ++ (flat_map (passed_on spot) l ++ f (resumed spot x))) pending_are
-      ∙ ap (λ (ps : List Post). old ++ (flat_map (passed_on spot) (taken ms) ++ ps)) goes
+      ∙ ap (λ (l : List Update). old ++ (flat_map (passed_on context) l ++ f (resumed context x))) pending_are
+      ∙ ap (λ (ps : List Post). old ++ (flat_map (passed_on context) (taken ms) ++ ps)) goes
       ∙ ap (λ (ps : List Post). old ++ ps) (sym whole)
 
 pub from_marked : (b : Bool) (snapshot : List Kept) → AllByRecursion (λ (t : KeyState). t.marks ≡ b) (map (state_from b) snapshot)
@@ -206,45 +206,45 @@ from_marked b [] = tt
 from_marked b (k ∷ rest) = (refl, from_marked b rest)
 
 -- the slots after those of some keys have taken their updates
-pub record IsJoining (spot : ModelSpot) (us : List Update) (states : List KeyState) (ks : List (List ℕ)) (old posts : List Post) (now : List KeyState) : Type 0 where
-  pub states_are : now ≡ map (folded spot.region) (joined_slots spot us states ks).states
-  pub posts_are : posts ≡ old ++ (joined_slots spot us states ks).posts
+pub record IsJoining (context : ModelContext) (us : List Update) (states : List KeyState) (ks : List (List ℕ)) (old posts : List Post) (now : List KeyState) : Type 0 where
+  pub states_are : now ≡ map (folded context.region) (joined_slots context us states ks).states
+  pub posts_are : posts ≡ old ++ (joined_slots context us states ks).posts
 
-pub none_joined : (spot : ModelSpot) (us : List Update) (states : List KeyState) (old : List Post) → AllByRecursion (IsFresh spot.region) states → IsJoining spot us states [] old old states
-none_joined spot us states old h = record { states_are = all_folded spot.region states h; posts_are = sym (append-nil old) }
+pub none_joined : (context : ModelContext) (us : List Update) (states : List KeyState) (old : List Post) → AllByRecursion (IsFresh context.region) states → IsJoining context us states [] old old states
+none_joined context us states old h = record { states_are = all_folded context.region states h; posts_are = sym (append-nil old) }
 
-module _ (spot : ModelSpot) (us : List Update) where
+module _ (context : ModelContext) (us : List Update) where
   abbrev b : Bool
-  b = is_key_region spot.space spot.region
+  b = is_key_region context.space context.region
 
   abbrev join_one : Slots → List ℕ → Slots
-  join_one slots key = join_slot spot (of_key key us) slots (state_among b key slots.states)
+  join_one slots key = join_slot context (of_key key us) slots (state_among b key slots.states)
 
-  join_more : (slots : Slots) (ks : List (List ℕ)) (k : List ℕ) → join_keys spot us slots (ks ++ k ∷ []) ≡ join_one (join_keys spot us slots ks) k
+  join_more : (slots : Slots) (ks : List (List ℕ)) (k : List ℕ) → join_keys context us slots (ks ++ k ∷ []) ≡ join_one (join_keys context us slots ks) k
   join_more slots [] k = refl
   join_more slots (x ∷ ks) k = join_more (join_one slots x) ks k
 
   -- the slot of another key stays
-  others : (ks : List (List ℕ)) (slots : Slots) (k : List ℕ) → AllByRecursion (λ (y : List ℕ). same_text y k ≡ false) ks → state_among b k (join_keys spot us slots ks).states ≡ state_among b k slots.states
+  others : (ks : List (List ℕ)) (slots : Slots) (k : List ℕ) → AllByRecursion (λ (y : List ℕ). same_text y k ≡ false) ks → state_among b k (join_keys context us slots ks).states ≡ state_among b k slots.states
   others [] slots k h = refl
   others (y ∷ ks) slots k h =
       let s : KeyState = state_among b y slots.states in
-      let moves : List Move = accepting spot s (offered_all spot.region s (of_key y us)) in
+      let moves : List Move = accepting context s (offered_all context.region s (of_key y us)) in
       others ks (join_one slots y) k h.1
       ∙ others_stay b (moved_all moves s) k slots.states (ap (λ (x : List ℕ). same_text x k) (ap (λ (base : Kept). base.key) (base-moved_all moves s) ∙ among-key b y slots.states) ∙ h.0)
 
-  pub joined_marked : (ks : List (List ℕ)) (slots : Slots) → AllByRecursion (λ (t : KeyState). t.marks ≡ b) slots.states → AllByRecursion (λ (t : KeyState). t.marks ≡ b) (join_keys spot us slots ks).states
+  pub joined_marked : (ks : List (List ℕ)) (slots : Slots) → AllByRecursion (λ (t : KeyState). t.marks ≡ b) slots.states → AllByRecursion (λ (t : KeyState). t.marks ≡ b) (join_keys context us slots ks).states
   joined_marked [] slots h = h
   joined_marked (y ∷ ks) slots h =
       let s : KeyState = state_among b y slots.states in
-      let moves : List Move = accepting spot s (offered_all spot.region s (of_key y us)) in
+      let moves : List Move = accepting context s (offered_all context.region s (of_key y us)) in
       joined_marked ks (join_one slots y) (with_marked b (moved_all moves s) slots.states (marks_stay moves s ∙ state_marks b y slots.states h) h)
 
   module _ (states : List KeyState) (ks : List (List ℕ)) (i : ℕ) (k : List ℕ) (old posts : List Post) (now : List KeyState) (marks : Bool) (slot : KeyState)
-      (fresh : AllByRecursion (IsFresh spot.region) states) (ascend : TextsAscend ks) (at : slice_get ks i ≡ Some k) (so : IsJoining spot us states (take i ks) old posts now) (kind : marks ≡ b)
+      (fresh : AllByRecursion (IsFresh context.region) states) (ascend : TextsAscend ks) (at : slice_get ks i ≡ Some k) (so : IsJoining context us states (take i ks) old posts now) (kind : marks ≡ b)
       (is : slot ≡ moved Forget (state_among marks k now)) where
     abbrev before : Slots
-    before = joined_slots spot us states (take i ks)
+    before = joined_slots context us states (take i ks)
 
     abbrev x : KeyState
     x = state_among b k before.states
@@ -252,45 +252,45 @@ module _ (spot : ModelSpot) (us : List Update) where
     same : x ≡ state_among b k states
     same = others (take i ks) (record { states = states; posts = [] }) k (earlier_differ ks i k ascend at)
 
-    first_fresh : IsFresh spot.region (state_among b k states)
-    first_fresh = among_fresh spot.region b k states fresh
+    first_fresh : IsFresh context.region (state_among b k states)
+    first_fresh = among_fresh context.region b k states fresh
 
     found : slot ≡ x
     found =
         is ∙ ap (λ (c : Bool). moved Forget (state_among c k now)) kind
         ∙ ap (λ (l : List KeyState). moved Forget (state_among b k l)) so.states_are
-        ∙ ap (moved Forget) (folded-among spot.region b k before.states ∙ ap (folded spot.region) same ∙ first_fresh.bare)
-        ∙ forgets_nothing spot.region (state_among b k states) first_fresh
+        ∙ ap (moved Forget) (folded-among context.region b k before.states ∙ ap (folded context.region) same ∙ first_fresh.bare)
+        ∙ forgets_nothing context.region (state_among b k states) first_fresh
         ∙ sym same
 
     -- the slot of the key has nothing but its committed state
-    pub is_fresh : IsFresh spot.region slot
-    is_fresh = subst (IsFresh spot.region) (sym (found ∙ same)) first_fresh
+    pub is_fresh : IsFresh context.region slot
+    is_fresh = subst (IsFresh context.region) (sym (found ∙ same)) first_fresh
 
     pub slot_marks : AllByRecursion (λ (t : KeyState). t.marks ≡ b) states → slot.marks ≡ b
     slot_marks h = ap (λ (t : KeyState). t.marks) (found ∙ same) ∙ state_marks b k states h
 
     abbrev moves : List Move
-    moves = accepting spot x (offered_all spot.region x (of_key k us))
+    moves = accepting context x (offered_all context.region x (of_key k us))
 
-    moves_are : joining spot us slot ≡ moves
+    moves_are : joining context us slot ≡ moves
     moves_are =
-        ap (joining spot us) found
-        ∙ ap (λ (key : List ℕ). accepting spot x (offered_all spot.region x (of_key key us))) (among-key b k before.states)
+        ap (joining context us) found
+        ∙ ap (λ (key : List ℕ). accepting context x (offered_all context.region x (of_key key us))) (among-key b k before.states)
 
-    more : joined_slots spot us states (take (i + 1) ks) ≡ join_one before k
-    more = ap (joined_slots spot us states) (take_next ks i k at) ∙ join_more (record { states = states; posts = [] }) (take i ks) k
+    more : joined_slots context us states (take (i + 1) ks) ≡ join_one before k
+    more = ap (joined_slots context us states) (take_next ks i k at) ∙ join_more (record { states = states; posts = [] }) (take i ks) k
 
     -- it has taken its updates
-    pub join_next : (next : KeyState) (new : List KeyState) (after : List Post) → next ≡ folded spot.region (moved_all (joining spot us slot) slot) → new ≡ with_state next now → after ≡ posts ++ flat_map (move_posts spot) (joining spot us slot)
-        → IsJoining spot us states (take (i + 1) ks) old after new
+    pub join_next : (next : KeyState) (new : List KeyState) (after : List Post) → next ≡ folded context.region (moved_all (joining context us slot) slot) → new ≡ with_state next now → after ≡ posts ++ flat_map (move_posts context) (joining context us slot)
+        → IsJoining context us states (take (i + 1) ks) old after new
     join_next next new after e n p =
         let done : KeyState = moved_all moves x in
-        let next_is : next ≡ folded spot.region done = e ∙ ap (λ (l : List Move). folded spot.region (moved_all l slot)) moves_are ∙ ap (λ (s : KeyState). folded spot.region (moved_all moves s)) found in
+        let next_is : next ≡ folded context.region done = e ∙ ap (λ (l : List Move). folded context.region (moved_all l slot)) moves_are ∙ ap (λ (s : KeyState). folded context.region (moved_all moves s)) found in
         record {
-          states_are = n ∙ ap (λ (s : KeyState). with_state s now) next_is ∙ ap (with_state (folded spot.region done)) so.states_are ∙ sym (folded-with spot.region done before.states)
-              ∙ ap (λ (t : Slots). map (folded spot.region) t.states) (sym more);
-          posts_are = p ∙ ap (λ (ps : List Post). ps ++ flat_map (move_posts spot) (joining spot us slot)) so.posts_are ∙ append_assoc old before.posts (flat_map (move_posts spot) (joining spot us slot))
-              ∙ ap (λ (l : List Move). old ++ (before.posts ++ flat_map (move_posts spot) l)) moves_are
+          states_are = n ∙ ap (λ (s : KeyState). with_state s now) next_is ∙ ap (with_state (folded context.region done)) so.states_are ∙ sym (folded-with context.region done before.states)
+              ∙ ap (λ (t : Slots). map (folded context.region) t.states) (sym more);
+          posts_are = p ∙ ap (λ (ps : List Post). ps ++ flat_map (move_posts context) (joining context us slot)) so.posts_are ∙ append_assoc old before.posts (flat_map (move_posts context) (joining context us slot))
+              ∙ ap (λ (l : List Move). old ++ (before.posts ++ flat_map (move_posts context) l)) moves_are
               ∙ ap (λ (t : Slots). old ++ t.posts) (sym more);
         }

@@ -20,7 +20,7 @@ use Rattle.hx_types.specs.Subspaces.{is_key_region}
 use Rattle.hx_types.specs.Words.{list_of, provided, same_region, same_text, text_below, when_some}
 use Rattle.hx_model.proofs.States.{same_text_self}
 use Rattle.hx_model.specs.Neighbours.{is_end}
-use Rattle.hx_model.specs.ServerSteps.{Replica as ReplicaState, Spot as ModelSpot, end_marks, is_active, listed_regions, next_at, replica_of, replica_or_new, resumed, with_replica}
+use Rattle.hx_model.specs.ServerSteps.{Replica as ReplicaState, SlotContext as ModelContext, tail_acks, is_active, listed_regions, next_at, replica_of, replica_or_new, resumed, with_replica}
 use Rattle.hx_model.specs.Slots.{Forget, KeyState, Move, is_pending, moved, moved_all, pending_of, settled, with_state}
 use Rattle.hx_folds.specs.Folding.{KeysAscend, folded}
 use Rattle.hx_store.specs.Stores.{StoreState, acknowledging, after_step, key_at, settled_at, state_at}
@@ -107,27 +107,27 @@ upto_length f (suc n) [] = refl
 upto_length f (suc n) (x ∷ xs) = ap suc (upto_length f n xs)
 
 -- the first pending updates are acknowledged, where their chain ends here
-abbrev pub marked_upto : ModelSpot → ℕ → KeyState → KeyState
-marked_upto spot k s = moved_all (acknowledging (flat_map (end_of spot) (take k (pending_of s)))) s
+abbrev pub marked_upto : ModelContext → ℕ → KeyState → KeyState
+marked_upto context k s = moved_all (acknowledging (flat_map (end_of context) (take k (pending_of s)))) s
 
-pub one_marked : (spot : ModelSpot) (k i : ℕ) (xs : List KeyState) → k < when_some (slice_get xs i) 0 (λ (s : KeyState). length (pending_of s))
-    → changed_at (marked_end spot k) i (changed_at (marked_upto spot k) i xs) ≡ changed_at (marked_upto spot (k + 1)) i xs
-one_marked spot k i xs l =
-    changed_twice (marked_end spot k) (marked_upto spot k) i xs
-    ∙ changed_same (λ (s : KeyState). marked_end spot k (marked_upto spot k s)) (marked_upto spot (k + 1)) i xs
+pub one_marked : (context : ModelContext) (k i : ℕ) (xs : List KeyState) → k < when_some (slice_get xs i) 0 (λ (s : KeyState). length (pending_of s))
+    → changed_at (marked_end context k) i (changed_at (marked_upto context k) i xs) ≡ changed_at (marked_upto context (k + 1)) i xs
+one_marked context k i xs l =
+    changed_twice (marked_end context k) (marked_upto context k) i xs
+    ∙ changed_same (λ (s : KeyState). marked_end context k (marked_upto context k s)) (marked_upto context (k + 1)) i xs
     (λ s at. one s (subst (λ (o : Option KeyState). k < when_some o 0 (λ (t : KeyState). length (pending_of t))) at l))
   where
-    one : (s : KeyState) → k < length (pending_of s) → marked_end spot k (marked_upto spot k s) ≡ marked_upto spot (k + 1) s
+    one : (s : KeyState) → k < length (pending_of s) → marked_end context k (marked_upto context k s) ≡ marked_upto context (k + 1) s
     one s l =
         let us = pending_of s in
-        let ends = flat_map (end_of spot) (take k us) in
-        let before = marked_upto spot k s in
+        let ends = flat_map (end_of context) (take k us) in
+        let before = marked_upto context k s in
         let at = at-within us k l in
-        ap (λ (ps : List Update). moved_all (acknowledging (when_some (slice_get ps k) [] (end_of spot))) before) (marks_pending ends s)
-        ∙ ap (λ (o : Option Update). moved_all (acknowledging (when_some o [] (end_of spot))) before) at.1
-        ∙ sym (moved_all_append (acknowledging ends) (acknowledging (end_of spot at.0)) s)
-        ∙ ap (λ (ms : List Move). moved_all ms s) (sym (acknowledging_append ends (end_of spot at.0)))
-        ∙ ap (λ (vs : List Version). moved_all (acknowledging vs) s) (flat_more (end_of spot) us k at.0 ends (ends ++ end_of spot at.0) [] at.1 refl refl)
+        ap (λ (ps : List Update). moved_all (acknowledging (when_some (slice_get ps k) [] (end_of context))) before) (marks_pending ends s)
+        ∙ ap (λ (o : Option Update). moved_all (acknowledging (when_some o [] (end_of context))) before) at.1
+        ∙ sym (moved_all_append (acknowledging ends) (acknowledging (end_of context at.0)) s)
+        ∙ ap (λ (ms : List Move). moved_all ms s) (sym (acknowledging_append ends (end_of context at.0)))
+        ∙ ap (λ (vs : List Version). moved_all (acknowledging vs) s) (flat_more (end_of context) us k at.0 ends (ends ++ end_of context at.0) [] at.1 refl refl)
 
 take_whole : {A : Type 0} (n : ℕ) (xs : List A) → length xs ≤ n → take n xs ≡ xs
 take_whole zero [] l = refl
@@ -135,14 +135,14 @@ take_whole zero (x ∷ xs) l = absurd (omega (arith, l))
 take_whole (suc n) [] l = refl
 take_whole (suc n) (x ∷ xs) l = ap (λ ys. x ∷ ys) (take_whole n xs (omega (arith, l)))
 
-pub all_marked_ends : (spot : ModelSpot) (n i : ℕ) (xs : List KeyState) → when_some (slice_get xs i) 0 (λ (s : KeyState). length (pending_of s)) ≤ n
-    → changed_at (marked_upto spot n) i xs ≡ changed_at (λ (s : KeyState). moved_all (end_marks spot (pending_of s)) s) i xs
-all_marked_ends spot n i xs l =
-    changed_same (marked_upto spot n) (λ (s : KeyState). moved_all (end_marks spot (pending_of s)) s) i xs
+pub all_marked_ends : (context : ModelContext) (n i : ℕ) (xs : List KeyState) → when_some (slice_get xs i) 0 (λ (s : KeyState). length (pending_of s)) ≤ n
+    → changed_at (marked_upto context n) i xs ≡ changed_at (λ (s : KeyState). moved_all (tail_acks context (pending_of s)) s) i xs
+all_marked_ends context n i xs l =
+    changed_same (marked_upto context n) (λ (s : KeyState). moved_all (tail_acks context (pending_of s)) s) i xs
     (
     λ s at. let past = subst (λ (o : Option KeyState). when_some o 0 (λ (t : KeyState). length (pending_of t)) ≤ n) at l in
-    ap (λ (us : List Update). moved_all (acknowledging (flat_map (end_of spot) us)) s) (take_whole n (pending_of s) past)
-    ∙ ap (λ (ms : List Move). moved_all ms s) (marks_of_ends spot (pending_of s))
+    ap (λ (us : List Update). moved_all (acknowledging (flat_map (end_of context) us)) s) (take_whole n (pending_of s) past)
+    ∙ ap (λ (ms : List Move). moved_all ms s) (marks_of_ends context (pending_of s))
     )
 
 -- the version whose chain ends here is pending
@@ -157,21 +157,21 @@ any_at (x ∷ us) (suc k) u e = by (x.version.0 == u.version.0) (any_at us k u e
     by true h = refl
     by false h = h
 
-abbrev pub ends_at : ModelSpot → List KeyState → ℕ → ℕ → List Version
-ends_at spot xs i k = when_some (slice_get xs i) [] (λ (s : KeyState). when_some (slice_get (pending_of s) k) [] (end_of spot))
+abbrev pub ends_at : ModelContext → List KeyState → ℕ → ℕ → List Version
+ends_at context xs i k = when_some (slice_get xs i) [] (λ (s : KeyState). when_some (slice_get (pending_of s) k) [] (end_of context))
 
-pub pending_end : (spot : ModelSpot) (xs : List KeyState) (i k : ℕ) (v : Version) → v ∷ [] ≡ ends_at spot xs i k → IsPendingAt i v xs
-pending_end spot xs i k v e = of (slice_get xs i) e
+pub pending_end : (context : ModelContext) (xs : List KeyState) (i k : ℕ) (v : Version) → v ∷ [] ≡ ends_at context xs i k → IsPendingAt i v xs
+pending_end context xs i k v e = of (slice_get xs i) e
   where
     ended : (us : List Update) (u : Update) (b : Bool) → v ∷ [] ≡ provided b (u.version ∷ []) → list_any (λ (x : Update). x.version.0 == u.version.0) us ≡ true → list_any (λ (x : Update). x.version.0 == v.0) us ≡ true
     ended us u false e h = absurd cc
     ended us u true e h = let same : u.version ≡ v = cc in subst (λ (w : Version). list_any (λ (x : Update). x.version.0 == w.0) us ≡ true) same h
 
-    at : (us : List Update) (o : Option Update) → slice_get us k ≡ o → v ∷ [] ≡ when_some o [] (end_of spot) → list_any (λ (x : Update). x.version.0 == v.0) us ≡ true
+    at : (us : List Update) (o : Option Update) → slice_get us k ≡ o → v ∷ [] ≡ when_some o [] (end_of context) → list_any (λ (x : Update). x.version.0 == v.0) us ≡ true
     at us None q e = absurd cc
-    at us (Some u) q e = ended us u (is_end (next_at spot u)) e (any_at us k u q)
+    at us (Some u) q e = ended us u (is_end (next_at context u)) e (any_at us k u q)
 
-    of : (o : Option KeyState) → v ∷ [] ≡ when_some o [] (λ (s : KeyState). when_some (slice_get (pending_of s) k) [] (end_of spot)) → IsSomeAnd o (λ (s : KeyState). is_pending v.0 s ≡ true)
+    of : (o : Option KeyState) → v ∷ [] ≡ when_some o [] (λ (s : KeyState). when_some (slice_get (pending_of s) k) [] (end_of context)) → IsSomeAnd o (λ (s : KeyState). is_pending v.0 s ≡ true)
     of None e = absurd cc
     of (Some s) e = at (pending_of s) (slice_get (pending_of s) k) refl e
 
@@ -183,55 +183,55 @@ pub none_listed : (o : Option Version) → ((v : Version) → o ≡ Some v → �
 none_listed None h = refl
 none_listed (Some v) h = absurd (h v refl)
 
-pub marked_as : (spot : ModelSpot) (xs : List KeyState) (i k : ℕ) (vs : List Version) → vs ≡ ends_at spot xs i k → changed_at (λ (s : KeyState). moved_all (acknowledging vs) s) i xs ≡ changed_at (marked_end spot k) i xs
-marked_as spot xs i k vs e =
-    changed_same (λ (s : KeyState). moved_all (acknowledging vs) s) (marked_end spot k) i xs
-    (λ s at. ap (λ (l : List Version). moved_all (acknowledging l) s) (e ∙ ap (λ (o : Option KeyState). when_some o [] (λ (t : KeyState). when_some (slice_get (pending_of t) k) [] (end_of spot))) at))
+pub marked_as : (context : ModelContext) (xs : List KeyState) (i k : ℕ) (vs : List Version) → vs ≡ ends_at context xs i k → changed_at (λ (s : KeyState). moved_all (acknowledging vs) s) i xs ≡ changed_at (marked_end context k) i xs
+marked_as context xs i k vs e =
+    changed_same (λ (s : KeyState). moved_all (acknowledging vs) s) (marked_end context k) i xs
+    (λ s at. ap (λ (l : List Version). moved_all (acknowledging l) s) (e ∙ ap (λ (o : Option KeyState). when_some o [] (λ (t : KeyState). when_some (slice_get (pending_of t) k) [] (end_of context))) at))
 
 -- a slot that goes on forgets, acknowledges what ends here and commits what it can
-pub gone_on : (spot : ModelSpot) (g : RegionId) (i : ℕ) (a b c d : List KeyState) → g ≡ spot.region → b ≡ changed_at (moved Forget) i a → c ≡ changed_at (λ (s : KeyState). moved_all (end_marks spot (pending_of s)) s) i b → d ≡ changed_at (settled_at g) i c
-    → d ≡ changed_at (lean_adopted spot true) i a
-gone_on spot g i a b c d at first second third =
+pub gone_on : (context : ModelContext) (g : RegionId) (i : ℕ) (a b c d : List KeyState) → g ≡ context.region → b ≡ changed_at (moved Forget) i a → c ≡ changed_at (λ (s : KeyState). moved_all (tail_acks context (pending_of s)) s) i b → d ≡ changed_at (settled_at g) i c
+    → d ≡ changed_at (lean_adopted context true) i a
+gone_on context g i a b c d at first second third =
     third ∙ ap (λ (x : RegionId). changed_at (settled_at x) i c) at
-    ∙ ap (changed_at (settled_at spot.region) i) (second ∙ ap (changed_at marks i) first ∙ changed_twice marks (moved Forget) i a)
-    ∙ changed_twice (settled_at spot.region) (λ (s : KeyState). marks (moved Forget s)) i a
-    ∙ changed_same (λ (s : KeyState). settled_at spot.region (marks (moved Forget s))) (lean_adopted spot true) i a (λ s at. one s)
+    ∙ ap (changed_at (settled_at context.region) i) (second ∙ ap (changed_at marks i) first ∙ changed_twice marks (moved Forget) i a)
+    ∙ changed_twice (settled_at context.region) (λ (s : KeyState). marks (moved Forget s)) i a
+    ∙ changed_same (λ (s : KeyState). settled_at context.region (marks (moved Forget s))) (lean_adopted context true) i a (λ s at. one s)
   where
     marks : KeyState → KeyState
-    marks s = moved_all (end_marks spot (pending_of s)) s
+    marks s = moved_all (tail_acks context (pending_of s)) s
 
-    one : (s : KeyState) → settled_at spot.region (moved_all (end_marks spot (pending_of s)) (moved Forget s)) ≡ lean_adopted spot true s
+    one : (s : KeyState) → settled_at context.region (moved_all (tail_acks context (pending_of s)) (moved Forget s)) ≡ lean_adopted context true s
     one s =
-        let ms = end_marks spot (pending_of s) in
+        let ms = tail_acks context (pending_of s) in
         let x : KeyState = moved Forget s in
-        ap (folded spot.region) (sym (moved_all_append ms (settled (moved_all ms x)) x))
+        ap (folded context.region) (sym (moved_all_append ms (settled (moved_all ms x)) x))
 
-pub adopted_marks : (spot : ModelSpot) (active : Bool) (s : KeyState) → (lean_adopted spot active s).marks ≡ s.marks
-adopted_marks spot true s = (moved_all_parts (resumed spot s) s).1
-adopted_marks spot false s = refl
+pub adopted_marks : (context : ModelContext) (active : Bool) (s : KeyState) → (lean_adopted context active s).marks ≡ s.marks
+adopted_marks context true s = (moved_all_parts (resumed context s) s).1
+adopted_marks context false s = refl
 
-all_marked : (spot : ModelSpot) (active b : Bool) (states : List KeyState) → AllByRecursion (λ (t : KeyState). t.marks ≡ b) states → AllByRecursion (λ (t : KeyState). t.marks ≡ b) (map (lean_adopted spot active) states)
-all_marked spot active b [] h = tt
-all_marked spot active b (t ∷ rest) h = (adopted_marks spot active t ∙ h.0, all_marked spot active b rest h.1)
+all_marked : (context : ModelContext) (active b : Bool) (states : List KeyState) → AllByRecursion (λ (t : KeyState). t.marks ≡ b) states → AllByRecursion (λ (t : KeyState). t.marks ≡ b) (map (lean_adopted context active) states)
+all_marked context active b [] h = tt
+all_marked context active b (t ∷ rest) h = (adopted_marks context active t ∙ h.0, all_marked context active b rest h.1)
 
-abbrev spot_at : Space → Config → ServerId → RegionId → ModelSpot
-spot_at space config server g = record { space = space; config = config; server = server; region = g }
+abbrev context_at : Space → Config → ServerId → RegionId → ModelContext
+context_at space config server g = record { space = space; config = config; server = server; region = g }
 
 module _ (space : Space) (config : Config) (server : ServerId) (g : RegionId) (y : Replica) (store : StoreState) (active : Bool) where
   abbrev adopted : Replica
   adopted = record { region = y.region; installed = y.installed; store = store }
 
-  pub adopted_view : y.region ≡ g → active ≡ is_active config (view_of y) → store.states ≡ map (lean_adopted (spot_at space config server g) active) y.store.states → view_of adopted ≡ lean_replica space (standing config server) (view_of y)
+  pub adopted_view : y.region ≡ g → active ≡ is_active config (view_of y) → store.states ≡ map (lean_adopted (context_at space config server g) active) y.store.states → view_of adopted ≡ lean_replica space (standing config server) (view_of y)
   adopted_view e a states =
-      let here = spot_at space config server in
+      let here = context_at space config server in
       ap (λ (l : List KeyState). record { region = y.region; installed = y.installed; states = l })
       (states ∙ ap (λ (x : RegionId). map (lean_adopted (here x) active) y.store.states) (sym e) ∙ ap (λ b. map (lean_adopted (here y.region) b) y.store.states) a)
 
-  pub adopted_is : IsReplicaIn space y → store.region ≡ y.store.region → store.marks ≡ y.store.marks → store.states ≡ map (lean_adopted (spot_at space config server g) active) y.store.states → IsReplicaIn space adopted
+  pub adopted_is : IsReplicaIn space y → store.region ≡ y.store.region → store.marks ≡ y.store.marks → store.states ≡ map (lean_adopted (context_at space config server g) active) y.store.states → IsReplicaIn space adopted
   adopted_is is region marks states = record {
     region = region ∙ is.region;
     marks = marks ∙ is.marks;
-    marked = subst (AllByRecursion (λ (t : KeyState). t.marks ≡ is_key_region space y.region)) (sym states) (all_marked (spot_at space config server g) active (is_key_region space y.region) y.store.states is.marked);
+    marked = subst (AllByRecursion (λ (t : KeyState). t.marks ≡ is_key_region space y.region)) (sym states) (all_marked (context_at space config server g) active (is_key_region space y.region) y.store.states is.marked);
   }
 
 -- where there is no replica of a region, none changes

@@ -15,7 +15,7 @@ use Rattle.hx_types.specs.declared.outcomes.Hop.TheVariants.{At, End, Blocked}
 use Rattle.hx_types.specs.declared.updates.Place.{Place}
 use Rattle.hx_types.specs.Configs.{any_ready, head_of, is_lost, joiner_for, joiner_in, members_of}
 use Rattle.hx_types.specs.Words.{IsIn, first_of_list, same_server, when_some}
-use Rattle.hx_model.specs.Neighbours.{enters, enters_last, hop_at, last_member, member_after, member_before, members_at, next_of, place_before, prev_of}
+use Rattle.hx_model.specs.Neighbours.{enters, enters_last, hop_at, last_member, member_after, member_before, members_at, next_of, preceding_place, prev_of}
 use Rattle.hx_law_lemmas.proofs.Lists.{when_some_both}
 
 module _ (Known : Actor → Type 0) where
@@ -113,6 +113,6 @@ module _ (Known : Actor → Type 0) where
 
     pub prev-known : (places : List Place) (place : ℕ) (s : ServerId) → GoesToKnown (prev_of config places place s)
     prev-known places place s =
-        here-or place (member_before None s (members_at config places place)) (enters_last config (place - 1) (place_before places place))
+        here-or place (member_before None s (members_at config places place)) (enters_last config (place - 1) (preceding_place places place))
         (before-known None s (members_at config places place) tt (at-place places place))
-        (enters_last-known (place - 1) (place_before places place))
+        (enters_last-known (place - 1) (preceding_place places place))

@@ -27,11 +27,11 @@ use Rattle.hx_types.specs.Posted.{actors_of_config, actors_of_message, servers_a
 use Rattle.hx_types.specs.Subspaces.{is_key_region}
 use Rattle.hx_types.specs.Words.{IsIn, post, when_some}
 use Rattle.hx_model.specs.Regions.{key_region}
-use Rattle.hx_model.specs.ServerSteps.{Replica, ServerState, ServerStep, acked, adopted, adopted_posts, asked, call_at, called, called_by, halting, hearing, if_installed, input_step, install_at, installed_slots, listed_regions, message_step, ready_post, replica_of, replica_or_new, replica_tick, saying, seal_at, server_step, snapped, spot_of, state_in, tick_step, unmoved, updated, with_config}
+use Rattle.hx_model.specs.ServerSteps.{Replica, ServerState, ServerStep, acked, adopted, adopted_posts, asked, call_at, called, called_by, halting, replica_in_epoch, if_installed, input_step, install_at, installed_slots, listed_regions, message_step, ready_post, replica_of, replica_or_new, replica_tick, saying, seal_at, server_step, snapped, context_of, state_in, tick_step, unmoved, updated, with_config}
 use Rattle.hx_model.specs.Slots.{KeyState}
 use Rattle.hx_law_lemmas.proofs.Lists.{in-flat, in-map, in-slice_get, in_left, in_right, when_some_both}
 use Rattle.hx_law_lemmas.proofs.Replicas.{replica-found}
-use Rattle.hx_posts.proofs.Servers.{hearing-found, installed-found}
+use Rattle.hx_posts.proofs.Servers.{replica_in_epoch-found, installed-found}
 use Rattle.hx_replica.proofs.NamedReplicas.{Knows, adopted-good, installed-good, ready-good, tick-good}
 use Rattle.hx_replica.proofs.NamedSlots.{AreGood, KnowsSlot, among-known, both-good, each-good, none-good, one-good, provided-good}
 use Rattle.hx_replica.proofs.NamedSteps.{ack-good, call-good, update-good}
@@ -81,20 +81,20 @@ module _ (Known : Actor → Type 0) where
     slot-known r i key = among-known Known (is_key_region space r.region) key r.states (knows.slots r i)
 
     -- a replica that hears is one of the server's
-    heard-in : (epoch : Epoch) (g : RegionId) (r : Replica) → hearing s epoch g ≡ Some r → IsIn r s.replicas
-    heard-in epoch g r e = (replica-found g s.replicas r (hearing-found s epoch g r e)).0
+    heard-in : (epoch : Epoch) (g : RegionId) (r : Replica) → replica_in_epoch s epoch g ≡ Some r → IsIn r s.replicas
+    heard-in epoch g r e = (replica-found g s.replicas r (replica_in_epoch-found s epoch g r e)).0
 
-    installed-in : (epoch : Epoch) (g : RegionId) (r : Replica) → if_installed (hearing s epoch g) ≡ Some r → IsIn r s.replicas
+    installed-in : (epoch : Epoch) (g : RegionId) (r : Replica) → if_installed (replica_in_epoch s epoch g) ≡ Some r → IsIn r s.replicas
     installed-in epoch g r e = (replica-found g s.replicas r (installed-found s epoch g r e)).0
 
     called-good : (epoch : Epoch) (caller : Caller) → Known (Session caller.session) → (op : Op) (o : Option (List ℕ)) → IsGoodStep (called space s epoch caller op o)
     called-good epoch caller known op None = stays s
     called-good epoch caller known op (Some key) =
-        when_some_both (hearing s epoch (key_region space key)) (unmoved s) (λ (r : Replica). call_at space s r key caller op) IsGoodStep
+        when_some_both (replica_in_epoch s epoch (key_region space key)) (unmoved s) (λ (r : Replica). call_at space s r key caller op) IsGoodStep
         (λ e. stays s)
         (
         λ (r : Replica) e. cond_both (leads space s.config s.id r.region) _ (unmoved s) IsGoodStep
-        (λ t. call-good Known (spot_of space s r.region) knows.members (state_in space r key) (slot-known r (heard-in epoch (key_region space key) r e) key) caller known op)
+        (λ t. call-good Known (context_of space s r.region) knows.members (state_in space r key) (slot-known r (heard-in epoch (key_region space key) r e) key) caller known op)
         (λ t. stays s)
         )
 
@@ -105,11 +105,11 @@ module _ (Known : Actor → Type 0) where
 
     updated-good : (u : Update) → Known (Session u.caller.session) → (o : Option Replica) → ((r : Replica) → o ≡ Some r → IsIn r s.replicas) → IsGoodStep (updated space s u o)
     updated-good u known None f = stays s
-    updated-good u known (Some r) f = update-good Known (spot_of space s r.region) knows.members (state_in space r u.key) (slot-known r (f r refl) u.key) u known
+    updated-good u known (Some r) f = update-good Known (context_of space s r.region) knows.members (state_in space r u.key) (slot-known r (f r refl) u.key) u known
 
     acked-good : (key : List ℕ) (v : ℕ) (o : Option Replica) → ((r : Replica) → o ≡ Some r → IsIn r s.replicas) → IsGoodStep (acked space s key v o)
     acked-good key v None f = stays s
-    acked-good key v (Some r) f = ack-good Known (spot_of space s r.region) knows.members (state_in space r key) (slot-known r (f r refl) key) v
+    acked-good key v (Some r) f = ack-good Known (context_of space s r.region) knows.members (state_in space r key) (slot-known r (f r refl) key) v
 
     asked-good : (from : Actor) → Known from → (epoch : Epoch) (number : ℕ) (terms : List Term) (o : Option Replica) → IsGoodStep (asked s from epoch number terms o)
     asked-good from known epoch number terms None = stays s
@@ -138,8 +138,8 @@ module _ (Known : Actor → Type 0) where
         cond_both r.installed (saying s (ready_post s r.region)) _ IsGoodStep
         (λ t. ready-good Known space s knows r.region)
         (
-        λ t. both-good Known (installed_slots (spot_of space s r.region) snapshot pending).posts (ready_post s r.region)
-        (installed-good Known (spot_of space s r.region) knows.members pending callers snapshot marks)
+        λ t. both-good Known (installed_slots (context_of space s r.region) snapshot pending).posts (ready_post s r.region)
+        (installed-good Known (context_of space s r.region) knows.members pending callers snapshot marks)
         (ready-good Known space s knows r.region)
         )
       where
@@ -184,9 +184,9 @@ module _ (Known : Actor → Type 0) where
     message-good : (from : Actor) → Known from → (m : Message) → KnowsMessage m → IsGoodStep (message_step space s from m)
     message-good from known (a_message.Call epoch number op) names = called_by-good from known epoch number op
     message-good from known (a_message.Reply number version answer) names = stays s
-    message-good from known (a_message.Update epoch g u) names = updated-good u (names (Session u.caller.session) (inl refl)) (if_installed (hearing s epoch g)) (installed-in epoch g)
-    message-good from known (a_message.Ack epoch g key version) names = acked-good key version.0 (if_installed (hearing s epoch g)) (installed-in epoch g)
-    message-good from known (a_message.Ask epoch number g terms) names = asked-good from known epoch number terms (if_installed (hearing s epoch g))
+    message-good from known (a_message.Update epoch g u) names = updated-good u (names (Session u.caller.session) (inl refl)) (if_installed (replica_in_epoch s epoch g)) (installed-in epoch g)
+    message-good from known (a_message.Ack epoch g key version) names = acked-good key version.0 (if_installed (replica_in_epoch s epoch g)) (installed-in epoch g)
+    message-good from known (a_message.Ask epoch number g terms) names = asked-good from known epoch number terms (if_installed (replica_in_epoch s epoch g))
     message-good from known (a_message.Found epoch number g rows) names = stays s
     message-good from known (a_message.Seal epoch) names = sealed-good epoch
     message-good from known (a_message.Sealed epoch) names = stays s
@@ -196,7 +196,7 @@ module _ (Known : Actor → Type 0) where
     message-good from known (a_message.StopServer number server) names = stays s
     message-good from known (a_message.AddReplica number server g) names = stays s
     message-good from known (a_message.Outcome number answer) names = stays s
-    message-good from known (a_message.Snap epoch g snapshot pending) names = snapped-good snapshot pending epoch g names (hearing s epoch g)
+    message-good from known (a_message.Snap epoch g snapshot pending) names = snapped-good snapshot pending epoch g names (replica_in_epoch s epoch g)
     message-good from known (a_message.Ready epoch g) names = stays s
     message-good from known (a_message.Poll epoch) names = stays s
 

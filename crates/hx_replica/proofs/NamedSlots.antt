@@ -19,7 +19,7 @@ use Rattle.hx_types.specs.Words.{IsIn, provided, same_session}
 use Rattle.hx_model.specs.Neighbours.{place_number}
 use Rattle.hx_model.specs.Lines.{upto}
 use Rattle.hx_model.specs.Slots.{Acknowledge, Commit, Forget, Hold, KeyState, Move, Take, kept_of, marks_after, mark_by, moved_all, new_state, pending_of, state_among, with_mark}
-use Rattle.hx_model.specs.ServerSteps.{Spot, ack_to, move_posts, next_at, passed_on, prev_at, reply, told_to, update_to}
+use Rattle.hx_model.specs.ServerSteps.{SlotContext, ack_to, move_posts, next_at, passed_on, prev_at, reply, told_to, update_to}
 use Rattle.hx_model.proofs.Laws.{base-moved_all}
 use Rattle.hx_law_lemmas.proofs.KnownUpdates.{AllKnown, Known as IsMoveKnown, held-moved_all}
 use Rattle.hx_law_lemmas.proofs.LeaderLines.{pending-in}
@@ -126,45 +126,45 @@ module _ (Known : Actor → Type 0) where
 
   -- ---- posts of a slot
 
-  pub reply-good : (spot : Spot) (caller : Caller) (version : Version) (answer : Answer) → Known (Session caller.session) → IsGood (reply spot caller version answer)
-  reply-good spot caller version answer known = record { to = known; names = λ a i. absurd i }
+  pub reply-good : (context : SlotContext) (caller : Caller) (version : Version) (answer : Answer) → Known (Session caller.session) → IsGood (reply context caller version answer)
+  reply-good context caller version answer known = record { to = known; names = λ a i. absurd i }
 
-  module _ (spot : Spot) (members : KnowsMembers Known spot.config) where
-    update_to-good : (u : Update) → KnowsCaller u → (h : Hop) → GoesToKnown Known h → AreGood (update_to spot u h)
+  module _ (context : SlotContext) (members : KnowsMembers Known context.config) where
+    update_to-good : (u : Update) → KnowsCaller u → (h : Hop) → GoesToKnown Known h → AreGood (update_to context u h)
     update_to-good u known (At s place) to = one-good _ (record { to = to; names = λ a i. elim i [ inl e ↦ subst Known (sym e) known | inr j ↦ absurd j ] })
     update_to-good u known End to = none-good
     update_to-good u known (Blocked g) to = none-good
 
-    ack-good : (u : Update) (h : Hop) → GoesToKnown Known h → AreGood (ack_to spot u h)
+    ack-good : (u : Update) (h : Hop) → GoesToKnown Known h → AreGood (ack_to context u h)
     ack-good u (At s place) to = one-good _ (record { to = to; names = λ a i. absurd i })
     ack-good u End to = none-good
     ack-good u (Blocked g) to = none-good
 
-    told_to-good : (u : Update) → KnowsCaller u → (h : Hop) → GoesToKnown Known h → AreGood (told_to spot u h)
+    told_to-good : (u : Update) → KnowsCaller u → (h : Hop) → GoesToKnown Known h → AreGood (told_to context u h)
     told_to-good u known (At s place) to = ack-good u (At s place) to
-    told_to-good u known End to = one-good _ (reply-good spot u.caller u.version u.answer known)
+    told_to-good u known End to = one-good _ (reply-good context u.caller u.version u.answer known)
     told_to-good u known (Blocked g) to = none-good
 
-    prev-at : (u : Update) → GoesToKnown Known (prev_at spot u)
-    prev-at u = prev-known Known spot.config members u.places (place_number spot.region u.places) spot.server
+    prev-at : (u : Update) → GoesToKnown Known (prev_at context u)
+    prev-at u = prev-known Known context.config members u.places (place_number context.region u.places) context.server
 
-    pub passed-good : (u : Update) → KnowsCaller u → AreGood (passed_on spot u)
-    passed-good u known = update_to-good u known (next_at spot u) (next-known Known spot.config members u.places (place_number spot.region u.places) spot.server)
+    pub passed-good : (u : Update) → KnowsCaller u → AreGood (passed_on context u)
+    passed-good u known = update_to-good u known (next_at context u) (next-known Known context.config members u.places (place_number context.region u.places) context.server)
 
-    pub ack_to-good : (u : Update) → AreGood (ack_to spot u (prev_at spot u))
-    ack_to-good u = ack-good u (prev_at spot u) (prev-at u)
+    pub ack_to-good : (u : Update) → AreGood (ack_to context u (prev_at context u))
+    ack_to-good u = ack-good u (prev_at context u) (prev-at u)
 
     -- what is posted with moves
-    pub moves-good : (line : List Update) → ((u : Update) → IsIn u line → KnowsCaller u) → (moves : List Move) → AllKnown line moves → AreGood (flat_map (move_posts spot) moves)
-    moves-good line f moves known = each-good (move_posts spot) moves (λ m i. by m (known m i))
+    pub moves-good : (line : List Update) → ((u : Update) → IsIn u line → KnowsCaller u) → (moves : List Move) → AllKnown line moves → AreGood (flat_map (move_posts context) moves)
+    moves-good line f moves known = each-good (move_posts context) moves (λ m i. by m (known m i))
       where
-        by : (m : Move) → IsMoveKnown line m → AreGood (move_posts spot m)
+        by : (m : Move) → IsMoveKnown line m → AreGood (move_posts context m)
         by (Take u) k = passed-good u (f u k)
         by (Hold u) k = none-good
         by (Acknowledge v) k = none-good
-        by (Commit u) k = told_to-good u (f u k) (prev_at spot u) (prev-at u)
+        by (Commit u) k = told_to-good u (f u k) (prev_at context u) (prev-at u)
         by Forget k = none-good
 
     -- what is pending is passed on
-    pub pending-good : (t : KeyState) → KnowsSlot t → AreGood (flat_map (passed_on spot) (pending_of t))
-    pending-good t h = each-good (passed_on spot) (pending_of t) (λ u i. passed-good u (pending-known t h u i))
+    pub pending-good : (t : KeyState) → KnowsSlot t → AreGood (flat_map (passed_on context) (pending_of t))
+    pending-good t h = each-good (passed_on context) (pending_of t) (λ u i. passed-good u (pending-known t h u i))

@@ -17,7 +17,7 @@ use Rattle.hx_types.specs.declared.updates.Place.{Place}
 use Rattle.hx_types.specs.declared.updates.Update.{Update}
 use Rattle.hx_types.specs.Words.{provided, same_region, when_some}
 use Rattle.hx_model.specs.Neighbours.{is_end, place_number}
-use Rattle.hx_model.specs.ServerSteps.{Spot as ModelSpot, end_marks, move_posts, next_at, passed_on}
+use Rattle.hx_model.specs.ServerSteps.{SlotContext as ModelContext, tail_acks, move_posts, next_at, passed_on}
 use Rattle.hx_model.specs.Slots.{Acknowledge, Commit, Hold, KeyState, Move, Take, commits, follows, moved, moved_all, offered, pending_above, pending_of, place_in, settled, taken, top_of, turns}
 use Rattle.hx_store.specs.Stores.{ArePending, acknowledging}
 use Rattle.hx_store.proofs.Moves.{moved_all_append}
@@ -75,38 +75,38 @@ turns_acked g (suc n) top early s = by (find (follows g top) early) (λ u. turns
     by None more = refl
     by (Some u) more = more u
 
-turns_posts : (spot : ModelSpot) (g : RegionId) (n top : ℕ) (early : List Update) → flat_map (move_posts spot) (turns g n top early) ≡ flat_map (passed_on spot) (taken (turns g n top early))
-turns_posts spot g zero top early = refl
-turns_posts spot g (suc n) top early = by (find (follows g top) early) (λ u. turns_posts spot g n u.version.0 early)
+turns_posts : (context : ModelContext) (g : RegionId) (n top : ℕ) (early : List Update) → flat_map (move_posts context) (turns g n top early) ≡ flat_map (passed_on context) (taken (turns g n top early))
+turns_posts context g zero top early = refl
+turns_posts context g (suc n) top early = by (find (follows g top) early) (λ u. turns_posts context g n u.version.0 early)
   where
     next : Option Update → List Move
     next o = when_some o [] (λ (u : Update). Take u ∷ turns g n u.version.0 early)
 
-    by : (o : Option Update) → ((u : Update) → flat_map (move_posts spot) (turns g n u.version.0 early) ≡ flat_map (passed_on spot) (taken (turns g n u.version.0 early))) → flat_map (move_posts spot) (next o) ≡ flat_map (passed_on spot) (taken (next o))
+    by : (o : Option Update) → ((u : Update) → flat_map (move_posts context) (turns g n u.version.0 early) ≡ flat_map (passed_on context) (taken (turns g n u.version.0 early))) → flat_map (move_posts context) (next o) ≡ flat_map (passed_on context) (taken (next o))
     by None more = refl
-    by (Some u) more = ap (λ (ps : List Post). passed_on spot u ++ ps) (more u)
+    by (Some u) more = ap (λ (ps : List Post). passed_on context u ++ ps) (more u)
 
 -- what an offer above the top does: it is taken with those whose turn then comes, or held
-pub record IsOffer (spot : ModelSpot) (s : KeyState) (moves : List Move) : Type 0 where
+pub record IsOffer (context : ModelContext) (s : KeyState) (moves : List Move) : Type 0 where
   pub pending : AreAbove s.floor (taken moves) → pending_of (moved_all moves s) ≡ pending_of s ++ taken moves
   pub acked : (moved_all moves s).acked ≡ s.acked
-  pub posts : flat_map (move_posts spot) moves ≡ flat_map (passed_on spot) (taken moves)
+  pub posts : flat_map (move_posts context) moves ≡ flat_map (passed_on context) (taken moves)
 
 abbrev pub offer_by : RegionId → KeyState → Update → Bool → List Move
 offer_by g s u t = cond t (Take u ∷ turns g (length s.early) u.version.0 s.early) (Hold u ∷ [])
 
-offer_is : (spot : ModelSpot) (g : RegionId) (s : KeyState) (u : Update) (t : Bool) → IsOffer spot s (offer_by g s u t)
-offer_is spot g s u true = record {
+offer_is : (context : ModelContext) (g : RegionId) (s : KeyState) (u : Update) (t : Bool) → IsOffer context s (offer_by g s u t)
+offer_is context g s u true = record {
   pending = λ above. turns_pending g (length s.early) u.version.0 s.early (moved (Take u) s) above.1
       ∙ ap (λ (us : List Update). us ++ taken (turns g (length s.early) u.version.0 s.early)) (take_pending u s above.0)
       ∙ append_assoc (pending_of s) (u ∷ []) (taken (turns g (length s.early) u.version.0 s.early));
   acked = turns_acked g (length s.early) u.version.0 s.early (moved (Take u) s);
-  posts = ap (λ (ps : List Post). passed_on spot u ++ ps) (turns_posts spot g (length s.early) u.version.0 s.early);
+  posts = ap (λ (ps : List Post). passed_on context u ++ ps) (turns_posts context g (length s.early) u.version.0 s.early);
 }
-offer_is spot g s u false = record { pending = λ above. sym (append-nil (pending_of s)); acked = refl; posts = refl }
+offer_is context g s u false = record { pending = λ above. sym (append-nil (pending_of s)); acked = refl; posts = refl }
 
-pub offered_is : (spot : ModelSpot) (g : RegionId) (s : KeyState) (u : Update) → top_of s < u.version.0 → offered g s u ≡ offer_by g s u (follows g (top_of s) u)
-offered_is spot g s u above = cond-false _ [] _ (not_known u.version.0 (top_of s) above)
+pub offered_is : (context : ModelContext) (g : RegionId) (s : KeyState) (u : Update) → top_of s < u.version.0 → offered g s u ≡ offer_by g s u (follows g (top_of s) u)
+offered_is context g s u above = cond-false _ [] _ (not_known u.version.0 (top_of s) above)
   where
     not_known : (v top : ℕ) → top < v → nat_le v top ≡ false
     not_known v top l = grind (arith, nat_tests)
@@ -116,9 +116,9 @@ pub marks_pending : (ends : List Version) (s : KeyState) → pending_of (moved_a
 marks_pending [] s = refl
 marks_pending (e ∷ ends) s = marks_pending ends (moved (Acknowledge e.0) s)
 
-marks_posts : (spot : ModelSpot) (ends : List Version) → flat_map (move_posts spot) (acknowledging ends) ≡ []
-marks_posts spot [] = refl
-marks_posts spot (e ∷ ends) = marks_posts spot ends
+marks_posts : (context : ModelContext) (ends : List Version) → flat_map (move_posts context) (acknowledging ends) ≡ []
+marks_posts context [] = refl
+marks_posts context (e ∷ ends) = marks_posts context ends
 
 others_stay : (v w : ℕ) (acked : List ℕ) → w == v ≡ false → list_any (λ x. x == v) (filter (λ x. not (x == w)) acked) ≡ list_any (λ x. x == v) acked
 others_stay v w [] apart = refl
@@ -152,21 +152,21 @@ marks_acked (e ∷ ends) s v =
     ∙ or_turned (list_any (λ (x : Version). x.0 == v.0) ends) (e.0 == v.0) (list_any (λ w. w == v.0) s.acked)
 
 -- what is told of the first updates that are acknowledged is what is posted of committing them
-pub told_commits : (spot : ModelSpot) (acked after : List ℕ) (ends : List Version) → ((v : Version) → list_any (λ w. w == v.0) after ≡ settles acked ends v) → (bs : List (Bor Update))
-    → flat_map (λ (b : Bor Update). told_of spot b.now) (settled_among acked ends bs) ≡ flat_map (move_posts spot) (commits after (seen bs))
-told_commits spot acked after ends same [] = refl
-told_commits spot acked after ends same (b ∷ bs) =
-    by (settles acked ends b.now.version) (told_commits spot acked after ends same bs)
-    ∙ sym (ap (λ t. flat_map (move_posts spot) (provided t (Commit b.now ∷ commits after (seen bs)))) (same b.now.version))
+pub told_commits : (context : ModelContext) (acked after : List ℕ) (ends : List Version) → ((v : Version) → list_any (λ w. w == v.0) after ≡ settles acked ends v) → (bs : List (Bor Update))
+    → flat_map (λ (b : Bor Update). told_of context b.now) (settled_among acked ends bs) ≡ flat_map (move_posts context) (commits after (seen bs))
+told_commits context acked after ends same [] = refl
+told_commits context acked after ends same (b ∷ bs) =
+    by (settles acked ends b.now.version) (told_commits context acked after ends same bs)
+    ∙ sym (ap (λ t. flat_map (move_posts context) (provided t (Commit b.now ∷ commits after (seen bs)))) (same b.now.version))
   where
     p : Bor Update → Bool
     p x = settles acked ends x.now.version
 
-    by : (t : Bool) → flat_map (λ (x : Bor Update). told_of spot x.now) (take (prefix_len p bs) bs) ≡ flat_map (move_posts spot) (commits after (seen bs))
-        → flat_map (λ (x : Bor Update). told_of spot x.now) (take (cond t (1 + prefix_len p bs) 0) (b ∷ bs)) ≡ flat_map (move_posts spot) (provided t (Commit b.now ∷ commits after (seen bs)))
+    by : (t : Bool) → flat_map (λ (x : Bor Update). told_of context x.now) (take (prefix_len p bs) bs) ≡ flat_map (move_posts context) (commits after (seen bs))
+        → flat_map (λ (x : Bor Update). told_of context x.now) (take (cond t (1 + prefix_len p bs) 0) (b ∷ bs)) ≡ flat_map (move_posts context) (provided t (Commit b.now ∷ commits after (seen bs)))
     by true more =
-        ap (λ n. flat_map (λ (x : Bor Update). told_of spot x.now) (take n (b ∷ bs))) (one-add (prefix_len p bs))
-        ∙ ap (λ (ps : List Post). told_of spot b.now ++ ps) more
+        ap (λ n. flat_map (λ (x : Bor Update). told_of context x.now) (take n (b ∷ bs))) (one-add (prefix_len p bs))
+        ∙ ap (λ (ps : List Post). told_of context b.now ++ ps) more
     by false more = refl
 
 -- the versions whose chain ends here
@@ -174,15 +174,15 @@ pub acknowledging_append : (xs ys : List Version) → acknowledging (xs ++ ys) �
 acknowledging_append [] ys = refl
 acknowledging_append (x ∷ xs) ys = ap (λ ms. Acknowledge x.0 ∷ ms) (acknowledging_append xs ys)
 
-pub ends_marked : (spot : ModelSpot) (bs : List (Bor Update)) → acknowledging (flat_map (λ (b : Bor Update). end_of spot b.now) bs) ≡ end_marks spot (seen bs)
-ends_marked spot [] = refl
-ends_marked spot (b ∷ bs) =
-    acknowledging_append (end_of spot b.now) (flat_map (λ (x : Bor Update). end_of spot x.now) bs)
-    ∙ by (is_end (next_at spot b.now)) (ends_marked spot bs)
+pub ends_marked : (context : ModelContext) (bs : List (Bor Update)) → acknowledging (flat_map (λ (b : Bor Update). end_of context b.now) bs) ≡ tail_acks context (seen bs)
+ends_marked context [] = refl
+ends_marked context (b ∷ bs) =
+    acknowledging_append (end_of context b.now) (flat_map (λ (x : Bor Update). end_of context x.now) bs)
+    ∙ by (is_end (next_at context b.now)) (ends_marked context bs)
   where
-    by : (t : Bool) → acknowledging (flat_map (λ (x : Bor Update). end_of spot x.now) bs) ≡ end_marks spot (seen bs)
-        → acknowledging (provided t (b.now.version ∷ [])) ++ acknowledging (flat_map (λ (x : Bor Update). end_of spot x.now) bs)
-        ≡ map (λ (u : Update). Acknowledge u.version.0) (cond t (b.now ∷ filter (λ (u : Update). is_end (next_at spot u)) (seen bs)) (filter (λ (u : Update). is_end (next_at spot u)) (seen bs)))
+    by : (t : Bool) → acknowledging (flat_map (λ (x : Bor Update). end_of context x.now) bs) ≡ tail_acks context (seen bs)
+        → acknowledging (provided t (b.now.version ∷ [])) ++ acknowledging (flat_map (λ (x : Bor Update). end_of context x.now) bs)
+        ≡ map (λ (u : Update). Acknowledge u.version.0) (cond t (b.now ∷ filter (λ (u : Update). is_end (next_at context u)) (seen bs)) (filter (λ (u : Update). is_end (next_at context u)) (seen bs)))
     by true more = ap (λ ms. Acknowledge b.now.version.0 ∷ ms) more
     by false more = more
 
@@ -194,12 +194,12 @@ pub all_append : {A : Type 0} (P : A → Type 0) (xs ys : List A) → All P xs �
 all_append P [] ys h k = k
 all_append P (x ∷ xs) ys h k = All-cons P x (xs ++ ys) (All-head P x xs h) (all_append P xs ys (All-tail P x xs h) k)
 
-pub ends_stand : (spot : ModelSpot) (us : List Update) (bs : List (Bor Update)) → All (λ (b : Bor Update). Stands us b.now.version) bs → All (Stands us) (flat_map (λ (b : Bor Update). end_of spot b.now) bs)
-ends_stand spot us [] h = All-nil (Stands us)
-ends_stand spot us (b ∷ bs) h =
-    all_append (Stands us) (end_of spot b.now) (flat_map (λ (x : Bor Update). end_of spot x.now) bs)
-    (by (is_end (next_at spot b.now)) (All-head (λ (x : Bor Update). Stands us x.now.version) b bs h))
-    (ends_stand spot us bs (All-tail (λ (x : Bor Update). Stands us x.now.version) b bs h))
+pub ends_stand : (context : ModelContext) (us : List Update) (bs : List (Bor Update)) → All (λ (b : Bor Update). Stands us b.now.version) bs → All (Stands us) (flat_map (λ (b : Bor Update). end_of context b.now) bs)
+ends_stand context us [] h = All-nil (Stands us)
+ends_stand context us (b ∷ bs) h =
+    all_append (Stands us) (end_of context b.now) (flat_map (λ (x : Bor Update). end_of context x.now) bs)
+    (by (is_end (next_at context b.now)) (All-head (λ (x : Bor Update). Stands us x.now.version) b bs h))
+    (ends_stand context us bs (All-tail (λ (x : Bor Update). Stands us x.now.version) b bs h))
   where
     by : (t : Bool) → Stands us b.now.version → All (Stands us) (provided t (b.now.version ∷ []))
     by true s = All-cons (Stands us) b.now.version [] s (All-nil (Stands us))
@@ -228,49 +228,49 @@ seen_stand before (b ∷ bs) =
     (subst (λ (us : List Update). All (λ (x : Bor Update). Stands us x.now.version) bs) (append_assoc before (b.now ∷ []) (seen bs)) (seen_stand (before ++ b.now ∷ []) bs))
 
 -- an acknowledgement posts nothing
-pub no_end_posts : (spot : ModelSpot) (us : List Update) → flat_map (move_posts spot) (end_marks spot us) ≡ []
-no_end_posts spot [] = refl
-no_end_posts spot (x ∷ xs) = by (is_end (next_at spot x)) (no_end_posts spot xs)
+pub no_end_posts : (context : ModelContext) (us : List Update) → flat_map (move_posts context) (tail_acks context us) ≡ []
+no_end_posts context [] = refl
+no_end_posts context (x ∷ xs) = by (is_end (next_at context x)) (no_end_posts context xs)
   where
-    by : (t : Bool) → flat_map (move_posts spot) (end_marks spot xs) ≡ [] → flat_map (move_posts spot) (map (λ (v : Update). Acknowledge v.version.0) (cond t (x ∷ filter (λ (v : Update). is_end (next_at spot v)) xs) (filter (λ (v : Update). is_end (next_at spot v)) xs))) ≡ []
+    by : (t : Bool) → flat_map (move_posts context) (tail_acks context xs) ≡ [] → flat_map (move_posts context) (map (λ (v : Update). Acknowledge v.version.0) (cond t (x ∷ filter (λ (v : Update). is_end (next_at context v)) xs) (filter (λ (v : Update). is_end (next_at context v)) xs))) ≡ []
     by true more = more
     by false more = more
 
 -- all together
-pub acceptance : (spot : ModelSpot) (s : KeyState) (u : Update) (bs line : List (Bor Update)) (ends : List Version) (posts : List Post)
-    → top_of s < u.version.0 → seen bs ≡ taken (offered spot.region s u) → All (IsNew spot.region s.floor) bs
-    → ends ≡ flat_map (λ (b : Bor Update). end_of spot b.now) bs
+pub acceptance : (context : ModelContext) (s : KeyState) (u : Update) (bs line : List (Bor Update)) (ends : List Version) (posts : List Post)
+    → top_of s < u.version.0 → seen bs ≡ taken (offered context.region s u) → All (IsNew context.region s.floor) bs
+    → ends ≡ flat_map (λ (b : Bor Update). end_of context b.now) bs
     → seen line ≡ pending_of s ++ seen bs
-    → posts ≡ flat_map (λ (b : Bor Update). passed_on spot b.now) bs ++ flat_map (λ (b : Bor Update). told_of spot b.now) (settled_among s.acked ends line)
-    → IsAccepted spot s u posts ends
-acceptance spot s u bs line ends posts top took new ended lined posted =
-    let moves = offered spot.region s u in
-    let same : moves ≡ offer_by spot.region s u (follows spot.region (top_of s) u) = offered_is spot spot.region s u top in
-    let offer : IsOffer spot s moves = subst (IsOffer spot s) (sym same) (offer_is spot spot.region s u (follows spot.region (top_of s) u)) in
-    let above : AreAbove s.floor (taken moves) = subst (AreAbove s.floor) took (above_seen spot.region s.floor bs new) in
+    → posts ≡ flat_map (λ (b : Bor Update). passed_on context b.now) bs ++ flat_map (λ (b : Bor Update). told_of context b.now) (settled_among s.acked ends line)
+    → IsAccepted context s u posts ends
+acceptance context s u bs line ends posts top took new ended lined posted =
+    let moves = offered context.region s u in
+    let same : moves ≡ offer_by context.region s u (follows context.region (top_of s) u) = offered_is context context.region s u top in
+    let offer : IsOffer context s moves = subst (IsOffer context s) (sym same) (offer_is context context.region s u (follows context.region (top_of s) u)) in
+    let above : AreAbove s.floor (taken moves) = subst (AreAbove s.floor) took (above_seen context.region s.floor bs new) in
     let after = moved_all moves s in
-    let marked : acknowledging ends ≡ end_marks spot (taken moves) = ap acknowledging ended ∙ ends_marked spot bs ∙ ap (end_marks spot) took in
+    let marked : acknowledging ends ≡ tail_acks context (taken moves) = ap acknowledging ended ∙ ends_marked context bs ∙ ap (tail_acks context) took in
     let pending : pending_of after ≡ pending_of s ++ seen bs = offer.pending above ∙ ap (λ (us : List Update). pending_of s ++ us) (sym took) in
     let all = moved_all (acknowledging ends) after in
-    let now : moved_all (moves ++ end_marks spot (taken moves)) s ≡ all = ap (λ ms. moved_all (moves ++ ms) s) (sym marked) ∙ moved_all_append moves (acknowledging ends) s in
+    let now : moved_all (moves ++ tail_acks context (taken moves)) s ≡ all = ap (λ ms. moved_all (moves ++ ms) s) (sym marked) ∙ moved_all_append moves (acknowledging ends) s in
     let settle : settled all ≡ commits all.acked (seen line) = ap (commits all.acked) (marks_pending ends after ∙ pending ∙ sym lined) in
-    let told = told_commits spot s.acked all.acked ends (λ v. marks_acked ends after v ∙ ap (λ (acked : List ℕ). settles acked ends v) offer.acked) line in
+    let told = told_commits context s.acked all.acked ends (λ v. marks_acked ends after v ∙ ap (λ (acked : List ℕ). settles acked ends v) offer.acked) line in
     record {
       posts_are =
           posted
-          ∙ ap (λ (ps : List Post). ps ++ flat_map (λ (b : Bor Update). told_of spot b.now) (settled_among s.acked ends line)) (passed_seen bs ∙ ap (flat_map (passed_on spot)) took ∙ sym offer.posts)
-          ∙ ap (λ (ps : List Post). flat_map (move_posts spot) moves ++ ps) (told ∙ ap (flat_map (move_posts spot)) (sym settle ∙ ap settled (sym now)))
-          ∙ sym (whole (settled (moved_all (moves ++ end_marks spot (taken moves)) s)));
+          ∙ ap (λ (ps : List Post). ps ++ flat_map (λ (b : Bor Update). told_of context b.now) (settled_among s.acked ends line)) (passed_seen bs ∙ ap (flat_map (passed_on context)) took ∙ sym offer.posts)
+          ∙ ap (λ (ps : List Post). flat_map (move_posts context) moves ++ ps) (told ∙ ap (flat_map (move_posts context)) (sym settle ∙ ap settled (sym now)))
+          ∙ sym (whole (settled (moved_all (moves ++ tail_acks context (taken moves)) s)));
       ends_are = marked;
-      pending = subst (λ (vs : List Version). ArePending after vs) (sym ended) (subst (λ (us : List Update). All (Stands us) (flat_map (λ (b : Bor Update). end_of spot b.now) bs)) (sym pending) (ends_stand spot (pending_of s ++ seen bs) bs (seen_stand (pending_of s) bs)));
+      pending = subst (λ (vs : List Version). ArePending after vs) (sym ended) (subst (λ (us : List Update). All (Stands us) (flat_map (λ (b : Bor Update). end_of context b.now) bs)) (sym pending) (ends_stand context (pending_of s ++ seen bs) bs (seen_stand (pending_of s) bs)));
     }
   where
-    passed_seen : (xs : List (Bor Update)) → flat_map (λ (b : Bor Update). passed_on spot b.now) xs ≡ flat_map (passed_on spot) (seen xs)
+    passed_seen : (xs : List (Bor Update)) → flat_map (λ (b : Bor Update). passed_on context b.now) xs ≡ flat_map (passed_on context) (seen xs)
     passed_seen [] = refl
-    passed_seen (x ∷ xs) = ap (λ (ps : List Post). passed_on spot x.now ++ ps) (passed_seen xs)
+    passed_seen (x ∷ xs) = ap (λ (ps : List Post). passed_on context x.now ++ ps) (passed_seen xs)
 
-    whole : (rest : List Move) → flat_map (move_posts spot) (offered spot.region s u ++ end_marks spot (taken (offered spot.region s u)) ++ rest) ≡ flat_map (move_posts spot) (offered spot.region s u) ++ flat_map (move_posts spot) rest
+    whole : (rest : List Move) → flat_map (move_posts context) (offered context.region s u ++ tail_acks context (taken (offered context.region s u)) ++ rest) ≡ flat_map (move_posts context) (offered context.region s u) ++ flat_map (move_posts context) rest
     whole rest =
-        flat_map-append (move_posts spot) (offered spot.region s u ++ end_marks spot (taken (offered spot.region s u))) rest
-        ∙ ap (λ (ps : List Post). ps ++ flat_map (move_posts spot) rest)
-        (flat_map-append (move_posts spot) (offered spot.region s u) (end_marks spot (taken (offered spot.region s u))) ∙ ap (λ (ps : List Post). flat_map (move_posts spot) (offered spot.region s u) ++ ps) (no_end_posts spot (taken (offered spot.region s u))) ∙ append-nil _)
+        flat_map-append (move_posts context) (offered context.region s u ++ tail_acks context (taken (offered context.region s u))) rest
+        ∙ ap (λ (ps : List Post). ps ++ flat_map (move_posts context) rest)
+        (flat_map-append (move_posts context) (offered context.region s u) (tail_acks context (taken (offered context.region s u))) ∙ ap (λ (ps : List Post). flat_map (move_posts context) (offered context.region s u) ++ ps) (no_end_posts context (taken (offered context.region s u))) ∙ append-nil _)

@@ -16,7 +16,7 @@ use Rattle.hx_types.specs.declared.traces.Input.{Input}
 use Rattle.hx_types.specs.declared.traces.Note.{Note}
 use Rattle.hx_types.specs.declared.traces.Input.TheVariants.{Deliver}
 use Rattle.hx_types.specs.declared.ids.Actor.TheVariants.{Server}
-use Rattle.hx_model.specs.ServerSteps.{Replica, ServerState, ServerStep, asked, at_slot, input_step, message_step, server_step, spot_of, state_in, unmoved, with_slot}
+use Rattle.hx_model.specs.ServerSteps.{Replica, ServerState, ServerStep, asked, at_slot, input_step, message_step, server_step, context_of, state_in, unmoved, with_slot}
 use Rattle.hx_model.specs.Slots.{KeyState, Move, moved_all}
 use Rattle.hx_store.specs.Stores.{Room}
 use Rattle.hx_folds.specs.Folding.{folded, folded_server}
@@ -110,7 +110,7 @@ moved_planned v from m number n place key slot made hears at is few room k e =
     let can = hears.can in
     let r : Replica = at.replica in
     let s : KeyState = state_in v.space r (key_in m) in
-    let by = slot_step_of (spot_of v.space v.state r.region) s from m in
+    let by = slot_step_of (context_of v.space v.state r.region) s from m in
     let so : IsMade r.region s (key_in m) by slot = is r at.at_place in
     let step : message_step v.space v.state from m ≡ at_slot v.state r s by = message_heard v.space v.state from (Server v.state.id) m r can.input_to.sound.between at.is in
     step_made v (message_step v.space v.state from m) slot.posts slot.notes (a_change.Slot number place slot.change) made (so.posts ∙ ap (λ (t : ServerStep). t.posts) (sym step)) (so.notes ∙ ap (λ (t : ServerStep). t.notes) (sym step))

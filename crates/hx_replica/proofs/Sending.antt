@@ -9,7 +9,7 @@ use Rattle.hx_types.specs.declared.spaces.Space.{Space}
 use Rattle.hx_types.specs.declared.updates.Update.{Update}
 use Rattle.hx_types.specs.Configs.{joiner_for}
 use Rattle.hx_types.specs.Words.{provided}
-use Rattle.hx_model.specs.ServerSteps.{Replica as ReplicaState, ServerState, is_active, pending_posts, ready_post, replica_tick, snap_to, spot_of, tick_step}
+use Rattle.hx_model.specs.ServerSteps.{Replica as ReplicaState, ServerState, is_active, pending_posts, ready_post, replica_tick, snap_to, context_of, tick_step}
 use Rattle.hx_replica.specs.declared.replicas.Replica.{Replica}
 use Rattle.hx_replica.specs.Made.{seen}
 use Rattle.hx_replica.specs.Replicas.{view_of, views_of}
@@ -26,7 +26,7 @@ snap_same s r (Some joiner) = refl
 -- of the server its number and configuration matter alone
 tick_same : (space : Space) (s : ServerState) (r : ReplicaState) → replica_tick space (standing s.config s.id) r ≡ replica_tick space s r
 tick_same space s r =
-    ap (λ (l : List Post). provided (is_active s.config r) (l ++ pending_posts (spot_of space s r.region) r.states ++ ready_post s r.region)) (snap_same s r (joiner_for s.config r.region s.id))
+    ap (λ (l : List Post). provided (is_active s.config r) (l ++ pending_posts (context_of space s r.region) r.states ++ ready_post s r.region)) (snap_same s r (joiner_for s.config r.region s.id))
 
 ticks : (space : Space) (s : ServerState) (rs : List Replica) → flat_map (λ (r : Replica). replica_tick space (standing s.config s.id) (view_of r)) rs ≡ flat_map (replica_tick space s) (views_of rs)
 ticks space s [] = refl

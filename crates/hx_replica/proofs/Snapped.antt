@@ -22,7 +22,7 @@ use Rattle.hx_types.specs.Posts.{Bounds, IsSoundKept, IsSoundMessage, IsSoundUpd
 use Rattle.hx_types.specs.Spaces.{IsAnswerOf, IsMaybeRowUpTo, IsRegionOf, IsConfigOf}
 use Rattle.hx_types.specs.Subspaces.{is_key_region}
 use Rattle.hx_types.specs.Words.{text_below}
-use Rattle.hx_model.specs.ServerSteps.{Replica as ReplicaState, ServerState, ServerStep, hearing, installed_slots, keys_of, ready_post, saying, snapped, spot_of, state_from, with_replica}
+use Rattle.hx_model.specs.ServerSteps.{Replica as ReplicaState, ServerState, ServerStep, replica_in_epoch, installed_slots, keys_of, ready_post, saying, snapped, context_of, state_from, with_replica}
 use Rattle.hx_model.specs.Slots.{KeyState}
 use Rattle.hx_folds.specs.Folding.{KeptsAscend, folded, folded_replica, folded_server}
 use Rattle.hx_folds.proofs.Servers.{with-replica-folded}
@@ -40,7 +40,7 @@ use Rattle.hx_replica.specs.Servers.{ServerValue}
 use Rattle.hx_replica.specs.Ticking.{standing}
 use Rattle.hx_replica.proofs.Asking.{placed}
 use Rattle.hx_replica.proofs.Changing.{view_at}
-use Rattle.hx_replica.proofs.Hearing.{found_region, hearing_found}
+use Rattle.hx_replica.proofs.Hearing.{found_region, replica_in_epoch_found}
 use Rattle.hx_replica.proofs.Joined.{from_marked, joined_marked}
 use Rattle.hx_replica.proofs.Planning.{found_there, staying_made, step_made}
 
@@ -91,20 +91,20 @@ config_taken v from m config hears is =
 
 -- the replica that hears it
 pub record IsHeardBy (v : ServerValue) (epoch : Epoch) (g : RegionId) (number : ℕ) (y : Replica) : Type 0 where
-  pub hears : hearing v.state epoch g ≡ Some (view_of y)
+  pub hears : replica_in_epoch v.state epoch g ≡ Some (view_of y)
   pub found : slice_get v.state.replicas number ≡ Some (view_of y)
   pub region : y.region ≡ g
 
 pub heard_by : (i : Inside) (epoch : Epoch) (g : RegionId) (number : ℕ) (y : Replica) → y ≡ get_or i.replicas.items number y
-    → Some (slice_get (value_of i).state.replicas number) ≡ option_map (λ (r : ReplicaState). Some r) (hearing (value_of i).state epoch g) → IsHeardBy (value_of i) epoch g number y
+    → Some (slice_get (value_of i).state.replicas number) ≡ option_map (λ (r : ReplicaState). Some r) (replica_in_epoch (value_of i).state epoch g) → IsHeardBy (value_of i) epoch g number y
 heard_by i epoch g number y is at =
     let s : ServerState = (value_of i).state in
-    let there = found_there s.replicas number (hearing s epoch g) at in
+    let there = found_there s.replicas number (replica_in_epoch s epoch g) at in
     let same : there.replica ≡ view_of y = sym (ap view_of is ∙ view_at i.replicas.items number y there.replica there.at_place) in
     record {
       hears = there.is ∙ ap (λ (r : ReplicaState). Some r) same;
       found = there.at_place ∙ ap (λ (r : ReplicaState). Some r) same;
-      region = ap (λ (r : ReplicaState). r.region) (sym same) ∙ found_region g s.replicas there.replica (hearing_found s epoch g there.replica there.is);
+      region = ap (λ (r : ReplicaState). r.region) (sym same) ∙ found_region g s.replicas there.replica (replica_in_epoch_found s epoch g there.replica there.is);
     }
 
 folded_marked : (g : RegionId) (b : Bool) (states : List KeyState) → AllByRecursion (λ (t : KeyState). t.marks ≡ b) states → AllByRecursion (λ (t : KeyState). t.marks ≡ b) (map (folded g) states)
@@ -118,31 +118,31 @@ module _ (v : ServerValue) (epoch : Epoch) (g : RegionId) (snapshot : List Kept)
   module _ (number : ℕ) (y : Replica) (heard : IsHeardBy v epoch g number y) where
     -- it was installed before
     pub ready_made : (before posts : List Post) (made : ServerMade) → y.installed ≡ true → before ≡ [] → posts ≡ before ++ ready_post (standing s.config s.id) g → made ≡ record { posts = posts; notes = []; change = a_change.Nothing }
-        → IsStepMade v (snapped v.space s snapshot pending (hearing s epoch g)) made
+        → IsStepMade v (snapped v.space s snapshot pending (replica_in_epoch s epoch g)) made
     ready_made before posts made installed none p e =
-        let step : snapped v.space s snapshot pending (hearing s epoch g) ≡ saying s (ready_post s g) =
+        let step : snapped v.space s snapshot pending (replica_in_epoch s epoch g) ≡ saying s (ready_post s g) =
         ap (snapped v.space s snapshot pending) heard.hears ∙ cond-true y.installed (saying s (ready_post s y.region)) _ installed ∙ ap (λ (h : RegionId). saying s (ready_post s h)) heard.region in
-        staying_made v (snapped v.space s snapshot pending (hearing s epoch g)) posts made bare (ap (λ (t : ServerStep). t.state) step)
+        staying_made v (snapped v.space s snapshot pending (replica_in_epoch s epoch g)) posts made bare (ap (λ (t : ServerStep). t.state) step)
         (p ∙ ap (λ (l : List Post). l ++ ready_post s g) none ∙ ap (λ (t : ServerStep). t.posts) (sym step))
         (ap (λ (t : ServerStep). t.notes) (sym step)) e
 
     -- it is installed now
-    pub join_made : (store : StoreState) (boxed : Box Replica Global) (before joined posts : List Post) (made : ServerMade) → y.installed ≡ false → before ≡ [] → joined ≡ before ++ (installed_slots (spot_of v.space s g) snapshot pending).posts
-        → posts ≡ joined ++ ready_post (standing s.config s.id) g → store.region ≡ g → store.marks ≡ is_key_region v.space g → store.states ≡ map (folded g) (installed_slots (spot_of v.space s g) snapshot pending).states
-        → boxed.value ≡ record { region = g; installed = true; store = store } → made ≡ record { posts = posts; notes = []; change = a_change.Join number boxed } → IsStepMade v (snapped v.space s snapshot pending (hearing s epoch g)) made
+    pub join_made : (store : StoreState) (boxed : Box Replica Global) (before joined posts : List Post) (made : ServerMade) → y.installed ≡ false → before ≡ [] → joined ≡ before ++ (installed_slots (context_of v.space s g) snapshot pending).posts
+        → posts ≡ joined ++ ready_post (standing s.config s.id) g → store.region ≡ g → store.marks ≡ is_key_region v.space g → store.states ≡ map (folded g) (installed_slots (context_of v.space s g) snapshot pending).states
+        → boxed.value ≡ record { region = g; installed = true; store = store } → made ≡ record { posts = posts; notes = []; change = a_change.Join number boxed } → IsStepMade v (snapped v.space s snapshot pending (replica_in_epoch s epoch g)) made
     join_made store boxed before joined posts made out none j p region marks states held e =
-        let slots = installed_slots (spot_of v.space s g) snapshot pending in
+        let slots = installed_slots (context_of v.space s g) snapshot pending in
         let new : ReplicaState = record { region = g; installed = true; states = slots.states } in
-        let at : RegionId → ServerStep = λ h. let each = installed_slots (spot_of v.space s h) snapshot pending in
+        let at : RegionId → ServerStep = λ h. let each = installed_slots (context_of v.space s h) snapshot pending in
         record {
           state = record s { replicas = with_replica (record { region = h; installed = true; states = each.states }) s.replicas };
           posts = each.posts ++ ready_post s h;
           notes = [];
         } in
-        let step : snapped v.space s snapshot pending (hearing s epoch g) ≡ at g =
+        let step : snapped v.space s snapshot pending (replica_in_epoch s epoch g) ≡ at g =
         ap (snapped v.space s snapshot pending) heard.hears ∙ cond-false y.installed (saying s (ready_post s y.region)) _ out ∙ ap at heard.region in
         let view : folded_replica new ≡ record { region = g; installed = true; states = store.states } = ap (λ (l : List KeyState). record { region = g; installed = true; states = l }) (sym states) in
-        step_made v (snapped v.space s snapshot pending (hearing s epoch g)) posts [] (a_change.Join number boxed) made
+        step_made v (snapped v.space s snapshot pending (replica_in_epoch s epoch g)) posts [] (a_change.Join number boxed) made
         (p ∙ ap (λ (l : List Post). l ++ ready_post s g) (j ∙ ap (λ (l : List Post). l ++ slots.posts) none) ∙ ap (λ (t : ServerStep). t.posts) (sym step))
         (ap (λ (t : ServerStep). t.notes) (sym step))
         (
@@ -155,7 +155,7 @@ module _ (v : ServerValue) (epoch : Epoch) (g : RegionId) (snapshot : List Kept)
             region = region;
             marks = marks;
             marked = subst (AllByRecursion (λ (t : KeyState). t.marks ≡ is_key_region v.space g)) (sym states)
-                (folded_marked g (is_key_region v.space g) slots.states (joined_marked (spot_of v.space s g) pending (keys_of pending) (record { states = map (state_from (is_key_region v.space g)) snapshot; posts = [] }) (from_marked (is_key_region v.space g) snapshot)));
+                (folded_marked g (is_key_region v.space g) slots.states (joined_marked (context_of v.space s g) pending (keys_of pending) (record { states = map (state_from (is_key_region v.space g)) snapshot; posts = [] }) (from_marked (is_key_region v.space g) snapshot)));
           };
           state = ap (λ (t : ServerStep). folded_server t.state) (is ∙ step)
               ∙ ap (λ (l : List ReplicaState). record s { replicas = l })

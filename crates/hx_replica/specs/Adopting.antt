@@ -10,7 +10,7 @@ use Rattle.hx_types.specs.declared.updates.Update.{Update}
 use Rattle.hx_types.specs.Configs.{leads}
 use Rattle.hx_types.specs.Words.{provided, when_some}
 use Rattle.hx_model.specs.Leading.{StuckAt, stuck_among}
-use Rattle.hx_model.specs.ServerSteps.{Replica as ReplicaState, ServerState, Spot as ModelSpot, doubt_in, end_marks, is_active, listed_regions, move_posts, passed_on, ready_post, replica_or_new, resumed, resumed_posts, snap_posts, spot_of}
+use Rattle.hx_model.specs.ServerSteps.{Replica as ReplicaState, ServerState, SlotContext as ModelContext, doubt_in, tail_acks, is_active, listed_regions, move_posts, passed_on, ready_post, replica_or_new, resumed, resumed_posts, snap_posts, context_of}
 use Rattle.hx_model.specs.Slots.{Forget, KeyState, is_pending, moved, moved_all, pending_of}
 use Rattle.hx_folds.specs.Folding.{folded}
 use Rattle.hx_store.specs.Stores.{ArePending, acknowledging}
@@ -18,34 +18,34 @@ use Rattle.hx_replica.specs.Made.{end_of}
 use Rattle.hx_replica.specs.Ticking.{kept_here, standing}
 
 -- the caller of an update from a version on is told of a lost region
-abbrev pub doubt_of : ModelSpot → Version → RegionId → Update → List Post
-doubt_of spot first g u = provided (nat_le first.0 u.version.0) (doubt_in spot u.caller u.version g ∷ [])
+abbrev pub doubt_of : ModelContext → Version → RegionId → Update → List Post
+doubt_of context first g u = provided (nat_le first.0 u.version.0) (doubt_in context u.caller u.version g ∷ [])
 
 -- the callers of these pending updates from the lowest one on that has a place in a lost region, where the server leads the region
-abbrev pub doubts_on : ModelSpot → List Update → Option StuckAt → List Post
-doubts_on spot us None = []
-doubts_on spot us (Some x) = flat_map (doubt_of spot x.version x.region) us
+abbrev pub doubts_on : ModelContext → List Update → Option StuckAt → List Post
+doubts_on context us None = []
+doubts_on context us (Some x) = flat_map (doubt_of context x.version x.region) us
 
-abbrev pub doubts_among : ModelSpot → List Update → List Post
-doubts_among spot us = provided (leads spot.space spot.config spot.server spot.region) (doubts_on spot us (stuck_among spot.config us))
+abbrev pub doubts_among : ModelContext → List Update → List Post
+doubts_among context us = provided (leads context.space context.config context.server context.region) (doubts_on context us (stuck_among context.config us))
 
 -- the pending updates were passed on and told of, and these versions end here
-pub record IsCarriedOn (spot : ModelSpot) (s : KeyState) (old new : List Post) (ends : List Version) : Type 0 where
-  pub posts : new ≡ old ++ (flat_map (passed_on spot) (pending_of s) ++ flat_map (move_posts spot) (resumed spot s))
-  pub ends_are : acknowledging ends ≡ end_marks spot (pending_of s)
+pub record IsCarriedOn (context : ModelContext) (s : KeyState) (old new : List Post) (ends : List Version) : Type 0 where
+  pub posts : new ≡ old ++ (flat_map (passed_on context) (pending_of s) ++ flat_map (move_posts context) (resumed context s))
+  pub ends_are : acknowledging ends ≡ tail_acks context (pending_of s)
   pub pending : ArePending s ends
 
 -- what a replica that goes on posts
-abbrev pub kept_posts : ModelSpot → List KeyState → List Post
-kept_posts spot states =
-    snap_posts (standing spot.config spot.server) (kept_here spot.region states) ++ flat_map (resumed_posts spot) states ++ ready_post (standing spot.config spot.server) spot.region
+abbrev pub kept_posts : ModelContext → List KeyState → List Post
+kept_posts context states =
+    snap_posts (standing context.config context.server) (kept_here context.region states) ++ flat_map (resumed_posts context) states ++ ready_post (standing context.config context.server) context.region
 
 -- a slot when a configuration is adopted, without its past
-abbrev pub lean_adopted : ModelSpot → Bool → KeyState → KeyState
-lean_adopted spot active s = if active then folded spot.region (moved_all (resumed spot s) s) else moved Forget s
+abbrev pub lean_adopted : ModelContext → Bool → KeyState → KeyState
+lean_adopted context active s = if active then folded context.region (moved_all (resumed context s) s) else moved Forget s
 
 abbrev pub lean_replica : Space → ServerState → ReplicaState → ReplicaState
-lean_replica space s r = record r { states = map (lean_adopted (spot_of space s r.region) (is_active s.config r)) r.states }
+lean_replica space s r = record r { states = map (lean_adopted (context_of space s r.region) (is_active s.config r)) r.states }
 
 -- a server that has adopted a configuration
 abbrev pub lean_with_config : Space → ServerState → Config → ServerState
@@ -67,5 +67,5 @@ abbrev pub IsPendingAt : ℕ → Version → List KeyState → Type 0
 IsPendingAt i v states = IsSomeAnd (slice_get states i) (λ (s : KeyState). is_pending v.0 s ≡ true)
 
 -- the pending update with a number is acknowledged, where its chain ends here
-abbrev pub marked_end : ModelSpot → ℕ → KeyState → KeyState
-marked_end spot k s = moved_all (acknowledging (when_some (slice_get (pending_of s) k) [] (end_of spot))) s
+abbrev pub marked_end : ModelContext → ℕ → KeyState → KeyState
+marked_end context k s = moved_all (acknowledging (when_some (slice_get (pending_of s) k) [] (end_of context))) s

@@ -8,17 +8,17 @@ use Rattle.hx_types.specs.Configs.{leads}
 use Rattle.hx_types.specs.Effects.{key_of}
 use Rattle.hx_types.specs.Words.{when_some}
 use Rattle.hx_model.specs.Regions.{key_region}
-use Rattle.hx_model.specs.ServerSteps.{Replica, ServerState, hearing, if_installed}
+use Rattle.hx_model.specs.ServerSteps.{Replica, ServerState, replica_in_epoch, if_installed}
 
 -- a call is heard by the replica of the key's region, where the server leads it
 abbrev pub leading : Space → ServerState → Epoch → List ℕ → Option Replica
-leading space s epoch key = if leads space s.config s.id (key_region space key) then hearing s epoch (key_region space key) else None
+leading space s epoch key = if leads space s.config s.id (key_region space key) then replica_in_epoch s epoch (key_region space key) else None
 
 -- an update and an acknowledgement are heard by the replica of their region, where it is installed
 abbrev pub heard : Space → ServerState → Message → Option Replica
 heard space s (a_message.Call epoch number op) = when_some (key_of op) None (leading space s epoch)
-heard space s (a_message.Update epoch g u) = if_installed (hearing s epoch g)
-heard space s (a_message.Ack epoch g key version) = if_installed (hearing s epoch g)
+heard space s (a_message.Update epoch g u) = if_installed (replica_in_epoch s epoch g)
+heard space s (a_message.Ack epoch g key version) = if_installed (replica_in_epoch s epoch g)
 heard space s other = None
 
 -- a message by which at most one slot moves

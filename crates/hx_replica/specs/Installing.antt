@@ -7,7 +7,7 @@ use Rattle.hx_types.specs.declared.snapshots.Kept.{Kept}
 use Rattle.hx_types.specs.declared.updates.Place.{Place}
 use Rattle.hx_types.specs.declared.updates.Update.{Update}
 use Rattle.hx_types.specs.Words.{same_text, text_below}
-use Rattle.hx_model.specs.ServerSteps.{Slots, Spot as ModelSpot, accepting, join_keys, offered_all}
+use Rattle.hx_model.specs.ServerSteps.{Slots, SlotContext as ModelContext, accepting, join_keys, offered_all}
 use Rattle.hx_model.specs.Slots.{KeyState, Move, offered}
 use Rattle.hx_folds.specs.Folding.{KeptsAscend, folded}
 use Rattle.hx_slot.specs.States.{IsOrderly, IsPlacedIn}
@@ -40,12 +40,12 @@ abbrev pub own_offer : RegionId → KeyState → Update → List Move
 own_offer g s u = if same_text u.key s.base.key then offered g s u else []
 
 -- the moves by which a slot takes the pending updates of its key
-abbrev pub joining : ModelSpot → List Update → KeyState → List Move
-joining spot us s = accepting spot s (offered_all spot.region s (of_key s.base.key us))
+abbrev pub joining : ModelContext → List Update → KeyState → List Move
+joining context us s = accepting context s (offered_all context.region s (of_key s.base.key us))
 
 -- the slots after those of some keys have taken them
-abbrev pub joined_slots : ModelSpot → List Update → List KeyState → List (List ℕ) → Slots
-joined_slots spot us states keys = join_keys spot us (record { states = states; posts = [] }) keys
+abbrev pub joined_slots : ModelContext → List Update → List KeyState → List (List ℕ) → Slots
+joined_slots context us states keys = join_keys context us (record { states = states; posts = [] }) keys
 
 -- texts that are lent
 abbrev pub texts : List (Bor (List ℕ)) → List (List ℕ)

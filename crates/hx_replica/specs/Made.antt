@@ -16,7 +16,7 @@ use Rattle.hx_types.specs.declared.spaces.Space.{Space}
 use Rattle.hx_types.specs.Effects.{key_of}
 use Rattle.hx_model.specs.Regions.{key_region}
 use Rattle.hx_types.specs.Words.{provided, when_some}
-use Rattle.hx_model.specs.ServerSteps.{SlotStep, Spot as ModelSpot, accepting, ack_step, by_posts, call_step, end_marks, move_posts, next_at, prev_at, told_to, update_step}
+use Rattle.hx_model.specs.ServerSteps.{SlotStep, SlotContext as ModelContext, accepting, ack_step, by_posts, call_step, tail_acks, move_posts, next_at, prev_at, told_to, update_step}
 use Rattle.hx_model.specs.Neighbours.{is_end}
 use Rattle.hx_model.specs.Slots.{KeyState, Move, acknowledged, moved_all, offered, taken, top_of}
 use Rattle.hx_slot.specs.States.{IsPlacedIn}
@@ -24,11 +24,11 @@ use Rattle.hx_store.specs.Stores.{ArePending, CanBeOffered, Room, accepted, acce
 use Rattle.hx_replica.specs.declared.made.SlotChange.{SlotChange}
 use Rattle.hx_replica.specs.declared.made.SlotChange.TheVariants.{Open, Accept, Acknowledge}
 use Rattle.hx_replica.specs.declared.made.SlotMade.{SlotMade}
-use Rattle.hx_replica.specs.declared.spots.Spot.{Spot}
+use Rattle.hx_replica.specs.declared.contexts.SlotContext.{SlotContext}
 
 -- where a slot stands, as the definitions say it
-abbrev pub spot_seen : Spot → ModelSpot
-spot_seen s = record { space = s.space.now; config = s.config.now; server = s.server; region = s.region }
+abbrev pub context_seen : SlotContext → ModelContext
+context_seen s = record { space = s.space.now; config = s.config.now; server = s.server; region = s.region }
 
 -- the updates that are lent
 abbrev pub seen : List (Bor Update) → List Update
@@ -36,16 +36,16 @@ seen [] = []
 seen (b ∷ rest) = b.now ∷ seen rest
 
 -- the version of an update whose chain ends here
-abbrev pub end_of : ModelSpot → Update → List Version
-end_of spot u = provided (is_end (next_at spot u)) (u.version ∷ [])
+abbrev pub end_of : ModelContext → Update → List Version
+end_of context u = provided (is_end (next_at context u)) (u.version ∷ [])
 
 -- how many of the lowest updates have one of these versions
 abbrev pub ended_count : List Version → List Update → ℕ
 ended_count ends us = prefix_len (λ (u : Update). list_any (λ (e : Version). e.0 == u.version.0) ends) us
 
 -- what is posted of an update that is committed
-abbrev pub told_of : ModelSpot → Update → List Post
-told_of spot u = told_to spot u (prev_at spot u)
+abbrev pub told_of : ModelContext → Update → List Post
+told_of context u = told_to context u (prev_at context u)
 
 -- the moves of a change
 abbrev pub moves_by : RegionId → KeyState → SlotChange → List Move
@@ -99,11 +99,11 @@ key_in (a_message.Ack epoch g key version) = key
 key_in other = []
 
 -- the step of the slot to which a message goes
-abbrev pub slot_step_of : ModelSpot → KeyState → Actor → Message → SlotStep
-slot_step_of spot s from (a_message.Call epoch number op) = call_step spot s (record { session = session_in from; number = number }) op
-slot_step_of spot s from (a_message.Update epoch g u) = update_step spot s u
-slot_step_of spot s from (a_message.Ack epoch g key version) = ack_step spot s version.0
-slot_step_of spot s from other = by_posts []
+abbrev pub slot_step_of : ModelContext → KeyState → Actor → Message → SlotStep
+slot_step_of context s from (a_message.Call epoch number op) = call_step context s (record { session = session_in from; number = number }) op
+slot_step_of context s from (a_message.Update epoch g u) = update_step context s u
+slot_step_of context s from (a_message.Ack epoch g key version) = ack_step context s version.0
+slot_step_of context s from other = by_posts []
 
 -- a version is acknowledged, or one of those that are being acknowledged
 abbrev pub settles : List ℕ → List Version → Version → Bool
@@ -133,10 +133,10 @@ pub record IsComing (g : RegionId) (s : KeyState) (u : Update) : Type 0 where
   pub floor : s.floor ≤ top_of s
 
 -- what is posted of accepting an update, and the versions whose chain ends here
-pub record IsAccepted (spot : ModelSpot) (s : KeyState) (u : Update) (posts : List Post) (ends : List Version) : Type 0 where
-  pub posts_are : posts ≡ flat_map (move_posts spot) (accepting spot s (offered spot.region s u))
-  pub ends_are : acknowledging ends ≡ end_marks spot (taken (offered spot.region s u))
-  pub pending : ArePending (moved_all (offered spot.region s u) s) ends
+pub record IsAccepted (context : ModelContext) (s : KeyState) (u : Update) (posts : List Post) (ends : List Version) : Type 0 where
+  pub posts_are : posts ≡ flat_map (move_posts context) (accepting context s (offered context.region s u))
+  pub ends_are : acknowledging ends ≡ tail_acks context (taken (offered context.region s u))
+  pub pending : ArePending (moved_all (offered context.region s u) s) ends
 
 abbrev pub IsSessionActor : Actor → Type 0
 IsSessionActor Coordinator = ⊥

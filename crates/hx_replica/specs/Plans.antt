@@ -7,7 +7,7 @@ use Rattle.hx_types.specs.declared.ids.Actor.{Actor}
 use Rattle.hx_types.specs.declared.spaces.Space.{Space}
 use Rattle.hx_types.specs.declared.traces.Input.{Input}
 use Rattle.hx_types.specs.declared.traces.Input.TheVariants.{Deliver}
-use Rattle.hx_model.specs.ServerSteps.{Replica as ReplicaState, ServerState, ServerStep, listed_regions, server_step, spot_of, state_in, with_replica, with_slot}
+use Rattle.hx_model.specs.ServerSteps.{Replica as ReplicaState, ServerState, ServerStep, listed_regions, server_step, context_of, state_in, with_replica, with_slot}
 use Rattle.hx_folds.specs.Folding.{folded_server}
 use Rattle.hx_replica.specs.declared.made.SlotChange.{SlotChange}
 use Rattle.hx_replica.specs.declared.made.SlotMade.{SlotMade}
@@ -40,7 +40,7 @@ pub record CanStep (space : Space) (s : ServerState) (place : ℕ) (key : List �
 abbrev pub IsMadeAt : ServerValue → ℕ → Actor → Message → SlotMade → Type 0
 IsMadeAt s place from m made =
     (r : ReplicaState) → slice_get s.state.replicas place ≡ Some r
-    → IsMade r.region (state_in s.space r (key_in m)) (key_in m) (slot_step_of (spot_of s.space s.state r.region) (state_in s.space r (key_in m)) from m) made
+    → IsMade r.region (state_in s.space r (key_in m)) (key_in m) (slot_step_of (context_of s.space s.state r.region) (state_in s.space r (key_in m)) from m) made
 
 -- the slot at the place of the replica with this number can make the change, and that is the server's step without its past
 pub record IsChangeOn (s : ServerValue) (input : Input) (number place : ℕ) (change : SlotChange) : Type 0 where

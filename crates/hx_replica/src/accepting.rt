@@ -5,10 +5,10 @@ ghost use Rattle.hx_types.specs.declared.updates.Update.{Update as Updated};
 ghost use Rattle.hx_model.specs.Neighbours.{place_number};
 ghost use Rattle.hx_model.specs.ServerSteps.{passed_on};
 ghost use Rattle.hx_model.specs.Slots.{follows, offered, pending_of, taken, top_of, turns};
-ghost use Rattle.hx_replica.specs.Made.{IsAccepted, IsComing, IsHere, IsNew, end_of, seen, spot_seen};
+ghost use Rattle.hx_replica.specs.Made.{IsAccepted, IsComing, IsHere, IsNew, end_of, seen, context_seen};
 
+use crate::contexts::{SlotContext, pass_on, place_at};
 use crate::settling::{line_of, tell_settled};
-use crate::spots::{Spot, pass_on, place_at};
 use hx_slot::Slot;
 use hx_types::{Memory, Posts, Shared, Update, Version};
 use std::alloc::Global;
@@ -24,40 +24,47 @@ pub struct Acceptance {
 /// go to the next replica or end here, and what can be committed is told of.
 pub fn accepted(
     alloc: Global,
-    spot: &Spot,
+    context: &SlotContext,
     slot: &Slot,
     update: &Shared<Update>,
 ) -> Result<Acceptance, Memory>
-    requires coming { IsComing spot.now.region slot.now.state update.now }
-    requires region { slot.now.region ≡ spot.now.region }
-    ensures { IfOk result (λ made. IsAccepted (spot_seen spot.now) slot.now.state update.now made.posts made.ends.items) }
+    requires coming { IsComing context.now.region slot.now.state update.now }
+    requires region { slot.now.region ≡ context.now.region }
+    ensures { IfOk result (λ made. IsAccepted (context_seen context.now) slot.now.state update.now made.posts made.ends.items) }
 {
     if slot.early_count() == 0 && slot.pending_count() == 0 {
-        return accepted_alone(alloc, spot, slot, update);
+        return accepted_alone(alloc, context, slot, update);
     }
-    let taken = taken_by(alloc, spot, slot, update)?;
+    let taken = taken_by(alloc, context, slot, update)?;
     let line = line_of(alloc, slot, taken.as_slice())?;
-    take_all(alloc, spot, slot, update, taken.as_slice(), line.as_slice())
+    take_all(
+        alloc,
+        context,
+        slot,
+        update,
+        taken.as_slice(),
+        line.as_slice(),
+    )
 }
 
 /// The same of a slot that holds no other update: no list of updates is made for it.
 fn accepted_alone(
     alloc: Global,
-    spot: &Spot,
+    context: &SlotContext,
     slot: &Slot,
     update: &Shared<Update>,
 ) -> Result<Acceptance, Memory>
-    requires coming { IsComing spot.now.region slot.now.state update.now }
-    requires region { slot.now.region ≡ spot.now.region }
+    requires coming { IsComing context.now.region slot.now.state update.now }
+    requires region { slot.now.region ≡ context.now.region }
     requires early { slot.now.state.early ≡ [] }
     requires pending { pending_of slot.now.state ≡ [] }
-    ensures { IfOk result (λ made. IsAccepted (spot_seen spot.now) slot.now.state update.now made.posts made.ends.items) }
+    ensures { IfOk result (λ made. IsAccepted (context_seen context.now) slot.now.state update.now made.posts made.ends.items) }
 {
-    if is_in_turn(spot, slot, update) {
+    if is_in_turn(context, slot, update) {
         let only = [update];
-        take_all(alloc, spot, slot, update, &only, &only)
+        take_all(alloc, context, slot, update, &only, &only)
     } else {
-        take_all(alloc, spot, slot, update, &[], &[])
+        take_all(alloc, context, slot, update, &[], &[])
     }
 }
 
@@ -65,42 +72,42 @@ fn accepted_alone(
 /// whose chain ends here.
 fn take_all(
     alloc: Global,
-    spot: &Spot,
+    context: &SlotContext,
     slot: &Slot,
     update: &Shared<Update>,
     updates: &[&Shared<Update>],
     line: &[&Shared<Update>],
 ) -> Result<Acceptance, Memory>
-    requires coming { IsComing spot.now.region slot.now.state update.now }
-    requires region { slot.now.region ≡ spot.now.region }
-    requires taken { seen updates.now ≡ taken (offered spot.now.region slot.now.state update.now) }
-    requires new { All (IsNew spot.now.region slot.now.state.floor) updates.now }
+    requires coming { IsComing context.now.region slot.now.state update.now }
+    requires region { slot.now.region ≡ context.now.region }
+    requires taken { seen updates.now ≡ taken (offered context.now.region slot.now.state update.now) }
+    requires new { All (IsNew context.now.region slot.now.state.floor) updates.now }
     requires line { seen line.now ≡ pending_of slot.now.state ++ seen updates.now }
-    requires here { All (IsHere spot.now.region) line.now }
-    ensures { IfOk result (λ made. IsAccepted (spot_seen spot.now) slot.now.state update.now made.posts made.ends.items) }
+    requires here { All (IsHere context.now.region) line.now }
+    ensures { IfOk result (λ made. IsAccepted (context_seen context.now) slot.now.state update.now made.posts made.ends.items) }
 {
     // The contract alone speaks of the update that is offered.
     let _ = update;
     let mut posts = Posts::new(alloc);
     let mut ends = Vec::new(alloc);
-    pass_on_all(alloc, spot, updates, &mut posts, &mut ends)?;
-    tell_settled(alloc, spot, slot, line, ends.as_slice(), &mut posts)?;
+    pass_on_all(alloc, context, updates, &mut posts, &mut ends)?;
+    tell_settled(alloc, context, slot, line, ends.as_slice(), &mut posts)?;
     Ok(Acceptance { posts, ends })
 }
 
 /// The updates that the slot takes with this one, in order; none where its turn hasn't come.
 fn taken_by<'a>(
     alloc: Global,
-    spot: &Spot,
+    context: &SlotContext,
     slot: &'a Slot,
     update: &'a Shared<Update>,
 ) -> Result<Vec<&'a Shared<Update>>, Memory>
-    requires coming { IsComing spot.now.region slot.now.state update.now }
-    requires region { slot.now.region ≡ spot.now.region }
-    ensures taken { IfOk result (λ us. seen us.items ≡ taken (offered spot.now.region slot.now.state update.now)) }
-    ensures new { IfOk result (λ us. All (IsNew spot.now.region slot.now.state.floor) us.items) }
+    requires coming { IsComing context.now.region slot.now.state update.now }
+    requires region { slot.now.region ≡ context.now.region }
+    ensures taken { IfOk result (λ us. seen us.items ≡ taken (offered context.now.region slot.now.state update.now)) }
+    ensures new { IfOk result (λ us. All (IsNew context.now.region slot.now.state.floor) us.items) }
 {
-    if is_in_turn(spot, slot, update) {
+    if is_in_turn(context, slot, update) {
         taken_from(alloc, slot, update)
     } else {
         Ok(Vec::new(alloc))
@@ -108,11 +115,11 @@ fn taken_by<'a>(
 }
 
 /// Whether the update's turn has come: the version after which it comes is the slot's top.
-fn is_in_turn(spot: &Spot, slot: &Slot, update: &Update) -> bool
-    requires coming { IsComing spot.now.region slot.now.state update.now }
-    ensures { result ≡ follows spot.now.region (top_of slot.now.state) update.now }
+fn is_in_turn(context: &SlotContext, slot: &Slot, update: &Update) -> bool
+    requires coming { IsComing context.now.region slot.now.state update.now }
+    ensures { result ≡ follows context.now.region (top_of slot.now.state) update.now }
 {
-    match update.places.get(place_at(spot, update) as usize) {
+    match update.places.get(place_at(context, update) as usize) {
         Some(place) => place.after.0 == slot.top().0,
         None => false,
     }
@@ -146,17 +153,17 @@ fn taken_from<'a>(
 /// Each update goes to the next replica of its chain, or its chain ends here.
 pub fn pass_on_all(
     alloc: Global,
-    spot: &Spot,
+    context: &SlotContext,
     updates: &[&Shared<Update>],
     posts: &mut Posts,
     ends: &mut Vec<Version>,
 ) -> Result<(), Memory>
-    requires { All (IsHere spot.now.region) updates.now }
-    ensures posts { OnOk result (posts.new ≡ posts.old ++ flat_map (λ (b : Bor Updated). passed_on (spot_seen spot.now) b.now) updates.now) }
-    ensures ends { OnOk result (ends.new.items ≡ ends.old.items ++ flat_map (λ (b : Bor Updated). end_of (spot_seen spot.now) b.now) updates.now) }
+    requires { All (IsHere context.now.region) updates.now }
+    ensures posts { OnOk result (posts.new ≡ posts.old ++ flat_map (λ (b : Bor Updated). passed_on (context_seen context.now) b.now) updates.now) }
+    ensures ends { OnOk result (ends.new.items ≡ ends.old.items ++ flat_map (λ (b : Bor Updated). end_of (context_seen context.now) b.now) updates.now) }
 {
     for update in updates {
-        pass_on(alloc, spot, update, posts, ends)?;
+        pass_on(alloc, context, update, posts, ends)?;
     }
     Ok(())
 }

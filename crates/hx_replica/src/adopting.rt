@@ -3,13 +3,13 @@ ghost use Rattle.std.specs.List.{flat_map};
 ghost use Rattle.hx_types.specs.Subspaces.{region_count};
 ghost use Rattle.hx_types.specs.declared.ids.RegionId.{RegionId as Numbered};
 ghost use Rattle.hx_model.specs.ServerSteps.{adopted_posts, is_active, listed_regions, replica_or_new, resumed_posts};
-ghost use Rattle.hx_replica.specs.Made.{spot_seen};
+ghost use Rattle.hx_replica.specs.Made.{context_seen};
 ghost use Rattle.hx_replica.specs.Replicas.{AreReplicas, IsReplicaIn, view_of, views_of};
 ghost use Rattle.hx_replica.specs.Ticking.{standing};
 
+use crate::contexts::SlotContext;
 use crate::replicas::{Replica, place_of};
 use crate::resuming::post_resumed;
-use crate::spots::Spot;
 use crate::ticking::{snap, tell_ready};
 use hx_region::RegionMap;
 use hx_store::Store;
@@ -35,14 +35,14 @@ pub fn post_adoption(
     for number in 0..map.regions() {
         let region = RegionId(number);
         if config.lists(region, server) {
-            let spot = Spot {
+            let context = SlotContext {
                 space,
                 map,
                 config,
                 server,
                 region,
             };
-            post_region(alloc, &spot, replicas, posts)?;
+            post_region(alloc, &context, replicas, posts)?;
         }
     }
     Ok(())
@@ -51,15 +51,15 @@ pub fn post_adoption(
 /// Posts what the server's replica of a region posts. A new one posts nothing.
 fn post_region(
     alloc: Global,
-    spot: &Spot,
+    context: &SlotContext,
     replicas: &[Replica],
     posts: &mut Posts,
 ) -> Result<(), Memory>
-    requires { AreReplicas spot.now.space.now replicas.now }
-    ensures { OnOk result (posts.new ≡ posts.old ++ adopted_posts spot.now.space.now (standing spot.now.config.now spot.now.server) (replica_or_new (views_of replicas.now) spot.now.region)) }
+    requires { AreReplicas context.now.space.now replicas.now }
+    ensures { OnOk result (posts.new ≡ posts.old ++ adopted_posts context.now.space.now (standing context.now.config.now context.now.server) (replica_or_new (views_of replicas.now) context.now.region)) }
 {
-    match place_of(replicas, spot.region) {
-        Some(place) => post_replica(alloc, spot, &replicas[place], posts),
+    match place_of(replicas, context.region) {
+        Some(place) => post_replica(alloc, context, &replicas[place], posts),
         None => Ok(()),
     }
 }
@@ -68,20 +68,20 @@ fn post_region(
 /// feeds, its slots go on, and it says that it has joined.
 fn post_replica(
     alloc: Global,
-    spot: &Spot,
+    context: &SlotContext,
     replica: &Replica,
     posts: &mut Posts,
 ) -> Result<(), Memory>
-    requires region { replica.now.region ≡ spot.now.region }
-    requires is { IsReplicaIn spot.now.space.now replica.now }
-    ensures { OnOk result (posts.new ≡ posts.old ++ adopted_posts spot.now.space.now (standing spot.now.config.now spot.now.server) (view_of replica.now)) }
+    requires region { replica.now.region ≡ context.now.region }
+    requires is { IsReplicaIn context.now.space.now replica.now }
+    ensures { OnOk result (posts.new ≡ posts.old ++ adopted_posts context.now.space.now (standing context.now.config.now context.now.server) (view_of replica.now)) }
 {
-    if !is_active(spot.config, replica) {
+    if !is_active(context.config, replica) {
         return Ok(());
     }
-    snap(alloc, spot, &replica.store, posts)?;
-    post_slots(alloc, spot, &replica.store, posts)?;
-    tell_ready(spot, posts)
+    snap(alloc, context, &replica.store, posts)?;
+    post_slots(alloc, context, &replica.store, posts)?;
+    tell_ready(context, posts)
 }
 
 /// Whether a replica is installed and its region isn't lost.
@@ -92,13 +92,18 @@ pub fn is_active(config: &Config, replica: &Replica) -> bool
 }
 
 /// Posts what the slots of a replica post that goes on.
-fn post_slots(alloc: Global, spot: &Spot, store: &Store, posts: &mut Posts) -> Result<(), Memory>
-    requires { store.now.region ≡ spot.now.region }
-    ensures { OnOk result (posts.new ≡ posts.old ++ flat_map (resumed_posts (spot_seen spot.now)) store.now.states) }
+fn post_slots(
+    alloc: Global,
+    context: &SlotContext,
+    store: &Store,
+    posts: &mut Posts,
+) -> Result<(), Memory>
+    requires { store.now.region ≡ context.now.region }
+    ensures { OnOk result (posts.new ≡ posts.old ++ flat_map (resumed_posts (context_seen context.now)) store.now.states) }
 {
     for i in 0..store.len() {
         match store.nth(i) {
-            Some(slot) => post_resumed(alloc, spot, slot, posts)?,
+            Some(slot) => post_resumed(alloc, context, slot, posts)?,
             None => unreachable!(),
         }
     }

@@ -2,9 +2,9 @@ ghost use Rattle.std.specs.Prelude.{◌≡◌, ◌++◌, OnOk, drop};
 ghost use Rattle.std.specs.List.{flat_map};
 ghost use Rattle.hx_model.specs.Slots.{pending_of};
 ghost use Rattle.hx_replica.specs.Adopting.{doubt_of, doubts_among};
-ghost use Rattle.hx_replica.specs.Made.{spot_seen};
+ghost use Rattle.hx_replica.specs.Made.{context_seen};
 
-use crate::spots::{Spot, doubt};
+use crate::contexts::{SlotContext, doubt};
 use hx_leader::stuck_from;
 use hx_slot::Slot;
 use hx_types::{Memory, Posts, RegionId, Update, Version};
@@ -13,36 +13,39 @@ use hx_types::{Memory, Posts, RegionId, Update, Version};
 /// callers of that update and of all later ones are told that their writes are in doubt. So many of
 /// the lowest pending updates are committed before.
 pub fn tell_doubts(
-    spot: &Spot,
+    context: &SlotContext,
     slot: &Slot,
     committed: u32,
     posts: &mut Posts,
 ) -> Result<(), Memory>
-    ensures { OnOk result (posts.new ≡ posts.old ++ doubts_among (spot_seen spot.now) (drop committed (pending_of slot.now.state))) }
+    ensures { OnOk result (posts.new ≡ posts.old ++ doubts_among (context_seen context.now) (drop committed (pending_of slot.now.state))) }
 {
-    if !spot.config.leads(spot.space, spot.server, spot.region) {
+    if !context
+        .config
+        .leads(context.space, context.server, context.region)
+    {
         return Ok(());
     }
-    match stuck_from(spot.config, slot, committed) {
-        Some((first, region)) => doubt_from(spot, slot, committed, first, region, posts),
+    match stuck_from(context.config, slot, committed) {
+        Some((first, region)) => doubt_from(context, slot, committed, first, region, posts),
         None => Ok(()),
     }
 }
 
 /// The callers of the pending updates from a version on are told of the lost region.
 fn doubt_from(
-    spot: &Spot,
+    context: &SlotContext,
     slot: &Slot,
     committed: u32,
     first: Version,
     region: RegionId,
     posts: &mut Posts,
 ) -> Result<(), Memory>
-    ensures { OnOk result (posts.new ≡ posts.old ++ flat_map (doubt_of (spot_seen spot.now) first region) (drop committed (pending_of slot.now.state))) }
+    ensures { OnOk result (posts.new ≡ posts.old ++ flat_map (doubt_of (context_seen context.now) first region) (drop committed (pending_of slot.now.state))) }
 {
     for i in committed..slot.pending_count() {
         match slot.pending(i) {
-            Some(update) => doubt_one(spot, update, first, region, posts)?,
+            Some(update) => doubt_one(context, update, first, region, posts)?,
             None => unreachable!(),
         }
     }
@@ -50,16 +53,16 @@ fn doubt_from(
 }
 
 fn doubt_one(
-    spot: &Spot,
+    context: &SlotContext,
     update: &Update,
     first: Version,
     region: RegionId,
     posts: &mut Posts,
 ) -> Result<(), Memory>
-    ensures { OnOk result (posts.new ≡ posts.old ++ doubt_of (spot_seen spot.now) first region update.now) }
+    ensures { OnOk result (posts.new ≡ posts.old ++ doubt_of (context_seen context.now) first region update.now) }
 {
     if first.0 <= update.version.0 {
-        posts.push(doubt(spot, update.caller, update.version, region))?;
+        posts.push(doubt(context, update.caller, update.version, region))?;
     }
     Ok(())
 }

@@ -8,12 +8,12 @@ ghost use Rattle.hx_model.specs.Slots.{Forget, KeyState, moved, moved_all};
 ghost use Rattle.hx_slot.specs.States.{IsOrderly};
 ghost use Rattle.hx_store.specs.Stores.{state_at};
 ghost use Rattle.hx_replica.specs.Installing.{CanCome, IsFresh, TextsAscend, joined_slots, joining, of_key, own_offer, texts};
-ghost use Rattle.hx_replica.specs.Made.{spot_seen};
+ghost use Rattle.hx_replica.specs.Made.{context_seen};
 ghost use Rattle.hx_replica.specs.Ticking.{standing};
 
+use crate::contexts::{SlotContext, place_at};
 use crate::keys::keys_of;
 use crate::resuming::carry_on;
-use crate::spots::{Spot, place_at};
 use crate::ticking::tell_ready;
 use hx_slot::Slot;
 use hx_store::{Store, settle_all};
@@ -26,25 +26,25 @@ use std::alloc::Global;
 /// choice.
 pub fn installed(
     alloc: Global,
-    spot: &Spot,
+    context: &SlotContext,
     snapshot: &Snapshot,
     pending: &Updates,
     posts: &mut Posts,
 ) -> Result<Store, Memory>
-    requires attributes { length spot.now.space.now.attributes ≤ MOST_ATTRIBUTES }
+    requires attributes { length context.now.space.now.attributes ≤ MOST_ATTRIBUTES }
     requires ascend { KeptsAscend snapshot.now }
     requires orderly { All IsOrderly snapshot.now }
-    requires pending { All (CanCome spot.now.region) pending.now }
-    ensures region { IfOk result (λ store. store.region ≡ spot.now.region) }
-    ensures marks { IfOk result (λ store. store.marks ≡ is_key_region spot.now.space.now spot.now.region) }
-    ensures states { IfOk result (λ store. store.states ≡ map (folded spot.now.region) (installed_slots (spot_seen spot.now) snapshot.now pending.now).states) }
-    ensures posts { OnOk result (posts.new ≡ (posts.old ++ (installed_slots (spot_seen spot.now) snapshot.now pending.now).posts) ++ ready_post (standing spot.now.config.now spot.now.server) spot.now.region) }
+    requires pending { All (CanCome context.now.region) pending.now }
+    ensures region { IfOk result (λ store. store.region ≡ context.now.region) }
+    ensures marks { IfOk result (λ store. store.marks ≡ is_key_region context.now.space.now context.now.region) }
+    ensures states { IfOk result (λ store. store.states ≡ map (folded context.now.region) (installed_slots (context_seen context.now) snapshot.now pending.now).states) }
+    ensures posts { OnOk result (posts.new ≡ (posts.old ++ (installed_slots (context_seen context.now) snapshot.now pending.now).posts) ++ ready_post (standing context.now.config.now context.now.server) context.now.region) }
 {
-    let marks = spot.region.0 < spot.space.key_parts;
-    let Ok(mut store) = Store::new(alloc, spot.space, spot.region, marks) else {
+    let marks = context.region.0 < context.space.key_parts;
+    let Ok(mut store) = Store::new(alloc, context.space, context.region, marks) else {
         return Err(Memory);
     };
-    install_all(alloc, spot, snapshot, pending, &mut store, posts)?;
+    install_all(alloc, context, snapshot, pending, &mut store, posts)?;
     Ok(store)
 }
 
@@ -52,54 +52,54 @@ pub fn installed(
 /// is told.
 fn install_all(
     alloc: Global,
-    spot: &Spot,
+    context: &SlotContext,
     snapshot: &Snapshot,
     pending: &Updates,
     store: &mut Store,
     posts: &mut Posts,
 ) -> Result<(), Memory>
-    requires region { store.old.region ≡ spot.now.region }
-    requires marks { store.old.marks ≡ is_key_region spot.now.space.now spot.now.region }
+    requires region { store.old.region ≡ context.now.region }
+    requires marks { store.old.marks ≡ is_key_region context.now.space.now context.now.region }
     requires empty { store.old.states ≡ [] }
     requires ascend { KeptsAscend snapshot.now }
     requires orderly { All IsOrderly snapshot.now }
-    requires pending { All (CanCome spot.now.region) pending.now }
+    requires pending { All (CanCome context.now.region) pending.now }
     ensures region { store.new.region ≡ store.old.region }
     ensures marks { store.new.marks ≡ store.old.marks }
-    ensures states { OnOk result (store.new.states ≡ map (folded spot.now.region) (installed_slots (spot_seen spot.now) snapshot.now pending.now).states) }
-    ensures posts { OnOk result (posts.new ≡ (posts.old ++ (installed_slots (spot_seen spot.now) snapshot.now pending.now).posts) ++ ready_post (standing spot.now.config.now spot.now.server) spot.now.region) }
+    ensures states { OnOk result (store.new.states ≡ map (folded context.now.region) (installed_slots (context_seen context.now) snapshot.now pending.now).states) }
+    ensures posts { OnOk result (posts.new ≡ (posts.old ++ (installed_slots (context_seen context.now) snapshot.now pending.now).posts) ++ ready_post (standing context.now.config.now context.now.server) context.now.region) }
 {
     store.install(alloc, snapshot)?;
     let keys = keys_of(alloc, pending)?;
-    join_all(alloc, spot, keys.as_slice(), pending, store, posts)?;
-    tell_ready(spot, posts)
+    join_all(alloc, context, keys.as_slice(), pending, store, posts)?;
+    tell_ready(context, posts)
 }
 
 /// The slots of these keys take the pending updates of their keys, one after another.
 fn join_all(
     alloc: Global,
-    spot: &Spot,
+    context: &SlotContext,
     keys: &[&Text],
     pending: &Updates,
     store: &mut Store,
     posts: &mut Posts,
 ) -> Result<(), Memory>
-    requires region { store.old.region ≡ spot.now.region }
-    requires marks { store.old.marks ≡ is_key_region spot.now.space.now spot.now.region }
-    requires fresh { AllByRecursion (IsFresh spot.now.region) store.old.states }
-    requires kinds { AllByRecursion (λ (t : KeyState). t.marks ≡ is_key_region spot.now.space.now spot.now.region) store.old.states }
+    requires region { store.old.region ≡ context.now.region }
+    requires marks { store.old.marks ≡ is_key_region context.now.space.now context.now.region }
+    requires fresh { AllByRecursion (IsFresh context.now.region) store.old.states }
+    requires kinds { AllByRecursion (λ (t : KeyState). t.marks ≡ is_key_region context.now.space.now context.now.region) store.old.states }
     requires keys { TextsAscend (texts keys.now) }
-    requires pending { All (CanCome spot.now.region) pending.now }
+    requires pending { All (CanCome context.now.region) pending.now }
     ensures region { store.new.region ≡ store.old.region }
     ensures marks { store.new.marks ≡ store.old.marks }
-    ensures states { OnOk result (store.new.states ≡ map (folded spot.now.region) (joined_slots (spot_seen spot.now) pending.now store.old.states (texts keys.now)).states) }
-    ensures posts { OnOk result (posts.new ≡ posts.old ++ (joined_slots (spot_seen spot.now) pending.now store.old.states (texts keys.now)).posts) }
+    ensures states { OnOk result (store.new.states ≡ map (folded context.now.region) (joined_slots (context_seen context.now) pending.now store.old.states (texts keys.now)).states) }
+    ensures posts { OnOk result (posts.new ≡ posts.old ++ (joined_slots (context_seen context.now) pending.now store.old.states (texts keys.now)).posts) }
 {
     for key in keys {
-        let Ok(mut slot) = slot_of(alloc, spot, store, key) else {
+        let Ok(mut slot) = slot_of(alloc, context, store, key) else {
             return Err(Memory);
         };
-        join(alloc, spot, &mut slot, pending, posts)?;
+        join(alloc, context, &mut slot, pending, posts)?;
         store.put(alloc, slot)?;
     }
     Ok(())
@@ -107,17 +107,17 @@ fn join_all(
 
 /// A copy of the slot of a key, an empty one where the store has none. It has neither
 /// acknowledgements nor early updates.
-fn slot_of(alloc: Global, spot: &Spot, store: &Store, key: &Text) -> Result<Slot, Memory>
-    requires region { store.now.region ≡ spot.now.region }
-    requires marks { store.now.marks ≡ is_key_region spot.now.space.now spot.now.region }
-    ensures region { IfOk result (λ slot. slot.region ≡ spot.now.region) }
+fn slot_of(alloc: Global, context: &SlotContext, store: &Store, key: &Text) -> Result<Slot, Memory>
+    requires region { store.now.region ≡ context.now.region }
+    requires marks { store.now.marks ≡ is_key_region context.now.space.now context.now.region }
+    ensures region { IfOk result (λ slot. slot.region ≡ context.now.region) }
     ensures state { IfOk result (λ slot. slot.state ≡ moved Forget (state_at store.now key.now)) }
 {
     match store.slot(key) {
         Some(slot) => slot.renewed(alloc),
         None => {
-            let marks = spot.region.0 < spot.space.key_parts;
-            Ok(Slot::new(alloc, spot.region, key.copy(alloc)?, marks))
+            let marks = context.region.0 < context.space.key_parts;
+            Ok(Slot::new(alloc, context.region, key.copy(alloc)?, marks))
         }
     }
 }
@@ -126,48 +126,58 @@ fn slot_of(alloc: Global, spot: &Spot, store: &Store, key: &Text) -> Result<Slot
 /// their chains or end here, and what can be committed is told of.
 fn join(
     alloc: Global,
-    spot: &Spot,
+    context: &SlotContext,
     slot: &mut Slot,
     pending: &Updates,
     posts: &mut Posts,
 ) -> Result<(), Memory>
-    requires region { slot.old.region ≡ spot.now.region }
-    requires fresh { IsFresh spot.now.region slot.old.state }
-    requires pending { All (CanCome spot.now.region) pending.now }
+    requires region { slot.old.region ≡ context.now.region }
+    requires fresh { IsFresh context.now.region slot.old.state }
+    requires pending { All (CanCome context.now.region) pending.now }
     ensures region { slot.new.region ≡ slot.old.region }
-    ensures state { OnOk result (slot.new.state ≡ folded spot.now.region (moved_all (joining (spot_seen spot.now) pending.now slot.old.state) slot.old.state)) }
-    ensures posts { OnOk result (posts.new ≡ posts.old ++ flat_map (move_posts (spot_seen spot.now)) (joining (spot_seen spot.now) pending.now slot.old.state)) }
+    ensures state { OnOk result (slot.new.state ≡ folded context.now.region (moved_all (joining (context_seen context.now) pending.now slot.old.state) slot.old.state)) }
+    ensures posts { OnOk result (posts.new ≡ posts.old ++ flat_map (move_posts (context_seen context.now)) (joining (context_seen context.now) pending.now slot.old.state)) }
 {
-    offer_all(alloc, spot, slot, pending)?;
-    let ends = carry_on(alloc, spot, slot, posts)?;
+    offer_all(alloc, context, slot, pending)?;
+    let ends = carry_on(alloc, context, slot, posts)?;
     settle_all(slot, ends.as_slice());
     Ok(())
 }
 
 /// A slot is offered the updates of its key.
-fn offer_all(alloc: Global, spot: &Spot, slot: &mut Slot, updates: &Updates) -> Result<(), Memory>
-    requires region { slot.old.region ≡ spot.now.region }
-    requires updates { All (CanCome spot.now.region) updates.now }
+fn offer_all(
+    alloc: Global,
+    context: &SlotContext,
+    slot: &mut Slot,
+    updates: &Updates,
+) -> Result<(), Memory>
+    requires region { slot.old.region ≡ context.now.region }
+    requires updates { All (CanCome context.now.region) updates.now }
     ensures region { slot.new.region ≡ slot.old.region }
-    ensures state { OnOk result (slot.new.state ≡ moved_all (offered_all spot.now.region slot.old.state (of_key slot.old.state.base.key updates.now)) slot.old.state) }
+    ensures state { OnOk result (slot.new.state ≡ moved_all (offered_all context.now.region slot.old.state (of_key slot.old.state.base.key updates.now)) slot.old.state) }
 {
     for update in updates.as_slice() {
-        offer(alloc, spot, slot, update)?;
+        offer(alloc, context, slot, update)?;
     }
     Ok(())
 }
 
 /// A slot is offered an update, if it is of its key.
-fn offer(alloc: Global, spot: &Spot, slot: &mut Slot, update: &Shared<Update>) -> Result<(), Memory>
-    requires region { slot.old.region ≡ spot.now.region }
-    requires update { CanCome spot.now.region update.now }
+fn offer(
+    alloc: Global,
+    context: &SlotContext,
+    slot: &mut Slot,
+    update: &Shared<Update>,
+) -> Result<(), Memory>
+    requires region { slot.old.region ≡ context.now.region }
+    requires update { CanCome context.now.region update.now }
     ensures region { slot.new.region ≡ slot.old.region }
-    ensures state { OnOk result (slot.new.state ≡ moved_all (own_offer spot.now.region slot.old.state update.now) slot.old.state) }
+    ensures state { OnOk result (slot.new.state ≡ moved_all (own_offer context.now.region slot.old.state update.now) slot.old.state) }
 {
     if !update.key.same(slot.key()) {
         return Ok(());
     }
     slot.reserve(alloc, 1)?;
-    let _ = slot.offer(update.copy(alloc)?, place_at(spot, update));
+    let _ = slot.offer(update.copy(alloc)?, place_at(context, update));
     Ok(())
 }

@@ -1,19 +1,19 @@
 ghost use Rattle.std.specs.Prelude.{◌≡◌, ◌<◌, length, map};
 ghost use Rattle.hx_types.specs.Words.{list_of, when_some};
 ghost use Rattle.hx_types.specs.declared.ids.RegionId.{RegionId as Numbered};
-ghost use Rattle.hx_model.specs.ServerSteps.{end_marks, listed_regions, replica_or_new, with_replica};
+ghost use Rattle.hx_model.specs.ServerSteps.{tail_acks, listed_regions, replica_or_new, with_replica};
 ghost use Rattle.hx_model.specs.Slots.{Acknowledge, Forget, KeyState, moved, moved_all, pending_of};
 ghost use Rattle.std.specs.Prelude.{slice_get, Some, true, []};
 ghost use Rattle.std.specs.Option.{option_map};
 ghost use Rattle.hx_store.specs.Stores.{acknowledging, settled_at};
 ghost use Rattle.hx_replica.specs.Adopting.{IsPendingAt, changed_at, lean_adopted, lean_replica, marked_end};
-ghost use Rattle.hx_replica.specs.Made.{end_of, spot_seen};
+ghost use Rattle.hx_replica.specs.Made.{end_of, context_seen};
 ghost use Rattle.hx_replica.specs.Replicas.{AreReplicas, IsReplicaIn, new_replica, view_of, views_of};
 ghost use Rattle.hx_replica.specs.Ticking.{standing};
 
 use crate::adopting::is_active;
+use crate::contexts::{SlotContext, end_version};
 use crate::replicas::{Replica, place_of};
-use crate::spots::{Spot, end_version};
 use hx_region::RegionMap;
 use hx_slot::Slot;
 use hx_store::Store;
@@ -56,53 +56,53 @@ fn keep(
     ensures are { AreReplicas space.now next.new.items }
 {
     if let Some(number) = place_of(next.as_slice(), replica.region) {
-        let spot = Spot {
+        let context = SlotContext {
             space,
             map: regions,
             config,
             server,
             region: replica.region,
         };
-        adopt_replica(&spot, replica);
+        adopt_replica(&context, replica);
         mem::swap(&mut next[number], replica);
     }
 }
 
 /// A replica goes on in a new configuration: where it is installed and its region isn't lost its
 /// slots go on, else they forget.
-fn adopt_replica(spot: &Spot, replica: &mut Replica)
-    requires region { replica.old.region ≡ spot.now.region }
-    requires is { IsReplicaIn spot.now.space.now replica.old }
-    ensures view { view_of replica.new ≡ lean_replica spot.now.space.now (standing spot.now.config.now spot.now.server) (view_of replica.old) }
-    ensures is { IsReplicaIn spot.now.space.now replica.new }
+fn adopt_replica(context: &SlotContext, replica: &mut Replica)
+    requires region { replica.old.region ≡ context.now.region }
+    requires is { IsReplicaIn context.now.space.now replica.old }
+    ensures view { view_of replica.new ≡ lean_replica context.now.space.now (standing context.now.config.now context.now.server) (view_of replica.old) }
+    ensures is { IsReplicaIn context.now.space.now replica.new }
 {
-    let active = is_active(spot.config, replica);
-    adopt_slots(spot, &mut replica.store, active);
+    let active = is_active(context.config, replica);
+    adopt_slots(context, &mut replica.store, active);
 }
 
-fn adopt_slots(spot: &Spot, store: &mut Store, active: bool)
-    requires { store.old.region ≡ spot.now.region }
+fn adopt_slots(context: &SlotContext, store: &mut Store, active: bool)
+    requires { store.old.region ≡ context.now.region }
     ensures region { store.new.region ≡ store.old.region }
     ensures marks { store.new.marks ≡ store.old.marks }
-    ensures states { store.new.states ≡ map (lean_adopted (spot_seen spot.now) active) store.old.states }
+    ensures states { store.new.states ≡ map (lean_adopted (context_seen context.now) active) store.old.states }
 {
     for i in 0..store.len() {
-        adopt_slot(spot, store, i, active);
+        adopt_slot(context, store, i, active);
     }
 }
 
 /// A slot forgets its acknowledgements and early updates. Where it goes on, its pending updates
 /// whose chain ends here are acknowledged, and what can be committed is.
-fn adopt_slot(spot: &Spot, store: &mut Store, i: usize, active: bool)
-    requires region { store.old.region ≡ spot.now.region }
+fn adopt_slot(context: &SlotContext, store: &mut Store, i: usize, active: bool)
+    requires region { store.old.region ≡ context.now.region }
     requires number { i < length store.old.states }
     ensures region { store.new.region ≡ store.old.region }
     ensures marks { store.new.marks ≡ store.old.marks }
-    ensures states { store.new.states ≡ changed_at (lean_adopted (spot_seen spot.now) active) i store.old.states }
+    ensures states { store.new.states ≡ changed_at (lean_adopted (context_seen context.now) active) i store.old.states }
 {
     reset_acks(store, i);
     if active {
-        mark_ends(spot, store, i);
+        mark_ends(context, store, i);
         settle(store, i);
     }
 }
@@ -130,15 +130,15 @@ fn settle(store: &mut Store, i: usize)
 }
 
 /// Of the slot with this number each pending update whose chain ends here is acknowledged.
-fn mark_ends(spot: &Spot, store: &mut Store, i: usize)
-    requires region { store.old.region ≡ spot.now.region }
+fn mark_ends(context: &SlotContext, store: &mut Store, i: usize)
+    requires region { store.old.region ≡ context.now.region }
     requires number { i < length store.old.states }
     ensures region { store.new.region ≡ store.old.region }
     ensures marks { store.new.marks ≡ store.old.marks }
-    ensures states { store.new.states ≡ changed_at (λ (s : KeyState). moved_all (end_marks (spot_seen spot.now) (pending_of s)) s) i store.old.states }
+    ensures states { store.new.states ≡ changed_at (λ (s : KeyState). moved_all (tail_acks (context_seen context.now) (pending_of s)) s) i store.old.states }
 {
     for k in 0..pending_count(store, i) {
-        mark_end(spot, store, i, k);
+        mark_end(context, store, i, k);
     }
 }
 
@@ -154,32 +154,32 @@ fn pending_count(store: &Store, i: usize) -> u32
 
 /// Of the slot with this number the pending update with a number is acknowledged, where its chain
 /// ends here.
-fn mark_end(spot: &Spot, store: &mut Store, i: usize, k: u32)
-    requires region { store.old.region ≡ spot.now.region }
+fn mark_end(context: &SlotContext, store: &mut Store, i: usize, k: u32)
+    requires region { store.old.region ≡ context.now.region }
     requires number { i < length store.old.states }
     ensures region { store.new.region ≡ store.old.region }
     ensures marks { store.new.marks ≡ store.old.marks }
-    ensures states { store.new.states ≡ changed_at (marked_end (spot_seen spot.now) k) i store.old.states }
+    ensures states { store.new.states ≡ changed_at (marked_end (context_seen context.now) k) i store.old.states }
 {
-    if let Some(version) = end_at(spot, store, i, k) {
+    if let Some(version) = end_at(context, store, i, k) {
         mark(store, i, version);
     }
 }
 
 /// The version of the pending update with number k of the slot with number i, where its chain ends
 /// here.
-fn end_at(spot: &Spot, store: &Store, i: usize, k: u32) -> Option<Version>
-    requires { store.now.region ≡ spot.now.region }
-    ensures { list_of result ≡ when_some (slice_get store.now.states i) [] (λ (s : KeyState). when_some (slice_get (pending_of s) k) [] (end_of (spot_seen spot.now))) }
+fn end_at(context: &SlotContext, store: &Store, i: usize, k: u32) -> Option<Version>
+    requires { store.now.region ≡ context.now.region }
+    ensures { list_of result ≡ when_some (slice_get store.now.states i) [] (λ (s : KeyState). when_some (slice_get (pending_of s) k) [] (end_of (context_seen context.now))) }
 {
-    end_of_slot(spot, store.nth(i)?, k)
+    end_of_slot(context, store.nth(i)?, k)
 }
 
-fn end_of_slot(spot: &Spot, slot: &Slot, k: u32) -> Option<Version>
-    requires { slot.now.region ≡ spot.now.region }
-    ensures { list_of result ≡ when_some (slice_get (pending_of slot.now.state) k) [] (end_of (spot_seen spot.now)) }
+fn end_of_slot(context: &SlotContext, slot: &Slot, k: u32) -> Option<Version>
+    requires { slot.now.region ≡ context.now.region }
+    ensures { list_of result ≡ when_some (slice_get (pending_of slot.now.state) k) [] (end_of (context_seen context.now)) }
 {
-    end_version(spot, slot.pending(k)?)
+    end_version(context, slot.pending(k)?)
 }
 
 /// Of the slot with this number a pending version is acknowledged.

@@ -3,6 +3,7 @@
 
 mod accepting;
 mod adopting;
+mod contexts;
 mod doubting;
 mod installing;
 mod keeping;
@@ -15,7 +16,6 @@ mod resuming;
 mod rows;
 mod servers;
 mod settling;
-mod spots;
 mod ticking;
 
 pub use plans::Plan;

@@ -1,11 +1,11 @@
 ghost use Rattle.std.specs.Prelude.{◌≡◌, ◌++◌, IfOk, OnOk};
 ghost use Rattle.hx_model.specs.ServerSteps.{resumed_posts};
 ghost use Rattle.hx_replica.specs.Adopting.{IsCarriedOn};
-ghost use Rattle.hx_replica.specs.Made.{spot_seen};
+ghost use Rattle.hx_replica.specs.Made.{context_seen};
 
+use crate::contexts::SlotContext;
 use crate::doubting::tell_doubts;
 use crate::settling::{ended_count, pass_on_pending, tell_lowest};
-use crate::spots::Spot;
 use hx_slot::Slot;
 use hx_types::{Memory, Posts, Version};
 use std::alloc::Global;
@@ -15,34 +15,34 @@ use std::alloc::Global;
 /// server leads the region, what stands behind a lost region is in doubt.
 pub fn post_resumed(
     alloc: Global,
-    spot: &Spot,
+    context: &SlotContext,
     slot: &Slot,
     posts: &mut Posts,
 ) -> Result<(), Memory>
-    requires { slot.now.region ≡ spot.now.region }
-    ensures { OnOk result (posts.new ≡ posts.old ++ resumed_posts (spot_seen spot.now) slot.now.state) }
+    requires { slot.now.region ≡ context.now.region }
+    ensures { OnOk result (posts.new ≡ posts.old ++ resumed_posts (context_seen context.now) slot.now.state) }
 {
     if !slot.has_pending() {
         return Ok(());
     }
-    let ends = carry_on(alloc, spot, slot, posts)?;
-    tell_doubts(spot, slot, ended_count(slot, ends.as_slice()), posts)
+    let ends = carry_on(alloc, context, slot, posts)?;
+    tell_doubts(context, slot, ended_count(slot, ends.as_slice()), posts)
 }
 
 /// Passes every pending update on, and tells of those that can then be committed, where no other is
 /// acknowledged; gives the versions whose chain ends here.
 pub fn carry_on(
     alloc: Global,
-    spot: &Spot,
+    context: &SlotContext,
     slot: &Slot,
     posts: &mut Posts,
 ) -> Result<Vec<Version>, Memory>
-    requires { slot.now.region ≡ spot.now.region }
-    ensures { IfOk result (λ ends. IsCarriedOn (spot_seen spot.now) slot.now.state posts.old posts.new ends.items) }
+    requires { slot.now.region ≡ context.now.region }
+    ensures { IfOk result (λ ends. IsCarriedOn (context_seen context.now) slot.now.state posts.old posts.new ends.items) }
 {
     let mut ends = Vec::new(alloc);
-    pass_on_pending(alloc, spot, slot, posts, &mut ends)?;
+    pass_on_pending(alloc, context, slot, posts, &mut ends)?;
     let committed = ended_count(slot, ends.as_slice());
-    tell_lowest(alloc, spot, slot, committed, posts)?;
+    tell_lowest(alloc, context, slot, committed, posts)?;
     Ok(ends)
 }

@@ -9,7 +9,7 @@ ghost use Rattle.hx_types.specs.Spaces.{IsConfigOf, IsServerOf, IsSpace};
 ghost use Rattle.hx_types.specs.Subspaces.{is_key_region};
 ghost use Rattle.hx_types.specs.Words.{when_some};
 ghost use Rattle.hx_folds.specs.Folding.{folded_server};
-ghost use Rattle.hx_model.specs.ServerSteps.{Replica as ReplicaState, asked, halting, hearing, if_installed, install_at, listed_regions, message_step, replica_of, seal_at, server_at_start, server_step, snapped, state_in, tick_step};
+ghost use Rattle.hx_model.specs.ServerSteps.{Replica as ReplicaState, asked, halting, replica_in_epoch, if_installed, install_at, listed_regions, message_step, replica_of, seal_at, server_at_start, server_step, snapped, state_in, tick_step};
 ghost use Rattle.hx_model.specs.Slots.{found_in, new_state};
 ghost use Rattle.hx_replica.specs.Hearing.{IsOfOneSlot, heard, leading};
 ghost use Rattle.hx_replica.specs.Installing.{IsSnapshot};
@@ -23,6 +23,7 @@ ghost use Rattle.hx_replica.specs.Plans.{CanHear, CanStep, HasRoomAt, IsMadeAt, 
 ghost use Rattle.hx_replica.specs.Servers.{CanTake};
 
 use crate::adopting::post_adoption;
+use crate::contexts::SlotContext;
 use crate::installing::installed;
 use crate::keeping::keep_all;
 use crate::made::{SlotMade, room_by};
@@ -32,7 +33,6 @@ use crate::replicas::{
     put_replica,
 };
 use crate::rows::step_slot;
-use crate::spots::Spot;
 use crate::ticking::{tell_ready, tick_all};
 use hx_region::RegionMap;
 use hx_slot::Slot;
@@ -333,12 +333,12 @@ impl Server {
     ) -> Result<ServerMade, Memory>
         requires bare { folded_server self.now.state ≡ self.now.state }
         requires snapshot { IsSnapshot region snapshot.now pending.now }
-        ensures { IfOk result (IsStepMade self.now (snapped self.now.space self.now.state snapshot.now pending.now (hearing self.now.state epoch region))) }
+        ensures { IfOk result (IsStepMade self.now (snapped self.now.space self.now.state snapshot.now pending.now (replica_in_epoch self.now.state epoch region))) }
     {
-        let Some(number) = self.hearing(epoch, region) else {
+        let Some(number) = self.replica_in_epoch(epoch, region) else {
             return Ok(unmoved(alloc));
         };
-        let spot = Spot {
+        let context = SlotContext {
             space: &self.space,
             map: &self.map,
             config: &self.config,
@@ -347,10 +347,10 @@ impl Server {
         };
         let mut posts = Posts::new(alloc);
         if self.replicas[number].installed {
-            tell_ready(&spot, &mut posts)?;
+            tell_ready(&context, &mut posts)?;
             return Ok(said(alloc, posts, Change::Nothing));
         }
-        let Ok(store) = installed(alloc, &spot, snapshot, pending, &mut posts) else {
+        let Ok(store) = installed(alloc, &context, snapshot, pending, &mut posts) else {
             return Err(Memory);
         };
         let Ok(replica) = joined_replica(alloc, region, store) else {
@@ -408,7 +408,7 @@ impl Server {
         region: RegionId,
         terms: &Terms,
     ) -> Result<Posts, Memory>
-        ensures posts { IfOk result (λ posts. posts ≡ (asked self.old.state from epoch number terms.now (if_installed (hearing self.old.state epoch region))).posts) }
+        ensures posts { IfOk result (λ posts. posts ≡ (asked self.old.state from epoch number terms.now (if_installed (replica_in_epoch self.old.state epoch region))).posts) }
         ensures stays { self.new ≡ self.old }
     {
         let mut posts = Posts::new(alloc);
@@ -499,14 +499,14 @@ impl Server {
         if !self.config.leads(&self.space, self.id, region) {
             return None;
         }
-        let replica = self.hearing(epoch, region)?;
+        let replica = self.replica_in_epoch(epoch, region)?;
         Some(Heard { replica, key })
     }
 
     /// The replica of a region, where it is installed.
     #[inline]
     fn installed<'a>(&self, epoch: Epoch, region: RegionId, key: &'a Text) -> Option<Heard<'a>>
-        ensures replica { option_map (λ h. slice_get self.now.state.replicas h.replica) result ≡ option_map Some (if_installed (hearing self.now.state epoch region)) }
+        ensures replica { option_map (λ h. slice_get self.now.state.replicas h.replica) result ≡ option_map Some (if_installed (replica_in_epoch self.now.state epoch region)) }
         ensures key { IfSome result (λ h. h.key.now ≡ key.now) }
     {
         let replica = self.installed_at(epoch, region)?;
@@ -516,9 +516,9 @@ impl Server {
     /// The place of the replica of a region, where it is installed.
     #[inline]
     fn installed_at(&self, epoch: Epoch, region: RegionId) -> Option<usize>
-        ensures { option_map (slice_get self.now.state.replicas) result ≡ option_map Some (if_installed (hearing self.now.state epoch region)) }
+        ensures { option_map (slice_get self.now.state.replicas) result ≡ option_map Some (if_installed (replica_in_epoch self.now.state epoch region)) }
     {
-        let place = self.hearing(epoch, region)?;
+        let place = self.replica_in_epoch(epoch, region)?;
         if self.replicas[place].installed {
             Some(place)
         } else {
@@ -529,8 +529,8 @@ impl Server {
     /// The place of the replica that hears messages of an epoch for a region: none where the
     /// server is sealed, the epoch another, or the region lost.
     #[inline]
-    fn hearing(&self, epoch: Epoch, region: RegionId) -> Option<usize>
-        ensures { option_map (slice_get self.now.state.replicas) result ≡ option_map Some (hearing self.now.state epoch region) }
+    fn replica_in_epoch(&self, epoch: Epoch, region: RegionId) -> Option<usize>
+        ensures { option_map (slice_get self.now.state.replicas) result ≡ option_map Some (replica_in_epoch self.now.state epoch region) }
     {
         if self.sealed || epoch.0 != self.config.epoch.0 || self.config.is_lost(region) {
             return None;
@@ -566,13 +566,13 @@ impl Server {
         ensures room { IfOk result (λ made. room_of made.change ≤ room_by message.now) }
     {
         let replica = &self.replicas[heard.replica];
-        let spot = Spot {
+        let context = SlotContext {
             space: &self.space,
             map: &self.map,
             config: &self.config,
             server: self.id,
             region: replica.region,
         };
-        step_slot(alloc, &spot, replica.store.slot_at(place), from, message)
+        step_slot(alloc, &context, replica.store.slot_at(place), from, message)
     }
 }

@@ -5,9 +5,9 @@ ghost use Rattle.hx_model.specs.ServerSteps.{passed_on};
 ghost use Rattle.hx_model.specs.Slots.{pending_of};
 ghost use Rattle.hx_types.specs.declared.ids.Version.{Version as Numbered};
 ghost use Rattle.hx_types.specs.declared.updates.Update.{Update as Updated};
-ghost use Rattle.hx_replica.specs.Made.{IsHere, end_of, ended_count, seen, settled_among, settles, spot_seen, told_of};
+ghost use Rattle.hx_replica.specs.Made.{IsHere, end_of, ended_count, seen, settled_among, settles, context_seen, told_of};
 
-use crate::spots::{Spot, pass_on, tell};
+use crate::contexts::{SlotContext, pass_on, tell};
 use hx_slot::Slot;
 use hx_types::{Memory, Posts, Shared, Update, Version};
 use std::alloc::Global;
@@ -38,30 +38,30 @@ fn settled_count(slot: &Slot, line: &[&Shared<Update>], ends: &[Version]) -> usi
 /// committed.
 pub fn tell_settled(
     alloc: Global,
-    spot: &Spot,
+    context: &SlotContext,
     slot: &Slot,
     line: &[&Shared<Update>],
     ends: &[Version],
     posts: &mut Posts,
 ) -> Result<(), Memory>
-    requires { All (IsHere spot.now.region) line.now }
-    ensures { OnOk result (posts.new ≡ posts.old ++ flat_map (λ (b : Bor Updated). told_of (spot_seen spot.now) b.now) (settled_among slot.now.state.acked ends.now line.now)) }
+    requires { All (IsHere context.now.region) line.now }
+    ensures { OnOk result (posts.new ≡ posts.old ++ flat_map (λ (b : Bor Updated). told_of (context_seen context.now) b.now) (settled_among slot.now.state.acked ends.now line.now)) }
 {
     let (settled, _) = line.split_at(settled_count(slot, line, ends));
-    tell_all(alloc, spot, settled, posts)
+    tell_all(alloc, context, settled, posts)
 }
 
 fn tell_all(
     alloc: Global,
-    spot: &Spot,
+    context: &SlotContext,
     updates: &[&Shared<Update>],
     posts: &mut Posts,
 ) -> Result<(), Memory>
-    requires { All (IsHere spot.now.region) updates.now }
-    ensures { OnOk result (posts.new ≡ posts.old ++ flat_map (λ (b : Bor Updated). told_of (spot_seen spot.now) b.now) updates.now) }
+    requires { All (IsHere context.now.region) updates.now }
+    ensures { OnOk result (posts.new ≡ posts.old ++ flat_map (λ (b : Bor Updated). told_of (context_seen context.now) b.now) updates.now) }
 {
     for update in updates {
-        tell(alloc, spot, update, posts)?;
+        tell(alloc, context, update, posts)?;
     }
     Ok(())
 }
@@ -87,18 +87,18 @@ pub fn line_of<'a>(
 /// of those whose chain ends here are added.
 pub fn pass_on_pending(
     alloc: Global,
-    spot: &Spot,
+    context: &SlotContext,
     slot: &Slot,
     posts: &mut Posts,
     ends: &mut Vec<Version>,
 ) -> Result<(), Memory>
-    requires { slot.now.region ≡ spot.now.region }
-    ensures posts { OnOk result (posts.new ≡ posts.old ++ flat_map (passed_on (spot_seen spot.now)) (pending_of slot.now.state)) }
-    ensures ends { OnOk result (ends.new.items ≡ ends.old.items ++ flat_map (end_of (spot_seen spot.now)) (pending_of slot.now.state)) }
+    requires { slot.now.region ≡ context.now.region }
+    ensures posts { OnOk result (posts.new ≡ posts.old ++ flat_map (passed_on (context_seen context.now)) (pending_of slot.now.state)) }
+    ensures ends { OnOk result (ends.new.items ≡ ends.old.items ++ flat_map (end_of (context_seen context.now)) (pending_of slot.now.state)) }
 {
     for i in 0..slot.pending_count() {
         match slot.pending(i) {
-            Some(update) => pass_on(alloc, spot, update, posts, ends)?,
+            Some(update) => pass_on(alloc, context, update, posts, ends)?,
             None => unreachable!(),
         }
     }
@@ -126,18 +126,18 @@ pub fn ended_count(slot: &Slot, ends: &[Version]) -> u32
 /// Tells of so many of the lowest pending updates: they are committed.
 pub fn tell_lowest(
     alloc: Global,
-    spot: &Spot,
+    context: &SlotContext,
     slot: &Slot,
     count: u32,
     posts: &mut Posts,
 ) -> Result<(), Memory>
-    requires region { slot.now.region ≡ spot.now.region }
+    requires region { slot.now.region ≡ context.now.region }
     requires count { count ≤ length (pending_of slot.now.state) }
-    ensures { OnOk result (posts.new ≡ posts.old ++ flat_map (told_of (spot_seen spot.now)) (take count (pending_of slot.now.state))) }
+    ensures { OnOk result (posts.new ≡ posts.old ++ flat_map (told_of (context_seen context.now)) (take count (pending_of slot.now.state))) }
 {
     for i in 0..count {
         match slot.pending(i) {
-            Some(update) => tell(alloc, spot, update, posts)?,
+            Some(update) => tell(alloc, context, update, posts)?,
             None => unreachable!(),
         }
     }

@@ -14,7 +14,7 @@ use Rattle.hx_model.specs.Slots.{KeyState, new_state, state_among, with_state}
 use Rattle.hx_store.specs.Slots.{StoreSlot}
 use Rattle.hx_store.specs.Invariant.{AscendAt, HasMoved, IsAdded, IsListedAt, IsSplit, IsStore, IsStoreSlot, is_listed, key_in, room_of, rooms_in, state_in, states_in, stored_at}
 use Rattle.hx_store.specs.Slots.{Entry}
-use Rattle.hx_store.specs.Stores.{IsPlace, KeepsOtherRooms, KeepsRooms, Room, StoreState, UsesRoom, after_step, has_place, has_slot, key_at, no_moves, spare_at, state_at}
+use Rattle.hx_store.specs.Stores.{IsPlace, KeepsOtherRooms, KeepsRooms, Room, StoreState, UsesRoom, after_step, has_room, has_slot, key_at, no_moves, spare_at, state_at}
 use Rattle.hx_store.proofs.Lists.{all-at, at-end, at-map, at-within, length-of-map, within-at}
 use Rattle.hx_store.proofs.Order.{found-with, has-place, listed-there, with-again}
 use Rattle.hx_store.proofs.Setting.{add-store, added-keeps, are-there, count-most, is-among, own, set-keeps, set-listed, set-open, set-quiet, set-same, set-uses, slot-state, unlisted-room, wide-store}
@@ -184,8 +184,8 @@ module _ (g : RegionId) (marks : Bool) (es : List Entry) (order : List ℕ) (cap
   some-place key None l k = tt
   some-place key (Some p) l k = place-is key p l k
 
-  pub no-place : (key : List ℕ) → list_any (λ (e : Entry). same_text e.0 key) es ≡ false → has_place self key ≡ false
-  no-place key n = ap (λ (s : StoreState). has_place s key) (sym view) ∙ any-rooms key es ∙ n
+  pub no-place : (key : List ℕ) → list_any (λ (e : Entry). same_text e.0 key) es ≡ false → has_room self key ≡ false
+  no-place key n = ap (λ (s : StoreState). has_room s key) (sym view) ∙ any-rooms key es ∙ n
 
   pub no-slot : (key : List ℕ) → list_any (λ (e : Entry). same_text e.0 key) es ≡ false → has_slot key self.states ≡ false
   no-slot key n = ap (λ (s : StoreState). has_slot key s.states) (sym view) ∙ has-none g marks es key h.each n order (are-there h)
@@ -200,7 +200,7 @@ module _ (g : RegionId) (marks : Bool) (es : List Entry) (order : List ℕ) (cap
       (subst (λ (k : KeyState). P self.region k s.0.slot.spare) (sym (slot-is place s.0 s.1)) (subst (P self.region (state_at self (key_at self place))) (sym (slot-spare place s.0 s.1)) p))
       )
 
-  pub some-none : (key : List ℕ) (o : Option ℕ) → IfNone o (list_any (λ (e : Entry). same_text e.0 key) es ≡ false) → IfNone o (has_place self key ≡ false)
+  pub some-none : (key : List ℕ) (o : Option ℕ) → IfNone o (list_any (λ (e : Entry). same_text e.0 key) es ≡ false) → IfNone o (has_room self key ≡ false)
   some-none key None n = no-place key n
   some-none key (Some p) n = tt
 

@@ -38,8 +38,8 @@ pub record IsPlace (s : StoreState) (place : ℕ) (key : List ℕ) : Type 0 wher
   pub key_is : key_at s place ≡ key
 
 -- a key has a place, or a slot
-abbrev pub has_place : StoreState → List ℕ → Bool
-has_place s key = list_any (λ (r : Room). same_text r.key key) s.rooms
+abbrev pub has_room : StoreState → List ℕ → Bool
+has_room s key = list_any (λ (r : Room). same_text r.key key) s.rooms
 
 abbrev pub has_slot : List ℕ → List KeyState → Bool
 has_slot key states = list_any (λ (s : KeyState). same_text s.base.key key) states

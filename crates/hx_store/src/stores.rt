@@ -8,7 +8,7 @@ ghost use Rattle.hx_model.specs.ServerSteps.{state_from};
 ghost use Rattle.hx_model.specs.Slots.{found_in, is_pending, moved_all, offered, pending_of_all, rows_of, snapshot_of, with_state};
 ghost use Rattle.hx_store.specs.Looks.{most_looks_at};
 ghost use Rattle.hx_slot.specs.States.{IsOrderly, SlotState};
-ghost use Rattle.hx_store.specs.Stores.{ArePending, CanBeOffered, IsPlace, KeepsOtherRooms, KeepsRooms, UsesRoom, accepted_at, acknowledged_at, after_step, forgotten_at, has_place, has_slot, key_at, marked_at, no_moves, settled_at, spare_at, state_at};
+ghost use Rattle.hx_store.specs.Stores.{ArePending, CanBeOffered, IsPlace, KeepsOtherRooms, KeepsRooms, UsesRoom, accepted_at, acknowledged_at, after_step, forgotten_at, has_room, has_slot, key_at, marked_at, no_moves, settled_at, spare_at, state_at};
 
 use crate::copying::{add_kept, add_pending};
 use crate::slots::{Slots, insert_within};
@@ -62,7 +62,7 @@ impl Store {
     /// The place of a key, or `None` where the store has never heard of it.
     pub fn place_of(&self, key: &Text) -> Option<usize>
         ensures some { IfSome result (λ place. IsPlace self.now place key.now) }
-        ensures none { IfNone result (has_place self.now key.now ≡ false) }
+        ensures none { IfNone result (has_room self.now key.now ≡ false) }
     {
         self.slots.place_of(key)
     }

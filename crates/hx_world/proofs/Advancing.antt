@@ -11,7 +11,7 @@ use Rattle.hx_types.specs.declared.traces.Script.{Script}
 use Rattle.hx_types.specs.declared.ids.Actor.TheVariants.{Coordinator, Server, Session}
 use Rattle.hx_types.specs.Words.{same_actor, same_server, same_session}
 use Rattle.hx_model.specs.CoordinatorSteps.{CoordinatorState, coordinator_step}
-use Rattle.hx_model.specs.Runs.{MayTake, entry_of, has_halted, is_actor, made_of, makes_enough, server_of, session_of}
+use Rattle.hx_model.specs.Runs.{MayTake, entry_of, has_halted, is_actor, made_of, does_something, server_of, session_of}
 use Rattle.hx_model.specs.Schedule.{Next, entries_of, entry_by}
 use Rattle.hx_model.specs.ServerSteps.{ServerStep, server_step}
 use Rattle.hx_model.specs.SessionSteps.{session_step}
@@ -43,7 +43,7 @@ pub record IsGiven (script : Script) (t : List Entry) (a : Actor) (input : Input
   pub actor : is_actor script a ≡ true
   pub running : has_halted script t a ≡ false
   pub may : MayTake t a input
-  pub enough : makes_enough input (made_of script t a input) ≡ true
+  pub enough : does_something input (made_of script t a input) ≡ true
   pub fresh : entries_of a t < 1048576
 
 same_actor_is : (a b : Actor) → same_actor a b ≡ true → a ≡ b

@@ -16,7 +16,7 @@ use Rattle.hx_types.specs.declared.ids.Actor.TheVariants.{Session}
 use Rattle.hx_types.specs.declared.traces.Input.TheVariants.{Tick}
 use Rattle.hx_types.specs.Fitting.{numbered}
 use Rattle.hx_types.specs.Words.{below, first_some, when_some}
-use Rattle.hx_model.specs.Runs.{is_empty, makes_enough, session_of}
+use Rattle.hx_model.specs.Runs.{is_empty, does_something, session_of}
 use Rattle.hx_model.specs.Schedule as model
 use Rattle.hx_model.specs.Schedule.{Next, StepFault, delivery_of, entry_by, fault_of, first_delivery, idle_among, is_idle, is_worn, next_entry, next_input, step_input, undelivered, with_entry, worn_fault}
 use Rattle.hx_model.specs.SessionSteps.{SessionState, SessionStep, begin, session_step, session_tick, staying}
@@ -73,7 +73,7 @@ module _ (script : Script) (t : List Entry) where
       ]
 
 -- an idle session's tick makes something
-idle_makes : (space : Space) (s : SessionState) → is_idle s ≡ true → let step = session_step space s Tick in makes_enough Tick (record { posts = step.posts; notes = step.notes }) ≡ true
+idle_makes : (space : Space) (s : SessionState) → is_idle s ≡ true → let step = session_step space s Tick in does_something Tick (record { posts = step.posts; notes = step.notes }) ≡ true
 idle_makes space s e =
     let parts = and_parts (not s.under_way) (ltb s.begun (length s.calls)) e in
     let off = not-true s.under_way parts.0 in

@@ -13,7 +13,7 @@ use Rattle.hx_types.specs.declared.traces.Step.TheVariants as a_step
 use Rattle.hx_types.specs.declared.traces.Input.TheVariants.{Tick, Halt, Deliver}
 use Rattle.hx_types.specs.Words.{first_some, when_some}
 use Rattle.hx_types.specs.declared.traces.Input.{Input}
-use Rattle.hx_model.specs.Runs.{MayTake, has_halted, made_of, makes_enough, post_named}
+use Rattle.hx_model.specs.Runs.{MayTake, has_halted, made_of, does_something, post_named}
 use Rattle.hx_model.specs.Schedule as model
 use Rattle.hx_model.specs.Schedule.{StepFault, delivery_of, entry_by, fault_of, idle_fault, is_worn, halted_fault, with_entry, worn_fault}
 use Rattle.hx_world.specs.declared.ends.StepError.{StepError}
@@ -51,10 +51,10 @@ module _ (script : Script) (t : List Entry) where
   worn : (a b : Actor) → is_worn a t ≡ true → b ≡ a → worn_fault t a ≡ Some (model.Worn b)
   worn a b e same = ap (λ (x : Bool). cond x (Some (model.Worn a)) None) e ∙ ap (λ (x : Actor). Some (model.Worn x)) (sym same)
 
-  pub not_idle : (a : Actor) → makes_enough Tick (made_of script t a Tick) ≡ true → idle_fault script t a ≡ None
+  pub not_idle : (a : Actor) → does_something Tick (made_of script t a Tick) ≡ true → idle_fault script t a ≡ None
   not_idle a e = ap (λ (b : Bool). cond b None (Some model.Idle)) e
 
-  idle : (a : Actor) → makes_enough Tick (made_of script t a Tick) ≡ false → idle_fault script t a ≡ Some model.Idle
+  idle : (a : Actor) → does_something Tick (made_of script t a Tick) ≡ false → idle_fault script t a ≡ Some model.Idle
   idle a e = ap (λ (b : Bool). cond b None (Some model.Idle)) e
 
   -- a delivery that was made

@@ -2,7 +2,7 @@ use Rattle.std.proofs.Common.{◌≡◌, ◌<◌, true, length, sym, subst, ◌�
 use Rattle.hx_types.specs.declared.ids.Actor.{Actor}
 use Rattle.hx_types.specs.declared.limits.TheConstants.{MOST_ENTRIES}
 use Rattle.hx_clock.specs.declared.parts.Stamped.{Stamped}
-use Rattle.hx_model.specs.Runs.{entry_of, made_of, makes_enough}
+use Rattle.hx_model.specs.Runs.{entry_of, made_of, does_something}
 use Rattle.hx_machine.specs.Machines.{entry_in}
 use Rattle.hx_desk.specs.Desks.{entries_before}
 use Rattle.hx_desk.specs.Told.{told_by}
@@ -28,7 +28,7 @@ settle-requires-clause-step g c =
     let i = c.args.input in (
       ready-input c.args.script.now d i c.in-Ok.plan r,
       step-enough c.args.script.now d i c.in-Ok.plan r
-          (at-same (λ (a : Actor) xs. makes_enough i (made_of c.args.script.now (entries_before xs) a i) ≡ true) c.args.desk.now.actor d.actor c.args.desk.now.part.items d.part.items s.actor s.part c.requires.enough),
+          (at-same (λ (a : Actor) xs. does_something i (made_of c.args.script.now (entries_before xs) a i) ≡ true) c.args.desk.now.actor d.actor c.args.desk.now.part.items d.part.items s.actor s.part c.requires.enough),
     )
 
 pub settle-requires-clause-fresh : goal.settle-requires-clause-fresh

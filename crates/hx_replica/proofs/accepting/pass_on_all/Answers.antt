@@ -1,15 +1,15 @@
 use Rattle.std.specs.Borrow.{Bor}
 use Rattle.hx_types.specs.declared.updates.Update.{Update}
 use Rattle.hx_model.specs.ServerSteps.{passed_on}
-use Rattle.hx_replica.specs.Made.{end_of, spot_seen}
+use Rattle.hx_replica.specs.Made.{end_of, context_seen}
 use Rattle.hx_replica.proofs.Turns.{at_item}
 use Rattle.hx_replica.proofs.Walking.{flat_more}
 use Rattle.hx_replica.proofs.accepting.pass_on_all.Goals as goal
 
 pub loop-update-preserved : goal.loop-update-preserved
 loop-update-preserved c =
-    let spot = spot_seen c.args.spot.now in
+    let context = context_seen c.args.context.now in
     let at = at_item c.args.updates.now c.loop-update.update-index c.update-item.result c.loop-update-test.true c.update-item.is in (
-      flat_more (λ (b : Bor Update). passed_on spot b.now) c.args.updates.now c.loop-update.update-index c.update-item.result c.loop-update.posts c.pass_on.new.posts c.args.posts.now at c.loop-update.invariant.0 c.in_ok-pass_on.ensures.posts,
-      flat_more (λ (b : Bor Update). end_of spot b.now) c.args.updates.now c.loop-update.update-index c.update-item.result c.loop-update.ends.items c.pass_on.new.ends.items c.args.ends.now.items at c.loop-update.invariant.1 c.in_ok-pass_on.ensures.ends,
+      flat_more (λ (b : Bor Update). passed_on context b.now) c.args.updates.now c.loop-update.update-index c.update-item.result c.loop-update.posts c.pass_on.new.posts c.args.posts.now at c.loop-update.invariant.0 c.in_ok-pass_on.ensures.posts,
+      flat_more (λ (b : Bor Update). end_of context b.now) c.args.updates.now c.loop-update.update-index c.update-item.result c.loop-update.ends.items c.pass_on.new.ends.items c.args.ends.now.items at c.loop-update.invariant.1 c.in_ok-pass_on.ensures.ends,
     )

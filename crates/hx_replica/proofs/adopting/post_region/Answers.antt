@@ -7,21 +7,21 @@ use Rattle.hx_replica.proofs.adopting.post_region.Goals as goal
 
 pub post_replica-requires-clause-region : goal.post_replica-requires-clause-region
 post_replica-requires-clause-region c =
-    (there c.args.spot.now.space.now c.args.replicas.now c.args.spot.now.region c.in-Some.place c.index-replicas-place.result c.requires c.index-replicas-place.is c.in-Some.ensures).region
+    (there c.args.context.now.space.now c.args.replicas.now c.args.context.now.region c.in-Some.place c.index-replicas-place.result c.requires c.index-replicas-place.is c.in-Some.ensures).region
 
 pub post_replica-requires-clause-is : goal.post_replica-requires-clause-is
 post_replica-requires-clause-is c =
-    (there c.args.spot.now.space.now c.args.replicas.now c.args.spot.now.region c.in-Some.place c.index-replicas-place.result c.requires c.index-replicas-place.is c.in-Some.ensures).is
+    (there c.args.context.now.space.now c.args.replicas.now c.args.context.now.region c.in-Some.place c.index-replicas-place.result c.requires c.index-replicas-place.is c.in-Some.ensures).is
 
 pub returns-in-Some : goal.returns-in-Some
 returns-in-Some c =
-    let spot = c.args.spot.now in
-    let t = there spot.space.now c.args.replicas.now spot.region c.in-Some.place c.index-replicas-place.result c.requires c.index-replicas-place.is c.in-Some.ensures in
+    let context = c.args.context.now in
+    let t = there context.space.now c.args.replicas.now context.region c.in-Some.place c.index-replicas-place.result c.requires c.index-replicas-place.is c.in-Some.ensures in
     on_ok_weaker c.post_replica.result
-    (λ e. e ∙ ap (λ (r : ReplicaState). c.args.posts.now ++ adopted_posts spot.space.now (standing spot.config.now spot.server) r) (sym t.found))
+    (λ e. e ∙ ap (λ (r : ReplicaState). c.args.posts.now ++ adopted_posts context.space.now (standing context.config.now context.server) r) (sym t.found))
     c.post_replica.ensures
 
 pub returns-in-None : goal.returns-in-None
 returns-in-None c =
-    let spot = c.args.spot.now in
-    new_posts spot.space.now spot.config.now spot.server c.args.replicas.now spot.region c.args.posts.now c.in-None.ensures
+    let context = c.args.context.now in
+    new_posts context.space.now context.config.now context.server c.args.replicas.now context.region c.args.posts.now c.in-None.ensures

@@ -5,12 +5,12 @@ use Rattle.hx_replica.proofs.adopting.post_replica.Goals as goal
 
 pub returns-then-not-is_active : goal.returns-then-not-is_active
 returns-then-not-is_active c =
-    let spot = c.args.spot.now in
-    idle_posts spot.space.now spot.config.now spot.server c.args.replica.now c.args.posts.now (sym c.is_active.ensures ∙ c.if-not-is_active.true)
+    let context = c.args.context.now in
+    idle_posts context.space.now context.config.now context.server c.args.replica.now c.args.posts.now (sym c.is_active.ensures ∙ c.if-not-is_active.true)
 
 pub returns : goal.returns
 returns c =
-    let spot = c.args.spot.now in
+    let context = c.args.context.now in
     on_ok_weaker c.tell_ready.result
-    (λ e. active_posts spot.space.now spot.config.now spot.server spot.region c.args.replica.now c.args.posts.now c.snap.new.posts c.post_slots.new.posts c.tell_ready.new.posts (sym c.is_active.ensures ∙ c.if-not-is_active.false) c.requires.region c.in_ok-snap.ensures c.in_ok-post_slots.ensures e)
+    (λ e. active_posts context.space.now context.config.now context.server context.region c.args.replica.now c.args.posts.now c.snap.new.posts c.post_slots.new.posts c.tell_ready.new.posts (sym c.is_active.ensures ∙ c.if-not-is_active.false) c.requires.region c.in_ok-snap.ensures c.in_ok-post_slots.ensures e)
     c.tell_ready.ensures

@@ -1,8 +1,8 @@
 use Rattle.std.proofs.Common.{◌≡◌, ◌++◌, take}
 use Rattle.std.specs.List.{flat_map}
 use Rattle.hx_model.specs.ServerSteps.{resumed_posts}
-use Rattle.hx_replica.specs.Made.{spot_seen}
+use Rattle.hx_replica.specs.Made.{context_seen}
 use Rattle.hx_replica.proofs.adopting.post_slots.Given as goal
 
 abbrev pub invariant-loop-i : goal.invariant-loop-i
-invariant-loop-i l = l.posts ≡ l.fn.posts ++ flat_map (resumed_posts (spot_seen l.spot)) (take l.i l.store.states)
+invariant-loop-i l = l.posts ≡ l.fn.posts ++ flat_map (resumed_posts (context_seen l.context)) (take l.i l.store.states)

@@ -5,7 +5,7 @@ use Rattle.hx_types.specs.declared.messages.Post.{Post}
 use Rattle.hx_types.specs.declared.updates.Update.{Update}
 use Rattle.hx_model.specs.Slots.{pending_of}
 use Rattle.hx_replica.specs.Adopting.{doubt_of}
-use Rattle.hx_replica.specs.Made.{spot_seen}
+use Rattle.hx_replica.specs.Made.{context_seen}
 use Rattle.hx_replica.proofs.Walking.{drop_at, none_within}
 use Rattle.hx_replica.proofs.doubting.doubt_from.Goals as goal
 
@@ -14,7 +14,7 @@ unreachable-requires c = none_within (pending_of c.args.slot.now.state) c.loop-i
 
 pub loop-i-preserved : goal.loop-i-preserved
 loop-i-preserved c =
-    let f = doubt_of (spot_seen c.args.spot.now) c.args.first c.args.region in
+    let f = doubt_of (context_seen c.args.context.now) c.args.first c.args.region in
     let us = pending_of c.args.slot.now.state in
     let rest = flat_map f (drop (c.loop-i.i + 1) us) in
     ap (λ (ps : List Post). ps ++ rest) (c.in_ok-doubt_one-in-Some.ensures ∙ ap (λ (u : Update). c.loop-i.posts ++ f u) c.deref.ensures)
@@ -24,7 +24,7 @@ loop-i-preserved c =
 
 pub returns : goal.returns
 returns c =
-    let f = doubt_of (spot_seen c.args.spot.now) c.args.first c.args.region in
+    let f = doubt_of (context_seen c.args.context.now) c.args.first c.args.region in
     let us = pending_of c.args.slot.now.state in
     let past : length us ≤ c.loop-i.i = omega (arith, c.loop-i-test.false, c.pending_count-i-end.ensures) in
     sym (append-nil c.loop-i.posts) ∙ ap (λ (l : List Update). c.loop-i.posts ++ flat_map f l) (sym (drop_all c.loop-i.i us past)) ∙ c.loop-i.invariant

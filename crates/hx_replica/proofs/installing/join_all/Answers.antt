@@ -3,29 +3,29 @@ use Rattle.std.specs.Borrow.{Bor}
 use Rattle.hx_model.specs.Slots.{KeyState}
 use Rattle.hx_store.proofs.Lists.{at-map}
 use Rattle.hx_replica.specs.Installing.{joining, texts}
-use Rattle.hx_replica.specs.Made.{spot_seen}
+use Rattle.hx_replica.specs.Made.{context_seen}
 use Rattle.hx_replica.proofs.Changing.{marks_stay}
 use Rattle.hx_replica.proofs.Joined.{is_fresh, join_next, none_joined, slot_marks}
 use Rattle.hx_replica.proofs.Turns.{at_item}
 use Rattle.hx_replica.proofs.installing.join_all.Goals as goal
 
 pub loop-key-init : goal.loop-key-init
-loop-key-init c = record { region = refl; marks = refl; so_far = none_joined (spot_seen c.args.spot.now) c.args.pending.now c.args.store.now.states c.args.posts.now c.requires.fresh }
+loop-key-init c = record { region = refl; marks = refl; so_far = none_joined (context_seen c.args.context.now) c.args.pending.now c.args.store.now.states c.args.posts.now c.requires.fresh }
 
 pub join-requires-clause-fresh : goal.join-requires-clause-fresh
 join-requires-clause-fresh c =
-    is_fresh (spot_seen c.args.spot.now) c.args.pending.now c.args.store.now.states (texts c.args.keys.now) c.loop-key.key-index c.key-item.result.now c.args.posts.now c.loop-key.posts c.loop-key.store.states c.loop-key.store.marks c.in-Ok.slot.state
+    is_fresh (context_seen c.args.context.now) c.args.pending.now c.args.store.now.states (texts c.args.keys.now) c.loop-key.key-index c.key-item.result.now c.args.posts.now c.loop-key.posts c.loop-key.store.states c.loop-key.store.marks c.in-Ok.slot.state
     c.requires.fresh c.requires.keys
     (at-map (λ (b : Bor (List ℕ)). b.now) c.args.keys.now c.loop-key.key-index c.key-item.result (at_item c.args.keys.now c.loop-key.key-index c.key-item.result c.loop-key-test.true c.key-item.is))
     c.loop-key.invariant.so_far (c.loop-key.invariant.marks ∙ c.requires.marks) c.in-Ok.ensures.state
 
 pub put-requires-clause-marks : goal.put-requires-clause-marks
 put-requires-clause-marks c =
-    let spot = spot_seen c.args.spot.now in
+    let context = context_seen c.args.context.now in
     let kind = c.loop-key.invariant.marks ∙ c.requires.marks in
     ap (λ (s : KeyState). s.marks) c.in_ok-join.ensures.state
-    ∙ marks_stay (joining spot c.args.pending.now c.in-Ok.slot.state) c.in-Ok.slot.state
-    ∙ slot_marks spot c.args.pending.now c.args.store.now.states (texts c.args.keys.now) c.loop-key.key-index c.key-item.result.now c.args.posts.now c.loop-key.posts c.loop-key.store.states c.loop-key.store.marks c.in-Ok.slot.state
+    ∙ marks_stay (joining context c.args.pending.now c.in-Ok.slot.state) c.in-Ok.slot.state
+    ∙ slot_marks context c.args.pending.now c.args.store.now.states (texts c.args.keys.now) c.loop-key.key-index c.key-item.result.now c.args.posts.now c.loop-key.posts c.loop-key.store.states c.loop-key.store.marks c.in-Ok.slot.state
     c.requires.fresh c.requires.keys
     (at-map (λ (b : Bor (List ℕ)). b.now) c.args.keys.now c.loop-key.key-index c.key-item.result (at_item c.args.keys.now c.loop-key.key-index c.key-item.result c.loop-key-test.true c.key-item.is))
     c.loop-key.invariant.so_far kind c.in-Ok.ensures.state c.requires.kinds
@@ -36,7 +36,7 @@ loop-key-preserved c = record {
   region = c.in_ok-put.ensures.region ∙ c.loop-key.invariant.region;
   marks = c.in_ok-put.ensures.marks ∙ c.loop-key.invariant.marks;
   so_far =
-      join_next (spot_seen c.args.spot.now) c.args.pending.now c.args.store.now.states (texts c.args.keys.now) c.loop-key.key-index c.key-item.result.now c.args.posts.now c.loop-key.posts c.loop-key.store.states c.loop-key.store.marks c.in-Ok.slot.state
+      join_next (context_seen c.args.context.now) c.args.pending.now c.args.store.now.states (texts c.args.keys.now) c.loop-key.key-index c.key-item.result.now c.args.posts.now c.loop-key.posts c.loop-key.store.states c.loop-key.store.marks c.in-Ok.slot.state
       c.requires.fresh c.requires.keys
       (at-map (λ (b : Bor (List ℕ)). b.now) c.args.keys.now c.loop-key.key-index c.key-item.result (at_item c.args.keys.now c.loop-key.key-index c.key-item.result c.loop-key-test.true c.key-item.is))
       c.loop-key.invariant.so_far (c.loop-key.invariant.marks ∙ c.requires.marks) c.in-Ok.ensures.state

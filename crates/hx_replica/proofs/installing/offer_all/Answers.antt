@@ -10,7 +10,7 @@ use Rattle.hx_replica.proofs.installing.offer_all.Goals as goal
 
 pub loop-update-preserved : goal.loop-update-preserved
 loop-update-preserved c =
-    let g = c.args.spot.now.region in
+    let g = c.args.context.now.region in
     let u = c.update-item.result in
     let i = c.loop-update.update-index in
     let us = c.args.updates.now in

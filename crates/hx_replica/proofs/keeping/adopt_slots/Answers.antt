@@ -1,23 +1,23 @@
 use Rattle.std.proofs.Common.{ap, arith, length, ◌∙◌}
 use Rattle.hx_replica.specs.Adopting.{changed_at, lean_adopted}
-use Rattle.hx_replica.specs.Made.{spot_seen}
+use Rattle.hx_replica.specs.Made.{context_seen}
 use Rattle.hx_replica.proofs.Kept.{all_changed, one_changed, upto_length}
 use Rattle.hx_replica.proofs.keeping.adopt_slots.Goals as goal
 
 pub adopt_slot-requires-clause-number : goal.adopt_slot-requires-clause-number
 adopt_slot-requires-clause-number c =
-    let n = ap length c.loop-i.invariant.states ∙ upto_length (lean_adopted (spot_seen c.args.spot.now) c.args.active) c.loop-i.i c.args.store.now.states in
+    let n = ap length c.loop-i.invariant.states ∙ upto_length (lean_adopted (context_seen c.args.context.now) c.args.active) c.loop-i.i c.args.store.now.states in
     omega (arith, n, c.loop-i-test.true, c.len-i-end.ensures.count)
 
 pub loop-i-preserved : goal.loop-i-preserved
 loop-i-preserved c = record {
   region = c.adopt_slot.ensures.region ∙ c.loop-i.invariant.region;
   marks = c.adopt_slot.ensures.marks ∙ c.loop-i.invariant.marks;
-  states = c.adopt_slot.ensures.states ∙ ap (changed_at (lean_adopted (spot_seen c.args.spot.now) c.args.active) c.loop-i.i) c.loop-i.invariant.states
-      ∙ one_changed (lean_adopted (spot_seen c.args.spot.now) c.args.active) c.loop-i.i c.args.store.now.states;
+  states = c.adopt_slot.ensures.states ∙ ap (changed_at (lean_adopted (context_seen c.args.context.now) c.args.active) c.loop-i.i) c.loop-i.invariant.states
+      ∙ one_changed (lean_adopted (context_seen c.args.context.now) c.args.active) c.loop-i.i c.args.store.now.states;
 }
 
 pub returns-clause-states : goal.returns-clause-states
 returns-clause-states c =
     c.loop-i.invariant.states
-    ∙ all_changed (lean_adopted (spot_seen c.args.spot.now) c.args.active) c.loop-i.i c.args.store.now.states (let e = c.len-i-end.ensures.count in omega (arith, e, c.loop-i-test.false))
+    ∙ all_changed (lean_adopted (context_seen c.args.context.now) c.args.active) c.loop-i.i c.args.store.now.states (let e = c.len-i-end.ensures.count in omega (arith, e, c.loop-i-test.false))

@@ -1,6 +1,6 @@
 use Rattle.std.proofs.Common.{◌≡◌}
 use Rattle.hx_replica.specs.Adopting.{lean_adopted}
-use Rattle.hx_replica.specs.Made.{spot_seen}
+use Rattle.hx_replica.specs.Made.{context_seen}
 use Rattle.hx_replica.proofs.Kept.{changed_upto}
 use Rattle.hx_replica.proofs.keeping.adopt_slots.Given as goal
 
@@ -8,5 +8,5 @@ abbrev pub invariant-loop-i : goal.invariant-loop-i
 invariant-loop-i l = record {
   region : l.store.region ≡ l.fn.store.region;
   marks : l.store.marks ≡ l.fn.store.marks;
-  states : l.store.states ≡ changed_upto (lean_adopted (spot_seen l.spot) l.active) l.i l.fn.store.states;
+  states : l.store.states ≡ changed_upto (lean_adopted (context_seen l.context) l.active) l.i l.fn.store.states;
 }

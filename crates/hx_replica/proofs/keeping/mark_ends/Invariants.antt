@@ -1,6 +1,6 @@
 use Rattle.std.proofs.Common.{◌≡◌}
 use Rattle.hx_replica.specs.Adopting.{changed_at}
-use Rattle.hx_replica.specs.Made.{spot_seen}
+use Rattle.hx_replica.specs.Made.{context_seen}
 use Rattle.hx_replica.proofs.Kept.{marked_upto}
 use Rattle.hx_replica.proofs.keeping.mark_ends.Given as goal
 
@@ -8,5 +8,5 @@ abbrev pub invariant-loop-k : goal.invariant-loop-k
 invariant-loop-k l = record {
   region : l.store.region ≡ l.fn.store.region;
   marks : l.store.marks ≡ l.fn.store.marks;
-  states : l.store.states ≡ changed_at (marked_upto (spot_seen l.spot) l.k) l.i l.fn.store.states;
+  states : l.store.states ≡ changed_at (marked_upto (context_seen l.context) l.k) l.i l.fn.store.states;
 }

@@ -2,7 +2,7 @@ use Rattle.std.proofs.Common.{◌++◌, ◌≤◌, List, ap, sym, ◌∙◌, len
 use Rattle.std.specs.List.{flat_map}
 use Rattle.hx_types.specs.declared.ids.Version.{Version}
 use Rattle.hx_model.specs.Slots.{pending_of}
-use Rattle.hx_replica.specs.Made.{end_of, ended_count, spot_seen, told_of}
+use Rattle.hx_replica.specs.Made.{end_of, ended_count, context_seen, told_of}
 use Rattle.hx_replica.proofs.Committing.{ended_within}
 use Rattle.hx_replica.proofs.Resumed.{carried_on}
 use Rattle.hx_replica.proofs.resuming.carry_on.Goals as goal
@@ -14,9 +14,9 @@ tell_lowest-requires-clause-count c =
 
 pub returns : goal.returns
 returns c =
-    let spot = spot_seen c.args.spot.now in
+    let context = context_seen c.args.context.now in
     let us = pending_of c.args.slot.now.state in
-    carried_on spot c.args.slot.now.state c.pass_on_pending.new.ends.items c.args.posts.now c.pass_on_pending.new.posts c.tell_lowest.new.posts
-    (c.in_ok-pass_on_pending.ensures.ends ∙ ap (λ (vs : List Version). vs ++ flat_map (end_of spot) us) c.new-ends.ensures.items)
+    carried_on context c.args.slot.now.state c.pass_on_pending.new.ends.items c.args.posts.now c.pass_on_pending.new.posts c.tell_lowest.new.posts
+    (c.in_ok-pass_on_pending.ensures.ends ∙ ap (λ (vs : List Version). vs ++ flat_map (end_of context) us) c.new-ends.ensures.items)
     c.in_ok-pass_on_pending.ensures.posts
-    (c.in_ok-tell_lowest.ensures ∙ ap (λ n. c.pass_on_pending.new.posts ++ flat_map (told_of spot) (take n us)) (c.ended_count-committed.ensures ∙ ap (λ (vs : List Version). ended_count vs us) c.as_slice.ensures.value))
+    (c.in_ok-tell_lowest.ensures ∙ ap (λ n. c.pass_on_pending.new.posts ++ flat_map (told_of context) (take n us)) (c.ended_count-committed.ensures ∙ ap (λ (vs : List Version). ended_count vs us) c.as_slice.ensures.value))

@@ -2,7 +2,7 @@ use Rattle.std.proofs.Common.{◌≤◌, ◌++◌, List, ℕ, ap, length, subst,
 use Rattle.std.specs.List.{flat_map}
 use Rattle.hx_types.specs.declared.messages.Post.{Post}
 use Rattle.hx_model.specs.Slots.{pending_of}
-use Rattle.hx_replica.specs.Made.{spot_seen, told_of}
+use Rattle.hx_replica.specs.Made.{context_seen, told_of}
 use Rattle.hx_replica.proofs.Acked.{ack_told, ack_within}
 use Rattle.hx_replica.proofs.rows.settled.Goals as goal
 
@@ -12,9 +12,9 @@ tell_lowest-requires-clause-count c =
 
 pub returns : goal.returns
 returns c =
-    let spot = spot_seen c.args.spot.now in
+    let context = context_seen c.args.context.now in
     let us = pending_of c.args.slot.now.state in
     c.in_ok-tell_lowest.ensures
-    ∙ ap (λ (ps : List Post). ps ++ flat_map (told_of spot) (take c.would_commit.result us)) c.new-posts.ensures
-    ∙ ap (λ n. flat_map (told_of spot) (take n us)) c.would_commit.ensures
-    ∙ ack_told spot c.args.slot.now.state c.args.version.0
+    ∙ ap (λ (ps : List Post). ps ++ flat_map (told_of context) (take c.would_commit.result us)) c.new-posts.ensures
+    ∙ ap (λ n. flat_map (told_of context) (take n us)) c.would_commit.ensures
+    ∙ ack_told context c.args.slot.now.state c.args.version.0

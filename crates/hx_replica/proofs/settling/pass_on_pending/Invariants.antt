@@ -2,11 +2,11 @@ use Rattle.std.proofs.Common.{◌≡◌, ◌++◌, take}
 use Rattle.std.specs.List.{flat_map}
 use Rattle.hx_model.specs.ServerSteps.{passed_on}
 use Rattle.hx_model.specs.Slots.{pending_of}
-use Rattle.hx_replica.specs.Made.{end_of, spot_seen}
+use Rattle.hx_replica.specs.Made.{end_of, context_seen}
 use Rattle.hx_replica.proofs.settling.pass_on_pending.Given as goal
 
 abbrev pub invariant-loop-i : goal.invariant-loop-i
 invariant-loop-i l = record {
-  posts : l.posts ≡ l.fn.posts ++ flat_map (passed_on (spot_seen l.spot)) (take l.i (pending_of l.slot.state));
-  ends : l.ends.items ≡ l.fn.ends.items ++ flat_map (end_of (spot_seen l.spot)) (take l.i (pending_of l.slot.state));
+  posts : l.posts ≡ l.fn.posts ++ flat_map (passed_on (context_seen l.context)) (take l.i (pending_of l.slot.state));
+  ends : l.ends.items ≡ l.fn.ends.items ++ flat_map (end_of (context_seen l.context)) (take l.i (pending_of l.slot.state));
 }

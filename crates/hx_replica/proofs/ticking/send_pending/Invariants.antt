@@ -1,7 +1,7 @@
 use Rattle.std.proofs.Common.{◌≡◌, ◌++◌, take}
 use Rattle.hx_model.specs.ServerSteps.{pending_posts}
-use Rattle.hx_replica.specs.Made.{spot_seen}
+use Rattle.hx_replica.specs.Made.{context_seen}
 use Rattle.hx_replica.proofs.ticking.send_pending.Given as goal
 
 abbrev pub invariant-loop-i : goal.invariant-loop-i
-invariant-loop-i l = l.posts ≡ l.fn.posts ++ pending_posts (spot_seen l.spot) (take l.i l.store.states)
+invariant-loop-i l = l.posts ≡ l.fn.posts ++ pending_posts (context_seen l.context) (take l.i l.store.states)

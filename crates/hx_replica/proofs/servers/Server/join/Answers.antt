@@ -2,7 +2,7 @@ use Rattle.std.proofs.Common.{◌≡◌, ◌++◌, Some, ap, map, refl, slice_ge
 use Rattle.std.specs.Option.{option_map}
 use Rattle.hx_types.specs.declared.configs.Config.{Config}
 use Rattle.hx_folds.specs.Folding.{folded, folded_server}
-use Rattle.hx_model.specs.ServerSteps.{Replica as ReplicaState, hearing, installed_slots, ready_post, snapped}
+use Rattle.hx_model.specs.ServerSteps.{Replica as ReplicaState, replica_in_epoch, installed_slots, ready_post, snapped}
 use Rattle.hx_replica.specs.Inside.{value_of}
 use Rattle.hx_replica.specs.Plans.{IsStepMade}
 use Rattle.hx_replica.specs.Servers.{ServerValue}
@@ -18,8 +18,8 @@ returns-then-index c =
     let pending = c.args.pending.now in
     let heard : IsHeardBy (value_of i) c.args.epoch g c.in-Some.number c.index.result.now =
     heard_by i c.args.epoch g c.in-Some.number c.index.result.now c.index.ensures
-    (subst (λ (v : ServerValue). Some (slice_get v.state.replicas c.in-Some.number) ≡ option_map (λ (r : ReplicaState). Some r) (hearing v.state c.args.epoch g)) (sym c.self.view_is) c.in-Some.ensures) in
-    subst (λ (v : ServerValue). IsStepMade v (snapped v.space v.state snapshot pending (hearing v.state c.args.epoch g)) c.said.result) c.self.view_is
+    (subst (λ (v : ServerValue). Some (slice_get v.state.replicas c.in-Some.number) ≡ option_map (λ (r : ReplicaState). Some r) (replica_in_epoch v.state c.args.epoch g)) (sym c.self.view_is) c.in-Some.ensures) in
+    subst (λ (v : ServerValue). IsStepMade v (snapped v.space v.state snapshot pending (replica_in_epoch v.state c.args.epoch g)) c.said.result) c.self.view_is
     (
     ready_made (value_of i) c.args.epoch g snapshot pending
     (subst (λ (v : ServerValue). folded_server v.state ≡ v.state) (sym c.self.view_is) c.requires.bare)
@@ -37,8 +37,8 @@ returns c =
     let slots = λ (k : Config). installed_slots (record { space = i.space; config = k; server = i.id; region = g }) snapshot pending in
     let heard : IsHeardBy (value_of i) c.args.epoch g c.in-Some.number c.index.result.now =
     heard_by i c.args.epoch g c.in-Some.number c.index.result.now c.index.ensures
-    (subst (λ (v : ServerValue). Some (slice_get v.state.replicas c.in-Some.number) ≡ option_map (λ (r : ReplicaState). Some r) (hearing v.state c.args.epoch g)) (sym c.self.view_is) c.in-Some.ensures) in
-    subst (λ (v : ServerValue). IsStepMade v (snapped v.space v.state snapshot pending (hearing v.state c.args.epoch g)) c.said-2.result) c.self.view_is
+    (subst (λ (v : ServerValue). Some (slice_get v.state.replicas c.in-Some.number) ≡ option_map (λ (r : ReplicaState). Some r) (replica_in_epoch v.state c.args.epoch g)) (sym c.self.view_is) c.in-Some.ensures) in
+    subst (λ (v : ServerValue). IsStepMade v (snapped v.space v.state snapshot pending (replica_in_epoch v.state c.args.epoch g)) c.said-2.result) c.self.view_is
     (
     join_made (value_of i) c.args.epoch g snapshot pending
     (subst (λ (v : ServerValue). folded_server v.state ≡ v.state) (sym c.self.view_is) c.requires.bare)

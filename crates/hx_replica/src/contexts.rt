@@ -5,7 +5,7 @@ ghost use Rattle.hx_types.specs.Words.{list_of};
 ghost use Rattle.hx_model.specs.Neighbours.{place_number, region_at};
 ghost use Rattle.hx_model.specs.ServerSteps.{ack_to, doubt_in, next_at, passed_on, prev_at, reply, update_to};
 ghost use Rattle.hx_slot.specs.States.{IsPlacedIn};
-ghost use Rattle.hx_replica.specs.Made.{end_of, spot_seen, told_of};
+ghost use Rattle.hx_replica.specs.Made.{end_of, context_seen, told_of};
 
 use hx_chain::{next, place_number, prev};
 use hx_region::RegionMap;
@@ -17,7 +17,7 @@ use std::alloc::Global;
 
 /// Where a slot stands: at a server's replica of a region, in a configuration.
 #[derive(Drop)]
-pub struct Spot<'a> {
+pub struct SlotContext<'a> {
     pub space: &'a Space,
     pub map: &'a RegionMap,
     pub config: &'a Config,
@@ -25,48 +25,58 @@ pub struct Spot<'a> {
     pub region: RegionId,
 }
 
-/// The number of an update's place in the region of the spot.
+/// The number of an update's place in the region of the context.
 #[inline]
-pub fn place_at(spot: &Spot, update: &Update) -> u32
-    requires placed { IsPlacedIn spot.now.region update.now }
+pub fn place_at(context: &SlotContext, update: &Update) -> u32
+    requires placed { IsPlacedIn context.now.region update.now }
     requires few { length update.now.places ≤ 17 }
-    ensures number { result ≡ place_number spot.now.region update.now.places }
+    ensures number { result ≡ place_number context.now.region update.now.places }
     ensures within { result < length update.now.places }
 {
-    match place_number(update, spot.region) {
+    match place_number(update, context.region) {
         Some(place) => place,
         None => unreachable!(),
     }
 }
 
-/// The replica after the spot's in the chain of an update.
-fn next_of(spot: &Spot, update: &Update) -> Hop
-    requires placed { IsPlacedIn spot.now.region update.now }
+/// The replica after the context's in the chain of an update.
+fn next_of(context: &SlotContext, update: &Update) -> Hop
+    requires placed { IsPlacedIn context.now.region update.now }
     requires few { length update.now.places ≤ 17 }
-    ensures { result ≡ next_at (spot_seen spot.now) update.now }
+    ensures { result ≡ next_at (context_seen context.now) update.now }
 {
-    next(spot.config, update, place_at(spot, update), spot.server)
+    next(
+        context.config,
+        update,
+        place_at(context, update),
+        context.server,
+    )
 }
 
-/// The version of an update, where its chain ends at the spot.
-pub fn end_version(spot: &Spot, update: &Update) -> Option<Version>
-    requires placed { IsPlacedIn spot.now.region update.now }
+/// The version of an update, where its chain ends at the context.
+pub fn end_version(context: &SlotContext, update: &Update) -> Option<Version>
+    requires placed { IsPlacedIn context.now.region update.now }
     requires few { length update.now.places ≤ 17 }
-    ensures { list_of result ≡ end_of (spot_seen spot.now) update.now }
+    ensures { list_of result ≡ end_of (context_seen context.now) update.now }
 {
-    match next_of(spot, update) {
+    match next_of(context, update) {
         Hop::End => Some(update.version),
         Hop::At { .. } | Hop::Blocked(_) => None,
     }
 }
 
-/// The replica before the spot's in the chain of an update.
-fn prev_of(spot: &Spot, update: &Update) -> Hop
-    requires placed { IsPlacedIn spot.now.region update.now }
+/// The replica before the context's in the chain of an update.
+fn prev_of(context: &SlotContext, update: &Update) -> Hop
+    requires placed { IsPlacedIn context.now.region update.now }
     requires few { length update.now.places ≤ 17 }
-    ensures { result ≡ prev_at (spot_seen spot.now) update.now }
+    ensures { result ≡ prev_at (context_seen context.now) update.now }
 {
-    prev(spot.config, update, place_at(spot, update), spot.server)
+    prev(
+        context.config,
+        update,
+        place_at(context, update),
+        context.server,
+    )
 }
 
 /// The region of a place.
@@ -84,19 +94,19 @@ fn region_at(update: &Update, place: u32) -> RegionId
 /// more of those that end.
 pub fn pass_on(
     alloc: Global,
-    spot: &Spot,
+    context: &SlotContext,
     update: &Shared<Update>,
     posts: &mut Posts,
     ends: &mut Vec<Version>,
 ) -> Result<(), Memory>
-    requires placed { IsPlacedIn spot.now.region update.now }
+    requires placed { IsPlacedIn context.now.region update.now }
     requires few { length update.now.places ≤ 17 }
-    ensures posts { OnOk result (posts.new ≡ posts.old ++ passed_on (spot_seen spot.now) update.now) }
-    ensures ends { OnOk result (ends.new.items ≡ ends.old.items ++ end_of (spot_seen spot.now) update.now) }
+    ensures posts { OnOk result (posts.new ≡ posts.old ++ passed_on (context_seen context.now) update.now) }
+    ensures ends { OnOk result (ends.new.items ≡ ends.old.items ++ end_of (context_seen context.now) update.now) }
 {
-    match next_of(spot, update) {
+    match next_of(context, update) {
         Hop::At { server, place } => {
-            posts.push(update_post(alloc, spot, update, server, place)?)?;
+            posts.push(update_post(alloc, context, update, server, place)?)?;
             Ok(())
         }
         Hop::End => {
@@ -109,18 +119,18 @@ pub fn pass_on(
 
 fn update_post(
     alloc: Global,
-    spot: &Spot,
+    context: &SlotContext,
     update: &Shared<Update>,
     server: ServerId,
     place: u32,
 ) -> Result<Post, Memory>
-    ensures { IfOk result (λ post. post ∷ [] ≡ update_to (spot_seen spot.now) update.now (At server place)) }
+    ensures { IfOk result (λ post. post ∷ [] ≡ update_to (context_seen context.now) update.now (At server place)) }
 {
     Ok(Post {
-        from: Actor::Server(spot.server),
+        from: Actor::Server(context.server),
         to: Actor::Server(server),
         message: Message::Update {
-            epoch: spot.config.epoch,
+            epoch: context.config.epoch,
             region: region_at(update, place),
             update: update.copy(alloc)?,
         },
@@ -129,18 +139,18 @@ fn update_post(
 
 fn ack_post(
     alloc: Global,
-    spot: &Spot,
+    context: &SlotContext,
     update: &Update,
     server: ServerId,
     place: u32,
 ) -> Result<Post, Memory>
-    ensures { IfOk result (λ post. post ∷ [] ≡ ack_to (spot_seen spot.now) update.now (At server place)) }
+    ensures { IfOk result (λ post. post ∷ [] ≡ ack_to (context_seen context.now) update.now (At server place)) }
 {
     Ok(Post {
-        from: Actor::Server(spot.server),
+        from: Actor::Server(context.server),
         to: Actor::Server(server),
         message: Message::Ack {
-            epoch: spot.config.epoch,
+            epoch: context.config.epoch,
             region: region_at(update, place),
             key: update.key.copy(alloc)?,
             version: update.version,
@@ -151,17 +161,17 @@ fn ack_post(
 /// Acknowledges an update to the previous replica of its chain, if there is one.
 pub fn acknowledge_back(
     alloc: Global,
-    spot: &Spot,
+    context: &SlotContext,
     update: &Update,
     posts: &mut Posts,
 ) -> Result<(), Memory>
-    requires placed { IsPlacedIn spot.now.region update.now }
+    requires placed { IsPlacedIn context.now.region update.now }
     requires few { length update.now.places ≤ 17 }
-    ensures { OnOk result (posts.new ≡ posts.old ++ ack_to (spot_seen spot.now) update.now (prev_at (spot_seen spot.now) update.now)) }
+    ensures { OnOk result (posts.new ≡ posts.old ++ ack_to (context_seen context.now) update.now (prev_at (context_seen context.now) update.now)) }
 {
-    match prev_of(spot, update) {
+    match prev_of(context, update) {
         Hop::At { server, place } => {
-            posts.push(ack_post(alloc, spot, update, server, place)?)?;
+            posts.push(ack_post(alloc, context, update, server, place)?)?;
             Ok(())
         }
         Hop::End | Hop::Blocked(_) => Ok(()),
@@ -170,19 +180,24 @@ pub fn acknowledge_back(
 
 /// Tells of an update that is committed: the previous replica of its chain, or where there is none
 /// its caller.
-pub fn tell(alloc: Global, spot: &Spot, update: &Update, posts: &mut Posts) -> Result<(), Memory>
-    requires placed { IsPlacedIn spot.now.region update.now }
+pub fn tell(
+    alloc: Global,
+    context: &SlotContext,
+    update: &Update,
+    posts: &mut Posts,
+) -> Result<(), Memory>
+    requires placed { IsPlacedIn context.now.region update.now }
     requires few { length update.now.places ≤ 17 }
-    ensures { OnOk result (posts.new ≡ posts.old ++ told_of (spot_seen spot.now) update.now) }
+    ensures { OnOk result (posts.new ≡ posts.old ++ told_of (context_seen context.now) update.now) }
 {
-    match prev_of(spot, update) {
+    match prev_of(context, update) {
         Hop::At { server, place } => {
-            posts.push(ack_post(alloc, spot, update, server, place)?)?;
+            posts.push(ack_post(alloc, context, update, server, place)?)?;
             Ok(())
         }
         Hop::End => {
             let answer = update.answer.copy(alloc)?;
-            posts.push(reply(spot, update.caller, update.version, answer))?;
+            posts.push(reply(context, update.caller, update.version, answer))?;
             Ok(())
         }
         Hop::Blocked(_) => Ok(()),
@@ -190,11 +205,11 @@ pub fn tell(alloc: Global, spot: &Spot, update: &Update, posts: &mut Posts) -> R
 }
 
 /// The reply to a call.
-pub fn reply(spot: &Spot, caller: Caller, version: Version, answer: Answer) -> Post
-    ensures { result ≡ reply (spot_seen spot.now) caller version answer }
+pub fn reply(context: &SlotContext, caller: Caller, version: Version, answer: Answer) -> Post
+    ensures { result ≡ reply (context_seen context.now) caller version answer }
 {
     Post {
-        from: Actor::Server(spot.server),
+        from: Actor::Server(context.server),
         to: Actor::Session(caller.session),
         message: Message::Reply {
             number: caller.number,
@@ -205,9 +220,9 @@ pub fn reply(spot: &Spot, caller: Caller, version: Version, answer: Answer) -> P
 }
 
 /// The reply that a write is in doubt, since a region is lost.
-pub fn doubt(spot: &Spot, caller: Caller, version: Version, region: RegionId) -> Post
-    ensures { result ≡ doubt_in (spot_seen spot.now) caller version region }
+pub fn doubt(context: &SlotContext, caller: Caller, version: Version, region: RegionId) -> Post
+    ensures { result ≡ doubt_in (context_seen context.now) caller version region }
 {
-    let epoch = spot.config.epoch;
-    reply(spot, caller, version, Answer::Doubt { region, epoch })
+    let epoch = context.config.epoch;
+    reply(context, caller, version, Answer::Doubt { region, epoch })
 }

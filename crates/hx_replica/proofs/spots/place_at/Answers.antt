@@ -1,5 +1,0 @@
-use Rattle.hx_replica.proofs.Placed.{placed_found}
-use Rattle.hx_replica.proofs.spots.place_at.Goals as goal
-
-pub unreachable-requires : goal.unreachable-requires
-unreachable-requires c = placed_found c.args.spot.now.region c.args.update.now c.requires.placed c.in-None.ensures.found
