@@ -30,7 +30,7 @@ pub struct Base {
 impl Base {
     /// Makes room for the marks and the touches of the updates of a line and of so many more, where
     /// they are kept: each brings a mark, and a touch for each of its places, of which it has at
-    /// most 17.
+    /// most 17. Most bring fewer, so the list of touches grows by doubling and not by just that room.
     pub fn reserve(
         &mut self,
         kept: bool,
@@ -46,7 +46,8 @@ impl Base {
             return Ok(());
         }
         grow(&mut self.marks, line.len() + coming)?;
-        grow(&mut self.touches, place_count(line) + MOST_PLACES * coming)?;
+        self.touches
+            .reserve(place_count(line) + MOST_PLACES * coming)?;
         Ok(())
     }
 
