@@ -1,143 +1,316 @@
--- A row that goes into a map by its key joins the rows there.
-use Rattle.std.proofs.Common.{◌≡◌, ℕ, Bool, true, false, cond, nat_lt, List, [], ◌∷◌, map, Option, None, Some, refl, ap, sym, ◌∙◌}
-use Rattle.std.specs.BTreeMap.{insert_entry, is_at}
+-- Rows that are joined one before the other, and a pass over the same rows in order of keys.
+use Rattle.std.proofs.Common.{◌≡◌, ℕ, zero, suc, ◌<◌, Bool, true, false, ◌&&◌, not, cond, nat_lt, List, [], ◌∷◌, ◌++◌, length, get_or, flat_map, filter, refl, ap, sym, subst, ◌∙◌, append_assoc, arith, lt-ltb, ltb-true, ltb-false, le-ltb, ◌≤◌}
+use Rattle.std.specs.Prelude.{⊤}
 use Rattle.std.specs.Borrow.{Bor}
+use Rattle.std.specs.Cmp.Lexicographic.{slice_cmp}
 use Rattle.std.specs.List.{AllByRecursion}
-use Rattle.std.specs.List.Sorted.{IsStrictlySortedBy}
-use Rattle.std.specs.Map.{lookup, values_of}
+use Rattle.std.specs.List.Sorted.{IsSortedByClosure, IsSortedByKey, IsStableByClosure, IsStableByKey, ties}
+use denote.Param.Members.{Mut}
+use Rattle.std.specs.Fn.{Called, ComparesAs}
+use Rattle.std.proofs.lemmas.Fn.{always_returns_same}
 use Rattle.std.specs.declared.cmp.Ordering.{Ordering}
 use Rattle.std.specs.declared.cmp.Ordering.TheVariants.{Less, Equal, Greater}
-use Rattle.std.specs.Ordering.{is_eq, is_lt, match_ordering, ordering_reverse}
-use Rattle.std.proofs.lemmas.Bool.{cond_both, cond-true, cond-false}
-use Rattle.std.proofs.lemmas.Cmp.{nat_list_cmp_total}
-use Rattle.std.proofs.lemmas.Map.Keys.{sorted_head, sorted_tail}
+use Rattle.std.specs.Ordering.{is_eq, is_lt, match_ordering, nat_cmp, ordering_reverse}
+use Rattle.std.proofs.lemmas.Bool.{cond-true, cond-false}
+use Rattle.std.proofs.lemmas.Cmp.{alike_right, nat_list_cmp_total, tied_itself}
+use Rattle.std.proofs.lemmas.List.Sorted.{ranks_by, sorted_far}
 use Rattle.hx_types.specs.declared.calls.Row.{Row}
 use Rattle.hx_types.specs.Words.{same_text, text_below}
-use Rattle.hx_model.specs.SessionSteps.{with_row}
-use Rattle.hx_session.specs.Joined.{AreKeyed, Entry, higher_of, rows_in}
+use Rattle.hx_model.specs.SessionSteps.{Part, merged_parts, rows_joined, with_row}
+use Rattle.hx_session.specs.Joined.{key_at, rows_at, rows_in}
 use Rattle.hx_session.proofs.Texts.{below_is, equal_from, order, same_is}
 
--- how two keys that are lent compare
-abbrev pub by_key : Bor (List ℕ) → Bor (List ℕ) → Ordering
-by_key a b = order a.now b.now
+-- rows that are joined to joined ones are joined together
+joined-append : (front back rows : List Row) → rows_joined (front ++ back) rows ≡ rows_joined front (rows_joined back rows)
+joined-append [] back rows = refl
+joined-append (r ∷ front) back rows = ap (with_row r) (joined-append front back rows)
 
-abbrev pub keys_in : List Entry → List (Bor (List ℕ))
-keys_in es = map (λ (e : Entry). e.0) es
+-- the merge of parts is that of their rows, part after part
+pub merged-at_once : (parts : List Part) → rows_joined (flat_map rows_in parts) [] ≡ merged_parts parts
+merged-at_once [] = refl
+merged-at_once (p ∷ rest) = joined-append (rows_in p) (flat_map rows_in rest) [] ∙ ap (rows_joined (rows_in p)) (merged-at_once rest)
 
-abbrev pub found_at : Bor (List ℕ) → List Entry → Option (Bor Row)
-found_at key es = lookup (is_at (by_key key)) es
+-- the later of two rows of one key, unless the earlier one has a higher version
+abbrev kept_of : Row → Row → Row
+kept_of early late = cond (nat_lt late.version.0 early.version.0) early late
 
--- every key is above this one
-abbrev AllAbove : Bor (List ℕ) → List Entry → Type 0
-AllAbove key es = AllByRecursion (λ (k : Bor (List ℕ)). by_key key k ≡ Less) (keys_in es)
-
--- a key that is below the first is below all
-lower_still : (a b c : Bor (List ℕ)) → by_key a b ≡ Less → by_key b c ≡ Less → by_key a c ≡ Less
-lower_still a b c l m = nat_list_cmp_total.trans a.now b.now c.now l m
-
-all_above : (key low : Bor (List ℕ)) (es : List Entry) → by_key key low ≡ Less → AllAbove low es → AllAbove key es
-all_above key low [] l a = tt
-all_above key low (e ∷ es) l a = (lower_still key low e.0 l a.0, all_above key low es l a.1)
-
-none_above : (key : Bor (List ℕ)) (es : List Entry) → AllAbove key es → found_at key es ≡ None
-none_above key [] a = refl
-none_above key (e ∷ es) a = cond-false (is_eq (by_key key e.0)) (Some e.1) (found_at key es) (ap is_eq a.0) ∙ none_above key es a.1
-
-now_of : (b : Bool) (x y : Bor Row) → (cond b x y).now ≡ cond b x.now y.now
-now_of true x y = refl
-now_of false x y = refl
-
--- the row goes to its place, or that of its key is replaced where its version is lower
-pub joined_rows : (key : Bor (List ℕ)) (row : Bor Row) (es : List Entry) → row.now.key ≡ key.now → AreKeyed es → IsStrictlySortedBy by_key (keys_in es)
-    → rows_in (insert_entry by_key es key (higher_of (found_at key es) row)) ≡ with_row row.now (rows_in es)
-joined_rows key row [] k a s = refl
-joined_rows key row (e ∷ es) k a s =
-    by (by_key key e.0) refl (joined_rows key row es k a.1 (sorted_tail by_key e.0 (keys_in es) s))
+kept-key : (early late : Row) → early.key ≡ late.key → (kept_of early late).key ≡ late.key
+kept-key early late e = by (nat_lt late.version.0 early.version.0)
   where
-    keys : order row.now.key e.1.now.key ≡ by_key key e.0
-    keys = ap (λ (t : List ℕ). order t e.1.now.key) k ∙ ap (λ (t : List ℕ). order key.now t) a.0
+    by : (b : Bool) → (cond b early late).key ≡ late.key
+    by true = e
+    by false = refl
 
-    same : (o : Ordering) → by_key key e.0 ≡ o → same_text row.now.key e.1.now.key ≡ is_eq o
-    same o h = same_is row.now.key e.1.now.key ∙ ap is_eq (keys ∙ h)
-
-    below : (o : Ordering) → by_key key e.0 ≡ o → text_below row.now.key e.1.now.key ≡ is_lt o
-    below o h = below_is row.now.key e.1.now.key ∙ ap is_lt (keys ∙ h)
-
-    by : (o : Ordering) → by_key key e.0 ≡ o → rows_in (insert_entry by_key es key (higher_of (found_at key es) row)) ≡ with_row row.now (rows_in es)
-        → rows_in (match_ordering o ((key, higher_of (cond (is_eq o) (Some e.1) (found_at key es)) row) ∷ e ∷ es) ((e.0, higher_of (cond (is_eq o) (Some e.1) (found_at key es)) row) ∷ es) (e ∷ insert_entry by_key es key (higher_of (cond (is_eq o) (Some e.1) (found_at key es)) row)))
-        ≡ with_row row.now (rows_in (e ∷ es))
-    by Less h rest =
-        ap (λ (found : Option (Bor Row)). (higher_of found row).now ∷ e.1.now ∷ rows_in es) (none_above key es (all_above key e.0 es h (sorted_head by_key e.0 (keys_in es) s)))
-        ∙ sym (cond-false (same_text row.now.key e.1.now.key) _ _ (same Less h) ∙ cond-true (text_below row.now.key e.1.now.key) _ _ (below Less h))
-    by Equal h rest =
-        ap (λ (r : Row). r ∷ rows_in es) (now_of (nat_lt e.1.now.version.0 row.now.version.0) row e.1)
-        ∙ sym (cond-true (same_text row.now.key e.1.now.key) _ _ (same Equal h))
-    by Greater h rest =
-        ap (λ (rows : List Row). e.1.now ∷ rows) rest
-        ∙ sym (cond-false (same_text row.now.key e.1.now.key) _ _ (same Greater h) ∙ cond-false (text_below row.now.key e.1.now.key) _ _ (below Greater h))
-
--- a key compares to itself as an equal
-self_equal : (key : Bor (List ℕ)) → by_key key key ≡ Equal
-self_equal key = by (by_key key key) (nat_list_cmp_total.antisymm key.now key.now)
+kept-assoc : (a b c : Row) → kept_of a (kept_of b c) ≡ kept_of (kept_of a b) c
+kept-assoc a b c = by (nat_lt c.version.0 b.version.0) refl (nat_lt b.version.0 a.version.0) refl
   where
-    by : (o : Ordering) → o ≡ ordering_reverse o → o ≡ Equal
-    by Less e = absurd cc
-    by Equal e = refl
-    by Greater e = absurd cc
+    by : (u : Bool) → nat_lt c.version.0 b.version.0 ≡ u → (v : Bool) → nat_lt b.version.0 a.version.0 ≡ v → kept_of a (cond u b c) ≡ kept_of (cond v a b) c
+    by true p true q =
+        (
+        let l = ltb-true c.version.0 b.version.0 p in let m = ltb-true b.version.0 a.version.0 q in
+        cond-true (nat_lt b.version.0 a.version.0) a b q ∙ sym (cond-true (nat_lt c.version.0 a.version.0) a c (lt-ltb c.version.0 a.version.0 (omega arith)))
+        )
+    by true p false q = cond-false (nat_lt b.version.0 a.version.0) a b q ∙ sym (cond-true (nat_lt c.version.0 b.version.0) b c p)
+    by false p true q = refl
+    by false p false q =
+        (
+        let l = ltb-false c.version.0 b.version.0 p in let m = ltb-false b.version.0 a.version.0 q in
+        cond-false (nat_lt c.version.0 a.version.0) a c (le-ltb c.version.0 a.version.0 (omega arith)) ∙ sym (cond-false (nat_lt c.version.0 b.version.0) b c p)
+        )
 
--- of two rows that go in at a key the second one stays
-inserted_again : (key : Bor (List ℕ)) (first second : Bor Row) (es : List Entry) → insert_entry by_key (insert_entry by_key es key first) key second ≡ insert_entry by_key es key second
-inserted_again key first second [] = ap (λ (o : Ordering). match_ordering o ((key, second) ∷ (key, first) ∷ []) ((key, second) ∷ []) ((key, first) ∷ (key, second) ∷ [])) (self_equal key)
-inserted_again key first second (e ∷ es) = by (by_key key e.0) refl (inserted_again key first second es)
+-- the other way round
+turned : (a b : List ℕ) (o : Ordering) → order a b ≡ o → order b a ≡ ordering_reverse o
+turned a b o h = nat_list_cmp_total.antisymm b a ∙ ap ordering_reverse h
+
+-- where a row comes among rows, by how its key compares to that of the first
+comes : (r x : Row) (rest : List Row) (o : Ordering) → order r.key x.key ≡ o → with_row r (x ∷ rest) ≡ match_ordering o (r ∷ x ∷ rest) (kept_of r x ∷ rest) (x ∷ with_row r rest)
+comes r x rest o h = by o (same_is r.key x.key ∙ ap is_eq h) (below_is r.key x.key ∙ ap is_lt h)
   where
-    by : (o : Ordering) → by_key key e.0 ≡ o → insert_entry by_key (insert_entry by_key es key first) key second ≡ insert_entry by_key es key second
-        → insert_entry by_key (match_ordering o ((key, first) ∷ e ∷ es) ((e.0, first) ∷ es) (e ∷ insert_entry by_key es key first)) key second
-        ≡ match_ordering o ((key, second) ∷ e ∷ es) ((e.0, second) ∷ es) (e ∷ insert_entry by_key es key second)
-    by Less h rest = ap (λ (o : Ordering). match_ordering o ((key, second) ∷ (key, first) ∷ e ∷ es) ((key, second) ∷ e ∷ es) ((key, first) ∷ insert_entry by_key (e ∷ es) key second)) (self_equal key)
-    by Equal h rest = ap (λ (o : Ordering). match_ordering o ((key, second) ∷ (e.0, first) ∷ es) ((e.0, second) ∷ es) ((e.0, first) ∷ insert_entry by_key es key second)) h
-    by Greater h rest =
-        ap (λ (o : Ordering). match_ordering o ((key, second) ∷ e ∷ insert_entry by_key es key first) ((e.0, second) ∷ insert_entry by_key es key first) (e ∷ insert_entry by_key (insert_entry by_key es key first) key second)) h
-        ∙ ap (λ (rest : List Entry). e ∷ rest) rest
+    by : (o : Ordering) → same_text r.key x.key ≡ is_eq o → text_below r.key x.key ≡ is_lt o → with_row r (x ∷ rest) ≡ match_ordering o (r ∷ x ∷ rest) (kept_of r x ∷ rest) (x ∷ with_row r rest)
+    by Less s b = cond-false (same_text r.key x.key) _ _ s ∙ cond-true (text_below r.key x.key) _ _ b
+    by Equal s b = cond-true (same_text r.key x.key) _ _ s
+    by Greater s b = cond-false (same_text r.key x.key) _ _ s ∙ cond-false (text_below r.key x.key) _ _ b
 
--- the row goes in; where the one that was found at the key has no lower version, that one comes back
-pub goes_in : (key : Bor (List ℕ)) (row : Bor Row) (es : List Entry) → found_at key es ≡ None
-    → insert_entry by_key es key row ≡ insert_entry by_key es key (higher_of (found_at key es) row)
-goes_in key row es n = ap (λ (found : Option (Bor Row)). insert_entry by_key es key (higher_of found row)) (sym n)
-
-pub replaces : (key : Bor (List ℕ)) (row found : Bor Row) (es : List Entry) → found_at key es ≡ Some found → nat_lt found.now.version.0 row.now.version.0 ≡ true
-    → insert_entry by_key es key row ≡ insert_entry by_key es key (higher_of (found_at key es) row)
-replaces key row found es f l =
-    ap (insert_entry by_key es key) (sym (cond-true (nat_lt found.now.version.0 row.now.version.0) row found l))
-    ∙ ap (λ (o : Option (Bor Row)). insert_entry by_key es key (higher_of o row)) (sym f)
-
-pub comes_back : (key : Bor (List ℕ)) (row found : Bor Row) (es : List Entry) → found_at key es ≡ Some found → nat_lt found.now.version.0 row.now.version.0 ≡ false
-    → insert_entry by_key (insert_entry by_key es key row) key found ≡ insert_entry by_key es key (higher_of (found_at key es) row)
-comes_back key row found es f l =
-    inserted_again key row found es
-    ∙ ap (insert_entry by_key es key) (sym (cond-false (nat_lt found.now.version.0 row.now.version.0) row found l))
-    ∙ ap (λ (o : Option (Bor Row)). insert_entry by_key es key (higher_of o row)) (sym f)
-
--- what is kept of a key is of that key
-found_key : (key : Bor (List ℕ)) (row : Bor Row) (es : List Entry) → row.now.key ≡ key.now → AreKeyed es → (higher_of (found_at key es) row).now.key ≡ key.now
-found_key key row [] k a = k
-found_key key row (e ∷ es) k a =
-    cond_both (is_eq (by_key key e.0)) (Some e.1) (found_at key es) (λ (found : Option (Bor Row)). (higher_of found row).now.key ≡ key.now)
-    (λ t. cond_both (nat_lt e.1.now.version.0 row.now.version.0) row e.1 (λ (r : Bor Row). r.now.key ≡ key.now) (λ _. k) (λ _. a.0 ∙ sym (equal_from key.now e.0.now t)))
-    (λ t. found_key key row es k a.1)
-
-insert_keyed : (key : Bor (List ℕ)) (row : Bor Row) (es : List Entry) → row.now.key ≡ key.now → AreKeyed es → AreKeyed (insert_entry by_key es key row)
-insert_keyed key row [] k a = (k, tt)
-insert_keyed key row (e ∷ es) k a = by (by_key key e.0) refl (insert_keyed key row es k a.1)
+-- of two rows with different keys either may come first
+passes : (r s : Row) → order r.key s.key ≡ Less → (rows : List Row) → with_row r (with_row s rows) ≡ with_row s (with_row r rows)
+passes r s l [] = comes r s [] Less l ∙ sym (comes s r [] Greater (turned r.key s.key Less l))
+passes r s l (x ∷ rest) = by (order s.key x.key) refl (order r.key x.key) refl (passes r s l rest)
   where
-    by : (o : Ordering) → by_key key e.0 ≡ o → AreKeyed (insert_entry by_key es key row) → AreKeyed (match_ordering o ((key, row) ∷ e ∷ es) ((e.0, row) ∷ es) (e ∷ insert_entry by_key es key row))
-    by Less h rest = (k, a)
-    by Equal h rest = (k ∙ equal_from key.now e.0.now (ap is_eq h), a.1)
-    by Greater h rest = (a.0, rest)
+    over : order r.key x.key ≡ Less → with_row s (with_row r (x ∷ rest)) ≡ r ∷ with_row s (x ∷ rest)
+    over low = ap (with_row s) (comes r x rest Less low) ∙ comes s r (x ∷ rest) Greater (turned r.key s.key Less l)
 
-pub joined_keyed : (key : Bor (List ℕ)) (row : Bor Row) (es : List Entry) → row.now.key ≡ key.now → AreKeyed es → AreKeyed (insert_entry by_key es key (higher_of (found_at key es) row))
-joined_keyed key row es k a = insert_keyed key (higher_of (found_at key es) row) es (found_key key row es k a) a
+    by : (p : Ordering) → order s.key x.key ≡ p → (q : Ordering) → order r.key x.key ≡ q → with_row r (with_row s rest) ≡ with_row s (with_row r rest)
+        → with_row r (with_row s (x ∷ rest)) ≡ with_row s (with_row r (x ∷ rest))
+    by Less h q i more =
+        ap (with_row r) (comes s x rest Less h) ∙ comes r s (x ∷ rest) Less l
+        ∙ sym (over (nat_list_cmp_total.trans r.key s.key x.key l h) ∙ ap (λ (rows : List Row). r ∷ rows) (comes s x rest Less h))
+    by Equal h q i more =
+        (
+        let low : order r.key x.key ≡ Less = sym (alike_right nat_list_cmp_total s.key x.key r.key h) ∙ l in
+        ap (with_row r) (comes s x rest Equal h) ∙ comes r (kept_of s x) rest Less (ap (order r.key) (kept-key s x (equal_from s.key x.key (ap is_eq h))) ∙ low)
+        ∙ sym (over low ∙ ap (λ (rows : List Row). r ∷ rows) (comes s x rest Equal h))
+        )
+    by Greater h Less i more =
+        ap (with_row r) (comes s x rest Greater h) ∙ comes r x (with_row s rest) Less i
+        ∙ sym (over i ∙ ap (λ (rows : List Row). r ∷ rows) (comes s x rest Greater h))
+    by Greater h Equal i more =
+        ap (with_row r) (comes s x rest Greater h) ∙ comes r x (with_row s rest) Equal i
+        ∙ sym (ap (with_row s) (comes r x rest Equal i) ∙ comes s (kept_of r x) rest Greater (ap (order s.key) (kept-key r x (equal_from r.key x.key (ap is_eq i))) ∙ h))
+    by Greater h Greater i more =
+        ap (with_row r) (comes s x rest Greater h) ∙ comes r x (with_row s rest) Greater i ∙ ap (λ (rows : List Row). x ∷ rows) more
+        ∙ sym (ap (with_row s) (comes r x rest Greater i) ∙ comes s x (with_row r rest) Greater h)
 
--- the values of a map are its rows
-pub values_are : (es : List Entry) → map (λ (b : Bor Row). b.now) (values_of es) ≡ rows_in es
-values_are [] = refl
-values_are (e ∷ es) = ap (λ (rows : List Row). e.1.now ∷ rows) (values_are es)
+apart : (r s : Row) → same_text r.key s.key ≡ false → (rows : List Row) → with_row r (with_row s rows) ≡ with_row s (with_row r rows)
+apart r s n rows = by (order r.key s.key) refl
+  where
+    by : (o : Ordering) → order r.key s.key ≡ o → with_row r (with_row s rows) ≡ with_row s (with_row r rows)
+    by Less h = passes r s h rows
+    by Equal h = absurd (let t : true ≡ false = sym (same_is r.key s.key ∙ ap is_eq h) ∙ n in cc)
+    by Greater h = sym (passes s r (turned r.key s.key Greater h) rows)
+
+-- of two rows of one key one stays
+together : (r s : Row) → r.key ≡ s.key → (rows : List Row) → with_row r (with_row s rows) ≡ with_row (kept_of r s) rows
+together r s e [] = comes r s [] Equal (ap (λ (k : List ℕ). order k s.key) e ∙ tied_itself nat_list_cmp_total s.key)
+together r s e (x ∷ rest) = by (order s.key x.key) refl (together r s e rest)
+  where
+    kept : (o : Ordering) → order s.key x.key ≡ o → order (kept_of r s).key x.key ≡ o
+    kept o h = ap (λ (k : List ℕ). order k x.key) (kept-key r s e) ∙ h
+
+    by : (o : Ordering) → order s.key x.key ≡ o → with_row r (with_row s rest) ≡ with_row (kept_of r s) rest → with_row r (with_row s (x ∷ rest)) ≡ with_row (kept_of r s) (x ∷ rest)
+    by Less h more =
+        ap (with_row r) (comes s x rest Less h) ∙ comes r s (x ∷ rest) Equal (ap (λ (k : List ℕ). order k s.key) e ∙ tied_itself nat_list_cmp_total s.key)
+        ∙ sym (comes (kept_of r s) x rest Less (kept Less h))
+    by Equal h more =
+        ap (with_row r) (comes s x rest Equal h)
+        ∙ comes r (kept_of s x) rest Equal (ap (order r.key) (kept-key s x (equal_from s.key x.key (ap is_eq h))) ∙ ap (λ (k : List ℕ). order k x.key) e ∙ h)
+        ∙ ap (λ (k : Row). k ∷ rest) (kept-assoc r s x)
+        ∙ sym (comes (kept_of r s) x rest Equal (kept Equal h))
+    by Greater h more =
+        ap (with_row r) (comes s x rest Greater h) ∙ comes r x (with_row s rest) Greater (ap (λ (k : List ℕ). order k x.key) e ∙ h) ∙ ap (λ (rows : List Row). x ∷ rows) more
+        ∙ sym (comes (kept_of r s) x rest Greater (kept Greater h))
+
+-- whether a row is of this key
+abbrev has_key : List ℕ → Bor Row → Bool
+has_key key b = same_text key b.now.key
+
+-- the rows without the first of this key
+abbrev without : List ℕ → List (Bor Row) → List (Bor Row)
+without key [] = []
+without key (b ∷ rest) = cond (has_key key b) rest (b ∷ without key rest)
+
+same-itself : (key : List ℕ) → same_text key key ≡ true
+same-itself key = same_is key key ∙ ap is_eq (tied_itself nat_list_cmp_total key)
+
+same-from : (a b : List ℕ) → same_text a b ≡ true → a ≡ b
+same-from a b t = equal_from a b (sym (same_is a b) ∙ t)
+
+first_is : {X : Type 0} {x y : X} {xs ys : List X} → x ∷ xs ≡ y ∷ ys → x ≡ y
+first_is e = cc
+
+rest_is : {X : Type 0} {x y : X} {xs ys : List X} → x ∷ xs ≡ y ∷ ys → xs ≡ ys
+rest_is e = cc
+
+-- the first row of a key may as well come before all
+comes_out : (y : Bor Row) (more : List (Bor Row)) (xs : List (Bor Row)) → filter (has_key y.now.key) xs ≡ y ∷ more → (rows : List Row)
+    → rows_joined (rows_at xs) rows ≡ with_row y.now (rows_joined (rows_at (without y.now.key xs)) rows)
+comes_out y more [] e rows = absurd cc
+comes_out y more (x ∷ xs) e rows = by (has_key y.now.key x) refl e (comes_out y more xs)
+  where
+    by : (b : Bool) → has_key y.now.key x ≡ b → cond b (x ∷ filter (has_key y.now.key) xs) (filter (has_key y.now.key) xs) ≡ y ∷ more
+        → (filter (has_key y.now.key) xs ≡ y ∷ more → (rows : List Row) → rows_joined (rows_at xs) rows ≡ with_row y.now (rows_joined (rows_at (without y.now.key xs)) rows))
+        → with_row x.now (rows_joined (rows_at xs) rows) ≡ with_row y.now (rows_joined (rows_at (cond b xs (x ∷ without y.now.key xs))) rows)
+    by true h e later = ap (λ (b : Bor Row). with_row b.now (rows_joined (rows_at xs) rows)) (first_is e)
+    by false h e later = ap (with_row x.now) (later e rows) ∙ sym (apart y.now x.now h (rows_joined (rows_at (without y.now.key xs)) rows))
+
+-- and nothing else changes
+out_first : (y : Bor Row) (more : List (Bor Row)) (xs : List (Bor Row)) → filter (has_key y.now.key) xs ≡ y ∷ more → (w : Bor Row)
+    → filter (has_key w.now.key) (y ∷ without y.now.key xs) ≡ filter (has_key w.now.key) xs
+out_first y more [] e w = absurd cc
+out_first y more (x ∷ xs) e w = by (has_key y.now.key x) refl e (out_first y more xs)
+  where
+    past : (u v : Bool) → (u ≡ true → v ≡ false) → (y x : Bor Row) (us vs : List (Bor Row)) → cond u (y ∷ us) us ≡ vs → cond u (y ∷ cond v (x ∷ us) us) (cond v (x ∷ us) us) ≡ cond v (x ∷ vs) vs
+    past true true n y x us vs e = absurd (let t = n refl in cc)
+    past true false n y x us vs e = e
+    past false true n y x us vs e = ap (λ (l : List (Bor Row)). x ∷ l) e
+    past false false n y x us vs e = e
+
+    by : (b : Bool) → has_key y.now.key x ≡ b → cond b (x ∷ filter (has_key y.now.key) xs) (filter (has_key y.now.key) xs) ≡ y ∷ more
+        → (filter (has_key y.now.key) xs ≡ y ∷ more → (w : Bor Row) → filter (has_key w.now.key) (y ∷ without y.now.key xs) ≡ filter (has_key w.now.key) xs)
+        → filter (has_key w.now.key) (y ∷ cond b xs (x ∷ without y.now.key xs)) ≡ filter (has_key w.now.key) (x ∷ xs)
+    by true h e later = ap (λ (b : Bor Row). filter (has_key w.now.key) (b ∷ xs)) (sym (first_is e))
+    by false h e later =
+        past (has_key w.now.key y) (has_key w.now.key x) (λ t. ap (λ (k : List ℕ). same_text k x.now.key) (same-from w.now.key y.now.key t) ∙ h) y x (filter (has_key w.now.key) (without y.now.key xs)) (filter (has_key w.now.key) xs) (later e w)
+
+-- rows of each key stand in the same order
+abbrev pub StayInTurn : List (Bor Row) → List (Bor Row) → Type 0
+StayInTurn xs ys = (w : Bor Row) → filter (has_key w.now.key) ys ≡ filter (has_key w.now.key) xs
+
+-- so they are joined to the same rows
+pub joined-in_turn : (xs ys : List (Bor Row)) → StayInTurn xs ys → (rows : List Row) → rows_joined (rows_at ys) rows ≡ rows_joined (rows_at xs) rows
+joined-in_turn [] [] s rows = refl
+joined-in_turn (x ∷ xs) [] s rows = absurd (let e = s x ∙ cond-true (has_key x.now.key x) (x ∷ filter (has_key x.now.key) xs) (filter (has_key x.now.key) xs) (same-itself x.now.key) in cc)
+joined-in_turn xs (y ∷ ys) s rows =
+    let first : filter (has_key y.now.key) xs ≡ y ∷ filter (has_key y.now.key) ys =
+    sym (s y) ∙ cond-true (has_key y.now.key y) (y ∷ filter (has_key y.now.key) ys) (filter (has_key y.now.key) ys) (same-itself y.now.key)
+    in
+    ap (with_row y.now) (joined-in_turn (without y.now.key xs) ys (λ w. cancel (has_key w.now.key y) (s w ∙ sym (out_first y (filter (has_key y.now.key) ys) xs first w))) rows)
+    ∙ sym (comes_out y (filter (has_key y.now.key) ys) xs first rows)
+  where
+    cancel : (b : Bool) {us vs : List (Bor Row)} → cond b (y ∷ us) us ≡ cond b (y ∷ vs) vs → us ≡ vs
+    cancel true e = rest_is e
+    cancel false e = e
+
+-- what a stable sort by keys leaves
+tie_is : (x y : Bor Row) → ties (λ (a b : Bor Row). is_lt (slice_cmp nat_cmp (key_at a) (key_at b))) x y ≡ has_key x.now.key y
+tie_is x y = by (order x.now.key y.now.key) refl ∙ sym (same_is x.now.key y.now.key)
+  where
+    by : (o : Ordering) → order x.now.key y.now.key ≡ o → (not (is_lt (order x.now.key y.now.key)) && not (is_lt (order y.now.key x.now.key))) ≡ is_eq (order x.now.key y.now.key)
+    by o h = (λ i. not (is_lt (h i)) && not (is_lt (turned x.now.key y.now.key o h i))) ∙ at o ∙ ap is_eq (sym h)
+      where
+        at : (o : Ordering) → (not (is_lt o) && not (is_lt (ordering_reverse o))) ≡ is_eq o
+        at Less = refl
+        at Equal = refl
+        at Greater = refl
+
+pub in_turn-from_stable : (xs ys : List (Bor Row)) → IsStableByKey key_at (slice_cmp nat_cmp) xs ys → StayInTurn xs ys
+in_turn-from_stable xs ys stable w = subst (λ (p : Bor Row → Bool). filter p ys ≡ filter p xs) (λ i y. tie_is w y i) (stable w)
+
+-- no row has a lower key than one before it
+abbrev pub Rise : List Row → Type 0
+Rise [] = ⊤
+Rise (r ∷ rest) = AllByRecursion (λ (x : Row). is_lt (order x.key r.key) ≡ false) rest × Rise rest
+
+pub rise-from_sorted : (xs : List (Bor Row)) → IsSortedByKey key_at (slice_cmp nat_cmp) xs → Rise (rows_at xs)
+rise-from_sorted xs up = by xs (sorted_far _ (ranks_by nat_list_cmp_total key_at) xs up)
+  where
+    not_below : (b : Bor Row) (rest : List (Bor Row)) → ((k : ℕ) (d : Bor Row) → k < length rest → is_lt (order (get_or rest k d).now.key b.now.key) ≡ false) → AllByRecursion (λ (x : Row). is_lt (order x.key b.now.key) ≡ false) (rows_at rest)
+    not_below b [] h = tt
+    not_below b (c ∷ rest) h = (h zero c (omega arith), not_below b rest (λ k d l. h (suc k) d (omega (arith, l))))
+
+    by : (xs : List (Bor Row)) → ((i j : ℕ) (d : Bor Row) → i ≤ j → j < length xs → is_lt (order (get_or xs j d).now.key (get_or xs i d).now.key) ≡ false) → Rise (rows_at xs)
+    by [] h = tt
+    by (b ∷ rest) h = (not_below b rest (λ k d l. h zero (suc k) d (omega arith) (omega (arith, l))), by rest (λ i j d l m. h (suc i) (suc j) d (omega (arith, l)) (omega (arith, m))))
+
+-- a row whose key is below all others stands before them
+abbrev AllAbove : List ℕ → List Row → Type 0
+AllAbove key rows = AllByRecursion (λ (x : Row). order key x.key ≡ Less) rows
+
+stands_first : (r : Row) (rest : List Row) → AllAbove r.key rest → with_row r (rows_joined rest []) ≡ r ∷ rows_joined rest []
+stands_first r [] a = refl
+stands_first r (x ∷ rest) a =
+    passes r x a.0 (rows_joined rest []) ∙ ap (with_row x) (stands_first r rest a.1)
+    ∙ comes x r (rows_joined rest []) Greater (turned r.key x.key Less a.0)
+
+above_all : (key low : List ℕ) (rest : List Row) → order key low ≡ Less → AllByRecursion (λ (x : Row). is_lt (order x.key low) ≡ false) rest → AllAbove key rest
+above_all key low [] l h = tt
+above_all key low (x ∷ rest) l h = (at (order low x.key) refl, above_all key low rest l h.1)
+  where
+    at : (o : Ordering) → order low x.key ≡ o → order key x.key ≡ Less
+    at Less e = nat_list_cmp_total.trans key low x.key l e
+    at Equal e = sym (alike_right nat_list_cmp_total low x.key key e) ∙ l
+    at Greater e = absurd (let t : true ≡ false = sym (ap is_lt (turned low x.key Greater e)) ∙ h.0 in cc)
+
+-- the first of rows that rise, where the next has another key
+pub next_key : (r x : Row) (rest : List Row) → Rise (r ∷ x ∷ rest) → same_text x.key r.key ≡ false → rows_joined (r ∷ x ∷ rest) [] ≡ r ∷ rows_joined (x ∷ rest) []
+next_key r x rest up n = stands_first r (x ∷ rest) (low, above_all r.key x.key rest low up.1.0)
+  where
+    by : (o : Ordering) → order x.key r.key ≡ o → order r.key x.key ≡ Less
+    by Less e = absurd (let t : true ≡ false = sym (ap is_lt e) ∙ up.0.0 in cc)
+    by Equal e = absurd (let t : true ≡ false = sym (same_is x.key r.key ∙ ap is_eq e) ∙ n in cc)
+    by Greater e = turned x.key r.key Greater e
+
+    low : order r.key x.key ≡ Less
+    low = by (order x.key r.key) refl
+
+-- where the next has the same key, one of the two stays
+pub same_key-later : (r x : Row) (rest : List Row) → same_text x.key r.key ≡ true → nat_lt x.version.0 r.version.0 ≡ false → rows_joined (r ∷ x ∷ rest) [] ≡ rows_joined (x ∷ rest) []
+same_key-later r x rest e l =
+    together r x (sym (same-from x.key r.key e)) (rows_joined rest [])
+    ∙ ap (λ (k : Row). with_row k (rows_joined rest [])) (cond-false (nat_lt x.version.0 r.version.0) r x l)
+
+pub same_key-earlier : (r x : Row) (rest : List Row) → same_text x.key r.key ≡ true → nat_lt x.version.0 r.version.0 ≡ true → rows_joined (r ∷ x ∷ rest) [] ≡ rows_joined (r ∷ rest) []
+same_key-earlier r x rest e l =
+    together r x (sym (same-from x.key r.key e)) (rows_joined rest [])
+    ∙ ap (λ (k : Row). with_row k (rows_joined rest [])) (cond-true (nat_lt x.version.0 r.version.0) r x l)
+
+not-not : (b : Bool) → not (not b) ≡ b
+not-not true = refl
+not-not false = refl
+
+-- rows are copied, one more is kept for the next, and the rest still comes
+pub record IsPassed (rows : List Row) (kept : Row) (rest whole : List Row) : Type 0 where
+  pub all : rows ++ rows_joined (kept ∷ rest) [] ≡ rows_joined whole []
+  pub rise : Rise (kept ∷ rest)
+
+pub passed-none : (sorted : List (Bor Row)) (first : Bor Row) (rest : List (Bor Row)) → sorted ≡ first ∷ rest → IsSortedByKey key_at (slice_cmp nat_cmp) sorted → IsPassed [] first.now (rows_at rest) (rows_at sorted)
+passed-none sorted first rest e up = record {
+  all = ap (λ (l : List (Bor Row)). rows_joined (rows_at l) []) (sym e);
+  rise = subst (λ (l : List (Bor Row)). Rise (rows_at l)) e (rise-from_sorted sorted up);
+}
+
+pub passed-next : (rows : List Row) (kept x : Row) (rest whole : List Row) → IsPassed rows kept (x ∷ rest) whole → not (same_text x.key kept.key) ≡ true → IsPassed (rows ++ kept ∷ []) x rest whole
+passed-next rows kept x rest whole p n = record {
+  all = append_assoc rows (kept ∷ []) (rows_joined (x ∷ rest) []) ∙ ap (λ (l : List Row). rows ++ l) (sym (next_key kept x rest p.rise (sym (not-not (same_text x.key kept.key)) ∙ ap not n))) ∙ p.all;
+  rise = p.rise.1;
+}
+
+pub passed-later : (rows : List Row) (kept x : Row) (rest whole : List Row) → IsPassed rows kept (x ∷ rest) whole → not (same_text x.key kept.key) ≡ false → nat_lt x.version.0 kept.version.0 ≡ false → IsPassed rows x rest whole
+passed-later rows kept x rest whole p e l = record { all = ap (λ (l : List Row). rows ++ l) (sym (same_key-later kept x rest (sym (not-not (same_text x.key kept.key)) ∙ ap not e) l)) ∙ p.all; rise = p.rise.1 }
+
+pub passed-earlier : (rows : List Row) (kept x : Row) (rest whole : List Row) → IsPassed rows kept (x ∷ rest) whole → not (same_text x.key kept.key) ≡ false → nat_lt x.version.0 kept.version.0 ≡ true → IsPassed rows kept rest whole
+passed-earlier rows kept x rest whole p e l = record { all = ap (λ (l : List Row). rows ++ l) (sym (same_key-earlier kept x rest (sym (not-not (same_text x.key kept.key)) ∙ ap not e) l)) ∙ p.all; rise = (p.rise.0.1, p.rise.1.1) }
+
+-- what a stable sort ensures, where each call of the closure compares two keys
+module _ {F : Type 0} (g : Mut F (Bor (Bor Row) × (Bor (Bor Row) × Unit {0})) Ordering) (f : F) where
+  abbrev pub ComparesKeys : Type 0
+  ComparesKeys = (a : Bor (Bor Row) × (Bor (Bor Row) × Unit {0})) (r : Ordering) (f' : F) → Called g f a r f' → (r ≡ slice_cmp nat_cmp (key_at a.0.now) (key_at a.1.0.now)) × (f' ≡ f)
+
+  as_keys : ComparesKeys → ComparesAs g (λ x y. is_lt (slice_cmp nat_cmp (key_at x) (key_at y))) f
+  as_keys h = always_returns_same g (λ a r. is_lt r ≡ is_lt (slice_cmp nat_cmp (key_at a.0.now) (key_at a.1.0.now))) f (λ a r f' k. (ap is_lt (h a r f' k).0, (h a r f' k).1))
+
+module _ {F : Type 0} {g : Mut F (Bor (Bor Row) × (Bor (Bor Row) × Unit {0})) Ordering} {f : F} where
+  pub sorted-from : (xs : List (Bor Row)) → IsSortedByClosure g f xs → ComparesKeys g f → IsSortedByKey key_at (slice_cmp nat_cmp) xs
+  sorted-from xs up h = up (λ x y. is_lt (slice_cmp nat_cmp (key_at x) (key_at y))) (ranks_by nat_list_cmp_total key_at) (as_keys g f h)
+
+  pub in_turn-from : (xs ys : List (Bor Row)) → IsStableByClosure g f xs ys → ComparesKeys g f → StayInTurn xs ys
+  in_turn-from xs ys stable h = in_turn-from_stable xs ys (stable (λ x y. is_lt (slice_cmp nat_cmp (key_at x) (key_at y))) (ranks_by nat_list_cmp_total key_at) (as_keys g f h))

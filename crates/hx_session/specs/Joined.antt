@@ -1,21 +1,16 @@
--- Rows in a map, by their keys.
-use Rattle.std.specs.Prelude.{◌≡◌, ℕ, List, map, if◌then◌else◌, nat_lt, Option, None, Some}
+-- The rows of parts, and rows that are lent.
+use Rattle.std.specs.Prelude.{ℕ, List, [], map}
 use Rattle.std.specs.Borrow.{Bor}
-use Rattle.std.specs.List.{AllByRecursion}
 use Rattle.hx_types.specs.declared.calls.Row.{Row}
+use Rattle.hx_types.specs.Words.{when_some}
+use Rattle.hx_model.specs.SessionSteps.{Part}
 
--- a key and its row
-abbrev pub Entry : Type 0
-Entry = Bor (List ℕ) × Bor Row
+-- none where the region hasn't answered
+abbrev pub rows_in : Part → List Row
+rows_in p = when_some p.rows [] (λ (rows : List Row). rows)
 
-abbrev pub rows_in : List Entry → List Row
-rows_in es = map (λ (e : Entry). e.1.now) es
+abbrev pub rows_at : List (Bor Row) → List Row
+rows_at lent = map (λ (b : Bor Row). b.now) lent
 
--- each row is of its key
-abbrev pub AreKeyed : List Entry → Type 0
-AreKeyed es = AllByRecursion (λ (e : Entry). e.1.now.key ≡ e.0.now) es
-
--- the row that was found, unless the other has a higher version
-abbrev pub higher_of : Option (Bor Row) → Bor Row → Bor Row
-higher_of None row = row
-higher_of (Some found) row = if nat_lt found.now.version.0 row.now.version.0 then row else found
+abbrev pub key_at : Bor Row → List ℕ
+key_at b = b.now.key
