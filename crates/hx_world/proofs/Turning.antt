@@ -36,7 +36,7 @@ use Rattle.hx_world.specs.Servers as counted_server
 use Rattle.hx_world.specs.Sessions as counted_session
 use Rattle.hx_world.specs.Invariant.{AreAt, IsCoordinatorAfter, IsServerAt, IsSessionAt, IsWorldOf, IsWorldOn, server_at, session_at}
 use Rattle.hx_world.specs.Names.{AreAscending}
-use Rattle.hx_world.specs.Turns.{HasNoTurn, HasTurn, IsAdmitted, IsBarred, does_something}
+use Rattle.hx_world.specs.Turns.{HasNoTurn, HasTurn, IsAdmitted, IsBarred, entry_does_something}
 use Rattle.hx_world.specs.Worlds.{most_entries}
 use Rattle.hx_world.proofs.Advancing.{IsGiven, attended_entry, attended_world, coordinated_entry, coordinated_world, given, served_entry, served_world}
 use Rattle.hx_world.proofs.Seating.{at_set, item_read}
@@ -84,12 +84,12 @@ no_turn script t a input e n Memory is count running b = tt
 no_turn script t a input e n Unsent is count running b = b
 no_turn script t a input e n Halted is count running b = absurd b
 no_turn script t a input e n NotServer is count running b = b
-no_turn script t a input e n Idle is count running b = record { running = running; nothing = ap does_something (sym is) ∙ b }
+no_turn script t a input e n Idle is count running b = record { running = running; nothing = ap entry_does_something (sym is) ∙ b }
 no_turn script t a input e n (Worn x) is count running b =
     let many = b.many in
     record {
       running = running;
-      enough = ap does_something (sym is) ∙ b.enough;
+      enough = ap entry_does_something (sym is) ∙ b.enough;
       worn = le-leb 1048576 (entries_of a t) (omega (arith, many, count));
       actor = b.actor ∙ ap (λ (y : Entry). y.actor) is;
     }
@@ -124,7 +124,7 @@ module _ (script : Script) (actors : Actors) (log : Log) (w : IsWorldOn script a
         → counted_coordinator.HasTaken actors.coordinator actors_after.coordinator input → actors_after.servers.items ≡ actors.servers.items → actors_after.sessions.items ≡ actors.sessions.items
         → Goes script log Coordinator input actors_after after
     coordinated actors_after after may files admitted takes servers sessions =
-        let enough : does_something input (made_of script t Coordinator input) ≡ true = ap does_something (sym coordinated_is) ∙ admitted.enough in
+        let enough : does_something input (made_of script t Coordinator input) ≡ true = ap entry_does_something (sym coordinated_is) ∙ admitted.enough in
         let fresh : entries_of Coordinator t < 1048576 = subst (λ n. n < 1048576) w.coordinator_is.entries admitted.fresh in
         let names = names_now log after (coordinator.coordinator_entry actors.coordinator.coordinator input) (entry_by script t (given Coordinator input)) files coordinated_is in
         let g : IsGiven script t Coordinator input = record { actor = refl; running = refl; may = may; enough = enough; fresh = fresh } in
@@ -199,7 +199,7 @@ module _ (script : Script) (actors : Actors) (log : Log) (w : IsWorldOn script a
       served_at after_server actors_after after may here files takes admitted coordinator servers sessions =
           let a : Actor = Server (server_at (s.0 - 1)) in
           let at = server_here h read in
-          let enough : does_something input (made_of script t a input) ≡ true = ap does_something (sym served_is) ∙ admitted.enough in
+          let enough : does_something input (made_of script t a input) ≡ true = ap entry_does_something (sym served_is) ∙ admitted.enough in
           let fresh : entries_of a t < 1048576 = subst (λ n. n < 1048576) at.entries admitted.fresh in
           let names = names_now log after (server.server_entry h.server.space h.server.state input) (entry_by script t (given a input)) files served_is in
           let g : IsGiven script t a input = record { actor = here; running = running_at; may = may; enough = enough; fresh = fresh } in
@@ -288,7 +288,7 @@ module _ (script : Script) (actors : Actors) (log : Log) (w : IsWorldOn script a
       attended_at after_session actors_after after may here files takes admitted coordinator servers sessions =
           let a : Actor = Session (session_at (u.0 - 1)) in
           let at = session_here x read in
-          let enough : does_something input (made_of script t a input) ≡ true = ap does_something (sym attended_is) ∙ admitted.enough in
+          let enough : does_something input (made_of script t a input) ≡ true = ap entry_does_something (sym attended_is) ∙ admitted.enough in
           let fresh : entries_of a t < 1048576 = subst (λ n. n < 1048576) at.entries admitted.fresh in
           let names = names_now log after (session.session_entry x.session.space x.session.state input) (entry_by script t (given a input)) files attended_is in
           let g : IsGiven script t a input = record { actor = here; running = refl; may = may; enough = enough; fresh = fresh } in

@@ -10,17 +10,17 @@ use Rattle.hx_world.specs.declared.ends.StepError.{StepError}
 use Rattle.hx_world.specs.declared.ends.StepError.TheVariants.{Memory, Unsent, Halted, NotServer, Idle, Worn}
 
 -- the entry is no tick that makes nothing
-abbrev pub does_something : Entry → Bool
-does_something e = does_something e.input (record { posts = e.outputs; notes = e.notes })
+abbrev pub entry_does_something : Entry → Bool
+entry_does_something e = does_something e.input (record { posts = e.outputs; notes = e.notes })
 
 -- an actor that has made so many entries may make this one
 pub record IsAdmitted (e : Entry) (entries : ℕ) : Type 0 where
-  pub enough : does_something e ≡ true
+  pub enough : entry_does_something e ≡ true
   pub fresh : entries < 1048576
 
 -- its entry is one too many
 pub record IsTooMany (e : Entry) (entries : ℕ) (a : Actor) : Type 0 where
-  pub enough : does_something e ≡ true
+  pub enough : entry_does_something e ≡ true
   pub many : 1048576 ≤ entries
   pub actor : a ≡ e.actor
 
@@ -30,7 +30,7 @@ IsBarred e entries Memory = ⊤
 IsBarred e entries Unsent = ⊥
 IsBarred e entries Halted = ⊥
 IsBarred e entries NotServer = ⊥
-IsBarred e entries Idle = does_something e ≡ false
+IsBarred e entries Idle = entry_does_something e ≡ false
 IsBarred e entries (Worn a) = IsTooMany e entries a
 
 -- the actor took the input

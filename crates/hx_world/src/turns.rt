@@ -1,6 +1,6 @@
 ghost use Rattle.std.specs.Prelude.{◌≡◌, ◌≢◌, IfErr, OnOk, not};
 ghost use Rattle.hx_world.specs.declared.ends.StepError.TheVariants.{Memory};
-ghost use Rattle.hx_world.specs.Turns.{IsAdmitted, IsBarred, does_something};
+ghost use Rattle.hx_world.specs.Turns.{IsAdmitted, IsBarred, entry_does_something};
 
 use crate::ends::StepError;
 use hx_types::{Entry, Input};
@@ -26,7 +26,7 @@ pub fn admit(entry: &Entry, entries: u32) -> Result<(), StepError>
 
 /// Whether the entry is a tick that makes nothing.
 fn is_idle(entry: &Entry) -> bool
-    ensures { result ≡ not (does_something entry.now) }
+    ensures { result ≡ not (entry_does_something entry.now) }
 {
     match entry.input {
         Input::Tick => entry.outputs.is_empty() && entry.notes.is_empty(),

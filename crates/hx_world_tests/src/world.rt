@@ -432,7 +432,7 @@ fn replaced_leader<R: Abort + AllocGlobal>(rt: &R, script: &Script) -> Trace
 {
     let mut world = halted_leader(rt, script);
     assert!(rt; matches!(world.drain(rt.alloc(), u64::MAX), Ok(Drained::Quiet)));
-    world.into_trace()
+    world.leave()
 }
 
 #[test]
