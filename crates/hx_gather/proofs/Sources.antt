@@ -25,6 +25,7 @@ use Rattle.hx_clock.specs.declared.parts.Stamped.{Stamped}
 use Rattle.std.specs.List.{AllByRecursion}
 use Rattle.hx_clock.specs.Parts.{all_of, stamps_of, IsCausal}
 use Rattle.hx_law_threads.specs.Merged.{IsMerged}
+use Rattle.hx_gather.proofs.Owning.{length-stamps}
 
 -- a vector's iterator gives its items
 vec_gives : {X Z : Type 0} (xs : List X) (s : IntoIter X Z) → into_iter_items s ≡ xs → AlwaysYields into_iter_steps (λ x. x) s xs
@@ -64,14 +65,10 @@ stamp_at [] i d e h = absurd (omega arith)
 stamp_at (x ∷ xs) zero d e h = refl
 stamp_at (x ∷ xs) (suc i) d e h = stamp_at xs i d e (omega arith)
 
-length_stamps : (xs : List Stamped) → length (stamps_of xs) ≡ length xs
-length_stamps [] = refl
-length_stamps (x ∷ xs) = omega (arith, length_stamps xs)
-
 -- the sorted parts
 sorted_part : (part : List Stamped) → IsStrictlyIncreasing (stamps_of part) → IsSortedBy lt_by part
 sorted_part part h k d low lt =
-    let n = length_stamps part in
+    let n = length-stamps part in
     let a : get_or (stamps_of part) k 0 < get_or (stamps_of part) (k + 1) 0 = h k (omega arith) in
     let b = stamp_at part k d 0 (omega arith) in
     let c = stamp_at part (k + 1) d 0 (omega arith) in
@@ -88,7 +85,7 @@ rising_stamps : (xs : List Stamped) → IsSortedBy lt_by xs → IsDistinct eqb (
 rising_stamps xs up differ =
     IsStrictlyIncreasing-from_distinct (stamps_of xs)
     (λ i j d le lt.
-    let n = length_stamps xs in
+    let n = length-stamps xs in
     let f = sorted_far lt_by by_stamp xs up i j some_stamped le (omega arith) in
     let g = ltb-false (get_or xs j some_stamped).stamp.0 (get_or xs i some_stamped).stamp.0 f in
     let b = stamp_at xs i some_stamped d (omega arith) in

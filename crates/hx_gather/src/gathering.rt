@@ -6,7 +6,7 @@ ghost use Rattle.hx_clock.specs.declared.parts.Stamped.{Stamped};
 ghost use Rattle.hx_law_threads.specs.Merged.{AreOwnParts, AreWholeParts, HasOwnParts, HasStampsAsPlaces, IsMerged};
 ghost use Rattle.hx_gather.specs.Gathered.{parts_by, parts_of, CountsAll, IsSeated};
 
-use crate::merging::merge_lists;
+use crate::arranging::arrange;
 use hx_clock::{Clock, Part, Seat, Stamped};
 use hx_trace::Trace;
 use hx_types::{Actor, Memory};
@@ -28,7 +28,8 @@ pub struct SeatedPart {
 /// that script, and each actor's entries in it are its part: so its state at the end is the one that
 /// it has. Whatever the threads did, the laws over all runs hold of it.
 ///
-/// The entries are moved and not copied: beside the parts there is memory for the trace alone.
+/// The entries are moved and not copied: beside the parts there is memory for the trace, a number for
+/// each entry, and an iterator for each part.
 pub fn gather(
     alloc: Global,
     clock: Clock,
@@ -45,7 +46,7 @@ pub fn gather(
     ensures own { IfOk result (λ trace. (script : Script) → AreOwnParts script (parts_by actors.items) → HasOwnParts (parts_by actors.items) (reverse trace)) }
 {
     let lists = collect(alloc, clock, seat, actors)?;
-    merge_lists(alloc, lists)
+    arrange(alloc, lists)
 }
 
 /// The parts as vectors, once the counting seat has taken in the seats of all actors.

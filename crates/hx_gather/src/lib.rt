@@ -3,6 +3,7 @@
 //! No contract says that there is memory for a trace. Tests merge and gather the parts of actors.
 #![tactic(auto)]
 
+mod arranging;
 mod gathering;
 mod merging;
 

@@ -1,6 +1,6 @@
-ghost use Rattle.std.specs.Prelude.{◌≡◌, List, map, IfOk};
+ghost use Rattle.std.specs.Prelude.{◌≡◌, List, length, map, IfOk};
 ghost use Rattle.hx_clock.specs.declared.parts.Stamped.{Stamped};
-ghost use Rattle.hx_clock.specs.Parts.{IsCausal};
+ghost use Rattle.hx_clock.specs.Parts.{all_of, IsCausal};
 ghost use Rattle.hx_law_threads.specs.Merged.{IsMerged};
 
 use hx_clock::{Parts, Stamped};
@@ -20,24 +20,26 @@ pub fn merge(alloc: Global, parts: Parts) -> Result<Trace, Memory>
 
 // The entries of the lists in the order of their stamps. There is room for the heads of all before the
 // first is moved.
-pub(crate) fn merge_lists(alloc: Global, lists: Vec<Vec<Stamped>>) -> Result<Trace, Memory>
+fn merge_lists(alloc: Global, lists: Vec<Vec<Stamped>>) -> Result<Trace, Memory>
     requires causal { IsCausal (map (λ list. list.items) lists.items) }
     ensures merged { IfOk result (λ trace. (merged : List Stamped) × IsMerged (map (λ list. list.items) lists.items) merged × (trace ≡ map (λ x. x.entry) merged)) }
 {
-    let mut trace = Trace::with_capacity(alloc, entries_in(lists.as_slice()))?;
+    let mut trace = Trace::with_capacity(alloc, entries_in(lists.as_slice())?)?;
     for stamped in lists.into_iter().kmerge(alloc)? {
         trace.push(stamped.entry)?;
     }
     Ok(trace)
 }
 
-// How many entries the lists have, up to the greatest number that there is.
-fn entries_in(lists: &[Vec<Stamped>]) -> usize {
+// How many entries the lists have. Where they are more than a number can say, there is no memory for them.
+pub(crate) fn entries_in(lists: &[Vec<Stamped>]) -> Result<usize, Memory>
+    ensures { IfOk result (λ entries. entries ≡ length (all_of (map (λ list. list.items) lists.now))) }
+{
     let mut entries: usize = 0;
     for list in lists {
-        entries = entries.saturating_add(list.len());
+        entries = entries.checked_add(list.len()).ok_or(Memory)?;
     }
-    entries
+    Ok(entries)
 }
 
 // The parts as vectors.

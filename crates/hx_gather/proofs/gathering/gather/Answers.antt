@@ -1,19 +1,19 @@
 use Rattle.std.proofs.Common.{map, sym, subst}
 use Rattle.std.specs.Prelude.{IfOk}
-use Rattle.hx_clock.specs.Parts.{IsCausal}
+use Rattle.hx_law_threads.specs.Merged.{AreWholeParts}
 use Rattle.hx_gather.proofs.Gathers.{gathers, part_of_it, IsGathered}
 use Rattle.hx_gather.proofs.gathering.gather.Goals as goal
 
-pub merge_lists-requires : goal.merge_lists-requires
-merge_lists-requires c = record { causal = subst IsCausal (sym c.in_ok-lists.ensures.parts) c.in_ok-lists.ensures.whole.causal }
+pub arrange-requires : goal.arrange-requires
+arrange-requires c = record { whole = subst AreWholeParts (sym c.in_ok-lists.ensures.parts) c.in_ok-lists.ensures.whole }
 
-it : (c : goal.After-merge_lists) → IfOk c.merge_lists.result (IsGathered c.args.actors.items)
-it c = gathers c.args.actors.items (map (λ list. list.items) c.in_ok-lists.lists.items) c.merge_lists.result c.in_ok-lists.ensures.parts c.in_ok-lists.ensures.whole c.merge_lists.ensures.merged
+it : (c : goal.After-arrange) → IfOk c.arrange.result (IsGathered c.args.actors.items)
+it c = gathers c.args.actors.items (map (λ list. list.items) c.in_ok-lists.lists.items) c.arrange.result c.in_ok-lists.ensures.parts c.in_ok-lists.ensures.whole c.arrange.ensures.merged
 
 pub returns : goal.returns
 returns c = record {
-  whole = part_of_it c.merge_lists.result _ _ (λ trace g. g.whole) (it c);
-  parts = part_of_it c.merge_lists.result _ _ (λ trace g. g.parts) (it c);
-  run = part_of_it c.merge_lists.result _ _ (λ trace g. g.run) (it c);
-  own = part_of_it c.merge_lists.result _ _ (λ trace g. g.own) (it c);
+  whole = part_of_it c.arrange.result _ _ (λ trace g. g.whole) (it c);
+  parts = part_of_it c.arrange.result _ _ (λ trace g. g.parts) (it c);
+  run = part_of_it c.arrange.result _ _ (λ trace g. g.run) (it c);
+  own = part_of_it c.arrange.result _ _ (λ trace g. g.own) (it c);
 }
