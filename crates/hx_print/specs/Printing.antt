@@ -1,5 +1,5 @@
 -- The plain text of a script: single spaces between parts, none round `=`, `.` and `..`, none before `,` and one after it.
-use Rattle.std.specs.Prelude.{ℕ, ◌+◌, ◌-◌, ℤ, List, [], ◌∷◌, ◌++◌, codes, ◌==◌, if◌then◌else◌, slice_get}
+use Rattle.std.specs.Prelude.{ℕ, ◌+◌, ◌-◌, ℤ, Bool, not, ◌||◌, List, [], ◌∷◌, ◌++◌, codes, ◌==◌, if◌then◌else◌, slice_get}
 use Rattle.std.specs.List.{flat_map}
 use Rattle.std.specs.Fmt.{decimal, signed_decimal}
 use Rattle.hx_types.specs.declared.ids.Actor.{Actor}
@@ -42,6 +42,10 @@ escape b =
     else if b == 10 then codes "\\n"
     else if b == 9 then codes "\\t"
     else b ∷ []
+
+-- a byte that stands between quotes as it is
+abbrev pub is_plain : ℕ → Bool
+is_plain b = not (b == 34 || b == 92 || b == 10 || b == 9)
 
 -- a text in quotes
 unfoldable pub quoted : List ℕ → List ℕ

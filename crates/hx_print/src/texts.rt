@@ -1,7 +1,8 @@
 //! Texts in quotes, and values.
 
 ghost use Rattle.std.specs.Prelude.{◌≡◌, ◌++◌, IfOk, OnOk};
-ghost use Rattle.hx_print.specs.Printing.{escape, named_text, quoted, value_text};
+ghost use Rattle.std.specs.List.{flat_map, list_all};
+ghost use Rattle.hx_print.specs.Printing.{escape, is_plain, named_text, quoted, value_text};
 
 use crate::numbers::put_signed;
 use hx_types::{Memory, Text, Value};
@@ -27,15 +28,40 @@ fn put_escaped(out: &mut Vec<u8>, byte: u8) -> Result<(), Memory>
     }
 }
 
+/// Whether a byte stands between quotes as it is.
+fn is_plain(byte: u8) -> bool
+    ensures { result ≡ is_plain byte }
+{
+    !matches!(byte, b'"' | b'\\' | b'\n' | b'\t')
+}
+
+/// Whether all bytes stand between quotes as they are.
+fn are_plain(bytes: &[u8]) -> bool
+    ensures { result ≡ list_all is_plain bytes.now }
+{
+    bytes.iter().all(|byte| is_plain(*byte))
+}
+
+/// Appends the bytes of a text, as they stand between quotes: at once where all stand as they are.
+fn put_between(out: &mut Vec<u8>, bytes: &[u8]) -> Result<(), Memory>
+    ensures { OnOk result (out.new.items ≡ out.old.items ++ flat_map escape bytes.now) }
+{
+    if are_plain(bytes) {
+        return put_bytes(out, bytes);
+    }
+    for byte in bytes {
+        put_escaped(out, *byte)?;
+    }
+    Ok(())
+}
+
 /// Appends a text in quotes.
 #[tactic(auto, unfolding(crate::specs::Printing::quoted))]
 pub fn put_text(out: &mut Vec<u8>, text: &Text) -> Result<(), Memory>
     ensures { OnOk result (out.new.items ≡ out.old.items ++ quoted text.now) }
 {
     put_bytes(out, b"\"")?;
-    for byte in text.as_bytes() {
-        put_escaped(out, *byte)?;
-    }
+    put_between(out, text.as_bytes())?;
     put_bytes(out, b"\"")
 }
 
