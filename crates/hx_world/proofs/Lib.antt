@@ -9,5 +9,6 @@ pub mod Advancing
 pub mod Turning
 pub mod Stepping
 pub mod Scheduling
+pub mod Delivering
 pub mod Beginning
 pub mod Spending

@@ -1,5 +1,5 @@
 -- Which session begins its next call, and which step the schedule takes next.
-use Rattle.std.specs.Prelude.{◌≡◌, ℕ, ◌<◌, Bool, true, false, List, length, slice_get, Some}
+use Rattle.std.specs.Prelude.{◌≡◌, ℕ, ◌<◌, Bool, true, false, List, length, slice_get, None, Some}
 use Rattle.hx_types.specs.declared.messages.Post.{Post}
 use Rattle.hx_types.specs.declared.messages.PostId.{PostId}
 use Rattle.hx_types.specs.declared.traces.Entry.{Entry}
@@ -9,7 +9,8 @@ use Rattle.hx_types.specs.Words.{when_some}
 use Rattle.hx_model.specs.Runs.{has_halted, post_named}
 use Rattle.hx_model.specs.Schedule.{Next, delivery_of, fault_of, first_delivery, is_idle, next_input, step_input, undelivered, worn_fault}
 use Rattle.hx_world.specs.declared.sessions.CountedSession.{CountedSession}
-use Rattle.hx_world.specs.Worlds.{IsStepOf}
+use Rattle.hx_world.specs.declared.ends.StepError.{StepError}
+use Rattle.hx_world.specs.Worlds.{Advances, IsStepOf, Refuses}
 
 -- the session of this place has a call left and none under way
 abbrev pub is_idle_at : List CountedSession → ℕ → Bool
@@ -38,3 +39,17 @@ pub record IsPostedFirst (script : Script) (t : List Entry) (id : PostId) : Type
   pub named : post_named id t ≡ Some sent
   pub running : has_halted script t sent.to ≡ false
   pub first : first_delivery script t (undelivered t) ≡ Some (delivery_of id sent)
+
+-- the post of this name was sent to an actor that hasn't halted
+pub record IsRunningPost (script : Script) (t : List Entry) (id : PostId) (p : Post) : Type 0 where
+  pub named : post_named id t ≡ Some p
+  pub running : has_halted script t p.to ≡ false
+
+-- the first delivery was made, if there is one
+abbrev pub Delivers : Script → List Entry → List Entry → Bool → Type 0
+Delivers script old new true = Advances script old new true
+Delivers script old new false = first_delivery script old (undelivered old) ≡ None
+
+-- why the next step wasn't made
+abbrev pub RefusesNext : Script → List Entry → StepError → Type 0
+RefusesNext script t e = (step : Step) × IsNextStep script t step × Refuses script t step e

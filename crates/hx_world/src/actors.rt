@@ -54,6 +54,26 @@ pub fn actor_takes(
     if has_halted(cluster, actor) {
         return Err(StepError::Halted);
     }
+    running_takes(alloc, cluster, actor, input)
+}
+
+/// An actor that hasn't halted takes an input, if the entry that it makes of it may be made.
+pub fn running_takes(
+    alloc: Global,
+    cluster: &mut Cluster,
+    actor: Actor,
+    input: Input,
+) -> Result<(), StepError>
+    requires world { IsWorld cluster.old }
+    requires actor { is_actor cluster.old.script.now actor ≡ true }
+    requires running { has_halted cluster.old.script.now (reverse cluster.old.log.trace) actor ≡ false }
+    requires may { MayTake (reverse cluster.old.log.trace) actor input }
+    ensures world { IsWorld cluster.new }
+    ensures script { cluster.new.script.now ≡ cluster.old.script.now }
+    ensures ok { OnOk result (HasTurn cluster.old.script.now (reverse cluster.old.log.trace) (reverse cluster.new.log.trace) actor input) }
+    ensures err { IfErr result (HasNoTurn cluster.old.script.now (reverse cluster.old.log.trace) actor input) }
+    ensures same { OnErr result (cluster.new.log.trace ≡ cluster.old.log.trace) }
+{
     match actor {
         Actor::Coordinator => to_coordinator(alloc, cluster, input),
         Actor::Server(server) => to_server(alloc, cluster, server, input),

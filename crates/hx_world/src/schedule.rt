@@ -1,18 +1,18 @@
-ghost use Rattle.std.specs.Prelude.{◌≡◌, None, IfOk, OnErr, IfErr, MatchOption, is_some, reverse};
+ghost use Rattle.std.specs.Prelude.{◌≡◌, None, false, IfOk, OnErr, IfErr, IfNone, IfSome, MatchOption, is_some, reverse};
 ghost use Rattle.hx_model.specs.Schedule.{first_delivery, next_entry, next_input, undelivered};
-ghost use Rattle.hx_world.specs.Idle.{IsFirstIdle, IsNextStep, IsNoneIdle, IsPostedFirst};
+ghost use Rattle.hx_world.specs.Idle.{Delivers, IsFirstIdle, IsNextStep, IsNoneIdle, IsPostedFirst, IsRunningPost, RefusesNext};
 ghost use Rattle.hx_world.specs.Invariant.{IsWorld};
 ghost use Rattle.hx_world.specs.Names.{can_receive};
 ghost use Rattle.hx_world.specs.Worlds.{Advances, Fails, drain_error};
 
-use crate::actors::has_halted;
+use crate::actors::{has_halted, running_takes};
 use crate::clusters::Cluster;
 use crate::ends::{DrainError, StepError};
 use crate::logs::sent_post;
 use crate::sessions::CountedSession;
-use crate::steps::take_step;
+use crate::steps::{delivery, tick};
 use crate::waiting::lowest;
-use hx_types::{Actor, PostId, SessionId, Step};
+use hx_types::{Actor, Post, PostId, SessionId, Step};
 use std::alloc::Global;
 
 /// Makes the next entry, if there is one.
@@ -24,15 +24,69 @@ pub fn advance(alloc: Global, cluster: &mut Cluster) -> Result<bool, DrainError>
     ensures fails { IfErr result (Fails cluster.old.script.now (reverse cluster.old.log.trace)) }
     ensures err { OnErr result (cluster.new.log.trace ≡ cluster.old.log.trace) }
 {
-    let Some(next) = next_step(cluster) else {
-        return Ok(false);
-    };
-    match take_step(alloc, cluster, &next) {
-        Ok(()) => Ok(true),
+    match make_next(alloc, cluster) {
+        Ok(made) => Ok(made),
         Err(error) => match drain_error(error) {
             Some(error) => Err(error),
             None => unreachable!(),
         },
+    }
+}
+
+/// Makes the next entry, if there is one: the delivery of the lowest post that waits for an actor that
+/// hasn't halted, else a tick of the lowest idle session.
+fn make_next(alloc: Global, cluster: &mut Cluster) -> Result<bool, StepError>
+    requires world { IsWorld cluster.old }
+    ensures world { IsWorld cluster.new }
+    ensures script { cluster.new.script.now ≡ cluster.old.script.now }
+    ensures advances { IfOk result (Advances cluster.old.script.now (reverse cluster.old.log.trace) (reverse cluster.new.log.trace)) }
+    ensures refused { IfErr result (RefusesNext cluster.old.script.now (reverse cluster.old.log.trace)) }
+    ensures err { OnErr result (cluster.new.log.trace ≡ cluster.old.log.trace) }
+{
+    if deliver_next(alloc, cluster)? {
+        return Ok(true);
+    }
+    let Some(place) = first_idle(cluster.actors.sessions.as_slice()) else {
+        return Ok(false);
+    };
+    tick(alloc, cluster, Actor::Session(SessionId(place as u32 + 1)))?;
+    Ok(true)
+}
+
+/// Delivers the lowest post that waits for an actor that hasn't halted, if there is one. The names before it
+/// go: who has halted takes no post any more.
+fn deliver_next(alloc: Global, cluster: &mut Cluster) -> Result<bool, StepError>
+    requires world { IsWorld cluster.old }
+    ensures world { IsWorld cluster.new }
+    ensures script { cluster.new.script.now ≡ cluster.old.script.now }
+    ensures delivers { IfOk result (Delivers cluster.old.script.now (reverse cluster.old.log.trace) (reverse cluster.new.log.trace)) }
+    ensures rests { IfOk result (λ made. made ≡ false → cluster.new.log.trace ≡ cluster.old.log.trace) }
+    ensures refused { IfErr result (RefusesNext cluster.old.script.now (reverse cluster.old.log.trace)) }
+    ensures err { OnErr result (cluster.new.log.trace ≡ cluster.old.log.trace) }
+{
+    while let Some(id) = lowest(&cluster.log.waiting) {
+        if let Some(post) = running_post(cluster, id) {
+            let to = post.to;
+            let Ok(input) = delivery(alloc, id, post) else {
+                return Err(StepError::Memory);
+            };
+            running_takes(alloc, cluster, to, input)?;
+            return Ok(true);
+        }
+        let _ = cluster.log.waiting.pop_front();
+    }
+    Ok(false)
+}
+
+/// The post of a name, if its receiver hasn't halted.
+fn running_post<'a>(cluster: &'a Cluster<'_>, id: PostId) -> Option<&'a Post>
+    requires world { IsWorld cluster.now }
+    ensures some { IfSome result (λ post. IsRunningPost cluster.now.script.now (reverse cluster.now.log.trace) id post.now) }
+    ensures none { IfNone result (can_receive cluster.now.script.now (reverse cluster.now.log.trace) id ≡ false) }
+{
+    match sent_post(&cluster.log, id) {
+        Some(post) if !has_halted(cluster, post.to) => Some(post),
+        _ => None,
     }
 }
 
@@ -85,23 +139,12 @@ fn first_waiting(cluster: &mut Cluster) -> Option<PostId>
     ensures first { MatchOption result (first_delivery cluster.old.script.now (reverse cluster.old.log.trace) (undelivered (reverse cluster.old.log.trace)) ≡ None) (IsPostedFirst cluster.old.script.now (reverse cluster.old.log.trace)) }
 {
     while let Some(id) = lowest(&cluster.log.waiting) {
-        if is_received(cluster, id) {
+        if running_post(cluster, id).is_some() {
             return Some(id);
         }
         let _ = cluster.log.waiting.pop_front();
     }
     None
-}
-
-/// Whether the receiver of a post takes posts.
-fn is_received(cluster: &Cluster, id: PostId) -> bool
-    requires world { IsWorld cluster.now }
-    ensures { result ≡ can_receive cluster.now.script.now (reverse cluster.now.log.trace) id }
-{
-    match sent_post(&cluster.log, id) {
-        Some(post) => !has_halted(cluster, post.to),
-        None => false,
-    }
 }
 
 /// The lowest session with a call left and none under way, by its place from 0.

@@ -50,7 +50,7 @@ fn deliver(alloc: Global, cluster: &mut Cluster, id: PostId) -> Result<(), StepE
 }
 
 /// The input that a post is to its receiver.
-fn delivery(alloc: Global, id: PostId, post: &Post) -> Result<Input, Memory>
+pub fn delivery(alloc: Global, id: PostId, post: &Post) -> Result<Input, Memory>
     ensures { IfOk result (λ input. input ≡ an_input.Deliver id post.now.from post.now.message) }
 {
     Ok(Input::Deliver {
@@ -62,7 +62,7 @@ fn delivery(alloc: Global, id: PostId, post: &Post) -> Result<Input, Memory>
 
 /// An actor has its own turn.
 #[inline(never)]
-fn tick(alloc: Global, cluster: &mut Cluster, actor: Actor) -> Result<(), StepError>
+pub fn tick(alloc: Global, cluster: &mut Cluster, actor: Actor) -> Result<(), StepError>
     requires world { IsWorld cluster.old }
     requires actor { is_actor cluster.old.script.now actor ≡ true }
     ensures world { IsWorld cluster.new }

@@ -2,7 +2,7 @@ use Rattle.std.proofs.Common.{sym, ap, ◌∙◌}
 use Rattle.std.specs.Option.{option_copied}
 use Rattle.std.specs.Prelude.{reverse}
 use Rattle.hx_world.proofs.Taking.{actor_here}
-use Rattle.hx_world.proofs.schedule.is_received.Goals as goal
+use Rattle.hx_world.proofs.schedule.running_post.Goals as goal
 
 pub has_halted-requires-clause-actor : goal.has_halted-requires-clause-actor
 has_halted-requires-clause-actor c =
