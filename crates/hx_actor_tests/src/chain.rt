@@ -38,7 +38,8 @@ fn servers(rt: &impl Abort, alloc: Global, left: &[u32]) -> ServerList {
     servers
 }
 
-fn config(rt: &impl Abort, alloc: Global, left: &[u32]) -> Config {
+/// The first configuration, of eight regions, with the servers that are left of four.
+pub fn config(rt: &impl Abort, alloc: Global, left: &[u32]) -> Config {
     let mut regions = RegionLists::new(alloc);
     for region in 0..8 {
         regions

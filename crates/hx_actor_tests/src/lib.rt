@@ -9,6 +9,8 @@ mod coord;
 #[cfg(test)]
 mod index;
 #[cfg(test)]
+mod leader;
+#[cfg(test)]
 mod replica;
 #[cfg(test)]
 mod rows;
