@@ -1,11 +1,13 @@
 -- Entries that are taken in the order of their stamps, each from the part that its owner is.
-use Rattle.std.proofs.Common.{◌≡◌, ℕ, zero, suc, ◌+◌, ◌-◌, ◌<◌, ◌≤◌, inl, inr, eqb, false, List, [], ◌∷◌, ◌++◌, map, length, get_or, set, refl, ap, sym, subst, ◌∙◌, arith, append-nil, length-append, eq-eqb}
-use Rattle.std.specs.Prelude.{IsPermutation}
+use Rattle.std.proofs.Common.{◌≡◌, ℕ, zero, suc, ◌+◌, ◌-◌, ◌<◌, ◌≤◌, inl, inr, eqb, false, List, [], ◌∷◌, ◌++◌, map, length, get_or, set, take, drop, refl, ap, sym, subst, ◌∙◌, arith, append-nil, length-append, eq-eqb}
+use Rattle.std.specs.Prelude.{IsPermutation, Result, IfOk, Ok, Err}
+use Rattle.hx_types.specs.declared.errors.Memory.{Memory}
+use Rattle.hx_types.specs.declared.traces.Entry.{Entry}
 use Rattle.std.specs.List.{AllByRecursion, IsDistinct}
 use Rattle.std.specs.List.Sorted.{IsStrictlyIncreasing}
 use Rattle.std.proofs.lemmas.Bool.{true≢false}
 use Rattle.std.proofs.lemmas.Bool.Decides.{nat_tests}
-use Rattle.std.proofs.lemmas.List.{length-map, map-set, get_or-set_same, get_or-set_other, get_or-append_right, get_or_append_left}
+use Rattle.std.proofs.lemmas.List.{append_assoc, drop_more, length-drop, get_or-set_same, get_or-set_other, get_or-append_right, get_or_append_left}
 use Rattle.std.proofs.lemmas.List.Sorted.{IsPermutation-refl, IsPermutation-trans, IsPermutation-append_right, IsPermutation-middle, IsPermutation-map, IsPermutation-pop_more, length_permutation}
 use Rattle.std.proofs.lemmas.Map.Keys.{IsDistinct-IsPermutation}
 use Rattle.hx_types.specs.Words.{below, IsIn}
@@ -14,8 +16,9 @@ use Rattle.hx_clock.specs.Parts.{all_of, stamps_of}
 use Rattle.hx_clock.proofs.Lists.{each_in, in_right}
 use Rattle.hx_law_threads.specs.Merged.{AreWholeParts, HasStampsAsPlaces, IsMerged}
 use Rattle.hx_law_threads.proofs.Lists.{in_map, map_append}
-use Rattle.hx_gather.specs.Owners.{part_at, AreOwners}
-use Rattle.hx_gather.proofs.Owning.{each_at, in_at, in_below, in_parts, length-below, length-stamps, part_is, same_or_less, same_or_not}
+use Rattle.hx_trace.specs.Turns.{in_turns, part_at}
+use Rattle.hx_gather.specs.Owners.{AreOwners}
+use Rattle.hx_gather.proofs.Owning.{each_at, in_at, in_below, in_parts, length-below, length-stamps, same_or_less, same_or_not}
 
 -- the entries with the first n stamps are merged, and the rests have the others
 pub record IsArranged (parts rests : List (List Stamped)) (owners : List ℕ) (n : ℕ) (merged : List Stamped) : Type 0 where
@@ -24,15 +27,9 @@ pub record IsArranged (parts rests : List (List Stamped)) (owners : List ℕ) (n
   pub ascend : AllByRecursion (λ part. IsStrictlyIncreasing (stamps_of part)) rests
   pub own : (m : ℕ) → n ≤ m → m < length owners → IsIn m (stamps_of (part_at rests (get_or owners m 0)))
 
--- the owners of the lists, as they are lent
-pub same_owners : {V : Type 0} (items : V → List Stamped) (lists shown : List V) (owners lent : List ℕ) → shown ≡ lists → lent ≡ owners → AreOwners owners (map items shown) → AreOwners lent (map items lists)
-same_owners items lists shown owners lent e f o = subst (λ ls. AreOwners lent (map items ls)) e (subst (λ os. AreOwners os (map items shown)) (sym f) o)
-
 -- before the first entry is taken
-pub arranged_first : (parts rests : List (List Stamped)) (owners : List ℕ) → AreWholeParts parts → AreOwners owners parts → rests ≡ parts → IsArranged parts rests owners 0 []
-arranged_first parts rests owners whole o same =
-    subst (λ ps. IsArranged parts ps owners 0 []) (sym same)
-    (record { stamps = refl; all = IsPermutation-refl (all_of parts); ascend = whole.causal.ascend; own = λ m le lt. o.own m lt })
+arranged_first : (parts : List (List Stamped)) (owners : List ℕ) → AreWholeParts parts → AreOwners owners parts → IsArranged parts parts owners 0 []
+arranged_first parts owners whole o = record { stamps = refl; all = IsPermutation-refl (all_of parts); ascend = whole.causal.ascend; own = λ m le lt. o.own m lt }
 
 nothing_left : {A : Type 0} (xs : List A) → length xs ≡ 0 → xs ≡ []
 nothing_left [] e = refl
@@ -46,14 +43,6 @@ in_place (p ∷ ps) (suc place) m i = let r = in_place ps place m i in omega (ar
 -- the owner of the next stamp is a place of a part
 next_owner : (parts rests : List (List Stamped)) (owners : List ℕ) (n : ℕ) (merged : List Stamped) → IsArranged parts rests owners n merged → n < length owners → get_or owners n 0 < length rests
 next_owner parts rests owners n merged h lt = in_place rests (get_or owners n 0) n (h.own n (omega arith) lt)
-
--- its part has an entry left
-pub next_there : {V : Type 0} (items : V → List Stamped) (parts : List (List Stamped)) (lists : List V) (owners : List ℕ) (n : ℕ) (merged : List Stamped) (list : V)
-    → IsArranged parts (map items lists) owners n merged → n < length owners → list ≡ get_or lists (get_or owners n 0) list → length (items list) ≡ 0 → ⊥
-next_there items parts lists owners n merged list h lt is none =
-    let at = next_owner parts (map items lists) owners n merged h lt in
-    let e : part_at (map items lists) (get_or owners n 0) ≡ [] = part_is items lists (get_or owners n 0) list (omega (arith, at, length-map lists items)) is ∙ nothing_left (items list) none in
-    subst (λ ps. IsIn n (stamps_of ps)) e (h.own n (omega arith) lt)
 
 -- the first stamp of a part is below the later ones
 abbrev IsRising : List Stamped → Type 0
@@ -134,16 +123,6 @@ module _ (parts rests : List (List Stamped)) (owners : List ℕ) (n : ℕ) (merg
         own = own_left;
       }
 
--- the next entry is taken from its list
-pub arranged_next : {V : Type 0} (items : V → List Stamped) (parts : List (List Stamped)) (lists : List V) (owners : List ℕ) (n : ℕ) (merged : List Stamped) (list left : V) (x : Stamped) → AreWholeParts parts
-    → IsArranged parts (map items lists) owners n merged → n < length owners → list ≡ get_or lists (get_or owners n 0) list → items list ≡ x ∷ items left
-    → IsArranged parts (map items (set lists (get_or owners n 0) left)) owners (n + 1) (merged ++ x ∷ [])
-arranged_next items parts lists owners n merged list left x whole h lt is e =
-    let at = next_owner parts (map items lists) owners n merged h lt in
-    let here : part_at (map items lists) (get_or owners n 0) ≡ x ∷ items left = part_is items lists (get_or owners n 0) list (omega (arith, at, length-map lists items)) is ∙ e in
-    subst (λ ps. IsArranged parts ps owners (n + 1) (merged ++ x ∷ [])) (sym (map-set items lists (get_or owners n 0) left))
-    (arranged_more parts (map items lists) owners n merged x (items left) whole h lt here)
-
 at_below : (n k : ℕ) → k < n → get_or (below n) k 0 ≡ k
 at_below zero k lt = absurd (omega arith)
 at_below (suc n) k lt = elim (same_or_less k n lt) [
@@ -155,7 +134,7 @@ rising_below : (n : ℕ) → IsStrictlyIncreasing (below n)
 rising_below n k lt = omega (arith, lt, length-below n, at_below n k (omega (arith, lt, length-below n)), at_below n (k + 1) (omega (arith, lt, length-below n)))
 
 -- once all stamps are done, all entries are merged
-pub arranged_all : (parts rests : List (List Stamped)) (owners : List ℕ) (n : ℕ) (merged : List Stamped) → AreOwners owners parts → length owners ≡ n → IsArranged parts rests owners n merged
+arranged_all : (parts rests : List (List Stamped)) (owners : List ℕ) (n : ℕ) (merged : List Stamped) → AreOwners owners parts → length owners ≡ n → IsArranged parts rests owners n merged
     → IsMerged parts merged × HasStampsAsPlaces merged
 arranged_all parts rests owners n merged o end h =
     let long : length merged ≡ n = sym (length-stamps merged) ∙ ap length h.stamps ∙ length-below n in
@@ -166,3 +145,48 @@ arranged_all parts rests owners n merged o end h =
       },
       h.stamps ∙ ap below (sym long),
     )
+
+-- a part with a stamp has a first entry
+first_of_part : (part : List Stamped) (n : ℕ) → IsIn n (stamps_of part) → (x : Stamped) × (rest : List Stamped) × (part ≡ x ∷ rest)
+first_of_part [] n i = absurd i
+first_of_part (x ∷ rest) n i = (x, rest, refl)
+
+-- an owner's turn takes the first entry of its part
+turn_taken : (rests : List (List Stamped)) (owner : ℕ) (todo : List ℕ) (merged : List Stamped) (x : Stamped) (rest : List Stamped) → part_at rests owner ≡ x ∷ rest
+    → map (λ (y : Stamped). y.entry) merged ++ in_turns rests (owner ∷ todo) ≡ map (λ (y : Stamped). y.entry) (merged ++ x ∷ []) ++ in_turns (set rests owner rest) todo
+turn_taken rests owner todo merged x rest e =
+    let done : List Entry = map (λ (y : Stamped). y.entry) merged in
+    let later : List Entry = in_turns (set rests owner rest) todo in
+    let turn : in_turns rests (owner ∷ todo) ≡ x.entry ∷ later = ap (λ q. map (λ (y : Stamped). y.entry) (take 1 q) ++ in_turns (set rests owner (drop 1 q)) todo) e in
+    rw (turn, map_append (λ (y : Stamped). y.entry) merged (x ∷ [])) (sym (append_assoc done (x.entry ∷ []) later))
+
+-- the entries are those of the merge of the parts
+abbrev pub IsMergeOf : List (List Stamped) → List Entry → Type 0
+IsMergeOf parts entries = (merged : List Stamped) × IsMerged parts merged × HasStampsAsPlaces merged × (entries ≡ map (λ (x : Stamped). x.entry) merged)
+
+same_merge : (parts : List (List Stamped)) (some same : List Entry) → some ≡ same → IsMergeOf parts same → IsMergeOf parts some
+same_merge parts some same e h = (h.0, h.1, h.2, e ∙ h.3)
+
+-- what the owners take in turn from what is left completes the merge
+arranged_rest : (todo : List ℕ) (parts rests : List (List Stamped)) (owners : List ℕ) (n : ℕ) (merged : List Stamped) → AreWholeParts parts → AreOwners owners parts → IsArranged parts rests owners n merged
+    → n ≤ length owners → drop n owners ≡ todo → IsMergeOf parts (map (λ (x : Stamped). x.entry) merged ++ in_turns rests todo)
+arranged_rest [] parts rests owners n merged whole o h le e =
+    let none : length (drop n owners) ≡ 0 = ap length e in
+    let a = arranged_all parts rests owners n merged o (omega (arith, le, none, length-drop n owners)) h in
+    (merged, a.0, a.1, append-nil (map (λ (x : Stamped). x.entry) merged))
+arranged_rest (owner ∷ todo) parts rests owners n merged whole o h le e =
+    let some : length (drop n owners) ≡ suc (length todo) = ap length e in
+    let lt : n < length owners = omega (arith, le, some, length-drop n owners) in
+    let step : get_or owners n 0 ∷ drop (n + 1) owners ≡ owner ∷ todo = sym (drop_more owners n 0 lt) ∙ e in
+    let same : owner ≡ get_or owners n 0 = sym (ap (λ l. get_or l 0 0) step) in
+    let f = first_of_part (part_at rests (get_or owners n 0)) n (h.own n (omega arith) lt) in
+    let left = set rests (get_or owners n 0) f.1 in
+    let next = arranged_rest todo parts left owners (n + 1) (merged ++ f.0 ∷ []) whole o (arranged_more parts rests owners n merged f.0 f.1 whole h lt f.2) (omega (arith, lt)) (ap (drop 1) step) in
+    same_merge parts _ _ (ap (λ k. map (λ (x : Stamped). x.entry) merged ++ in_turns rests (k ∷ todo)) same) (same_merge parts _ _ (turn_taken rests (get_or owners n 0) todo merged f.0 f.1 f.2) next)
+
+-- what the owners of all stamps take in turn is the merge of the parts
+pub arranged : (parts : List (List Stamped)) (owners lent : List ℕ) (result : Result (List Entry) Memory) → AreWholeParts parts → AreOwners owners parts → lent ≡ owners → IfOk result (λ made. made ≡ in_turns parts lent)
+    → IfOk result (IsMergeOf parts)
+arranged parts owners lent (Err e) whole o same h = h
+arranged parts owners lent (Ok made) whole o same h =
+    same_merge parts made (in_turns parts owners) (h ∙ ap (in_turns parts) same) (arranged_rest owners parts parts owners 0 [] whole o (arranged_first parts owners whole o) (omega arith) refl)

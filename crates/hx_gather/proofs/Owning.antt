@@ -1,8 +1,8 @@
 -- How the owners of all stamps are found.
-use Rattle.std.proofs.Common.{◌≡◌, ◌≢◌, ℕ, zero, suc, ◌+◌, ◌<◌, ◌⊎◌, inl, inr, List, [], ◌∷◌, ◌++◌, map, length, get_or, set, take, drop, refl, ap, sym, subst, ◌∙◌, arith}
+use Rattle.std.proofs.Common.{◌≡◌, ◌≢◌, ℕ, zero, suc, ◌+◌, ◌<◌, ◌⊎◌, inl, inr, List, [], ◌∷◌, ◌++◌, length, get_or, set, take, drop, refl, ap, sym, subst, ◌∙◌, arith}
 use Rattle.std.specs.List.{AllByRecursion}
 use Rattle.std.proofs.Math.Seq.{take-suc, take-append_seam}
-use Rattle.std.proofs.lemmas.List.{length-append, get_or-map, get_or-set_same, take_all}
+use Rattle.std.proofs.lemmas.List.{length-append, get_or-set_same, take_all}
 use Rattle.std.proofs.lemmas.List.Sorted.{IsPermutation-sym, length_permutation}
 use Rattle.hx_types.specs.Words.{below, IsIn}
 use Rattle.hx_clock.specs.declared.parts.Stamped.{Stamped}
@@ -10,7 +10,8 @@ use Rattle.hx_clock.specs.Parts.{all_of, stamps_of}
 use Rattle.hx_clock.proofs.Lists.{each_all, in_left, in_right}
 use Rattle.hx_law_threads.specs.Merged.{AreWholeParts}
 use Rattle.hx_law_threads.proofs.Lists.{in_append, in_map, in_permuted, map_append, of_below}
-use Rattle.hx_gather.specs.Owners.{part_at, AreOwners}
+use Rattle.hx_trace.specs.Turns.{part_at}
+use Rattle.hx_gather.specs.Owners.{AreOwners}
 
 pub length-stamps : (xs : List Stamped) → length (stamps_of xs) ≡ length xs
 length-stamps [] = refl
@@ -128,9 +129,10 @@ in_more (p ∷ ps) (suc j) n i = elim (in_stamps p (all_of (take (suc j) ps)) n 
   ]
 ]
 
--- the part at the place of a list
-pub part_is : {V : Type 0} (items : V → List Stamped) (lists : List V) (place : ℕ) (list : V) → place < length lists → list ≡ get_or lists place list → part_at (map items lists) place ≡ items list
-part_is items lists place list lt is = get_or-map items lists place list [] lt ∙ ap items (sym is)
+pub part_here : (parts : List (List Stamped)) (place : ℕ) (part : List Stamped) → place < length parts → part ≡ get_or parts place part → part_at parts place ≡ part
+part_here [] place part lt is = absurd (omega arith)
+part_here (p ∷ ps) zero part lt is = sym is
+part_here (p ∷ ps) (suc place) part lt is = part_here ps place part (omega arith) is
 
 -- there is an owner's place for each stamp of the next part
 pub owned_bound : (parts : List (List Stamped)) (owners shown : List ℕ) (place : ℕ) (part : List Stamped) → AreWholeParts parts → AreOwned owners parts place → shown ≡ owners → place < length parts

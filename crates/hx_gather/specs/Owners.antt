@@ -1,12 +1,9 @@
 -- Which part each stamp stands in.
-use Rattle.std.specs.Prelude.{◌≡◌, ℕ, ◌<◌, List, [], length, slice_index, slice_index_or}
+use Rattle.std.specs.Prelude.{◌≡◌, ℕ, ◌<◌, List, length, slice_index}
 use Rattle.hx_types.specs.Words.{IsIn}
 use Rattle.hx_clock.specs.declared.parts.Stamped.{Stamped}
 use Rattle.hx_clock.specs.Parts.{all_of, stamps_of}
-
--- the part at the place, or one without entries
-abbrev pub part_at : List (List Stamped) → ℕ → List Stamped
-part_at parts place = slice_index_or parts place []
+use Rattle.hx_trace.specs.Turns.{part_at}
 
 -- there is an owner for each entry, and each number below them is a stamp of its owner's part
 pub record AreOwners (owners : List ℕ) (parts : List (List Stamped)) : Type 0 where

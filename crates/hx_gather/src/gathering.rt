@@ -7,7 +7,7 @@ ghost use Rattle.hx_law_threads.specs.Merged.{AreOwnParts, AreWholeParts, HasOwn
 ghost use Rattle.hx_gather.specs.Gathered.{parts_by, parts_of, CountsAll, IsSeated};
 
 use crate::arranging::arrange;
-use hx_clock::{Clock, Part, Seat, Stamped};
+use hx_clock::{Clock, Part, Parts, Seat};
 use hx_trace::Trace;
 use hx_types::{Actor, Memory};
 use std::alloc::Global;
@@ -28,8 +28,8 @@ pub struct SeatedPart {
 /// that script, and each actor's entries in it are its part: so its state at the end is the one that
 /// it has. Whatever the threads did, the laws over all runs hold of it.
 ///
-/// The entries are moved and not copied: beside the parts there is memory for the trace, a number for
-/// each entry, and an iterator for each part.
+/// The entries stay where they lie in their parts: beside these there is memory for the heads of the
+/// trace, for a number for each entry, and for one for each part.
 pub fn gather(
     alloc: Global,
     clock: Clock,
@@ -45,25 +45,25 @@ pub fn gather(
     ensures run { IfOk result (λ trace. (script : Script) → AreOwnParts script (parts_by actors.items) → IsRun script (reverse trace)) }
     ensures own { IfOk result (λ trace. (script : Script) → AreOwnParts script (parts_by actors.items) → HasOwnParts (parts_by actors.items) (reverse trace)) }
 {
-    let lists = collect(alloc, clock, seat, actors)?;
-    arrange(alloc, lists)
+    let parts = collect(alloc, clock, seat, actors)?;
+    arrange(alloc, parts)
 }
 
-/// The parts as vectors, once the counting seat has taken in the seats of all actors.
+/// The parts, once the counting seat has taken in the seats of all actors.
 fn collect(
     alloc: Global,
     clock: Clock,
     mut seat: Seat,
     actors: Vec<SeatedPart>,
-) -> Result<Vec<Vec<Stamped>>, Memory>
+) -> Result<Parts, Memory>
     requires clock { seat.clock ≡ clock }
     requires counting { seat.view.carried ≡ [] }
     requires seats { AllByRecursion (IsSeated clock) actors.items }
     requires all { CountsAll seat actors.items }
-    ensures parts { IfOk result (λ lists. map (λ list. list.items) lists.items ≡ parts_of actors.items) }
+    ensures parts { IfOk result (λ parts. parts ≡ parts_of actors.items) }
     ensures whole { IfOk result (λ _. AreWholeParts (parts_of actors.items)) }
 {
-    let mut lists = Vec::new(alloc);
+    let mut parts = Parts::new(alloc);
     for actor in actors {
         let SeatedPart {
             actor: _,
@@ -71,8 +71,8 @@ fn collect(
             seat: other,
         } = actor;
         clock.learn(&mut seat, other);
-        lists.push(part.into_vec())?;
+        parts.push(part)?;
     }
     let _ = clock.close(seat);
-    Ok(lists)
+    Ok(parts)
 }

@@ -4,9 +4,10 @@ ghost use Rattle.hx_types.specs.declared.messages.Message.TheVariants as a_messa
 ghost use Rattle.hx_types.specs.declared.traces.Input.TheVariants as an_input;
 
 use crate::parts::list;
-use hx_trace::{EntryRef, InputRef, Trace};
+use hx_trace::{EntryRef, InputRef, Stamped, Trace};
 use hx_types::{
     Actor, Entry, Epoch, Input, Message, Note, Notes, Post, PostId, Posts, ServerId, SessionId,
+    Stamp,
 };
 use std::process::Abort;
 
@@ -168,5 +169,34 @@ fn whole_entries_are_read_back(rt: HostRuntime) {
     assert_eq!(&rt; sent(&trace, 3, 0), Some(3));
     assert_eq!(&rt; sent(&trace, 3, 1), None);
     assert_eq!(&rt; delivered_at(&trace, 1), Some((1, 1, 8)));
+    assert_eq!(&rt; delivered_at(&trace, 2), Some((1, 1, 8)));
+}
+
+/// An entry of a part. Its stamp counts for nothing here.
+fn stamped(entry: Entry) -> Stamped
+    ensures { result.entry ≡ entry }
+{
+    Stamped {
+        stamp: Stamp(7),
+        entry,
+    }
+}
+
+#[test]
+fn parts_give_their_entries_in_turns(rt: HostRuntime) {
+    let first = list(&rt, [stamped(asking(&rt)), stamped(hearing(&rt))]);
+    let second = list(&rt, [stamped(taking(&rt, 9))]);
+    let parts = list(&rt, [first, second]);
+    // There is no part at 2, and the first has no third entry.
+    let made = Trace::of_parts(rt.alloc(), parts, &[0, 1, 2, 0, 0]);
+    let mut trace = made.expect(&rt, "memory");
+    trace.push(asking(&rt)).expect(&rt, "memory");
+    assert_eq!(&rt; trace.len(), 4);
+    assert_eq!(&rt; counts(&trace), (5, 3));
+    assert_eq!(&rt; sent(&trace, 1, 1), Some(8));
+    assert_eq!(&rt; sent(&trace, 2, 0), None);
+    assert_eq!(&rt; sent(&trace, 3, 0), Some(3));
+    assert_eq!(&rt; sent(&trace, 4, 0), Some(7));
+    assert_eq!(&rt; delivered_at(&trace, 1), Some((1, 1, 9)));
     assert_eq!(&rt; delivered_at(&trace, 2), Some((1, 1, 8)));
 }

@@ -1,4 +1,5 @@
 pub mod Spans
 pub mod Longer
+pub mod Turning
 pub mod Naming
 pub mod Numbering

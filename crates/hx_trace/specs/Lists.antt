@@ -1,7 +1,8 @@
 -- How a trace lies in memory: a head for each entry, and the posts and notes of all entries one after another.
--- Entries that are kept whole lie apart.
+-- Entries that are kept whole lie apart: those that were pushed in a list, and those of adopted parts in their parts.
 use Rattle.std.specs.Prelude.{◌≡◌, ℕ, ◌+◌, ◌<◌, ◌≤◌, ◌^◌, List, length, map, slice_get, slice_range, Option, None, Some, vec_capacity, ⊤}
 use Rattle.std.specs.List.{AllByRecursion}
+use Rattle.std.specs.Option.{option_map}
 use Rattle.hx_types.specs.declared.messages.Post.{Post}
 use Rattle.hx_types.specs.declared.messages.PostId.{PostId}
 use Rattle.hx_types.specs.declared.traces.Entry.{Entry}
@@ -9,6 +10,7 @@ use Rattle.hx_types.specs.declared.traces.Input.{Input}
 use Rattle.hx_types.specs.declared.traces.Note.{Note}
 use Rattle.hx_types.specs.declared.traces.Input.TheVariants.{Tick, Halt, Deliver}
 use Rattle.hx_types.specs.Words.{when_some}
+use Rattle.hx_clock.specs.declared.parts.Stamped.{Stamped}
 use Rattle.hx_trace.specs.declared.heads.Head.{Head}
 use Rattle.hx_trace.specs.declared.heads.Span.{Span}
 use Rattle.hx_trace.specs.declared.heads.Taken.{Taken}
@@ -24,51 +26,56 @@ abbrev pub delivery : PostId → Option Post → Input
 delivery id None = Tick
 delivery id (Some p) = Deliver id p.from p.message
 
--- the post of an entry at a place
-abbrev pub post_of : Option Entry → ℕ → Option Post
-post_of None place = None
-post_of (Some e) place = slice_get e.outputs place
+-- the entry of a part at a place
+abbrev pub adopted_in : Option (List Stamped) → ℕ → Option Entry
+adopted_in None at = None
+adopted_in (Some part) at = option_map (λ (x : Stamped). x.entry) (slice_get part at)
 
 -- the entry that is kept whole, where the head names one
-abbrev pub whole_by : List Entry → Taken → Option Entry
-whole_by wholes a_taken.Tick = None
-whole_by wholes a_taken.Halt = None
-whole_by wholes (a_taken.Sent entry place at) = None
-whole_by wholes (a_taken.SentWhole entry place at) = None
-whole_by wholes (a_taken.Whole at) = slice_get wholes at
+abbrev pub whole_by : List Entry → List (List Stamped) → Taken → Option Entry
+whole_by wholes parts a_taken.Tick = None
+whole_by wholes parts a_taken.Halt = None
+whole_by wholes parts (a_taken.Sent entry place at) = None
+whole_by wholes parts (a_taken.Whole at) = slice_get wholes at
+whole_by wholes parts (a_taken.Adopted part at) = adopted_in (slice_get parts part) at
 
 -- what was taken in an entry that isn't kept whole
-abbrev pub input_by : List Post → List Entry → Taken → Input
-input_by posts wholes a_taken.Tick = Tick
-input_by posts wholes a_taken.Halt = Halt
-input_by posts wholes (a_taken.Sent entry place at) = delivery (record { entry = entry; place = place }) (slice_get posts at)
-input_by posts wholes (a_taken.SentWhole entry place at) = delivery (record { entry = entry; place = place }) (post_of (slice_get wholes at) place)
-input_by posts wholes (a_taken.Whole at) = Tick
+abbrev pub input_by : List Post → Taken → Input
+input_by posts a_taken.Tick = Tick
+input_by posts a_taken.Halt = Halt
+input_by posts (a_taken.Sent entry place at) = delivery (record { entry = entry; place = place }) (slice_get posts at)
+input_by posts (a_taken.Whole at) = Tick
+input_by posts (a_taken.Adopted part at) = Tick
 
 -- the entry of a head whose posts and notes lie in the lists
-abbrev pub filed_by : List Post → List Note → List Entry → Head → Entry
-filed_by posts notes wholes h =
-    record { actor = h.actor; input = input_by posts wholes h.taken; outputs = spanned posts h.posts; notes = spanned notes h.notes }
+abbrev pub filed_by : List Post → List Note → Head → Entry
+filed_by posts notes h = record { actor = h.actor; input = input_by posts h.taken; outputs = spanned posts h.posts; notes = spanned notes h.notes }
 
 -- the entry of a head
-abbrev pub entry_by : List Post → List Note → List Entry → Head → Entry
-entry_by posts notes wholes h = when_some (whole_by wholes h.taken) (filed_by posts notes wholes h) (λ whole. whole)
+abbrev pub entry_by : List Post → List Note → List Entry → List (List Stamped) → Head → Entry
+entry_by posts notes wholes parts h = when_some (whole_by wholes parts h.taken) (filed_by posts notes h) (λ whole. whole)
 
 -- the entries of heads of the lists
 abbrev pub entries_by : Lists → List Head → List Entry
-entries_by l heads = map (entry_by l.posts.items l.notes.items l.wholes.items) heads
+entries_by l heads = map (entry_by l.posts.items l.notes.items l.wholes.items l.parts.items) heads
 
 -- the entries of the lists
 abbrev pub entries_in : Lists → List Entry
 entries_in l = entries_by l l.heads.items
 
--- what the head names lies in the lists
+-- what the head names lies in the lists. Adopted parts stay as they are, so that nothing need be said of them
 abbrev pub IsTakenIn : ℕ → ℕ → Taken → Type 0
 IsTakenIn posts wholes a_taken.Tick = ⊤
 IsTakenIn posts wholes a_taken.Halt = ⊤
 IsTakenIn posts wholes (a_taken.Sent entry place at) = at < posts
-IsTakenIn posts wholes (a_taken.SentWhole entry place at) = at < wholes
 IsTakenIn posts wholes (a_taken.Whole at) = at < wholes
+IsTakenIn posts wholes (a_taken.Adopted part at) = ⊤
+
+-- t is what is kept of the input of an entry that isn't kept whole
+pub record IsFiledAs (l : Lists) (i : Input) (t : Taken) : Type 0 where
+  pub within : IsTakenIn (length l.posts.items) (length l.wholes.items) t
+  pub filed : whole_by l.wholes.items l.parts.items t ≡ None
+  pub input : input_by l.posts.items t ≡ i
 
 pub record IsHeadIn (posts notes wholes : ℕ) (h : Head) : Type 0 where
   pub taken : IsTakenIn posts wholes h.taken
@@ -81,7 +88,13 @@ AreHeadsIn l heads = AllByRecursion (IsHeadIn (length l.posts.items) (length l.n
 abbrev pub AreWhole : Lists → Type 0
 AreWhole l = AreHeadsIn l l.heads.items
 
--- there is room for one entry more with p posts and n notes
+-- there is room for one entry more that is kept whole
+pub record HasWholeRoom (l : Lists) : Type 0 where
+  pub heads : length l.heads.items < vec_capacity l.heads
+  pub wholes : length l.wholes.items < vec_capacity l.wholes
+  pub few_wholes : length l.wholes.items < 2 ^ 32
+
+-- there is room for one entry more with p posts and n notes, and for it as a whole
 pub record HasRoom (l : Lists) (p n : ℕ) : Type 0 where
   pub heads : length l.heads.items < vec_capacity l.heads
   pub posts : length l.posts.items + p ≤ vec_capacity l.posts
@@ -89,12 +102,7 @@ pub record HasRoom (l : Lists) (p n : ℕ) : Type 0 where
   pub few_heads : length l.heads.items + 1 < 2 ^ 32
   pub few_posts : length l.posts.items + p < 2 ^ 32
   pub few_notes : length l.notes.items + n < 2 ^ 32
-
--- there is room for one entry more that is kept whole
-pub record HasWholeRoom (l : Lists) : Type 0 where
-  pub heads : length l.heads.items < vec_capacity l.heads
-  pub wholes : length l.wholes.items < vec_capacity l.wholes
-  pub few_wholes : length l.wholes.items < 2 ^ 32
+  pub whole : HasWholeRoom l
 
 -- the items of the lists are the same
 pub record IsSame (old new : Lists) : Type 0 where
@@ -102,3 +110,4 @@ pub record IsSame (old new : Lists) : Type 0 where
   pub posts : new.posts.items ≡ old.posts.items
   pub notes : new.notes.items ≡ old.notes.items
   pub wholes : new.wholes.items ≡ old.wholes.items
+  pub parts : new.parts.items ≡ old.parts.items

@@ -1,4 +1,5 @@
 ghost use Rattle.std.specs.Prelude.{◌≡◌, ◌+◌, ◌<◌, ◌≤◌, ◌^◌, ◌++◌, [], ◌∷◌, length, None, nat_lt, vec_capacity, vec_len, OnOk};
+ghost use Rattle.hx_types.specs.declared.ids.Actor.TheVariants as an_actor;
 ghost use Rattle.hx_trace.specs.Lists.{AreWhole, HasRoom, HasWholeRoom, IsSame, IsTakenIn, entries_in, input_by, whole_by};
 
 use crate::heads::{Head, Span, Taken};
@@ -7,7 +8,7 @@ use hx_types::{Actor, Entry, Memory, Note, Post};
 
 /// Whether a list of so many items with so many more has at most 4,294,967,295: their places are numbers of 32 bits.
 #[inline]
-fn is_few(items: usize, more: usize) -> bool
+pub fn is_few(items: usize, more: usize) -> bool
     ensures { result ≡ nat_lt (items + more) (2 ^ 32) }
 {
     match items.checked_add(more) {
@@ -30,7 +31,7 @@ pub fn make_room<T: Drop>(list: &mut Vec<T>, more: usize) -> Result<(), Memory>
     Ok(())
 }
 
-/// Makes room for an entry more with so many posts and notes.
+/// Makes room for an entry more with so many posts and notes, and for it as a whole.
 #[inline]
 pub fn reserve(lists: &mut Lists, posts: usize, notes: usize) -> Result<(), Memory>
     ensures same { IsSame lists.old lists.new }
@@ -38,7 +39,8 @@ pub fn reserve(lists: &mut Lists, posts: usize, notes: usize) -> Result<(), Memo
 {
     make_room(&mut lists.heads, 1)?;
     make_room(&mut lists.posts, posts)?;
-    make_room(&mut lists.notes, notes)
+    make_room(&mut lists.notes, notes)?;
+    make_room(&mut lists.wholes, 1)
 }
 
 /// Makes room for one entry more that is kept whole.
@@ -80,10 +82,10 @@ pub fn file(lists: &mut Lists, actor: Actor, taken: Taken, outputs: Vec<Post>, n
     requires whole { AreWhole lists.old }
     requires room { HasRoom lists.old (length outputs.items) (length notes.items) }
     requires taken { IsTakenIn (length lists.old.posts.items) (length lists.old.wholes.items) taken }
-    requires filed { whole_by lists.old.wholes.items taken ≡ None }
+    requires filed { whole_by lists.old.wholes.items lists.old.parts.items taken ≡ None }
     ensures whole { AreWhole lists.new }
     ensures entries { entries_in lists.new ≡ entries_in lists.old
-        ++ record { actor = actor; input = input_by lists.old.posts.items lists.old.wholes.items taken; outputs = outputs.items; notes = notes.items } ∷ [] }
+        ++ record { actor = actor; input = input_by lists.old.posts.items taken; outputs = outputs.items; notes = notes.items } ∷ [] }
 {
     let head = Head {
         actor,
@@ -96,6 +98,20 @@ pub fn file(lists: &mut Lists, actor: Actor, taken: Taken, outputs: Vec<Post>, n
     lists.heads.push_reserved(head);
 }
 
+/// The head of an entry that is kept whole, or lies in a part. It names the entry, and doesn't read it.
+#[inline]
+pub fn whole_head(taken: Taken) -> Head
+    ensures { result ≡ record { actor = an_actor.Coordinator; taken = taken; posts = record { start = 0; count = 0 }; notes = record { start = 0; count = 0 } } }
+{
+    let none = Span { start: 0, count: 0 };
+    Head {
+        actor: Actor::Coordinator,
+        taken,
+        posts: none,
+        notes: none,
+    }
+}
+
 /// Keeps a whole entry at the end. There is room, so it takes no memory.
 pub fn keep(lists: &mut Lists, entry: Entry)
     requires whole { AreWhole lists.old }
@@ -103,15 +119,9 @@ pub fn keep(lists: &mut Lists, entry: Entry)
     ensures whole { AreWhole lists.new }
     ensures entries { entries_in lists.new ≡ entries_in lists.old ++ entry ∷ [] }
 {
-    let none = Span { start: 0, count: 0 };
-    let head = Head {
-        actor: entry.actor,
-        taken: Taken::Whole {
-            at: lists.wholes.len() as u32,
-        },
-        posts: none,
-        notes: none,
-    };
+    let head = whole_head(Taken::Whole {
+        at: lists.wholes.len() as u32,
+    });
     lists.wholes.push_reserved(entry);
     lists.heads.push_reserved(head);
 }

@@ -1,13 +1,16 @@
-ghost use Rattle.std.specs.Prelude.{◌≡◌, ◌<◌, ◌≤◌, ◌^◌, ◌++◌, [], ◌∷◌, length, reverse, Some, None, OnErr, OnOk};
+ghost use Rattle.std.specs.Prelude.{◌≡◌, ◌<◌, ◌≤◌, ◌^◌, ◌++◌, [], ◌∷◌, length, reverse, Some, None, IfOk, IfSome, OnErr, OnOk};
 ghost use Rattle.hx_types.specs.Words.{post};
 ghost use Rattle.hx_types.specs.declared.traces.Input.TheVariants as an_input;
 ghost use Rattle.hx_model.specs.Runs.{MayTake, post_named};
-ghost use Rattle.hx_trace.specs.Lists.{AreWhole, IsTakenIn, entries_in, input_by, whole_by};
+ghost use Rattle.hx_trace.specs.Lists.{AreWhole, IsFiledAs, entries_in};
 ghost use Rattle.hx_trace.specs.Rooms.{IsRoomFor};
+ghost use Rattle.hx_trace.specs.Turns.{in_turns};
 
+use crate::adopting::adopt;
 use crate::filing::{file, keep, reserve, reserve_whole};
 use crate::heads::{Room, Taken};
 use crate::lists::{Lists, empty, head_at};
+use hx_clock::Parts;
 use hx_types::{Actor, Entry, Input, Memory, Message, PostId};
 use std::alloc::Global;
 use std::marker::Model;
@@ -31,45 +34,40 @@ impl Model for GrowingTrace {
     ghost invariant = { λ g. IsGrowing g.lists g.room };
 }
 
-/// What is kept of an input that an actor may take: of a delivery its post's place in the trace.
-fn taken_of(lists: &Lists, actor: Actor, input: &Input) -> Taken
+/// What is kept of an input that an actor may take: of a delivery its post's place in the trace. There is `None`
+/// where the post is one of an entry that is kept whole, which has no such place.
+fn taken_of(lists: &Lists, actor: Actor, input: &Input) -> Option<Taken>
     requires whole { AreWhole lists.now }
     requires few_heads { length lists.now.heads.items < 2 ^ 32 }
     requires few_posts { length lists.now.posts.items < 2 ^ 32 }
     requires may { MayTake (reverse (entries_in lists.now)) actor input.now }
-    ensures taken { IsTakenIn (length lists.now.posts.items) (length lists.now.wholes.items) result }
-    ensures filed { whole_by lists.now.wholes.items result ≡ None }
-    ensures input { input_by lists.now.posts.items lists.now.wholes.items result ≡ input.now }
+    ensures { IfSome result (IsFiledAs lists.now input.now) }
 {
     match input {
-        Input::Tick => Taken::Tick,
-        Input::Halt => Taken::Halt,
+        Input::Tick => Some(Taken::Tick),
+        Input::Halt => Some(Taken::Halt),
         Input::Deliver { id, from, message } => sent_at(lists, actor, *id, *from, message),
     }
 }
 
-/// A post of the trace, with the place where it lies.
-fn sent_at(lists: &Lists, to: Actor, id: PostId, from: Actor, message: &Message) -> Taken
+/// A post of the trace, with the place where it lies, or `None` where its entry is kept whole.
+fn sent_at(lists: &Lists, to: Actor, id: PostId, from: Actor, message: &Message) -> Option<Taken>
     requires whole { AreWhole lists.now }
     requires few_heads { length lists.now.heads.items < 2 ^ 32 }
     requires few_posts { length lists.now.posts.items < 2 ^ 32 }
     requires sent { post_named id (reverse (entries_in lists.now)) ≡ Some (post from to message.now) }
-    ensures taken { IsTakenIn (length lists.now.posts.items) (length lists.now.wholes.items) result }
-    ensures filed { whole_by lists.now.wholes.items result ≡ None }
-    ensures input { input_by lists.now.posts.items lists.now.wholes.items result ≡ an_input.Deliver id from message.now }
+    ensures { IfSome result (IsFiledAs lists.now (an_input.Deliver id from message.now)) }
 {
     let Some(head) = head_at(lists, id.entry as usize - 1) else {
         unreachable!()
     };
-    let entry = id.entry as u32;
-    let place = id.place;
     match head.taken {
-        Taken::Whole { at } => Taken::SentWhole { entry, place, at },
-        _ => Taken::Sent {
-            entry,
-            place,
+        Taken::Whole { .. } | Taken::Adopted { .. } => None,
+        _ => Some(Taken::Sent {
+            entry: id.entry as u32,
+            place: id.place,
             at: head.posts.start + id.place,
-        },
+        }),
     }
 }
 
@@ -83,6 +81,18 @@ impl GrowingTrace {
             lists: empty(alloc),
             room: None,
         }
+    }
+
+    /// The entries of parts in turns: for each owner the next entry of that part. It takes memory for the heads.
+    pub(crate) fn of_parts(
+        alloc: Global,
+        parts: Parts,
+        owners: &[u32],
+    ) -> Result<GrowingTrace, Memory>
+        ensures { IfOk result (λ made. made.entries ≡ in_turns parts owners.now) }
+    {
+        let lists = adopt(alloc, parts, owners)?;
+        Ok(GrowingTrace { lists, room: None })
     }
 
     /// How many entries there are.
@@ -123,7 +133,7 @@ impl GrowingTrace {
     }
 
     /// Puts an entry at the end. It takes no memory: of a post that the entry delivers only its name is kept, and
-    /// the message is let go.
+    /// the message is let go. Where the post is one of an entry that is kept whole, this entry is kept whole too.
     pub fn append(&mut self, entry: Entry)
         requires room { IsRoomFor self.old.room (length entry.outputs) (length entry.notes) }
         requires may { MayTake (reverse self.old.entries) entry.actor entry.input }
@@ -131,14 +141,16 @@ impl GrowingTrace {
         ensures room { self.new.room ≡ None }
     {
         self.room = None;
-        let taken = taken_of(&self.lists, entry.actor, &entry.input);
-        file(
-            &mut self.lists,
-            entry.actor,
-            taken,
-            entry.outputs.into_vec(),
-            entry.notes.into_vec(),
-        );
+        match taken_of(&self.lists, entry.actor, &entry.input) {
+            Some(taken) => file(
+                &mut self.lists,
+                entry.actor,
+                taken,
+                entry.outputs.into_vec(),
+                entry.notes.into_vec(),
+            ),
+            None => keep(&mut self.lists, entry),
+        }
     }
 
     /// Keeps a whole entry at the end, with its message. Where there is no memory the entries stay.

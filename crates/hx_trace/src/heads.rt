@@ -14,10 +14,10 @@ pub enum Taken {
     Halt,
     /// A delivery of a post of the trace; `at` is where it lies among all posts.
     Sent { entry: u32, place: u32, at: u32 },
-    /// A delivery of a post of an entry that is kept whole; `at` is the place of that entry among these.
-    SentWhole { entry: u32, place: u32, at: u32 },
     /// An entry that is kept whole; `at` is its place among these. All that the head says besides counts for nothing.
     Whole { at: u32 },
+    /// An entry of a part that was adopted; `at` is its place in that part. All that the head says besides counts for nothing.
+    Adopted { part: u32, at: u32 },
 }
 
 /// An entry without its posts and notes.

@@ -4,10 +4,12 @@ ghost use Rattle.hx_model.specs.Runs.{post_named};
 ghost use Rattle.std.specs.Borrow.{sem};
 ghost use Rattle.hx_trace.specs.Entries.{entry_seen};
 ghost use Rattle.hx_trace.specs.Lending.{LendsGrowing};
+ghost use Rattle.hx_trace.specs.Turns.{in_turns};
 
 use crate::entries::{Entries, EntryRef};
 use crate::growing::GrowingTrace;
 use crate::lists::{entry_of, head_at, post_at};
+use hx_clock::Parts;
 use hx_types::{Entry, Memory, Post, PostId};
 use std::alloc::Global;
 use std::marker::Model;
@@ -43,6 +45,19 @@ impl Trace {
     {
         let mut growing = GrowingTrace::new(alloc);
         growing.reserve_heads(entries)?;
+        Ok(Trace { growing })
+    }
+
+    /// The entries of parts in turns: for each owner the next entry of the part at that place, from 0. An owner
+    /// whose part has no entry left, or isn't there, has no turn. The entries stay where they lie in the parts, and
+    /// their stamps count for nothing.
+    ///
+    /// It takes memory for the heads alone, and while it runs for a number for each part. Where there isn't as much,
+    /// or there are 4,294,967,296 owners, the parts are dropped.
+    pub fn of_parts(alloc: Global, parts: Parts, owners: &[u32]) -> Result<Trace, Memory>
+        ensures { IfOk result (λ made. made ≡ in_turns parts owners.now) }
+    {
+        let growing = GrowingTrace::of_parts(alloc, parts, owners)?;
         Ok(Trace { growing })
     }
 

@@ -11,4 +11,4 @@ pub returns-clause-entries : goal.returns-clause-entries
 returns-clause-entries c =
     let l = c.args.lists.now in
     rw (c.push_reserved.ensures.items, c.append.ensures, c.append-2.ensures, c.span_of.ensures, c.span_of-2.ensures)
-    (entries_filed c.args.actor c.args.taken l.posts.items c.args.outputs.items l.notes.items c.args.notes.items l.wholes.items l.heads.items c.requires.whole c.requires.taken c.requires.filed)
+    (entries_filed c.args.actor c.args.taken l.posts.items c.args.outputs.items l.notes.items c.args.notes.items l.wholes.items l.parts.items l.heads.items c.requires.whole c.requires.taken c.requires.filed)

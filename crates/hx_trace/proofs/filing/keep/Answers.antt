@@ -6,12 +6,12 @@ pub returns-clause-whole : goal.returns-clause-whole
 returns-clause-whole c =
     let l = c.args.lists.now in
     let n : c.len.result ≡ length l.wholes.items = c.len.ensures ∙ l.wholes.ok.0 in
-    rw (c.push_reserved-2.ensures.items, c.push_reserved.ensures.items, n)
-    (heads_kept c.args.entry.actor l.posts.items l.notes.items l.wholes.items c.args.entry l.heads.items c.requires.whole)
+    rw (c.push_reserved-2.ensures.items, c.push_reserved.ensures.items, c.whole_head-head.ensures, n)
+    (heads_kept l.posts.items l.notes.items l.wholes.items c.args.entry l.heads.items c.requires.whole)
 
 pub returns-clause-entries : goal.returns-clause-entries
 returns-clause-entries c =
     let l = c.args.lists.now in
     let n : c.len.result ≡ length l.wholes.items = c.len.ensures ∙ l.wholes.ok.0 in
-    rw (c.push_reserved-2.ensures.items, c.push_reserved.ensures.items, n)
-    (entries_kept c.args.entry.actor l.posts.items l.notes.items l.wholes.items c.args.entry l.heads.items c.requires.whole)
+    rw (c.push_reserved-2.ensures.items, c.push_reserved.ensures.items, c.whole_head-head.ensures, n)
+    (entries_kept l.posts.items l.notes.items l.wholes.items l.parts.items c.args.entry l.heads.items c.requires.whole)

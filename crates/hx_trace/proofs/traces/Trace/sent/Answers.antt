@@ -12,7 +12,7 @@ pub returns-in_err-head : goal.returns-in_err-head
 returns-in_err-head c =
     let l = c.lists-lists.result.now in
     let none : None ≡ slice_get l.heads.items (c.args.id.entry - 1) = ap option_copied (sym c.in_err-head.was) ∙ c.head_at.ensures ∙ ap (slice_get l.heads.items) c.in_ok-place.ensures.1 in
-    rw c.from_residual-in_err-head.ensures (sym (named_by l.posts.items l.notes.items l.wholes.items l.heads.items c.args.self.now (sym (c.lists-lists.ensures.entries ∙ c.self.view_is)) c.args.id None c.in_ok-place.ensures.0 none))
+    rw c.from_residual-in_err-head.ensures (sym (named_by l.posts.items l.notes.items l.wholes.items l.parts.items l.heads.items c.args.self.now (sym (c.lists-lists.ensures.entries ∙ c.self.view_is)) c.args.id None c.in_ok-place.ensures.0 none))
 
 pub post_at-requires : goal.post_at-requires
 post_at-requires c =
@@ -24,4 +24,4 @@ pub returns : goal.returns
 returns c =
     let l = c.lists-lists.result.now in
     let at : Some c.in_ok-head.head.now ≡ slice_get l.heads.items (c.args.id.entry - 1) = ap option_copied (sym c.in_ok-head.was) ∙ c.head_at.ensures ∙ ap (slice_get l.heads.items) c.in_ok-place.ensures.1 in
-    c.post_at.ensures ∙ sym (named_by l.posts.items l.notes.items l.wholes.items l.heads.items c.args.self.now (sym (c.lists-lists.ensures.entries ∙ c.self.view_is)) c.args.id (Some c.in_ok-head.head.now) c.in_ok-place.ensures.0 at)
+    c.post_at.ensures ∙ sym (named_by l.posts.items l.notes.items l.wholes.items l.parts.items l.heads.items c.args.self.now (sym (c.lists-lists.ensures.entries ∙ c.self.view_is)) c.args.id (Some c.in_ok-head.head.now) c.in_ok-place.ensures.0 at)
