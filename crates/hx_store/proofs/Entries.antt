@@ -15,9 +15,11 @@ use Rattle.hx_index.specs.Orders.{rows_at}
 use Rattle.hx_index.proofs.Looping.{set-elsewhere, set-here, set-length}
 use Rattle.hx_store.specs.Indexed.{IndexedState, IsWider, is_marked, kept_at}
 use Rattle.hx_store.specs.Invariant.{HasMoved, is_listed, key_in, stored_at}
+use Rattle.hx_store.specs.Prefixes.{IsPrefixOf}
 use Rattle.hx_store.specs.Slots.{AreSlots, Entry, IsStepped, StoreSlot, entries_of, rows_in}
 use Rattle.hx_store.proofs.Finding.{none-lookup}
 use Rattle.hx_store.proofs.Following.{set-marked, set-unmarked}
+use Rattle.hx_store.proofs.Prefixes.{added-prefix}
 
 abbrev Key : Type 0
 Key = List ℕ × Bool
@@ -165,9 +167,10 @@ abbrev row-in : Option SlotState → Option Row
 row-in o = when_some o None row
 
 -- a slot that keeps its object is set
-pub are-set : (ks : List Key) (ss : List SlotState) (x : IndexedState) (i : ℕ) (s w : SlotState) → AreSlots ks ss x → i < length ss → slice_get ss i ≡ Some s → row w ≡ row s → AreSlots ks (slice_set ss i w) x
+pub are-set : {ps : List ℕ} (ks : List Key) (ss : List SlotState) (x : IndexedState) (i : ℕ) (s w : SlotState) → AreSlots ks ps ss x → i < length ss → slice_get ss i ≡ Some s → row w ≡ row s → AreSlots ks ps (slice_set ss i w) x
 are-set ks ss x i s w h l at e = record {
   count = h.count ∙ sym (set-length ss i w);
+  first = h.first;
   kept = record {
     count = (let c = h.kept.count in let n = set-length ss i w in omega (arith, c, n));
     fresh = λ k f. h.kept.fresh k f ∙ same k;
@@ -181,9 +184,10 @@ are-set ks ss x i s w h l at e = record {
     ]
 
 -- any slot is set at a place that is marked
-pub set-stale : (ks : List Key) (ss : List SlotState) (x y : IndexedState) (i : ℕ) (w : SlotState) → AreSlots ks ss x → i < length ss → y.rows ≡ x.rows → y.stale ≡ slice_set x.stale i true → AreSlots ks (slice_set ss i w) y
+pub set-stale : {ps : List ℕ} (ks : List Key) (ss : List SlotState) (x y : IndexedState) (i : ℕ) (w : SlotState) → AreSlots ks ps ss x → i < length ss → y.rows ≡ x.rows → y.stale ≡ slice_set x.stale i true → AreSlots ks ps (slice_set ss i w) y
 set-stale ks ss x y i w h l rs ms = record {
   count = h.count ∙ sym (set-length ss i w);
+  first = h.first;
   kept = record {
     count = (let c = h.kept.count in let n = set-length ss i w in let q = ap length ms in let m = set-length x.stale i true in omega (arith, c, n, q, m));
     fresh = λ k f. elim (cases_eq k i) [
@@ -194,9 +198,10 @@ set-stale ks ss x y i w h l rs ms = record {
 }
 
 -- the index got places
-pub wider-slots : (ks : List Key) (ss : List SlotState) (x y : IndexedState) → AreSlots ks ss x → IsWider x y → AreSlots ks ss y
+pub wider-slots : {ps : List ℕ} (ks : List Key) (ss : List SlotState) (x y : IndexedState) → AreSlots ks ps ss x → IsWider x y → AreSlots ks ps ss y
 wider-slots ks ss x y h more = record {
   count = h.count;
+  first = h.first;
   kept = record {
     count = (let c = h.kept.count in let m = more.count in omega (arith, c, m));
     fresh = λ i f. more.rows i ∙ h.kept.fresh i (sym (more.stale i) ∙ f);
@@ -231,9 +236,10 @@ module _ (ss : List SlotState) (s : SlotState) (none : row s ≡ None) where
   length-added [] = refl
   length-added (x ∷ xs) = let more = length-added xs in omega (arith, more)
 
-  pub slots-added : (ks : List Key) (key : List ℕ) (x y : IndexedState) → AreSlots ks ss x → IsWider x y → length ss + 1 ≤ length y.stale → AreSlots (ks ++ (key, false) ∷ []) (ss ++ s ∷ []) y
-  slots-added ks key x y h more room = record {
+  pub slots-added : {ps : List ℕ} (ks : List Key) (key : List ℕ) (p : ℕ) (x y : IndexedState) → IsPrefixOf key p → AreSlots ks ps ss x → IsWider x y → length ss + 1 ≤ length y.stale → AreSlots (ks ++ (key, false) ∷ []) (ps ++ p ∷ []) (ss ++ s ∷ []) y
+  slots-added {ps = ps} ks key p x y own h more room = record {
     count = (let a = keys-added ks in let b = length-added ss in let c = h.count in omega (arith, a, b, c));
+    first = added-prefix ks ps key p h.first own;
     kept = record {
       count = (let l = length-added ss in omega (arith, l, room));
       fresh = λ i f. more.rows i ∙ h.kept.fresh i (sym (more.stale i) ∙ f) ∙ sym (rows-added ss i);

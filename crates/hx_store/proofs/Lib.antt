@@ -12,3 +12,4 @@ pub mod Showing
 pub mod Reading
 pub mod Finding
 pub mod ComingBack
+pub mod Prefixes

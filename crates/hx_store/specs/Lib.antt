@@ -4,3 +4,4 @@ pub mod Indexed
 pub mod Invariant
 pub mod Reading
 pub mod Looks
+pub mod Prefixes

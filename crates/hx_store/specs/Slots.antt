@@ -8,6 +8,7 @@ use Rattle.hx_model.specs.Slots.{KeyState, object_of}
 use Rattle.hx_slot.specs.States.{SlotState}
 use Rattle.hx_index.specs.Orders.{IndexState, rows_at}
 use Rattle.hx_store.specs.Indexed.{IndexedState, IsOf}
+use Rattle.hx_store.specs.Prefixes.{ArePrefixes}
 
 -- a slot, and whether it is part of the store: one that isn't has had no step yet
 pub record StoreSlot : Type 0 where
@@ -38,9 +39,10 @@ rows_in es i = when_some (slice_get es i) None (λ (e : Entry). object_of e.1.sl
 abbrev pub IsFresh : SlotsState → Type 0
 IsFresh s = rows_at s.rows ≡ rows_in s.entries
 
--- there is a slot for each key, and the index is theirs
-pub record AreSlots (keys : List (List ℕ × Bool)) (slots : List SlotState) (indexed : IndexedState) : Type 0 where
+-- there is a slot for each key, and the prefixes and the index are theirs
+pub record AreSlots (keys : List (List ℕ × Bool)) (prefixes : List ℕ) (slots : List SlotState) (indexed : IndexedState) : Type 0 where
   pub count : length keys ≡ length slots
+  pub first : ArePrefixes keys prefixes
   pub kept : IsOf slots indexed
 
 -- the slot at a place made a step, which lowers its room by so much at most

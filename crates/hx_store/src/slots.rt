@@ -8,6 +8,7 @@ ghost use Rattle.hx_index.specs.Orders.{IsIndexOf, stands_in};
 ghost use Rattle.hx_index.specs.Searches.{most_looks};
 ghost use Rattle.hx_index.specs.Sides.{matches_at};
 ghost use Rattle.hx_store.specs.Invariant.{AscendAt, HasMoved, IsAdded, IsListedAt, IsReplacedAt, IsSplit, KeysApart, is_listed, key_in, stored_at};
+ghost use Rattle.hx_store.specs.Prefixes.{IsPrefixOf};
 ghost use Rattle.hx_store.specs.Slots.{Entry, IsFresh, StoreSlot, rows_in};
 ghost use Rattle.hx_store.specs.Stores.{ArePending, CanBeOffered, accepted_at, acknowledged_at, forgotten_at, marked_at, no_moves, settled_at};
 
@@ -27,6 +28,10 @@ use std::marker::Model;
 pub struct Slots {
     /// Whether the slot of each key is part of the store.
     keys: IndexMap<Text, bool>,
+    /// The first eight bytes of each key as a number, as [`prefix_of`] has them. Keys are put in
+    /// order by these, and by the keys themselves only where these are the same: that takes 8 bytes
+    /// a slot, and spares most looks at keys elsewhere in memory. It is this project's choice.
+    prefixes: Vec<u64>,
     slots: Vec<Slot>,
     indexed: Indexed,
 }
@@ -38,7 +43,7 @@ impl Model for Slots {
 
     ghost view = { λ x. record { entries = entries_of x.keys.entries x.slots.items; rows = x.indexed.rows; index = x.indexed.index } };
 
-    ghost invariant = { λ x. AreSlots x.keys.entries x.slots.items x.indexed };
+    ghost invariant = { λ x. AreSlots x.keys.entries x.prefixes.items x.slots.items x.indexed };
 }
 
 impl Slots {
@@ -50,6 +55,7 @@ impl Slots {
         let indexed = Indexed::new(alloc, attributes)?;
         Ok(Slots {
             keys: IndexMap::new(alloc),
+            prefixes: Vec::new(alloc),
             slots: Vec::new(alloc),
             indexed,
         })
@@ -99,11 +105,23 @@ impl Slots {
         }
     }
 
-    /// Whether the key at a place stands before another in byte order.
-    fn is_below(&self, place: usize, key: &Text) -> bool
+    /// The first eight bytes of the key at a place, or of the empty text where there is none.
+    fn prefix_at(&self, place: usize) -> u64
+        ensures { IsPrefixOf (key_in self.now.entries place) result }
+    {
+        match self.prefixes.get(place) {
+            Some(prefix) => *prefix,
+            None => 0,
+        }
+    }
+
+    /// Whether the key at a place stands before another, of this prefix, in byte order.
+    fn is_below(&self, place: usize, prefix: u64, key: &Text) -> bool
+        requires { IsPrefixOf key.now prefix }
         ensures { result ≡ text_below (key_in self.now.entries place) key.now }
     {
-        self.key_at(place) < key.as_str()
+        let own = self.prefix_at(place);
+        own < prefix || (own == prefix && self.key_at(place) < key.as_str())
     }
 
     /// How many of these places, which stand in byte order of keys, are of lower keys.
@@ -112,7 +130,8 @@ impl Slots {
         ensures split { IsSplit self.now.entries key.now result order.now }
         ensures within { result ≤ length order.now }
     {
-        order.partition_point(|place| self.is_below(*place, key))
+        let prefix = prefix_of(key.as_str());
+        order.partition_point(|place| self.is_below(*place, prefix, key))
     }
 
     /// The key of a place goes last, with an empty slot that isn't listed. The index has a place for
@@ -135,10 +154,12 @@ impl Slots {
         }
         self.indexed.widen(alloc, count as u32 + 1)?;
         self.slots.reserve(1)?;
+        self.prefixes.reserve(1)?;
         let held = key.copy(alloc)?;
         self.keys.insert(key.copy(alloc)?, false)?;
         let slot = Slot::new(alloc, region, held, marks);
         self.slots.push_reserved(slot);
+        self.prefixes.push_reserved(prefix_of(key.as_str()));
         Ok(())
     }
 
@@ -275,8 +296,30 @@ impl Slots {
     fn compare_keys(&self, one: u32, other: u32) -> Ordering
         ensures { result ≡ slice_cmp nat_cmp (key_in self.now.entries one) (key_in self.now.entries other) }
     {
+        let first = self.prefix_at(one as usize);
+        let second = self.prefix_at(other as usize);
+        if first != second {
+            return first.cmp(&second);
+        }
         self.key_at(one as usize).cmp(self.key_at(other as usize))
     }
+}
+
+/// The first eight bytes of a text as a number, the first of them highest, with zeros behind a text
+/// that is shorter. Of a lower number the text is lower too; of the same it can be either.
+fn prefix_of(text: &str) -> u64
+    ensures { IsPrefixOf text.now result }
+{
+    let bytes = text.as_bytes();
+    let mut prefix = 0;
+    for place in 0..8 {
+        let byte = match bytes.get(place) {
+            Some(byte) => *byte,
+            None => 0,
+        };
+        prefix = prefix * 256 + byte as u64;
+    }
+    prefix
 }
 
 /// Puts a place before the one at a number. There is room, so it takes no memory.

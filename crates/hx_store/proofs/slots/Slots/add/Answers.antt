@@ -4,6 +4,7 @@ use Rattle.indexmap.proofs.CallerLemmas.{insert_entry-new}
 use Rattle.hx_types.specs.Words.{same_text}
 use Rattle.hx_model.specs.Slots.{new_state, object_of}
 use Rattle.hx_slot.specs.States.{SlotState}
+use Rattle.hx_store.specs.Prefixes.{IsPrefixOf}
 use Rattle.hx_store.specs.Slots.{AreSlots, Entry, SlotsState, entries_of}
 use Rattle.hx_store.proofs.Entries.{entry-added, no-key, slots-added}
 use Rattle.hx_store.proofs.slots.Slots.add.Goals as goal
@@ -15,10 +16,15 @@ invariant_of-self-2 c =
     let n = c.len-count.ensures in
     let ok = c.self.inside.slots.ok.0 in
     let room = c.in_ok-widen.ensures.places in
-    subst (λ (ks : List (List ℕ × Bool)). AreSlots ks c.push_reserved.new.self.items c.widen.new.self) (sym keys)
+    let prefixes = (c.push_reserved-2.ensures.items ∙ ap (λ (ps : List ℕ). ps ++ c.prefix_of.result ∷ []) c.in_ok-reserve-2.ensures.items) in
+    let own = subst (λ (k : List ℕ). IsPrefixOf k c.prefix_of.result) c.as_str.ensures c.prefix_of.ensures in
+    subst (λ (ks : List (List ℕ × Bool)). AreSlots ks c.push_reserved-2.new.self.items c.push_reserved.new.self.items c.widen.new.self) (sym keys)
     (
-    subst (λ (xs : List SlotState). AreSlots (c.self.inside.keys.entries ++ (c.args.key.now, false) ∷ []) xs c.widen.new.self) (sym items)
-    (slots-added c.self.inside.slots.items c.new-slot.result (λ k. object_of (c.new-slot.ensures.region k) (c.new-slot.ensures.state k)) c.self.inside.keys.entries c.args.key.now c.self.inside.indexed c.widen.new.self c.self.invariant c.widen.ensures.wider (omega (arith, n, ok, room)))
+    subst (λ (ps : List ℕ). AreSlots (c.self.inside.keys.entries ++ (c.args.key.now, false) ∷ []) ps c.push_reserved.new.self.items c.widen.new.self) (sym prefixes)
+    (
+    subst (λ (xs : List SlotState). AreSlots (c.self.inside.keys.entries ++ (c.args.key.now, false) ∷ []) (c.self.inside.prefixes.items ++ c.prefix_of.result ∷ []) xs c.widen.new.self) (sym items)
+    (slots-added c.self.inside.slots.items c.new-slot.result (λ k. object_of (c.new-slot.ensures.region k) (c.new-slot.ensures.state k)) c.self.inside.keys.entries c.args.key.now c.prefix_of.result c.self.inside.indexed c.widen.new.self own c.self.invariant c.widen.ensures.wider (omega (arith, n, ok, room)))
+    )
     )
 
 pub returns-clause-ok : goal.returns-clause-ok
