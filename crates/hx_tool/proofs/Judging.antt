@@ -9,8 +9,8 @@ use Rattle.hx_script.specs.Texts.{script_of}
 use Rattle.hx_tool.specs.Causes.{IsJudgedResult, IsRefusedUnder, IsSteppable, IsTaken}
 use Rattle.hx_tool.specs.Commands.{Replays}
 use Rattle.hx_tool.specs.Steps.{IsRefusedAt}
-use Rattle.hx_tool.specs.declared.outcomes.Made.{Made}
-use Rattle.hx_tool.specs.declared.outcomes.Made.TheVariants.{Refused}
+use Rattle.hx_tool.specs.declared.outcomes.Ended.{Ended}
+use Rattle.hx_tool.specs.declared.outcomes.Ended.TheVariants.{Refused}
 use Rattle.hx_tool.specs.declared.words.Command.{Command}
 use Rattle.hx_tool.specs.declared.words.Command.TheVariants.{Replay, Plan}
 
@@ -29,11 +29,11 @@ module _ (command : Command) (text : List ℕ) (line : ℕ) (reason : Reason) wh
       none-refused command by.script by.replays (subst (λ (s : Script). IsSteppable command s) same taken.steppable) line by.trace by.refused
 
 -- a script with an answer has no step that is refused
-pub refused_is_not_taken : (command own : Command) (text : List ℕ) (before : Option (List ℕ)) (made : Made) (line : ℕ) (trace : List Entry) → Some own ≡ Some command → before ≡ Some text
+pub refused_is_not_taken : (command own : Command) (text : List ℕ) (before : Option (List ℕ)) (made : Ended) (line : ℕ) (trace : List Entry) → Some own ≡ Some command → before ≡ Some text
     → IfSome before (λ t. IsJudgedResult own t (Ok made)) → made ≡ Refused line trace → IsTaken command text → ⊥
 refused_is_not_taken command own text before made line trace some left judged is taken =
     let same : own ≡ command = cc in
     let at : IfSome (Some text) (λ t. IsJudgedResult own t (Ok made)) = subst (λ (o : Option (List ℕ)). IfSome o (λ t. IsJudgedResult own t (Ok made))) left judged in
-    let told : IsJudgedResult own text (Ok (Refused line trace)) = subst (λ (m : Made). IsJudgedResult own text (Ok m)) is at in
+    let told : IsJudgedResult own text (Ok (Refused line trace)) = subst (λ (m : Ended). IsJudgedResult own text (Ok m)) is at in
     let here : IsJudgedResult command text (Ok (Refused line trace)) = subst (λ (c : Command). IsJudgedResult c text (Ok (Refused line trace))) same told in
     taken_refused command text line a_reason.Step taken here.1

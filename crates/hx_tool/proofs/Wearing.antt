@@ -14,13 +14,13 @@ use Rattle.std.specs.Prelude.{IfSome}
 use Rattle.hx_script.specs.declared.errors.Reason.{Reason}
 use Rattle.hx_script.specs.Texts.{script_of}
 use Rattle.hx_io.specs.Causes.{Rose}
-use Rattle.hx_tool.specs.declared.outcomes.Made.{Made}
-use Rattle.hx_tool.specs.declared.outcomes.Made.TheVariants.{Whole, Refused, Worn}
+use Rattle.hx_tool.specs.declared.outcomes.Ended.{Ended}
+use Rattle.hx_tool.specs.declared.outcomes.Ended.TheVariants.{Whole, Refused, Worn}
 use Rattle.hx_tool.specs.declared.outcomes.Outcome.{Outcome}
 use Rattle.hx_tool.specs.declared.outcomes.Outcome.TheVariants as an_outcome
 use Rattle.hx_tool.specs.declared.words.Command.{Command}
 use Rattle.hx_tool.specs.declared.words.Command.TheVariants.{Replay, Plan}
-use Rattle.hx_tool.specs.Causes.{IsCause, IsJudgedResult, IsMade, IsMadeOf, IsRefusedUnder, IsReplayed, IsWorn, IsWornAfterSteps, IsWornRun, limit, outcome_of}
+use Rattle.hx_tool.specs.Causes.{IsCause, IsJudgedResult, CommandMakes, CommandEnds, IsRefusedUnder, IsWholeReplay, IsWorn, IsWornAfterSteps, IsWornRun, limit, outcome_of}
 use Rattle.hx_tool.specs.Commands.{Replays}
 use Rattle.hx_tool.specs.Steps.{AreTaken, IsWornAtStep, Stop, stop_of}
 use Rattle.hx_tool.proofs.Judging.{one_script}
@@ -127,7 +127,7 @@ not_taken : (script : Script) (trace : List Entry) (a : Actor) → IsWornAtStep 
 not_taken script trace a at taken = let both : None ≡ Some _ = sym taken ∙ at.stops in absurd (cc)
 
 -- a script whose replay is whole has no worn run
-whole_is_not_worn : (with_trace : Bool) (script : Script) (trace worn : List Entry) (report : List ℕ) (a : Actor) → IsReplayed with_trace script trace report → IsWornRun script worn a → ⊥
+whole_is_not_worn : (with_trace : Bool) (script : Script) (trace worn : List Entry) (report : List ℕ) (a : Actor) → IsWholeReplay with_trace script trace report → IsWornRun script worn a → ⊥
 whole_is_not_worn with_trace script trace worn report a whole run = by run.ends
   where
     by : IsWornAtStep script worn a ⊎ IsWornAfterSteps script worn a → ⊥
@@ -155,15 +155,15 @@ worn_at_one script one other a b run further = by run.ends further.ends
         (subst (λ (t : List Entry). IsWornOut script t b) also.trace_is also.worn_out)
         (subst HasFewEntries after.trace_is run.few) (subst HasFewEntries also.trace_is further.few)
 
-made_is_not_worn : (command : Command) (script : Script) (trace worn : List Entry) (bytes : List ℕ) (a : Actor) → Replays command → IsMade command script trace bytes → IsWornRun script worn a → ⊥
+made_is_not_worn : (command : Command) (script : Script) (trace worn : List Entry) (bytes : List ℕ) (a : Actor) → Replays command → CommandMakes command script trace bytes → IsWornRun script worn a → ⊥
 made_is_not_worn (Replay with_trace) script trace worn bytes a replays made run = whole_is_not_worn with_trace script trace worn bytes a made run
 made_is_not_worn Plan script trace worn bytes a replays made run = absurd replays
 
 -- what a replaying command makes of a text that has a worn run
-made_of_worn : (command : Command) (text : List ℕ) (made : Made) (trace : List Entry) (a : Actor) → Replays command → IsMadeOf command text made → IsWorn text trace a → outcome_of made ≡ an_outcome.Worn a
+made_of_worn : (command : Command) (text : List ℕ) (made : Ended) (trace : List Entry) (a : Actor) → Replays command → CommandEnds command text made → IsWorn text trace a → outcome_of made ≡ an_outcome.Worn a
 made_of_worn command text (Whole answered) trace a replays made worn =
     let same = one_script text made.script worn.script made.text_is worn.text_is in
-    absurd (made_is_not_worn command worn.script answered.trace trace answered.bytes.items a replays (subst (λ (s : Script). IsMade command s answered.trace answered.bytes.items) same made.made) worn.worn)
+    absurd (made_is_not_worn command worn.script answered.trace trace answered.bytes.items a replays (subst (λ (s : Script). CommandMakes command s answered.trace answered.bytes.items) same made.made) worn.worn)
 made_of_worn command text (Refused line trace) worn_trace a replays made worn =
     let same = one_script text worn.script made.1.script worn.text_is made.1.text_is in
     absurd (worn-steppable made.1.script worn_trace a (subst (λ (s : Script). IsWornRun s worn_trace a) same worn.worn) line trace made.1.stopped.refused)
@@ -172,13 +172,13 @@ made_of_worn command text (Worn b trace) worn_trace a replays made worn =
     ap (λ (x : Actor). an_outcome.Worn x) (worn_at_one worn.script trace worn_trace b a (subst (λ (s : Script). IsWornRun s trace b) same made.1.worn) worn.worn)
 
 -- the same where the source told its text
-pub made_wears : (own command : Command) (text : List ℕ) (before : Option (List ℕ)) (made shown : Made) (trace : List Entry) (a : Actor) → Some own ≡ Some command → before ≡ Some text
-    → IfSome before (λ t. IsMadeOf own t made) → made ≡ shown → Replays command → IsWorn text trace a → outcome_of shown ≡ an_outcome.Worn a
+pub made_wears : (own command : Command) (text : List ℕ) (before : Option (List ℕ)) (made shown : Ended) (trace : List Entry) (a : Actor) → Some own ≡ Some command → before ≡ Some text
+    → IfSome before (λ t. CommandEnds own t made) → made ≡ shown → Replays command → IsWorn text trace a → outcome_of shown ≡ an_outcome.Worn a
 made_wears own command text before made shown trace a some left told is replays worn =
     let same : own ≡ command = cc in
-    let at : IfSome (Some text) (λ t. IsMadeOf own t made) = subst (λ (o : Option (List ℕ)). IfSome o (λ t. IsMadeOf own t made)) left told in
-    let here : IsMadeOf own text shown = subst (λ (m : Made). IsMadeOf own text m) is at in
-    made_of_worn command text shown trace a replays (subst (λ (c : Command). IsMadeOf c text shown) same here) worn
+    let at : IfSome (Some text) (λ t. CommandEnds own t made) = subst (λ (o : Option (List ℕ)). IfSome o (λ t. CommandEnds own t made)) left told in
+    let here : CommandEnds own text shown = subst (λ (m : Ended). CommandEnds own text m) is at in
+    made_of_worn command text shown trace a replays (subst (λ (c : Command). CommandEnds c text shown) same here) worn
 
 by_outcome : (command : Command) (text : List ℕ) (before after : Option (List ℕ)) (m n : ℕ) (outcome : Outcome) (trace : List Entry) (a : Actor)
     → Replays command → length text ≤ limit → IsWorn text trace a → (Rose m n → ⊥) → IsJudgedResult command text (Err outcome) → IsCause command before after m n outcome → outcome ≡ an_outcome.Memory

@@ -22,8 +22,8 @@ use Rattle.hx_script.specs.declared.errors.ScriptError.TheVariants as a_script_e
 use Rattle.hx_script.specs.Texts.{script_of}
 use Rattle.hx_report.specs.Reporting.{IsReport}
 use Rattle.hx_world.specs.Worlds.{HasFewEntries, IsWornOut}
-use Rattle.hx_tool.specs.declared.outcomes.Made.{Made}
-use Rattle.hx_tool.specs.declared.outcomes.Made.TheVariants.{Whole, Refused, Worn}
+use Rattle.hx_tool.specs.declared.outcomes.Ended.{Ended}
+use Rattle.hx_tool.specs.declared.outcomes.Ended.TheVariants.{Whole, Refused, Worn}
 use Rattle.hx_tool.specs.declared.outcomes.Outcome.{Outcome}
 use Rattle.hx_tool.specs.declared.outcomes.Outcome.TheVariants as an_outcome
 use Rattle.hx_tool.specs.declared.words.Command.{Command}
@@ -105,7 +105,7 @@ pub record IsSearchWell (script : Script) (trace : List Entry) (s : FinishedSear
   pub whole : (key : List ℕ) → IsSearchWhole script trace key s
 
 -- the trace is the run of the script that its steps and the schedule give, each key's history is linear, each finished search is whole and true, every answer has its cause, and the report tells of it
-pub record IsReplayed (with_trace : Bool) (script : Script) (trace : List Entry) (report : List ℕ) : Type 0 where
+pub record IsWholeReplay (with_trace : Bool) (script : Script) (trace : List Entry) (report : List ℕ) : Type 0 where
   pub run : IsRun script (reverse trace)
   pub taken : AreTaken script
   pub scheduled : IsScheduled script (reverse trace)
@@ -121,15 +121,15 @@ pub record IsPlanned (script : Script) (trace : List Entry) (plans : List ℕ) :
   pub plans_are : plans ≡ plans_text script
 
 -- the trace and the bytes that a command makes of a script
-abbrev pub IsMade : Command → Script → List Entry → List ℕ → Type 0
-IsMade (a_command.Replay with_trace) script trace bytes = IsReplayed with_trace script trace bytes
-IsMade a_command.Plan script trace bytes = IsPlanned script trace bytes
+abbrev pub CommandMakes : Command → Script → List Entry → List ℕ → Type 0
+CommandMakes (a_command.Replay with_trace) script trace bytes = IsWholeReplay with_trace script trace bytes
+CommandMakes a_command.Plan script trace bytes = IsPlanned script trace bytes
 
 -- the text is that of a script, and the trace and the bytes are what the command makes of it
 pub record IsAnswer (command : Command) (text : List ℕ) (trace : List Entry) (bytes : List ℕ) : Type 0 where
   pub script : Script
   pub text_is : script_of text ≡ Ok script
-  pub made : IsMade command script trace bytes
+  pub made : CommandMakes command script trace bytes
 
 -- the text is that of a script, and the trace the run of it that ends where this actor has made all its entries
 pub record IsWorn (text : List ℕ) (trace : List Entry) (a : Actor) : Type 0 where
@@ -149,16 +149,16 @@ pub record IsStopped (text : List ℕ) (line : ℕ) (trace : List Entry) : Type 
   pub stopped : IsCutShort script line trace
 
 -- what a replay makes of a script
-abbrev pub IsReplay : Bool → Script → Made → Type 0
-IsReplay with_trace script (Whole answered) = IsReplayed with_trace script answered.trace answered.bytes.items
-IsReplay with_trace script (Refused line trace) = IsCutShort script line trace
-IsReplay with_trace script (Worn a trace) = IsWornRun script trace a
+abbrev pub ReplayEnds : Bool → Script → Ended → Type 0
+ReplayEnds with_trace script (Whole answered) = IsWholeReplay with_trace script answered.trace answered.bytes.items
+ReplayEnds with_trace script (Refused line trace) = IsCutShort script line trace
+ReplayEnds with_trace script (Worn a trace) = IsWornRun script trace a
 
 -- what a command makes of a text: an answer, or under `replay` a run that ends at a step that is refused or where an actor is worn
-abbrev pub IsMadeOf : Command → List ℕ → Made → Type 0
-IsMadeOf command text (Whole answered) = IsAnswer command text answered.trace answered.bytes.items
-IsMadeOf command text (Refused line trace) = Replays command × IsStopped text line trace
-IsMadeOf command text (Worn a trace) = Replays command × IsWorn text trace a
+abbrev pub CommandEnds : Command → List ℕ → Ended → Type 0
+CommandEnds command text (Whole answered) = IsAnswer command text answered.trace answered.bytes.items
+CommandEnds command text (Refused line trace) = Replays command × IsStopped text line trace
+CommandEnds command text (Worn a trace) = Replays command × IsWorn text trace a
 
 -- what a source that tells its bytes says of each outcome
 abbrev pub IsJudged : Command → List ℕ → Outcome → Type 0
@@ -206,12 +206,12 @@ IsCause command before after faults_before faults_after an_outcome.Memory = ⊤
 IsCause command before after faults_before faults_after (an_outcome.Worn a) = ⊥
 
 -- the outcome with which a made value ends, faults of writing aside
-abbrev pub outcome_of : Made → Outcome
+abbrev pub outcome_of : Ended → Outcome
 outcome_of (Whole answered) = an_outcome.Fine
 outcome_of (Refused line trace) = an_outcome.Refused line a_reason.Step
 outcome_of (Worn a trace) = an_outcome.Worn a
 
 -- the outcome of a call that made a value, or ended before
-abbrev pub IsJudgedResult : Command → List ℕ → Result Made Outcome → Type 0
+abbrev pub IsJudgedResult : Command → List ℕ → Result Ended Outcome → Type 0
 IsJudgedResult command text (Ok made) = IsJudged command text (outcome_of made)
 IsJudgedResult command text (Err outcome) = IsJudged command text outcome

@@ -6,14 +6,14 @@ ghost use Rattle.hx_script.specs.declared.errors.Reason.{Reason};
 ghost use Rattle.hx_script.specs.declared.errors.Reason.TheVariants as a_reason;
 ghost use Rattle.hx_types.specs.declared.ids.Actor.{Actor};
 ghost use Rattle.hx_types.specs.declared.traces.Entry.{Entry};
-ghost use Rattle.hx_tool.specs.Causes.{IsAnswer, IsCause, IsFaulty, IsJudged, IsJudgedResult, IsMadeOf, IsRefused, IsStopped, IsTaken, IsWorn, ReadsText, limit};
+ghost use Rattle.hx_tool.specs.Causes.{IsAnswer, IsCause, IsFaulty, IsJudged, IsJudgedResult, CommandEnds, IsRefused, IsStopped, IsTaken, IsWorn, ReadsText, limit};
 ghost use Rattle.hx_tool.specs.Commands.{Replays, Says};
 ghost use Rattle.hx_tool.specs.Outcomes.{HasNoTrace, IsSilent, status_of};
 ghost use Rattle.hx_tool.specs.declared.outcomes.Outcome.{Outcome};
 ghost use Rattle.hx_tool.specs.declared.words.Command.{Command};
 
 use crate::answering::answer;
-use crate::outcomes::{Answered, Done, Made, Outcome, status};
+use crate::outcomes::{Done, Ended, Outcome, Written, status};
 use crate::words::{Command, command_of};
 use hx_io::{Sink, Source, read_all, write_all};
 use hx_script::Reason;
@@ -113,9 +113,9 @@ pub fn hyperstore_alone<S: Source, K: Sink>(
         return silent(alloc, Outcome::Usage);
     };
     match read_and_answer(alloc, command, source) {
-        Ok(Made::Whole(made)) => write(sink, made),
-        Ok(Made::Refused { line, trace }) => refused(line, trace),
-        Ok(Made::Worn { actor, trace }) => worn(actor, trace),
+        Ok(Ended::Whole(made)) => write(sink, made),
+        Ok(Ended::Refused { line, trace }) => refused(line, trace),
+        Ok(Ended::Worn { actor, trace }) => worn(actor, trace),
         Err(outcome) => silent(alloc, outcome),
     }
 }
@@ -169,13 +169,13 @@ fn read_and_answer<S: Source>(
     alloc: Global,
     command: Command,
     source: &mut S,
-) -> Result<Made, Outcome>
+) -> Result<Ended, Outcome>
     ensures answer { IfOk result (λ made. (text : List ℕ)
         × ReadsText (S.left source.old) (S.left source.new) text
-        × IsMadeOf command text made) }
+        × CommandEnds command text made) }
     ensures cause { IfErr result (IsCause command (S.left source.old) (S.left source.new) (S.faults source.old) (S.faults source.new)) }
     ensures judged { IfSome (S.left source.old) (λ text. IsJudgedResult command text result) }
-    ensures made { IfSome (S.left source.old) (λ text. IfOk result (IsMadeOf command text)) }
+    ensures made { IfSome (S.left source.old) (λ text. IfOk result (CommandEnds command text)) }
     ensures faults { S.faults source.old ≤ S.faults source.new }
 {
     let text = read_all(alloc, source, LIMIT)?;
@@ -184,7 +184,7 @@ fn read_and_answer<S: Source>(
 }
 
 /// Writes the answer.
-fn write<K: Sink>(sink: &mut K, made: Answered) -> Done
+fn write<K: Sink>(sink: &mut K, made: Written) -> Done
     ensures status { result.status ≡ status_of result.outcome }
     ensures trace { result.trace ≡ made.trace }
     ensures ends { (result.outcome ≡ Outcome.Fine) ⊎ (result.outcome ≡ Outcome.WriteFault) }
@@ -193,7 +193,7 @@ fn write<K: Sink>(sink: &mut K, made: Answered) -> Done
     ensures fault { result.outcome ≡ Outcome.WriteFault → Rose (K.faults sink.old) (K.faults sink.new) }
     ensures faults { K.faults sink.old ≤ K.faults sink.new }
 {
-    let Answered { trace, bytes } = made;
+    let Written { trace, bytes } = made;
     let outcome = match write_all(sink, bytes.as_slice()) {
         Ok(()) => Outcome::Fine,
         Err(_) => Outcome::WriteFault,

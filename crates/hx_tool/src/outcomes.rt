@@ -31,9 +31,9 @@ pub enum Outcome {
     Worn(Actor),
 }
 
-/// The answer that a command gives to a script.
+/// What a command writes for a script, with the steps that it stands for.
 #[derive(Drop)]
-pub struct Answered {
+pub struct Written {
     /// The steps of all actors; empty where none took one.
     pub trace: Trace,
     /// The bytes to be written.
@@ -42,9 +42,9 @@ pub struct Answered {
 
 /// What a command makes of a script.
 #[derive(Drop)]
-pub enum Made {
+pub enum Ended {
     /// The answer.
-    Whole(Answered),
+    Whole(Written),
     /// A replay that ended at the step on this line, which can't be taken, and the entries before it.
     Refused { line: u64, trace: Trace },
     /// A replay that ended where this actor had made all its entries, and the entries up to there.
