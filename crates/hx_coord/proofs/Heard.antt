@@ -14,15 +14,15 @@ use Rattle.hx_model.specs.CoordinatorSteps.{CoordinatorStep, Steady, goes, gone_
 use Rattle.hx_coord.specs.declared.agendas.Agenda.{Agenda}
 use Rattle.hx_coord.specs.declared.agendas.Phase.{Phase}
 use Rattle.hx_coord.specs.declared.agendas.Phase.TheVariants as a_phase
-use Rattle.hx_coord.specs.declared.made.Made.{Made}
-use Rattle.hx_coord.specs.Changes.{IsMade, phase_seen, standing, told}
+use Rattle.hx_coord.specs.declared.outputs.StepOutput.{StepOutput}
+use Rattle.hx_coord.specs.Changes.{IsOutputOf, phase_seen, standing, told}
 use Rattle.hx_coord.proofs.Steps.{made_as, rested_made, told_made}
 
 -- the step that a test chooses
-chosen : (config : Config) (b : Bool) (x y : CoordinatorStep) (made : Made) → b ≡ true → IsMade config x made → IsMade config (cond b x y) made
+chosen : (config : Config) (b : Bool) (x y : CoordinatorStep) (made : StepOutput) → b ≡ true → IsOutputOf config x made → IsOutputOf config (cond b x y) made
 chosen config b x y made e h = made_as config _ _ made (cond-true b x y e) h
 
-passed : (config : Config) (b : Bool) (x y : CoordinatorStep) (made : Made) → b ≡ false → IsMade config y made → IsMade config (cond b x y) made
+passed : (config : Config) (b : Bool) (x y : CoordinatorStep) (made : StepOutput) → b ≡ false → IsOutputOf config y made → IsOutputOf config (cond b x y) made
 passed config b x y made e h = made_as config _ _ made (cond-false b x y e) h
 
 both : (a b : Bool) → a ≡ true → b ≡ true → (a && b) ≡ true
@@ -53,25 +53,25 @@ other_number m n e = grind (arith, e)
 lower_differs : (m n : ℕ) → m < n → (m == n) ≡ false
 lower_differs m n l = grind (arith, l)
 
-module _ (config : Config) (a : Agenda) (s : ServerId) (made : Made) where
-  pub gone_now : server_in s config.servers ≡ true → server_in s a.gone ≡ false → IsMade config (goes (standing config a) s (phase_seen a.phase)) made
-      → IsMade config (gone_step (standing config a) (Server s)) made
+module _ (config : Config) (a : Agenda) (s : ServerId) (made : StepOutput) where
+  pub gone_now : server_in s config.servers ≡ true → server_in s a.gone ≡ false → IsOutputOf config (goes (standing config a) s (phase_seen a.phase)) made
+      → IsOutputOf config (gone_step (standing config a) (Server s)) made
   gone_now within here h = chosen config _ _ _ made (both _ _ within (ap not here)) h
 
-  pub gone_before : server_in s a.gone ≡ true → made ≡ told a [] → IsMade config (gone_step (standing config a) (Server s)) made
+  pub gone_before : server_in s a.gone ≡ true → made ≡ told a [] → IsOutputOf config (gone_step (standing config a) (Server s)) made
   gone_before gone e = passed config _ _ _ made (not_second (server_in s config.servers) _ (ap not gone)) (rested_made config a made e)
 
-  pub gone_elsewhere : server_in s config.servers ≡ false → made ≡ told a [] → IsMade config (gone_step (standing config a) (Server s)) made
+  pub gone_elsewhere : server_in s config.servers ≡ false → made ≡ told a [] → IsOutputOf config (gone_step (standing config a) (Server s)) made
   gone_elsewhere out e = passed config _ _ _ made (not_first _ _ out) (rested_made config a made e)
 
-  pub go_steady : (gone : List ServerId) → a.phase ≡ a_phase.Steady → gone ≡ with_server s a.gone → IsMade config (seal (standing config (record a { gone = gone }))) made
-      → IsMade config (goes (standing config a) s (phase_seen a.phase)) made
+  pub go_steady : (gone : List ServerId) → a.phase ≡ a_phase.Steady → gone ≡ with_server s a.gone → IsOutputOf config (seal (standing config (record a { gone = gone }))) made
+      → IsOutputOf config (goes (standing config a) s (phase_seen a.phase)) made
   go_steady gone is are h =
       made_as config _ _ made
       (ap (λ (p : Phase). goes (standing config a) s (phase_seen p)) is ∙ ap (λ (g : List ServerId). seal (standing config (record a { gone = g }))) (sym are)) h
 
   pub go_sealing : (gone waited : List ServerId) → a.phase ≡ a_phase.Sealing waited → gone ≡ with_server s a.gone
-      → IsMade config (sealed_now (standing config (record a { gone = gone })) s (phase_seen a.phase)) made → IsMade config (goes (standing config a) s (phase_seen a.phase)) made
+      → IsOutputOf config (sealed_now (standing config (record a { gone = gone })) s (phase_seen a.phase)) made → IsOutputOf config (goes (standing config a) s (phase_seen a.phase)) made
   go_sealing gone waited is are h =
       made_as config _ _ made
       (
@@ -81,55 +81,55 @@ module _ (config : Config) (a : Agenda) (s : ServerId) (made : Made) where
       ) h
 
   module _ (epoch : Epoch) where
-    pub sealed_own : epoch.0 ≡ config.epoch.0 → IsMade config (sealed_now (standing config a) s (phase_seen a.phase)) made
-        → IsMade config (sealed_step (standing config a) epoch (Server s)) made
+    pub sealed_own : epoch.0 ≡ config.epoch.0 → IsOutputOf config (sealed_now (standing config a) s (phase_seen a.phase)) made
+        → IsOutputOf config (sealed_step (standing config a) epoch (Server s)) made
     sealed_own e h = chosen config (epoch.0 == config.epoch.0) _ _ made (same_number _ _ e) h
 
     pub sealed_older : epoch.0 < config.epoch.0 → server_in s config.servers ≡ true → made ≡ told a (post Coordinator (Server s) (a_message.Install config) ∷ [])
-        → IsMade config (sealed_step (standing config a) epoch (Server s)) made
+        → IsOutputOf config (sealed_step (standing config a) epoch (Server s)) made
     sealed_older l within e =
         passed config (epoch.0 == config.epoch.0) _ _ made (lower_differs _ _ l)
         (chosen config (nat_lt epoch.0 config.epoch.0 && server_in s config.servers) _ _ made (both _ _ (lower _ _ l) within) (told_made config a _ made e))
 
-    pub sealed_newer : epoch.0 ≢ config.epoch.0 → config.epoch.0 ≤ epoch.0 → made ≡ told a [] → IsMade config (sealed_step (standing config a) epoch (Server s)) made
+    pub sealed_newer : epoch.0 ≢ config.epoch.0 → config.epoch.0 ≤ epoch.0 → made ≡ told a [] → IsOutputOf config (sealed_step (standing config a) epoch (Server s)) made
     sealed_newer d l e =
         passed config (epoch.0 == config.epoch.0) _ _ made (other_number _ _ d)
         (passed config (nat_lt epoch.0 config.epoch.0 && server_in s config.servers) _ _ made (not_first _ _ (not_lower _ _ l)) (rested_made config a made e))
 
-    pub sealed_elsewhere : epoch.0 ≢ config.epoch.0 → server_in s config.servers ≡ false → made ≡ told a [] → IsMade config (sealed_step (standing config a) epoch (Server s)) made
+    pub sealed_elsewhere : epoch.0 ≢ config.epoch.0 → server_in s config.servers ≡ false → made ≡ told a [] → IsOutputOf config (sealed_step (standing config a) epoch (Server s)) made
     sealed_elsewhere d out e =
         passed config (epoch.0 == config.epoch.0) _ _ made (other_number _ _ d)
         (passed config (nat_lt epoch.0 config.epoch.0 && server_in s config.servers) _ _ made (not_second (nat_lt epoch.0 config.epoch.0) _ out) (rested_made config a made e))
 
     module _ (g : RegionId) where
-      pub ready_elsewhen : epoch.0 ≢ config.epoch.0 → made ≡ told a [] → IsMade config (ready_step (standing config a) epoch g (Server s)) made
+      pub ready_elsewhen : epoch.0 ≢ config.epoch.0 → made ≡ told a [] → IsOutputOf config (ready_step (standing config a) epoch g (Server s)) made
       ready_elsewhen d e = passed config (epoch.0 == config.epoch.0) _ _ made (other_number _ _ d) (rested_made config a made e)
 
-      pub ready_steady : epoch.0 ≡ config.epoch.0 → a.phase ≡ a_phase.Steady → IsMade config (ready_now (standing config a) s g Steady) made
-          → IsMade config (ready_step (standing config a) epoch g (Server s)) made
+      pub ready_steady : epoch.0 ≡ config.epoch.0 → a.phase ≡ a_phase.Steady → IsOutputOf config (ready_now (standing config a) s g Steady) made
+          → IsOutputOf config (ready_step (standing config a) epoch g (Server s)) made
       ready_steady o is h =
           chosen config (epoch.0 == config.epoch.0) _ _ made (same_number _ _ o) (made_as config _ _ made (ap (λ (p : Phase). ready_now (standing config a) s g (phase_seen p)) is) h)
 
       pub ready_sealing : (waited : List ServerId) → epoch.0 ≡ config.epoch.0 → a.phase ≡ a_phase.Sealing waited → made ≡ told a []
-          → IsMade config (ready_step (standing config a) epoch g (Server s)) made
+          → IsOutputOf config (ready_step (standing config a) epoch g (Server s)) made
       ready_sealing waited o is e =
           chosen config (epoch.0 == config.epoch.0) _ _ made (same_number _ _ o)
           (made_as config _ _ made (ap (λ (p : Phase). ready_now (standing config a) s g (phase_seen p)) is) (rested_made config a made e))
 
   module _ (g : RegionId) where
-    pub join_lost : is_lost config g ≡ true → made ≡ told a [] → IsMade config (ready_now (standing config a) s g Steady) made
+    pub join_lost : is_lost config g ≡ true → made ≡ told a [] → IsOutputOf config (ready_now (standing config a) s g Steady) made
     join_lost lost e = passed config _ _ _ made (not_first _ _ (ap not lost)) (rested_made config a made e)
 
-    pub join_unlisted : lists_joining config g s ≡ false → made ≡ told a [] → IsMade config (ready_now (standing config a) s g Steady) made
+    pub join_unlisted : lists_joining config g s ≡ false → made ≡ told a [] → IsOutputOf config (ready_now (standing config a) s g Steady) made
     join_unlisted out e = passed config _ _ _ made (not_second (not (is_lost config g)) _ out) (rested_made config a made e)
 
-    pub join_now : is_lost config g ≡ false → lists_joining config g s ≡ true → IsMade config (seal (standing config (record a { joined = a.joined ++ record { server = s; region = g } ∷ [] }))) made
-        → IsMade config (ready_now (standing config a) s g Steady) made
+    pub join_now : is_lost config g ≡ false → lists_joining config g s ≡ true → IsOutputOf config (seal (standing config (record a { joined = a.joined ++ record { server = s; region = g } ∷ [] }))) made
+        → IsOutputOf config (ready_now (standing config a) s g Steady) made
     join_now here within h = chosen config _ _ _ made (both _ _ (ap not here) within) h
 
-module _ (config : Config) (a : Agenda) (epoch : Epoch) (from : Actor) (made : Made) where
-  pub poll_older : epoch.0 < config.epoch.0 → made ≡ told a (post Coordinator from (a_message.Install config) ∷ []) → IsMade config (poll_step (standing config a) epoch from) made
+module _ (config : Config) (a : Agenda) (epoch : Epoch) (from : Actor) (made : StepOutput) where
+  pub poll_older : epoch.0 < config.epoch.0 → made ≡ told a (post Coordinator from (a_message.Install config) ∷ []) → IsOutputOf config (poll_step (standing config a) epoch from) made
   poll_older l e = chosen config _ _ _ made (lower _ _ l) (told_made config a _ made e)
 
-  pub poll_newer : config.epoch.0 ≤ epoch.0 → made ≡ told a [] → IsMade config (poll_step (standing config a) epoch from) made
+  pub poll_newer : config.epoch.0 ≤ epoch.0 → made ≡ told a [] → IsOutputOf config (poll_step (standing config a) epoch from) made
   poll_newer l e = passed config _ _ _ made (not_lower _ _ l) (rested_made config a made e)

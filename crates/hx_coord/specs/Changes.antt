@@ -13,8 +13,8 @@ use Rattle.hx_model.specs.CoordinatorSteps.{Answered, CoordinatorState, Coordina
 use Rattle.hx_coord.specs.declared.agendas.Agenda.{Agenda}
 use Rattle.hx_coord.specs.declared.agendas.Phase.{Phase}
 use Rattle.hx_coord.specs.declared.agendas.Phase.TheVariants as a_phase
-use Rattle.hx_coord.specs.declared.made.Made.{Made}
-use Rattle.hx_coord.specs.declared.plans.Plan.{Plan}
+use Rattle.hx_coord.specs.declared.outputs.StepOutput.{StepOutput}
+use Rattle.hx_coord.specs.declared.prepared.Plan.{Plan}
 use Rattle.hx_coord.specs.Coordinators.{coordinator_entry}
 use Rattle.hx_coord.specs.Tasks.{outcomes}
 
@@ -63,11 +63,11 @@ standing config a =
     }
 
 -- these posts are made, this is kept, and nothing is noted
-abbrev pub told : Agenda → List Post → Made
+abbrev pub told : Agenda → List Post → StepOutput
 told a posts = record { posts = posts; notes = []; config = None; agenda = a }
 
 -- what the issue of a configuration posts, notes and changes
-abbrev pub issued_as : Agenda → Issuing → Made
+abbrev pub issued_as : Agenda → Issuing → StepOutput
 issued_as a i =
     record {
       posts =
@@ -83,7 +83,7 @@ known_posts caller None = []
 known_posts caller (Some answer) = outcome caller answer ∷ []
 
 -- what was made in this configuration is the step
-pub record IsMade (config : Config) (step : CoordinatorStep) (made : Made) : Type 0 where
+pub record IsOutputOf (config : Config) (step : CoordinatorStep) (made : StepOutput) : Type 0 where
   pub posts : made.posts ≡ step.posts
   pub notes : made.notes ≡ step.notes
   pub state : standing (unwrap_or made.config config) made.agenda ≡ step.state

@@ -3,4 +3,4 @@ pub mod Changes
 pub mod Leaving
 pub mod Numbers
 pub mod Tasks
-pub mod Inside
+pub mod Invariant

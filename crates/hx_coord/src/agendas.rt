@@ -45,7 +45,11 @@ impl Agenda {
 }
 
 /// The call's number is its session's newest, with its answer if there is one.
-pub fn number(agenda: &mut Agenda, caller: Caller, answer: Option<Answer>) -> Result<(), Memory>
+pub fn record_number(
+    agenda: &mut Agenda,
+    caller: Caller,
+    answer: Option<Answer>,
+) -> Result<(), Memory>
     ensures { OnOk result (agenda.new ≡ numbered agenda.old caller answer) }
 {
     put_newest(
@@ -62,7 +66,7 @@ pub fn number(agenda: &mut Agenda, caller: Caller, answer: Option<Answer>) -> Re
 pub fn put_task(agenda: &mut Agenda, caller: Caller, op: Op) -> Result<(), Memory>
     ensures { OnOk result (agenda.new ≡ to_do agenda.old caller op) }
 {
-    number(agenda, caller, None)?;
+    record_number(agenda, caller, None)?;
     agenda.todo.push(Task { caller, op })
 }
 

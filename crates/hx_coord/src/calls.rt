@@ -2,13 +2,13 @@ ghost use Rattle.std.specs.Prelude.{◌≡◌, ◌≤◌, ◌^◌, ◌∷◌, []
 ghost use Rattle.hx_types.specs.declared.messages.Message.TheVariants as a_message;
 ghost use Rattle.hx_types.specs.Words.{provided, server_in};
 ghost use Rattle.hx_model.specs.CoordinatorSteps.{Steady, add_step, adds, stop_step, stops, to_server};
-ghost use Rattle.hx_coord.specs.Changes.{IsMade, known_posts, phase_seen, standing, told};
+ghost use Rattle.hx_coord.specs.Changes.{IsOutputOf, known_posts, phase_seen, standing, told};
 ghost use Rattle.hx_coord.specs.Numbers.{Comes};
 
 use crate::agendas::{Agenda, Phase, put_task};
 use crate::judging::judge;
-use crate::made::{Made, answer, outcome, rest, tell};
 use crate::numbers::newest_of;
+use crate::outputs::{StepOutput, answer, no_output, outcome, posting};
 use crate::posting::tell_server;
 use crate::sealing::seal;
 use crate::servers::is_in;
@@ -37,11 +37,11 @@ pub fn stop_server(
     agenda: Agenda,
     caller: Caller,
     server: ServerId,
-) -> Result<Made, Memory>
-    ensures { IfOk result (IsMade config.now (stop_step (standing config.now agenda) caller.number server caller.session)) }
+) -> Result<StepOutput, Memory>
+    ensures { IfOk result (IsOutputOf config.now (stop_step (standing config.now agenda) caller.number server caller.session)) }
 {
     match compare_number(alloc, &agenda.newest, caller)? {
-        Coming::Old => Ok(rest(alloc, agenda)),
+        Coming::Old => Ok(no_output(alloc, agenda)),
         Coming::Again(known) => answer_again(alloc, agenda, caller, known),
         Coming::New => stop(alloc, config, agenda, caller, server),
     }
@@ -57,12 +57,12 @@ pub fn add_replica(
     caller: Caller,
     server: ServerId,
     region: RegionId,
-) -> Result<Made, Memory>
+) -> Result<StepOutput, Memory>
     requires { config.now.epoch.0 ≤ 2 ^ 62 }
-    ensures { IfOk result (IsMade config.now (add_step (standing config.now agenda) caller.number server region caller.session)) }
+    ensures { IfOk result (IsOutputOf config.now (add_step (standing config.now agenda) caller.number server region caller.session)) }
 {
     match compare_number(alloc, &agenda.newest, caller)? {
-        Coming::Old => Ok(rest(alloc, agenda)),
+        Coming::Old => Ok(no_output(alloc, agenda)),
         Coming::Again(known) => answer_again(alloc, agenda, caller, known),
         Coming::New => add(alloc, config, agenda, caller, server, region),
     }
@@ -88,14 +88,14 @@ fn answer_again(
     agenda: Agenda,
     caller: Caller,
     known: Option<Answer>,
-) -> Result<Made, Memory>
+) -> Result<StepOutput, Memory>
     ensures { IfOk result (λ made. made ≡ told agenda (known_posts caller known)) }
 {
     match known {
-        None => Ok(rest(alloc, agenda)),
+        None => Ok(no_output(alloc, agenda)),
         Some(answer) => {
             let posts = outcome(alloc, caller, &answer)?;
-            Ok(tell(alloc, agenda, posts))
+            Ok(posting(alloc, agenda, posts))
         }
     }
 }
@@ -108,8 +108,8 @@ fn stop(
     agenda: Agenda,
     caller: Caller,
     server: ServerId,
-) -> Result<Made, Memory>
-    ensures { IfOk result (IsMade config.now (stops (standing config.now agenda) caller server)) }
+) -> Result<StepOutput, Memory>
+    ensures { IfOk result (IsOutputOf config.now (stops (standing config.now agenda) caller server)) }
 {
     if !is_in(config.servers.as_slice(), server) {
         let epoch = config.epoch;
@@ -118,7 +118,7 @@ fn stop(
     let mut agenda = agenda;
     let posts = ask_to_halt(alloc, agenda.gone.as_slice(), server)?;
     put_task(&mut agenda, caller, Op::Stop { server })?;
-    Ok(tell(alloc, agenda, posts))
+    Ok(posting(alloc, agenda, posts))
 }
 
 /// A server is asked to halt, unless it is known to be gone.
@@ -141,16 +141,16 @@ fn add(
     caller: Caller,
     server: ServerId,
     region: RegionId,
-) -> Result<Made, Memory>
+) -> Result<StepOutput, Memory>
     requires { config.now.epoch.0 ≤ 2 ^ 62 }
-    ensures { IfOk result (IsMade config.now (adds (standing config.now agenda) caller server region (phase_seen agenda.phase))) }
+    ensures { IfOk result (IsOutputOf config.now (adds (standing config.now agenda) caller server region (phase_seen agenda.phase))) }
 {
     match agenda.phase {
         Phase::Steady => add_steady(alloc, config, agenda, caller, server, region),
         Phase::Sealing(_) => {
             let mut agenda = agenda;
             put_task(&mut agenda, caller, Op::Add { server, region })?;
-            Ok(rest(alloc, agenda))
+            Ok(no_output(alloc, agenda))
         }
     }
 }
@@ -163,9 +163,9 @@ fn add_steady(
     caller: Caller,
     server: ServerId,
     region: RegionId,
-) -> Result<Made, Memory>
+) -> Result<StepOutput, Memory>
     requires { config.now.epoch.0 ≤ 2 ^ 62 }
-    ensures { IfOk result (IsMade config.now (adds (standing config.now agenda) caller server region Steady)) }
+    ensures { IfOk result (IsOutputOf config.now (adds (standing config.now agenda) caller server region Steady)) }
 {
     match judge(config, server, region) {
         Some(against) => answer(alloc, agenda, caller, against),

@@ -2,14 +2,14 @@ ghost use Rattle.std.specs.Prelude.{◌≡◌, ℕ, ◌+◌, IfOk};
 ghost use Rattle.hx_types.specs.declared.spaces.Space.{Space as SpaceSeen};
 ghost use Rattle.hx_types.specs.Spaces.{IsSpace};
 ghost use Rattle.hx_model.specs.CoordinatorSteps.{coordinator_at_start, coordinator_step};
-ghost use Rattle.hx_coord.specs.Changes.{IsMade, IsPlanOn};
+ghost use Rattle.hx_coord.specs.Changes.{IsOutputOf, IsPlanOn};
 ghost use Rattle.hx_coord.specs.Coordinators.{CanTake, CoordinatorUpTo, IsCoordinatorOf, IsInputOf, known_to};
 ghost use Rattle.hx_types.specs.Posted.{ArePostsOf, NameOnly, PostsUpTo};
 
 use crate::agendas::Agenda;
 use crate::hearing::hear;
-use crate::made::Made;
-use crate::plans::{Plan, put_config};
+use crate::outputs::StepOutput;
+use crate::prepared::{Plan, put_config};
 use crate::turns::tick;
 use hx_types::{Actor, Config, Entry, Exact, Input, Memory, Shared, Space, first_config};
 use std::alloc::Global;
@@ -28,7 +28,7 @@ impl Model for Coordinator {
 
     ghost Value = { CoordinatorState };
 
-    ghost use Rattle.hx_coord.specs.Inside.{value_of};
+    ghost use Rattle.hx_coord.specs.Invariant.{value_of};
 
     ghost view = { value_of };
 }
@@ -104,9 +104,9 @@ impl Coordinator {
     }
 
     /// What the step of an input makes.
-    fn made(&self, alloc: Global, input: &Input) -> Result<Made, Memory>
+    fn made(&self, alloc: Global, input: &Input) -> Result<StepOutput, Memory>
         requires { CanTake self.now input.now }
-        ensures { IfOk result (IsMade self.now.config (coordinator_step self.now input.now)) }
+        ensures { IfOk result (IsOutputOf self.now.config (coordinator_step self.now input.now)) }
     {
         let agenda = self.agenda.copy(alloc)?;
         match input {

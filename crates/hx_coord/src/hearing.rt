@@ -3,12 +3,12 @@ ghost use Rattle.hx_types.specs.declared.messages.Message.TheVariants as a_messa
 ghost use Rattle.hx_types.specs.declared.ids.Actor.TheVariants.{Coordinator, Server, Session};
 ghost use Rattle.hx_types.specs.Words.{post};
 ghost use Rattle.hx_model.specs.CoordinatorSteps.{Steady, coordinator_message, goes, gone_step, poll_step, ready_now, ready_step, sealed_step};
-ghost use Rattle.hx_coord.specs.Changes.{IsMade, phase_seen, standing, told};
+ghost use Rattle.hx_coord.specs.Changes.{IsOutputOf, phase_seen, standing, told};
 
 use crate::agendas::{Agenda, Phase};
 use crate::calls::{add_replica, stop_server};
-use crate::made::{Made, rest, tell};
-use crate::sealing::{seal, wait_less};
+use crate::outputs::{StepOutput, no_output, posting};
+use crate::sealing::{seal, stop_waiting_for};
 use crate::servers::{is_in, with_server};
 use crate::tasks::Joined;
 use hx_types::{
@@ -24,9 +24,9 @@ pub fn hear(
     agenda: Agenda,
     from: Actor,
     message: &Message,
-) -> Result<Made, Memory>
+) -> Result<StepOutput, Memory>
     requires { config.now.epoch.0 ≤ 2 ^ 62 }
-    ensures { IfOk result (IsMade config.now (coordinator_message (standing config.now agenda) from message.now)) }
+    ensures { IfOk result (IsOutputOf config.now (coordinator_message (standing config.now agenda) from message.now)) }
 {
     match from {
         Actor::Server(server) => hear_server(alloc, config, agenda, server, message),
@@ -43,12 +43,12 @@ fn hear_itself(
     config: &Shared<Config>,
     agenda: Agenda,
     message: &Message,
-) -> Result<Made, Memory>
-    ensures { IfOk result (IsMade config.now (coordinator_message (standing config.now agenda) Coordinator message.now)) }
+) -> Result<StepOutput, Memory>
+    ensures { IfOk result (IsOutputOf config.now (coordinator_message (standing config.now agenda) Coordinator message.now)) }
 {
     match message {
         Message::Poll { epoch } => poll(alloc, config, agenda, *epoch, Actor::Coordinator),
-        _ => Ok(rest(alloc, agenda)),
+        _ => Ok(no_output(alloc, agenda)),
     }
 }
 
@@ -59,16 +59,16 @@ fn hear_server(
     agenda: Agenda,
     server: ServerId,
     message: &Message,
-) -> Result<Made, Memory>
+) -> Result<StepOutput, Memory>
     requires { config.now.epoch.0 ≤ 2 ^ 62 }
-    ensures { IfOk result (IsMade config.now (coordinator_message (standing config.now agenda) (Server server) message.now)) }
+    ensures { IfOk result (IsOutputOf config.now (coordinator_message (standing config.now agenda) (Server server) message.now)) }
 {
     match message {
         Message::Poll { epoch } => poll(alloc, config, agenda, *epoch, Actor::Server(server)),
         Message::Gone => gone(alloc, config, agenda, server),
         Message::Sealed { epoch } => sealed(alloc, config, agenda, *epoch, server),
         Message::Ready { epoch, region } => ready(alloc, config, agenda, *epoch, *region, server),
-        _ => Ok(rest(alloc, agenda)),
+        _ => Ok(no_output(alloc, agenda)),
     }
 }
 
@@ -79,9 +79,9 @@ fn hear_session(
     agenda: Agenda,
     session: SessionId,
     message: &Message,
-) -> Result<Made, Memory>
+) -> Result<StepOutput, Memory>
     requires { config.now.epoch.0 ≤ 2 ^ 62 }
-    ensures { IfOk result (IsMade config.now (coordinator_message (standing config.now agenda) (Session session) message.now)) }
+    ensures { IfOk result (IsOutputOf config.now (coordinator_message (standing config.now agenda) (Session session) message.now)) }
 {
     match message {
         Message::Poll { epoch } => poll(alloc, config, agenda, *epoch, Actor::Session(session)),
@@ -103,7 +103,7 @@ fn hear_session(
             };
             add_replica(alloc, config, agenda, caller, *server, *region)
         }
-        _ => Ok(rest(alloc, agenda)),
+        _ => Ok(no_output(alloc, agenda)),
     }
 }
 
@@ -114,14 +114,14 @@ fn gone(
     config: &Shared<Config>,
     agenda: Agenda,
     server: ServerId,
-) -> Result<Made, Memory>
+) -> Result<StepOutput, Memory>
     requires { config.now.epoch.0 ≤ 2 ^ 62 }
-    ensures { IfOk result (IsMade config.now (gone_step (standing config.now agenda) (Server server))) }
+    ensures { IfOk result (IsOutputOf config.now (gone_step (standing config.now agenda) (Server server))) }
 {
     if is_in(config.servers.as_slice(), server) && !is_in(agenda.gone.as_slice(), server) {
-        go(alloc, config, agenda, server)
+        server_gone(alloc, config, agenda, server)
     } else {
-        Ok(rest(alloc, agenda))
+        Ok(no_output(alloc, agenda))
     }
 }
 
@@ -129,20 +129,20 @@ fn gone(
 #[tactic(auto, using(crate::proofs::Heard::go_steady, crate::proofs::Heard::go_sealing))]
 #[cold]
 #[inline(never)]
-fn go(
+fn server_gone(
     alloc: Global,
     config: &Shared<Config>,
     agenda: Agenda,
     server: ServerId,
-) -> Result<Made, Memory>
+) -> Result<StepOutput, Memory>
     requires { config.now.epoch.0 ≤ 2 ^ 62 }
-    ensures { IfOk result (IsMade config.now (goes (standing config.now agenda) server (phase_seen agenda.phase))) }
+    ensures { IfOk result (IsOutputOf config.now (goes (standing config.now agenda) server (phase_seen agenda.phase))) }
 {
     let mut agenda = agenda;
     agenda.gone = with_server(alloc, &agenda.gone, server)?;
     match agenda.phase {
         Phase::Steady => seal(alloc, config, agenda),
-        Phase::Sealing(_) => wait_less(alloc, config, agenda, server),
+        Phase::Sealing(_) => stop_waiting_for(alloc, config, agenda, server),
     }
 }
 
@@ -155,17 +155,17 @@ fn sealed(
     agenda: Agenda,
     epoch: Epoch,
     server: ServerId,
-) -> Result<Made, Memory>
+) -> Result<StepOutput, Memory>
     requires { config.now.epoch.0 ≤ 2 ^ 62 }
-    ensures { IfOk result (IsMade config.now (sealed_step (standing config.now agenda) epoch (Server server))) }
+    ensures { IfOk result (IsOutputOf config.now (sealed_step (standing config.now agenda) epoch (Server server))) }
 {
     let own = config.epoch;
     if epoch.0 == own.0 {
-        wait_less(alloc, config, agenda, server)
+        stop_waiting_for(alloc, config, agenda, server)
     } else if epoch.0 < own.0 && is_in(config.servers.as_slice(), server) {
         install(alloc, config, agenda, Actor::Server(server))
     } else {
-        Ok(rest(alloc, agenda))
+        Ok(no_output(alloc, agenda))
     }
 }
 
@@ -178,33 +178,33 @@ fn ready(
     epoch: Epoch,
     region: RegionId,
     server: ServerId,
-) -> Result<Made, Memory>
+) -> Result<StepOutput, Memory>
     requires { config.now.epoch.0 ≤ 2 ^ 62 }
-    ensures { IfOk result (IsMade config.now (ready_step (standing config.now agenda) epoch region (Server server))) }
+    ensures { IfOk result (IsOutputOf config.now (ready_step (standing config.now agenda) epoch region (Server server))) }
 {
     if epoch.0 != config.epoch.0 {
-        return Ok(rest(alloc, agenda));
+        return Ok(no_output(alloc, agenda));
     }
     match agenda.phase {
-        Phase::Steady => join(alloc, config, agenda, region, server),
-        Phase::Sealing(_) => Ok(rest(alloc, agenda)),
+        Phase::Steady => joiner_ready(alloc, config, agenda, region, server),
+        Phase::Sealing(_) => Ok(no_output(alloc, agenda)),
     }
 }
 
 /// Where the region has this joiner the epoch is sealed, so that the next one has it ready.
 #[tactic(auto, using(crate::proofs::Heard::join_lost, crate::proofs::Heard::join_unlisted, crate::proofs::Heard::join_now))]
-fn join(
+fn joiner_ready(
     alloc: Global,
     config: &Shared<Config>,
     agenda: Agenda,
     region: RegionId,
     server: ServerId,
-) -> Result<Made, Memory>
+) -> Result<StepOutput, Memory>
     requires { config.now.epoch.0 ≤ 2 ^ 62 }
-    ensures { IfOk result (IsMade config.now (ready_now (standing config.now agenda) server region Steady)) }
+    ensures { IfOk result (IsOutputOf config.now (ready_now (standing config.now agenda) server region Steady)) }
 {
     if config.is_lost(region) || !config.lists_joining(region, server) {
-        return Ok(rest(alloc, agenda));
+        return Ok(no_output(alloc, agenda));
     }
     let mut agenda = agenda;
     agenda.joined.push(Joined { server, region })?;
@@ -219,13 +219,13 @@ fn poll(
     agenda: Agenda,
     epoch: Epoch,
     from: Actor,
-) -> Result<Made, Memory>
-    ensures { IfOk result (IsMade config.now (poll_step (standing config.now agenda) epoch from)) }
+) -> Result<StepOutput, Memory>
+    ensures { IfOk result (IsOutputOf config.now (poll_step (standing config.now agenda) epoch from)) }
 {
     if epoch.0 < config.epoch.0 {
         install(alloc, config, agenda, from)
     } else {
-        Ok(rest(alloc, agenda))
+        Ok(no_output(alloc, agenda))
     }
 }
 
@@ -235,7 +235,7 @@ fn install(
     config: &Shared<Config>,
     agenda: Agenda,
     to: Actor,
-) -> Result<Made, Memory>
+) -> Result<StepOutput, Memory>
     ensures { IfOk result (λ made. made ≡ told agenda (post Coordinator to (a_message.Install config.now) ∷ [])) }
 {
     let mut posts = Posts::new(alloc);
@@ -245,5 +245,5 @@ fn install(
         to,
         message: Message::Install { config },
     })?;
-    Ok(tell(alloc, agenda, posts))
+    Ok(posting(alloc, agenda, posts))
 }

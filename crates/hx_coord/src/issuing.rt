@@ -2,14 +2,14 @@ ghost use Rattle.std.specs.Prelude.{◌≡◌, ◌≤◌, ◌^◌, ◌∷◌, []
 ghost use Rattle.hx_types.specs.declared.calls.Op.TheVariants.{Add, Stop};
 ghost use Rattle.hx_types.specs.declared.traces.Note.TheVariants as a_note;
 ghost use Rattle.hx_model.specs.CoordinatorSteps.{does, does_all, issue, issuing, leaves, newest_answered, with_answer};
-ghost use Rattle.hx_coord.specs.Changes.{IsMade, agenda_after, issued_as, standing};
+ghost use Rattle.hx_coord.specs.Changes.{IsOutputOf, agenda_after, issued_as, standing};
 ghost use Rattle.hx_coord.specs.Tasks.{answers_as};
 
 use crate::agendas::{Agenda, Phase};
 use crate::configs::next_config;
 use crate::judging::{append, judge};
-use crate::made::Made;
 use crate::numbers::{is_newest_call, put_newest};
+use crate::outputs::StepOutput;
 use crate::posting::{installs, tell_outcomes};
 use crate::servers::is_in;
 use crate::tasks::{JoinedList, Newest, NewestList, Task, Tasks};
@@ -119,9 +119,9 @@ impl Issuing {
 #[tactic(auto, using(crate::proofs::Steps::issue_made))]
 #[cold]
 #[inline(never)]
-pub fn issue(alloc: Global, config: &Config, agenda: Agenda) -> Result<Made, Memory>
+pub fn issue(alloc: Global, config: &Config, agenda: Agenda) -> Result<StepOutput, Memory>
     requires { config.now.epoch.0 ≤ 2 ^ 62 }
-    ensures { IfOk result (IsMade config.now (issue (standing config.now agenda))) }
+    ensures { IfOk result (IsOutputOf config.now (issue (standing config.now agenda))) }
 {
     let issuing = carry_out(alloc, config, &agenda)?;
     issued(alloc, agenda, issuing)
@@ -157,7 +157,7 @@ fn take_all(alloc: Global, issuing: &mut Issuing, todo: &[Task]) -> Result<(), M
 }
 
 /// What the issue of a configuration posts, notes and changes.
-fn issued(alloc: Global, agenda: Agenda, issuing: Issuing) -> Result<Made, Memory>
+fn issued(alloc: Global, agenda: Agenda, issuing: Issuing) -> Result<StepOutput, Memory>
     ensures { IfOk result (λ made. made ≡ issued_as agenda issuing) }
 {
     let Issuing {
@@ -170,7 +170,7 @@ fn issued(alloc: Global, agenda: Agenda, issuing: Issuing) -> Result<Made, Memor
     tell_outcomes(alloc, &mut posts, answered.as_slice())?;
     let notes = note_issued(alloc, &config)?;
     let agenda = agenda_after(alloc, agenda, answered.as_slice(), left)?;
-    Ok(Made {
+    Ok(StepOutput {
         posts,
         notes,
         config: Some(config),

@@ -11,14 +11,14 @@ mod coordinators;
 mod hearing;
 mod issuing;
 mod judging;
-mod made;
 mod numbers;
-mod plans;
+mod outputs;
 mod posting;
+mod prepared;
 mod sealing;
 mod servers;
 mod tasks;
 mod turns;
 
 pub use coordinators::Coordinator;
-pub use plans::Plan;
+pub use prepared::Plan;

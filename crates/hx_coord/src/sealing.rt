@@ -1,10 +1,10 @@
 ghost use Rattle.std.specs.Prelude.{◌≡◌, ◌≤◌, ◌^◌, IfOk};
 ghost use Rattle.hx_model.specs.CoordinatorSteps.{seal, sealed_now, still_sealing};
-ghost use Rattle.hx_coord.specs.Changes.{IsMade, phase_seen, standing, waited_without};
+ghost use Rattle.hx_coord.specs.Changes.{IsOutputOf, phase_seen, standing, waited_without};
 
 use crate::agendas::{Agenda, Phase};
 use crate::issuing::issue;
-use crate::made::{Made, rest, tell};
+use crate::outputs::{StepOutput, no_output, posting};
 use crate::posting::seals;
 use crate::servers::{is_in, remaining, without};
 use hx_types::{Config, Memory, ServerId, ServerList};
@@ -13,9 +13,9 @@ use std::alloc::Global;
 /// Each server that isn't gone is to be sealed. Where there is none the next configuration is
 /// issued at once.
 #[tactic(auto, using(crate::proofs::Steps::seal_at_once, crate::proofs::Steps::seal_first))]
-pub fn seal(alloc: Global, config: &Config, agenda: Agenda) -> Result<Made, Memory>
+pub fn seal(alloc: Global, config: &Config, agenda: Agenda) -> Result<StepOutput, Memory>
     requires { config.now.epoch.0 ≤ 2 ^ 62 }
-    ensures { IfOk result (IsMade config.now (seal (standing config.now agenda))) }
+    ensures { IfOk result (IsOutputOf config.now (seal (standing config.now agenda))) }
 {
     let waited = remaining(alloc, agenda.gone.as_slice(), config.servers.as_slice())?;
     if waited.is_empty() {
@@ -24,23 +24,23 @@ pub fn seal(alloc: Global, config: &Config, agenda: Agenda) -> Result<Made, Memo
     let posts = seals(alloc, config.epoch, waited.as_slice())?;
     let mut agenda = agenda;
     agenda.phase = Phase::Sealing(waited);
-    Ok(tell(alloc, agenda, posts))
+    Ok(posting(alloc, agenda, posts))
 }
 
 /// A server is waited for no longer. Where it was the last the next configuration is issued.
 #[tactic(auto, using(crate::proofs::Steps::wait_some, crate::proofs::Steps::wait_none))]
-pub fn wait_less(
+pub fn stop_waiting_for(
     alloc: Global,
     config: &Config,
     agenda: Agenda,
     server: ServerId,
-) -> Result<Made, Memory>
+) -> Result<StepOutput, Memory>
     requires { config.now.epoch.0 ≤ 2 ^ 62 }
-    ensures { IfOk result (IsMade config.now (sealed_now (standing config.now agenda) server (phase_seen agenda.phase))) }
+    ensures { IfOk result (IsOutputOf config.now (sealed_now (standing config.now agenda) server (phase_seen agenda.phase))) }
 {
     match waited_without(alloc, &agenda.phase, server)? {
         Some(waited) => wait_for(alloc, config, agenda, waited),
-        None => Ok(rest(alloc, agenda)),
+        None => Ok(no_output(alloc, agenda)),
     }
 }
 
@@ -68,14 +68,14 @@ fn wait_for(
     config: &Config,
     agenda: Agenda,
     waited: ServerList,
-) -> Result<Made, Memory>
+) -> Result<StepOutput, Memory>
     requires { config.now.epoch.0 ≤ 2 ^ 62 }
-    ensures { IfOk result (IsMade config.now (still_sealing (standing config.now agenda) waited)) }
+    ensures { IfOk result (IsOutputOf config.now (still_sealing (standing config.now agenda) waited)) }
 {
     if waited.is_empty() {
         return issue(alloc, config, agenda);
     }
     let mut agenda = agenda;
     agenda.phase = Phase::Sealing(waited);
-    Ok(rest(alloc, agenda))
+    Ok(no_output(alloc, agenda))
 }

@@ -2,10 +2,10 @@ ghost use Rattle.std.specs.Prelude.{◌≡◌, ◌++◌, not, IfOk, OnOk};
 ghost use Rattle.hx_types.specs.declared.ids.ServerId.{ServerId as ServerNumber};
 ghost use Rattle.hx_types.specs.Words.{server_in};
 ghost use Rattle.hx_model.specs.CoordinatorSteps.{coordinator_tick, die_posts};
-ghost use Rattle.hx_coord.specs.Changes.{IsMade, phase_seen, standing};
+ghost use Rattle.hx_coord.specs.Changes.{IsOutputOf, phase_seen, standing};
 
 use crate::agendas::{Agenda, Phase};
-use crate::made::{Made, tell};
+use crate::outputs::{StepOutput, posting};
 use crate::posting::{seals, tell_server};
 use crate::servers::is_in;
 use crate::tasks::Task;
@@ -15,11 +15,11 @@ use std::alloc::Global;
 /// The coordinator's turn: what it waits for is asked for again.
 #[tactic(auto, using(crate::proofs::Steps::tick_made))]
 #[inline(never)]
-pub fn tick(alloc: Global, config: &Config, agenda: Agenda) -> Result<Made, Memory>
-    ensures { IfOk result (IsMade config.now (coordinator_tick (standing config.now agenda) (phase_seen agenda.phase))) }
+pub fn tick(alloc: Global, config: &Config, agenda: Agenda) -> Result<StepOutput, Memory>
+    ensures { IfOk result (IsOutputOf config.now (coordinator_tick (standing config.now agenda) (phase_seen agenda.phase))) }
 {
     let posts = asked_again(alloc, config, &agenda)?;
-    Ok(tell(alloc, agenda, posts))
+    Ok(posting(alloc, agenda, posts))
 }
 
 /// What is asked for again: the servers waited for are to be sealed, and those that a call stops

@@ -16,7 +16,7 @@ use Rattle.hx_model.specs.Runs.{IsRun, coordinator_of, server_of}
 use Rattle.hx_model.specs.ServerSteps.{Replica, if_installed, replica_of, state_in}
 use Rattle.hx_model.specs.Slots.{Forget, KeyState, has_place, moved, top_of}
 use Rattle.hx_law_lemmas.specs.Words.{posts_of, view}
-use Rattle.hx_law_epochs.proofs.Positions.{StandsBefore, placed-number}
+use Rattle.hx_law_epochs.proofs.Positions.{PrecedesInChain, placed-number}
 use Rattle.hx_law_epochs.proofs.Replicas.{installed-is}
 use Rattle.hx_law_epochs.proofs.Runs.{IsKnown, Real}
 use Rattle.hx_law_chains.specs.Chains.{AreAssigned, InOrder, IsHeld, IsUp, RunsAnswerCommitted, RunsAssignUpdates, RunsHoldParts, RunsKeepOrder, RunsSendParts, StandsEarlier}
@@ -119,7 +119,7 @@ module _ (script : Script) (valid : IsScript script) (t0 : List Entry) (run : Is
   keep-order key u i g h s x t y p1 p2 a b e =
       let (w, first, m) = holds key g s t a in
       let (z, second, n) = holds key h x y b in
-      let stands : StandsBefore (coordinator_of script t0).config u.places g s h x = (placed-number u.places h p2, e) in
+      let stands : PrecedesInChain (coordinator_of script t0).config u.places g s h x = (placed-number u.places h p2, e) in
       record {
         accepted = λ l. (let p = m.top in let q = n.top in let k = ((chained.keyed key).own h x z second).taken u i p2 (omega (arith, l, q)) g s w first stands in omega (arith, k, p));
         committed = λ l. (let p = m.floor in let q = n.floor in let k = ((chained.keyed key).own g s w first).freed u i p1 (omega (arith, l, p)) h x z second stands in omega (arith, k, q));

@@ -11,7 +11,7 @@ use Rattle.hx_model.specs.Regions.{key_region}
 use Rattle.hx_model.specs.Slots.{Forget, KeyState, moved, top_of}
 use Rattle.hx_law_lemmas.proofs.Cuts.{More, more_same}
 use Rattle.hx_law_epochs.proofs.Members.{order}
-use Rattle.hx_law_epochs.proofs.Positions.{StandsBefore}
+use Rattle.hx_law_epochs.proofs.Positions.{PrecedesInChain}
 use Rattle.hx_law_chains.proofs.Keys.{told_up, valid_up}
 use Rattle.hx_law_chains.proofs.Moves.{Own, own_forget}
 use Rattle.hx_law_chains.proofs.World.{Along, Fixed, KeyOk, Lawful, Valid, World, around, lawful-known}
@@ -27,7 +27,7 @@ pub record Issue (script : Script) (w w' : World) : Type 0 where
 
 module _ (script : Script) (w w' : World) (issue : Issue script w w') (key : List ℕ) (ok : KeyOk script w key) where
   -- who stands before stood before
-  stood : (u : Update) (g : RegionId) (s : ServerId) (t : KeyState) → w'.holds key g s t → (h : RegionId) (x : ServerId) (t2 : KeyState) → w'.holds key h x t2 → StandsBefore w'.config u.places g s h x → StandsBefore w.config u.places g s h x
+  stood : (u : Update) (g : RegionId) (s : ServerId) (t : KeyState) → w'.holds key g s t → (h : RegionId) (x : ServerId) (t2 : KeyState) → w'.holds key h x t2 → PrecedesInChain w'.config u.places g s h x → PrecedesInChain w.config u.places g s h x
   stood u g s t k h x t2 k2 (p, inl a) = (p, inl a)
   stood u g s t k h x t2 k2 (p, inr (e, a)) = (p, inr (e, issue.same_order key g s x t t2 k (subst (λ (r : RegionId). w'.holds key r x t2) (sym e) k2) a))
 

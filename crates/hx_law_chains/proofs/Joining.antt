@@ -21,14 +21,14 @@ use Rattle.hx_folds.proofs.Folds.{top-folded}
 use Rattle.hx_folds.proofs.Prefixes.{prefix-folded}
 use Rattle.hx_law_lemmas.proofs.Order.{after-order, before-in}
 use Rattle.hx_law_epochs.proofs.Members.{order}
-use Rattle.hx_law_epochs.proofs.Positions.{Adjacent, HasPlace, StandsBefore, adjacent-within, next-within, place-at, placed-number, stands-trans}
+use Rattle.hx_law_epochs.proofs.Positions.{Adjacent, HasPlace, PrecedesInChain, adjacent-within, next-within, place-at, placed-number, stands-trans}
 use Rattle.hx_law_chains.proofs.Lines.{sorted-descends}
 use Rattle.hx_law_chains.proofs.Moves.{Own}
 use Rattle.hx_law_chains.proofs.Keys.{Change, changed}
 use Rattle.hx_law_chains.proofs.World.{Acking, After, Ahead, Along, Before, Closed, Filled, Fixed, Here, KeyOk, Sending, World, around, lawful-made, lawful-sorted}
 
 -- who stands before another has a place
-pub first-placed : (c : Config) (places : List Place) (g : RegionId) (s : ServerId) (h : RegionId) (x : ServerId) → StandsBefore c places g s h x → HasPlace places g
+pub first-placed : (c : Config) (places : List Place) (g : RegionId) (s : ServerId) (h : RegionId) (x : ServerId) → PrecedesInChain c places g s h x → HasPlace places g
 first-placed c places g s h x (p, inl a) = omega (arith, p, a)
 first-placed c places g s h x (p, inr (e, a)) = subst (HasPlace places) (sym e) p
 

@@ -37,7 +37,7 @@ use Rattle.hx_law_lemmas.proofs.Lines.{Sorted, numbered-sorted}
 use Rattle.hx_law_lemmas.proofs.Placed.{AllMade, Made}
 use Rattle.hx_law_lemmas.proofs.Lawful.{at_server, at_session}
 use Rattle.hx_law_epochs.proofs.Members.{order}
-use Rattle.hx_law_epochs.proofs.Positions.{StandsBefore}
+use Rattle.hx_law_epochs.proofs.Positions.{PrecedesInChain}
 use Rattle.hx_law_chains.proofs.Moves.{Around, Own}
 
 -- ---- lines
@@ -119,7 +119,7 @@ context script w g s = record { space = script.space; config = w.config; server 
 module _ (script : Script) (w : World) (key : List ℕ) where
   -- one position stands before another in an update's chain
   abbrev pub Ahead : Update → RegionId → ServerId → RegionId → ServerId → Type 0
-  Ahead u g s h x = StandsBefore w.config u.places g s h x
+  Ahead u g s h x = PrecedesInChain w.config u.places g s h x
 
   -- each holder before a position has accepted the update
   abbrev pub Before : RegionId → ServerId → Update → Type 0

@@ -20,11 +20,11 @@ use Rattle.hx_folds.proofs.Staying.{server-stays}
 use Rattle.hx_law_own.specs.Feeding.{entries_in}
 use Rattle.hx_coord.specs.Coordinators as coordinator
 use Rattle.hx_coord.specs.Changes as coordinator_plan
-use Rattle.hx_coord.specs.declared.plans.Plan.{Plan as CoordinatorPlan}
+use Rattle.hx_coord.specs.declared.prepared.Plan.{Plan as CoordinatorPlan}
 use Rattle.hx_replica.specs.Plans as server_plan
-use Rattle.hx_replica.specs.declared.plans.Plan.{Plan as ServerPlan}
+use Rattle.hx_replica.specs.declared.prepared.Plan.{Plan as ServerPlan}
 use Rattle.hx_session.specs.Changes as session_plan
-use Rattle.hx_session.specs.declared.plans.Plan.{Plan as SessionPlan}
+use Rattle.hx_session.specs.declared.prepared.Plan.{Plan as SessionPlan}
 use Rattle.hx_replica.specs.Servers as server
 use Rattle.hx_session.specs.Sessions as session
 use Rattle.hx_machine.specs.declared.machines.Machine.{Machine}

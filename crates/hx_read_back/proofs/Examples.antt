@@ -22,7 +22,7 @@ use Rattle.hx_types.specs.declared.values.Value.TheVariants as values
 use Rattle.hx_print.specs.Printing as printing
 use Rattle.hx_script.specs.Actors.{actor}
 use Rattle.hx_script.specs.Calls.{put, get, del, cput, search_call, stop, add, deliver, tick, halt}
-use Rattle.hx_script.specs.Cuts.{free_axis, parts, axis, next_axis, subspace}
+use Rattle.hx_script.specs.Axes.{free_axis, parts, axis, next_axis, subspace}
 use Rattle.hx_script.specs.Grammar.{hx_line, space_line, key_line, string_attribute, int_attribute, attribute_line, subspace_line, servers_line, tolerate_line, session_line, steps_line, call_line, step_line, command}
 use Rattle.hx_script.specs.Readers.{number_in, natural, number_from, steps}
 use Rattle.hx_script.specs.Texts.{read_lines, script_of}

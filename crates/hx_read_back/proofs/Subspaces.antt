@@ -15,17 +15,17 @@ use Rattle.hx_types.specs.declared.traces.Script.{Script}
 use Rattle.hx_types.specs.Spaces.{AllDiffer, ArePart, IsSubspaceOf, IsSpace}
 use Rattle.hx_types.specs.Subspaces.{size_of, sizes_sum}
 use Rattle.hx_print.specs.Printing.{name_of, axis_text, next_axis_text, axes_text, subspace_line as subspace_text}
-use Rattle.hx_script.specs.declared.cuts.Cut.{Cut}
+use Rattle.hx_script.specs.declared.axes.AxesDraft.{AxesDraft}
 use Rattle.hx_script.specs.declared.draft.Section.{Section}
 use Rattle.hx_script.specs.declared.draft.Section.TheVariants as sections
 use Rattle.hx_script.specs.declared.errors.Reason.{Reason}
 use Rattle.hx_script.specs.declared.line.Until.TheVariants as until
-use Rattle.hx_script.specs.Cuts.{has_axis, free_axis, parts, axis, next_axis, no_cut, subspace}
+use Rattle.hx_script.specs.Axes.{has_axis, free_axis, parts, axis, next_axis, no_axes_yet, subspace}
 use Rattle.hx_script.specs.Grammar.{line_of_toks, command, subspace_line}
 use Rattle.hx_script.specs.Readers.{number_in, repeat}
 use Rattle.hx_script.specs.Toks.{Tok, Word, Number, Sign}
 use Rattle.hx_script.specs.Words.{named, declared_number}
-use Rattle.hx_script.proofs.Cutting.{cut_goes_on, cut_ends}
+use Rattle.hx_script.proofs.MoreAxes.{axes_go_on, axes_end}
 use Rattle.hx_read_back.proofs.Drafts.{cutting}
 use Rattle.hx_read_back.proofs.Names.{IsNamed, all_here, none_before, IsDeclaredAs, declared}
 use Rattle.hx_read_back.proofs.Numbers.{number_says}
@@ -76,11 +76,11 @@ more_say s (a ∷ rest) all =
 
 -- ---- the axes are read
 
-abbrev grown : Cut → Axis → Cut
+abbrev grown : AxesDraft → Axis → AxesDraft
 grown c a = record { axes = c.axes ++ a ∷ []; size = c.size * a.parts }
 
 -- the axis may stand behind the others
-record MayGrow (d : Space) (regions : ℕ) (c : Cut) (w : List ℕ) (a : Axis) : Type 0 where
+record MayGrow (d : Space) (regions : ℕ) (c : AxesDraft) (w : List ℕ) (a : Axis) : Type 0 where
   pub name : IsNamed w
   pub number : declared_number d w ≡ Ok a.attribute
   pub new : has_axis c.axes a.attribute ≡ false
@@ -88,16 +88,16 @@ record MayGrow (d : Space) (regions : ℕ) (c : Cut) (w : List ℕ) (a : Axis) :
   pub part : ArePart a.parts
   pub few : regions + c.size * a.parts ≤ 4096
 
-axis_again : (d : Space) (regions : ℕ) (c : Cut) (w : List ℕ) (a : Axis) (ts : List Tok) → MayGrow d regions c w a → axis d regions c (Word w ∷ Number (pos a.parts) ∷ ts) ≡ Ok (grown c a, ts)
+axis_again : (d : Space) (regions : ℕ) (c : AxesDraft) (w : List ℕ) (a : Axis) (ts : List Tok) → MayGrow d regions c w a → axis d regions c (Word w ∷ Number (pos a.parts) ∷ ts) ≡ Ok (grown c a, ts)
 unfolding axis free_axis parts number_in named
 axis_again d regions c w a ts is = rw (is.name.free, is.number, is.new, lt-ltb (length c.axes) 4 is.room, le-leb 1 a.parts is.part.0, le-leb a.parts 256 is.part.1, le-leb (regions + c.size * a.parts) 4096 is.few) refl
 
-next_again : (d : Space) (regions : ℕ) (c : Cut) (w : List ℕ) (a : Axis) (ts : List Tok) → MayGrow d regions c w a → next_axis d regions c (Sign (codes ",") ∷ Word w ∷ Number (pos a.parts) ∷ ts) ≡ Ok (grown c a, ts)
+next_again : (d : Space) (regions : ℕ) (c : AxesDraft) (w : List ℕ) (a : Axis) (ts : List Tok) → MayGrow d regions c w a → next_axis d regions c (Sign (codes ",") ∷ Word w ∷ Number (pos a.parts) ∷ ts) ≡ Ok (grown c a, ts)
 unfolding next_axis
 next_again d regions c w a ts is = axis_again d regions c w a ts is
 
 -- the axes that were read and those that are left, of one subspace
-record IsLeft (s : Space) (regions : ℕ) (c : Cut) (left : List Axis) : Type 0 where
+record IsLeft (s : Space) (regions : ℕ) (c : AxesDraft) (left : List Axis) : Type 0 where
   pub each : All (IsAxis s) left
   pub once : AllDiffer (map (λ (a : Axis). a.attribute) (c.axes ++ left))
   pub few : length c.axes + length left ≤ 4
@@ -107,7 +107,7 @@ some_size : (s : Space) (axes : List Axis) → All (IsAxis s) axes → 1 ≤ siz
 some_size s [] all = omega arith
 some_size s (a ∷ axes) all = one-le-mul (All-head (IsAxis s) a axes all).parts.0 (some_size s axes (All-tail (IsAxis s) a axes all))
 
-may_grow : (s d : Space) (regions : ℕ) (c : Cut) (a : Axis) (left : List Axis) → IsLeft s regions c (a ∷ left) → declared_number d (name_of s a.attribute) ≡ Ok a.attribute → MayGrow d regions c (name_of s a.attribute) a
+may_grow : (s d : Space) (regions : ℕ) (c : AxesDraft) (a : Axis) (left : List Axis) → IsLeft s regions c (a ∷ left) → declared_number d (name_of s a.attribute) ≡ Ok a.attribute → MayGrow d regions c (name_of s a.attribute) a
 may_grow s d regions c a left is number =
     let x : IsAxis s a = All-head (IsAxis s) a left is.each in
     let some : 1 ≤ size_of left = some_size s left (All-tail (IsAxis s) a left is.each) in
@@ -124,7 +124,7 @@ may_grow s d regions c a left is number =
       few = omega (arith, room, same, grows);
     }
 
-left_after : (s : Space) (regions : ℕ) (c : Cut) (a : Axis) (left : List Axis) → IsLeft s regions c (a ∷ left) → IsLeft s regions (grown c a) left
+left_after : (s : Space) (regions : ℕ) (c : AxesDraft) (a : Axis) (left : List Axis) → IsLeft s regions c (a ∷ left) → IsLeft s regions (grown c a) left
 left_after s regions c a left is =
     let few : length c.axes + length (a ∷ left) ≤ 4 = is.few in
     record {
@@ -134,31 +134,31 @@ left_after s regions c a left is =
       room = subst (λ (m : ℕ). regions + m ≤ 4096) (sym (mul_assoc c.size a.parts (size_of left))) is.room;
     }
 
-abbrev cut_ok : List Axis → ℕ → Result (Cut × List Tok) Reason
-cut_ok axes size = Ok (record { axes = axes; size = size }, [])
+abbrev axes_ok : List Axis → ℕ → Result (AxesDraft × List Tok) Reason
+axes_ok axes size = Ok (record { axes = axes; size = size }, [])
 
-same_cut : (xs ys : List Axis) (m n : ℕ) → xs ≡ ys → m ≡ n → cut_ok xs m ≡ cut_ok ys n
-same_cut xs ys m n p q = rw (p, q) refl
+same_axes : (xs ys : List Axis) (m n : ℕ) → xs ≡ ys → m ≡ n → axes_ok xs m ≡ axes_ok ys n
+same_axes xs ys m n p q = rw (p, q) refl
 
 -- attributes are found in d as in s
 abbrev Finds : Space → Space → List Axis → Type 0
 Finds s d axes = All (λ (a : Axis). declared_number d (name_of s a.attribute) ≡ Ok a.attribute) axes
 
-more_again : (left : List Axis) (s d : Space) (regions : ℕ) (c : Cut) → IsLeft s regions c left → Finds s d left → repeat until.End (next_axis d regions) c (more_toks s left) ≡ cut_ok (c.axes ++ left) (c.size * size_of left)
-more_again [] s d regions c is finds = cut_ends d regions c [] refl ∙ same_cut c.axes (c.axes ++ []) c.size (c.size * 1) (sym (append-nil c.axes)) (omega arith)
+more_again : (left : List Axis) (s d : Space) (regions : ℕ) (c : AxesDraft) → IsLeft s regions c left → Finds s d left → repeat until.End (next_axis d regions) c (more_toks s left) ≡ axes_ok (c.axes ++ left) (c.size * size_of left)
+more_again [] s d regions c is finds = axes_end d regions c [] refl ∙ same_axes c.axes (c.axes ++ []) c.size (c.size * 1) (sym (append-nil c.axes)) (omega arith)
 more_again (a ∷ left) s d regions c is finds =
     let P : Axis → Type 0 = λ (x : Axis). declared_number d (name_of s x.attribute) ≡ Ok x.attribute in
-    cut_goes_on d regions c (more_toks s (a ∷ left)) (grown c a) (more_toks s left) refl (next_again d regions c (name_of s a.attribute) a (more_toks s left) (may_grow s d regions c a left is (All-head P a left finds)))
+    axes_go_on d regions c (more_toks s (a ∷ left)) (grown c a) (more_toks s left) refl (next_again d regions c (name_of s a.attribute) a (more_toks s left) (may_grow s d regions c a left is (All-head P a left finds)))
     ∙ more_again left s d regions (grown c a) (left_after s regions c a left is) (All-tail P a left finds)
-    ∙ same_cut ((c.axes ++ a ∷ []) ++ left) (c.axes ++ a ∷ left) (c.size * a.parts * size_of left) (c.size * (a.parts * size_of left)) (append_assoc c.axes (a ∷ []) left) (mul_assoc c.size a.parts (size_of left))
+    ∙ same_axes ((c.axes ++ a ∷ []) ++ left) (c.axes ++ a ∷ left) (c.size * a.parts * size_of left) (c.size * (a.parts * size_of left)) (append_assoc c.axes (a ∷ []) left) (mul_assoc c.size a.parts (size_of left))
 
-subspace_again : (a : Axis) (left : List Axis) (s d : Space) (regions : ℕ) → IsLeft s regions no_cut (a ∷ left) → Finds s d (a ∷ left) → subspace d regions (axis_toks s a (more_toks s left)) ≡ cut_ok (a ∷ left) (size_of (a ∷ left))
+subspace_again : (a : Axis) (left : List Axis) (s d : Space) (regions : ℕ) → IsLeft s regions no_axes_yet (a ∷ left) → Finds s d (a ∷ left) → subspace d regions (axis_toks s a (more_toks s left)) ≡ axes_ok (a ∷ left) (size_of (a ∷ left))
 unfolding subspace
 subspace_again a left s d regions is finds =
     let P : Axis → Type 0 = λ (x : Axis). declared_number d (name_of s x.attribute) ≡ Ok x.attribute in
-    let first : axis d regions no_cut (axis_toks s a (more_toks s left)) ≡ Ok (grown no_cut a, more_toks s left) = axis_again d regions no_cut (name_of s a.attribute) a (more_toks s left) (may_grow s d regions no_cut a left is (All-head P a left finds)) in
+    let first : axis d regions no_axes_yet (axis_toks s a (more_toks s left)) ≡ Ok (grown no_axes_yet a, more_toks s left) = axis_again d regions no_axes_yet (name_of s a.attribute) a (more_toks s left) (may_grow s d regions no_axes_yet a left is (All-head P a left finds)) in
     let one : 1 * a.parts ≡ a.parts = omega arith in
-    rw first (more_again left s d regions (grown no_cut a) (left_after s regions no_cut a left is) (All-tail P a left finds) ∙ same_cut (a ∷ left) (a ∷ left) (1 * a.parts * size_of left) (a.parts * size_of left) refl (ap (λ (m : ℕ). m * size_of left) one))
+    rw first (more_again left s d regions (grown no_axes_yet a) (left_after s regions no_axes_yet a left is) (All-tail P a left finds) ∙ same_axes (a ∷ left) (a ∷ left) (1 * a.parts * size_of left) (a.parts * size_of left) refl (ap (λ (m : ℕ). m * size_of left) one))
 
 -- ---- a subspace
 
@@ -166,7 +166,7 @@ subspace_again a left s d regions is finds =
 abbrev pub MayCut : Section → Type 0
 MayCut at = (at ≡ sections.Attributes) ⊎ (at ≡ sections.Subspaces)
 
-subspace_toks : (n : ℕ) (at : Section) (s : Space) (front : List (List Axis)) (regions : ℕ) (a : Axis) (left : List Axis) → MayCut at → length front < 8 → IsLeft s regions no_cut (a ∷ left) → Finds s s (a ∷ left)
+subspace_toks : (n : ℕ) (at : Section) (s : Space) (front : List (List Axis)) (regions : ℕ) (a : Axis) (left : List Axis) → MayCut at → length front < 8 → IsLeft s regions no_axes_yet (a ∷ left) → Finds s s (a ∷ left)
     → line_of_toks n (cutting at s front regions) (Word (codes "subspace") ∷ axis_toks s a (more_toks s left)) ≡ Ok (cutting sections.Subspaces s (front ++ (a ∷ left) ∷ []) (regions + size_of (a ∷ left)))
 unfolding command subspace_line
 subspace_toks n at s front regions a left (inl e) room is finds = rw (e, lt-ltb (length front) 8 room, subspace_again a left s (cutting at s front regions).space regions is finds) refl
@@ -184,7 +184,7 @@ subspace_says s a left all =
 -- what holds of a subspace that may come next
 record IsNextCut (s : Space) (front : List (List Axis)) (regions : ℕ) (axes : List Axis) : Type 0 where
   pub some : 0 < length axes
-  pub left : IsLeft s regions no_cut axes
+  pub left : IsLeft s regions no_axes_yet axes
   pub finds : Finds s s axes
   pub room : length front < 8
 

@@ -9,7 +9,7 @@ use Rattle.hx_types.specs.declared.spaces.Axis.{Axis}
 use Rattle.hx_types.specs.declared.spaces.Kind.TheVariants as kinds
 use Rattle.hx_types.specs.declared.spaces.Space.{Space}
 use Rattle.hx_types.specs.declared.traces.Step.{Step}
-use Rattle.hx_script.specs.declared.cuts.Cut.{Cut}
+use Rattle.hx_script.specs.declared.axes.AxesDraft.{AxesDraft}
 use Rattle.hx_script.specs.declared.draft.Draft.{Draft}
 use Rattle.hx_script.specs.declared.draft.Section.{Section}
 use Rattle.hx_script.specs.declared.draft.Section.TheVariants as sections
@@ -21,7 +21,7 @@ use Rattle.hx_script.specs.declared.keyword.Keyword.{Keyword}
 use Rattle.hx_script.specs.declared.keyword.Keyword.TheVariants as keywords
 use Rattle.hx_script.specs.declared.keyword.StepWord.{StepWord}
 use Rattle.hx_script.specs.declared.line.Until.TheVariants as until
-use Rattle.hx_script.specs.Cuts.{has_axis, free_axis, parts, axis, next_axis, no_cut, subspace}
+use Rattle.hx_script.specs.Axes.{has_axis, free_axis, parts, axis, next_axis, no_axes_yet, subspace}
 use Rattle.hx_script.specs.Grammar.{hx_line, space_line, key_line, string_attribute, int_attribute, attribute_line, subspace_line, servers_line, tolerate_line, session_line, steps_line, push_to_last, call_line, step_line, heading_line, line_for, command}
 use Rattle.hx_script.specs.Keywords.{keyword_of}
 use Rattle.hx_script.specs.Readers.{Reader}
@@ -113,17 +113,17 @@ tells_parts : (regions size : ℕ) → Tells (parts regions size) Any
 unfolding parts
 tells_parts regions size = tells_then (λ n. n ≤ 256) (tells_number_in 1 256) (λ n h. tells_then Any (tells_check (nat_le (regions + size * n) 4096) Limit) (λ u r. tells_give n tt))
 
-tells_axis : (space : Space) (regions : ℕ) (c : Cut) → Tells (axis space regions c) Any
+tells_axis : (space : Space) (regions : ℕ) (c : AxesDraft) → Tells (axis space regions c) Any
 unfolding axis
 tells_axis space regions c = tells_then Any (tells_free_axis space c.axes) (λ a f. tells_then Any (tells_parts regions c.size) (λ n p. tells_give (record { axes = c.axes ++ record { attribute = a; parts = n } ∷ []; size = c.size * n }) tt))
 
-tells_next : (space : Space) (regions : ℕ) (c : Cut) → Tells (next_axis space regions c) Any
+tells_next : (space : Space) (regions : ℕ) (c : AxesDraft) → Tells (next_axis space regions c) Any
 unfolding next_axis
 tells_next space regions c = tells_then Any (tells_sign (codes ",")) (λ u t. tells_axis space regions c)
 
 tells_subspace : (space : Space) (regions : ℕ) → Tells (subspace space regions) Any
 unfolding subspace
-tells_subspace space regions = tells_then Any (tells_axis space regions no_cut) (λ first f. tells_repeat Any until.End (next_axis space regions) (λ b q. tells_next space regions b) first tt)
+tells_subspace space regions = tells_then Any (tells_axis space regions no_axes_yet) (λ first f. tells_repeat Any until.End (next_axis space regions) (λ b q. tells_next space regions b) first tt)
 
 tells_subspace_line : (d : Draft) → BoundsSoFar d → CallsSoFar d → d.steps ≡ [] → Tells (subspace_line d) Said
 unfolding subspace_line

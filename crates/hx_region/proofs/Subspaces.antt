@@ -10,9 +10,9 @@ use Rattle.hx_types.specs.Spaces.{ArePart, IsSpace, IsSubspaceOf}
 use Rattle.hx_types.specs.Subspaces.{axes_of, first_region, size_of, sizes_sum, subspaces_of}
 use Rattle.hx_types.specs.Words.{when_some}
 use Rattle.hx_model.specs.Regions.{meets_among, row_meets}
-use Rattle.hx_region.specs.Cuts.{cuts_from}
+use Rattle.hx_region.specs.Tables.{spans_from}
 use Rattle.hx_region.specs.Spans.{AreCovered, AreDisjoint, AreWithin, PlacesBelong, subspace_count}
-use Rattle.hx_region.specs.declared.map.Cut.{Cut}
+use Rattle.hx_region.specs.declared.map.SubspaceSpan.{SubspaceSpan}
 use Rattle.hx_region.proofs.Places.{row-below}
 use Rattle.hx_region.proofs.Sizes.{HaveParts}
 
@@ -103,35 +103,35 @@ places_belong space valid s key object l =
 
 -- ---- the table
 
-pub length-cuts : (first : ℕ) (all : List (List Axis)) → length (cuts_from first all) ≡ length all
-length-cuts first [] = refl
-length-cuts first (axes ∷ all) = ap suc (length-cuts (first + size_of axes) all)
+pub length-spans : (first : ℕ) (all : List (List Axis)) → length (spans_from first all) ≡ length all
+length-spans first [] = refl
+length-spans first (axes ∷ all) = ap suc (length-spans (first + size_of axes) all)
 
 -- the entry of a subspace
-abbrev pub cut_of : ℕ → List Axis → Cut
-cut_of first axes = record { first = first; size = size_of axes; axes = axes }
+abbrev pub span_of : ℕ → List Axis → SubspaceSpan
+span_of first axes = record { first = first; size = size_of axes; axes = axes }
 
-pub cut_at : (first : ℕ) (all : List (List Axis)) (s : ℕ) (d : Cut) → s < length all → get_or (cuts_from first all) s d ≡ cut_of (first + sizes_sum (take s all)) (axes_at all s)
-cut_at first [] s d l = absurd (omega arith)
-cut_at first (x ∷ all) zero d l = ap (λ n. cut_of n x) (let e : first ≡ first + 0 = omega arith in e)
-cut_at first (x ∷ all) (suc s) d l =
-    cut_at (first + size_of x) all s d (omega arith) ∙ ap (λ n. cut_of n (axes_at all s)) (add_assoc first (size_of x) (sizes_sum (take s all)))
+pub span_at : (first : ℕ) (all : List (List Axis)) (s : ℕ) (d : SubspaceSpan) → s < length all → get_or (spans_from first all) s d ≡ span_of (first + sizes_sum (take s all)) (axes_at all s)
+span_at first [] s d l = absurd (omega arith)
+span_at first (x ∷ all) zero d l = ap (λ n. span_of n x) (let e : first ≡ first + 0 = omega arith in e)
+span_at first (x ∷ all) (suc s) d l =
+    span_at (first + size_of x) all s d (omega arith) ∙ ap (λ n. span_of n (axes_at all s)) (add_assoc first (size_of x) (sizes_sum (take s all)))
 
 -- the entry of a subspace of a space
-pub cut_of_space : (space : Space) (cuts : List Cut) (s : ℕ) (d : Cut) → cuts ≡ cuts_from 0 (subspaces_of space) → s < subspace_count space → get_or cuts s d ≡ cut_of (first_region space s) (axes_of space s)
-cut_of_space space cuts s d e l =
-    ap (λ (c : List Cut). get_or c s d) e ∙ cut_at 0 (subspaces_of space) s d l ∙ ap (λ n. cut_of n (axes_of space s)) (let z : 0 + first_region space s ≡ first_region space s = omega arith in z)
+pub span_of_space : (space : Space) (spans : List SubspaceSpan) (s : ℕ) (d : SubspaceSpan) → spans ≡ spans_from 0 (subspaces_of space) → s < subspace_count space → get_or spans s d ≡ span_of (first_region space s) (axes_of space s)
+span_of_space space spans s d e l =
+    ap (λ (c : List SubspaceSpan). get_or c s d) e ∙ span_at 0 (subspaces_of space) s d l ∙ ap (λ n. span_of n (axes_of space s)) (let z : 0 + first_region space s ≡ first_region space s = omega arith in z)
 
-pub length-table : (space : Space) (cuts : List Cut) → cuts ≡ cuts_from 0 (subspaces_of space) → length cuts ≡ subspace_count space
-length-table space cuts e = ap length e ∙ length-cuts 0 (subspaces_of space)
+pub length-table : (space : Space) (spans : List SubspaceSpan) → spans ≡ spans_from 0 (subspaces_of space) → length spans ≡ subspace_count space
+length-table space spans e = ap length e ∙ length-spans 0 (subspaces_of space)
 
 -- an entry met on a walk over the table is that of its subspace
-pub entry_at : (space : Space) (table items : List Cut) (s : ℕ) (entry : Cut) → items ≡ table → table ≡ cuts_from 0 (subspaces_of space) → s < length items → entry ≡ get_or items s entry
-    → (s < subspace_count space) × (entry ≡ cut_of (first_region space s) (axes_of space s))
+pub entry_at : (space : Space) (table items : List SubspaceSpan) (s : ℕ) (entry : SubspaceSpan) → items ≡ table → table ≡ spans_from 0 (subspaces_of space) → s < length items → entry ≡ get_or items s entry
+    → (s < subspace_count space) × (entry ≡ span_of (first_region space s) (axes_of space s))
 entry_at space table items s entry e t l is =
     let n = length-table space items (e ∙ t) in
     let k : s < subspace_count space = omega (arith, l, n) in
-    (k, is ∙ cut_of_space space items s entry (e ∙ t) k)
+    (k, is ∙ span_of_space space items s entry (e ∙ t) k)
 
 -- ---- walking the subspaces to a region's own
 

@@ -13,7 +13,7 @@ use std::marker::Model;
 
 /// A subspace: its first region, how many it has, and its axes.
 #[derive(Drop)]
-struct Cut {
+struct SubspaceSpan {
     first: u32,
     size: u32,
     axes: Axes,
@@ -23,7 +23,7 @@ struct Cut {
 #[derive(Drop)]
 pub struct RegionMap {
     space: Space,
-    cuts: Vec<Cut>,
+    spans: Vec<SubspaceSpan>,
     regions: u32,
 }
 
@@ -32,11 +32,11 @@ impl Model for RegionMap {
 
     ghost Value = { Space };
 
-    ghost use Rattle.hx_region.specs.Cuts.{IsTable};
+    ghost use Rattle.hx_region.specs.Tables.{IsTable};
 
     ghost view = { λ m. m.space };
 
-    ghost invariant = { λ m. IsTable m.space m.cuts.items m.regions };
+    ghost invariant = { λ m. IsTable m.space m.spans.items m.regions };
 }
 
 impl RegionMap {
@@ -45,8 +45,8 @@ impl RegionMap {
         requires { IsSpace space.now }
         ensures { IfOk result (λ map. map ≡ space.now) }
     {
-        let mut cuts = Vec::new(alloc);
-        cuts.push(Cut {
+        let mut spans = Vec::new(alloc);
+        spans.push(SubspaceSpan {
             first: 0,
             size: space.key_parts,
             axes: key_axes(alloc, space.key_parts)?,
@@ -55,7 +55,7 @@ impl RegionMap {
         for axes in space.subspaces.as_slice() {
             let size = size(axes.as_slice());
             let axes = axes.copy(alloc)?;
-            cuts.push(Cut {
+            spans.push(SubspaceSpan {
                 first: regions,
                 size,
                 axes,
@@ -65,7 +65,7 @@ impl RegionMap {
         let space = space.copy(alloc)?;
         Ok(RegionMap {
             space,
-            cuts,
+            spans,
             regions,
         })
     }
@@ -81,7 +81,7 @@ impl RegionMap {
     pub fn subspaces(&self) -> u32
         ensures { result ≡ subspace_count self.now }
     {
-        self.cuts.len() as u32
+        self.spans.len() as u32
     }
 
     /// The first region of a subspace, and how many it has.
@@ -90,8 +90,8 @@ impl RegionMap {
         ensures first { result.0.0 ≡ first_region self.now s }
         ensures size { result.1 ≡ size_of (axes_of self.now s) }
     {
-        let cut = self.cut(s);
-        (RegionId(cut.first), cut.size)
+        let subspace = self.subspace(s);
+        (RegionId(subspace.first), subspace.size)
     }
 
     /// The region of a key in the key subspace. Its hash is the only work.
@@ -108,9 +108,9 @@ impl RegionMap {
         ensures place { result ≡ place_of self.now s key.now object.now }
         ensures within { IsRegionIn self.now s result }
     {
-        let cut = self.cut(s);
-        let row = row(&self.space, cut.axes.as_slice(), key, object);
-        RegionId(cut.first + row)
+        let subspace = self.subspace(s);
+        let row = row(&self.space, subspace.axes.as_slice(), key, object);
+        RegionId(subspace.first + row)
     }
 
     /// Whether on each axis of the region's subspace the region's cell is the cell of some value
@@ -121,11 +121,11 @@ impl RegionMap {
     pub fn meets(&self, region: RegionId, terms: &Terms) -> bool
         ensures { result ≡ meets self.now region terms.now }
     {
-        for cut in &self.cuts {
-            if region.0 < cut.first + cut.size {
-                let axes = cut.axes.as_slice();
-                let row = region.0 - cut.first;
-                return row_meets(&self.space, axes, row, cut.size, terms.as_slice());
+        for subspace in &self.spans {
+            if region.0 < subspace.first + subspace.size {
+                let axes = subspace.axes.as_slice();
+                let row = region.0 - subspace.first;
+                return row_meets(&self.space, axes, row, subspace.size, terms.as_slice());
             }
         }
         false
@@ -140,9 +140,14 @@ impl RegionMap {
         requires { s < subspace_count self.now }
         ensures { IfOk result (λ regions. regions ≡ (query_regions self.now terms.now s).regions) }
     {
-        let cut = self.cut(s);
-        let rows = rows_meeting(alloc, &self.space, cut.axes.as_slice(), terms.as_slice())?;
-        let regions = regions_from(alloc, cut.first, &rows)?;
+        let subspace = self.subspace(s);
+        let rows = rows_meeting(
+            alloc,
+            &self.space,
+            subspace.axes.as_slice(),
+            terms.as_slice(),
+        )?;
+        let regions = regions_from(alloc, subspace.first, &rows)?;
         Ok(regions)
     }
 
@@ -151,17 +156,17 @@ impl RegionMap {
         requires { s < subspace_count self.now }
         ensures { result ≡ length (query_regions self.now terms.now s).regions }
     {
-        let cut = self.cut(s);
-        count_meeting(&self.space, cut.axes.as_slice(), terms.as_slice())
+        let subspace = self.subspace(s);
+        count_meeting(&self.space, subspace.axes.as_slice(), terms.as_slice())
     }
 
-    fn cut(&self, s: u32) -> &Cut
+    fn subspace(&self, s: u32) -> &SubspaceSpan
         requires { s < subspace_count self.now }
         ensures first { result.now.first ≡ first_region self.now s }
         ensures size { result.now.size ≡ size_of (axes_of self.now s) }
         ensures axes { result.now.axes ≡ axes_of self.now s }
     {
-        &self.cuts[s as usize]
+        &self.spans[s as usize]
     }
 }
 

@@ -25,7 +25,7 @@ use Rattle.hx_model.specs.ServerSteps.{Replica, ServerState, replica_in_epoch, r
 use Rattle.hx_model.specs.Slots.{KeyState, state_among, top_of}
 use Rattle.hx_slot.specs.States.{IsPlacedIn}
 use Rattle.hx_replica.specs.Hearing.{heard, leading}
-use Rattle.hx_replica.specs.Made.{IsSessionActor, IsSlotInput, key_in}
+use Rattle.hx_replica.specs.Outputs.{IsSessionActor, IsSlotInput, key_in}
 use Rattle.hx_replica.specs.Plans.{CanHear, CanStep}
 use Rattle.hx_replica.specs.Servers.{HasSmallVersions, IsSoundDelivery, ServerValue}
 use Rattle.hx_replica.proofs.Hearing.{found_region, replica_in_epoch_found, installed_some, led}

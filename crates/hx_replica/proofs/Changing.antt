@@ -12,10 +12,10 @@ use Rattle.hx_types.specs.Words.{same_region, same_text, text_below}
 use Rattle.hx_model.specs.ServerSteps.{Replica as ReplicaState, state_in, with_replica}
 use Rattle.hx_model.specs.Slots.{KeyState, Move, Take, Hold, Acknowledge, Commit, Forget, acknowledged, moved, moved_all, state_among, with_state}
 use Rattle.hx_store.specs.Stores.{StoreState, accepted, after_step, state_at}
-use Rattle.hx_replica.specs.declared.made.SlotChange.{SlotChange}
-use Rattle.hx_replica.specs.declared.made.SlotChange.TheVariants.{Open, Accept, Acknowledge as AckChange}
+use Rattle.hx_replica.specs.declared.outputs.SlotChange.{SlotChange}
+use Rattle.hx_replica.specs.declared.outputs.SlotChange.TheVariants.{Open, Accept, Acknowledge as AckChange}
 use Rattle.hx_replica.specs.declared.replicas.Replica.{Replica}
-use Rattle.hx_replica.specs.Made.{stepped}
+use Rattle.hx_replica.specs.Outputs.{stepped}
 use Rattle.hx_replica.specs.Replicas.{AreReplicas, AscendByRegion, IsReplicaIn, view_of, views_of}
 use Rattle.hx_replica.proofs.Asking.{state_marks}
 use Rattle.hx_replica.proofs.Finding.{higher}
@@ -34,7 +34,7 @@ marks_stay (m ∷ rest) s = marks_stay rest (moved m s) ∙ moved_marks m s
 
 pub stepped_marks : (change : SlotChange) (g : RegionId) (s : KeyState) → (stepped change g s).marks ≡ s.marks
 stepped_marks Open g s = refl
-stepped_marks (Accept u place ends) g s = marks_stay (accepted g s u ends.items) s
+stepped_marks (Accept u place tail_versions) g s = marks_stay (accepted g s u tail_versions.items) s
 stepped_marks (AckChange v) g s = marks_stay (acknowledged s v.0) s
 
 pub with_marked : (b : Bool) (s : KeyState) (states : List KeyState) → s.marks ≡ b → AllByRecursion (λ (t : KeyState). t.marks ≡ b) states → AllByRecursion (λ (t : KeyState). t.marks ≡ b) (with_state s states)

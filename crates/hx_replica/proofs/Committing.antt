@@ -9,7 +9,7 @@ use Rattle.hx_types.specs.Words.{provided}
 use Rattle.hx_model.specs.Slots.{Commit, KeyState, commits, moved, moved_all, pending_above, pending_of, top_above}
 use Rattle.hx_folds.specs.Folding.{Descends, Stands}
 use Rattle.hx_folds.proofs.Slots.{all-pending, all-stand}
-use Rattle.hx_replica.specs.Made.{ended_count, settles}
+use Rattle.hx_replica.specs.Outputs.{ended_count, settles}
 use Rattle.hx_replica.proofs.Walking.{drop_at}
 
 -- after the first pending update the others are pending
@@ -48,40 +48,40 @@ commits_left b acked (u ∷ rest) s d e = by (list_any (λ v. v == u.version.0) 
     by false more = e
 
 -- as many are committed as have one of these versions
-pub ended_is : (ends : List Version) (acked : List ℕ) → ((v : Version) → list_any (λ w. w == v.0) acked ≡ settles [] ends v) → (us : List Update) → ended_count ends us ≡ length (commits acked us)
-ended_is ends acked same [] = refl
-ended_is ends acked same (u ∷ us) = by (list_any (λ (e : Version). e.0 == u.version.0) ends) (list_any (λ w. w == u.version.0) acked) (same u.version) (ended_is ends acked same us)
+pub ended_is : (tail_versions : List Version) (acked : List ℕ) → ((v : Version) → list_any (λ w. w == v.0) acked ≡ settles [] tail_versions v) → (us : List Update) → ended_count tail_versions us ≡ length (commits acked us)
+ended_is tail_versions acked same [] = refl
+ended_is tail_versions acked same (u ∷ us) = by (list_any (λ (e : Version). e.0 == u.version.0) tail_versions) (list_any (λ w. w == u.version.0) acked) (same u.version) (ended_is tail_versions acked same us)
   where
-    by : (p q : Bool) → q ≡ (p || false) → ended_count ends us ≡ length (commits acked us) → cond p (1 + ended_count ends us) 0 ≡ length (provided q (Commit u ∷ commits acked us))
-    by true true e more = one-add (ended_count ends us) ∙ ap suc more
+    by : (p q : Bool) → q ≡ (p || false) → ended_count tail_versions us ≡ length (commits acked us) → cond p (1 + ended_count tail_versions us) 0 ≡ length (provided q (Commit u ∷ commits acked us))
+    by true true e more = one-add (ended_count tail_versions us) ∙ ap suc more
     by true false e more = absurd (false≢true e)
     by false true e more = absurd (false≢true (sym e))
     by false false e more = refl
 
-pub ended_within : (ends : List Version) (us : List Update) → ended_count ends us ≤ length us
-ended_within ends [] = omega arith
-ended_within ends (u ∷ us) = by (list_any (λ (e : Version). e.0 == u.version.0) ends) (ended_within ends us)
+pub ended_within : (tail_versions : List Version) (us : List Update) → ended_count tail_versions us ≤ length us
+ended_within tail_versions [] = omega arith
+ended_within tail_versions (u ∷ us) = by (list_any (λ (e : Version). e.0 == u.version.0) tail_versions) (ended_within tail_versions us)
   where
-    by : (p : Bool) → ended_count ends us ≤ length us → cond p (1 + ended_count ends us) 0 ≤ suc (length us)
+    by : (p : Bool) → ended_count tail_versions us ≤ length us → cond p (1 + ended_count tail_versions us) 0 ≤ suc (length us)
     by true l = omega (arith, l)
     by false l = omega arith
 
 -- a version more of those that ended
-pub one_ended : (ends : List Version) (us : List Update) (i : ℕ) (u : Update) → slice_get us i ≡ Some u → list_any (λ (e : Version). e.0 == u.version.0) ends ≡ true
-    → ended_count ends us ≡ i + ended_count ends (drop i us) → ended_count ends us ≡ i + 1 + ended_count ends (drop (i + 1) us)
-one_ended ends us i u at t e =
-    let rest = ended_count ends (drop (i + 1) us) in
-    let more : ended_count ends (drop i us) ≡ 1 + rest = ap (ended_count ends) (drop_at us i u at) ∙ ap (λ b. cond b (1 + rest) 0) t in
+pub one_ended : (tail_versions : List Version) (us : List Update) (i : ℕ) (u : Update) → slice_get us i ≡ Some u → list_any (λ (e : Version). e.0 == u.version.0) tail_versions ≡ true
+    → ended_count tail_versions us ≡ i + ended_count tail_versions (drop i us) → ended_count tail_versions us ≡ i + 1 + ended_count tail_versions (drop (i + 1) us)
+one_ended tail_versions us i u at t e =
+    let rest = ended_count tail_versions (drop (i + 1) us) in
+    let more : ended_count tail_versions (drop i us) ≡ 1 + rest = ap (ended_count tail_versions) (drop_at us i u at) ∙ ap (λ b. cond b (1 + rest) 0) t in
     omega (arith, e, more)
 
 -- and where one doesn't, or there is none
-pub none_ended : (ends : List Version) (us : List Update) (i : ℕ) (u : Update) → slice_get us i ≡ Some u → list_any (λ (e : Version). e.0 == u.version.0) ends ≡ false
-    → ended_count ends us ≡ i + ended_count ends (drop i us) → i ≡ ended_count ends us
-none_ended ends us i u at t e =
-    let none : ended_count ends (drop i us) ≡ 0 = ap (ended_count ends) (drop_at us i u at) ∙ ap (λ b. cond b (1 + ended_count ends (drop (i + 1) us)) 0) t in
+pub none_ended : (tail_versions : List Version) (us : List Update) (i : ℕ) (u : Update) → slice_get us i ≡ Some u → list_any (λ (e : Version). e.0 == u.version.0) tail_versions ≡ false
+    → ended_count tail_versions us ≡ i + ended_count tail_versions (drop i us) → i ≡ ended_count tail_versions us
+none_ended tail_versions us i u at t e =
+    let none : ended_count tail_versions (drop i us) ≡ 0 = ap (ended_count tail_versions) (drop_at us i u at) ∙ ap (λ b. cond b (1 + ended_count tail_versions (drop (i + 1) us)) 0) t in
     omega (arith, e, none)
 
-pub all_ended : (ends : List Version) (us : List Update) (i n : ℕ) → n ≡ length us → n ≤ i → i ≤ n → ended_count ends us ≡ i + ended_count ends (drop i us) → n ≡ ended_count ends us
-all_ended ends us i n count past within e =
-    let none : ended_count ends (drop i us) ≡ 0 = ap (ended_count ends) (drop_all i us (omega (arith, count, past))) in
+pub all_ended : (tail_versions : List Version) (us : List Update) (i n : ℕ) → n ≡ length us → n ≤ i → i ≤ n → ended_count tail_versions us ≡ i + ended_count tail_versions (drop i us) → n ≡ ended_count tail_versions us
+all_ended tail_versions us i n count past within e =
+    let none : ended_count tail_versions (drop i us) ≡ 0 = ap (ended_count tail_versions) (drop_all i us (omega (arith, count, past))) in
     omega (arith, e, none, past, within)

@@ -25,7 +25,7 @@ use Rattle.hx_law_lemmas.proofs.Lists.{when_some_both}
 use Rattle.hx_law_lemmas.proofs.Decisions.{decides}
 use Rattle.hx_law_lemmas.proofs.PlacesApart.{placed}
 use Rattle.hx_law_lemmas.proofs.FoundRows.{TouchedBy}
-use Rattle.hx_replica.specs.Made.{IsComing}
+use Rattle.hx_replica.specs.Outputs.{IsComing}
 
 touched_by : (n : ℕ) (touches : List Touch) → All (λ (t : Touch). t.version.0 ≤ n) touches → TouchedBy n touches
 touched_by n [] h t i = absurd i

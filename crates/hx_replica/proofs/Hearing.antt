@@ -18,7 +18,7 @@ use Rattle.hx_types.specs.Words.{same_region, when_some}
 use Rattle.hx_model.specs.Regions.{key_region}
 use Rattle.hx_model.specs.ServerSteps.{Replica, ServerState, acked, at_slot, call_at, call_step, called, replica_in_epoch, if_installed, message_step, replica_of, context_of, state_in, unmoved, updated}
 use Rattle.hx_replica.specs.Hearing.{IsOfOneSlot, heard, leading}
-use Rattle.hx_replica.specs.Made.{key_in, slot_step_of}
+use Rattle.hx_replica.specs.Outputs.{key_in, slot_step_of}
 
 same_number : (a b : RegionId) → same_region a b ≡ true → a ≡ b
 same_number a b e = let f : ℕ → RegionId = λ n. record { 0 = n } in ap f (eqb-true a.0 b.0 e)

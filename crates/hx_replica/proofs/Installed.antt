@@ -15,13 +15,13 @@ use Rattle.hx_model.specs.Slots.{Forget, KeyState, moved}
 use Rattle.hx_folds.specs.Folding.{folded, folded_replica, folded_server}
 use Rattle.hx_folds.proofs.Folds.{folded-twice}
 use Rattle.hx_folds.proofs.Servers.{new-folded}
-use Rattle.hx_replica.specs.declared.plans.Change.{Change}
-use Rattle.hx_replica.specs.declared.plans.ServerMade.{ServerMade}
-use Rattle.hx_replica.specs.declared.plans.Change.TheVariants as a_change
+use Rattle.hx_replica.specs.declared.prepared.Change.{Change}
+use Rattle.hx_replica.specs.declared.prepared.ServerOutput.{ServerOutput}
+use Rattle.hx_replica.specs.declared.prepared.Change.TheVariants as a_change
 use Rattle.hx_replica.specs.declared.replicas.Replica.{Replica}
 use Rattle.hx_replica.specs.Adopting.{lean_adopted, lean_replica}
 use Rattle.hx_replica.specs.Replicas.{new_replica}
-use Rattle.hx_replica.specs.Plans.{IsAdoptionOn, IsChange, IsStepMade}
+use Rattle.hx_replica.specs.Plans.{IsAdoptionOn, IsChange, IsStepOutput}
 use Rattle.hx_replica.specs.Servers.{ServerValue}
 use Rattle.hx_replica.specs.Ticking.{standing}
 use Rattle.hx_replica.proofs.Planning.{nothing_made, step_made, unmoved_made}
@@ -61,14 +61,14 @@ views_of_all : (space : Space) (s : ServerState) (old : List ReplicaState) (gs :
 views_of_all space s old [] bare = refl
 views_of_all space s old (g ∷ gs) bare = let e = lean_one space s (replica_or_new old g) (bare g) in let rest = views_of_all space s old gs bare in λ j. e j ∷ rest j
 
-abbrev pub adopting : List Post → Config → Vec Replica Global → ServerMade
+abbrev pub adopting : List Post → Config → Vec Replica Global → ServerOutput
 adopting posts config replicas = record { posts = posts; notes = []; change = a_change.Adopt config replicas }
 
 -- a newer configuration is adopted
-pub adoption_made : (v : ServerValue) (config copy : Config) (replicas : Vec Replica Global) (posts : List Post) (made : ServerMade) → v.state.config.epoch.0 < config.epoch.0 → folded_server v.state ≡ v.state
+pub adoption_made : (v : ServerValue) (config copy : Config) (replicas : Vec Replica Global) (posts : List Post) (made : ServerOutput) → v.state.config.epoch.0 < config.epoch.0 → folded_server v.state ≡ v.state
     → posts ≡ flat_map (λ (g : RegionId). adopted_posts v.space (standing config v.state.id) (replica_or_new v.state.replicas g)) (listed_regions config v.state.id)
     → replicas.items ≡ map (new_replica v.space) (listed_regions config v.state.id)
-    → copy ≡ config → made ≡ adopting posts copy replicas → IsStepMade v (install_at v.space v.state config) made
+    → copy ≡ config → made ≡ adopting posts copy replicas → IsStepOutput v (install_at v.space v.state config) made
 adoption_made v config copy replicas posts made newer bare p new same e =
     let s : ServerState = v.state in
     let next : ServerState = with_config s config in
@@ -85,7 +85,7 @@ adoption_made v config copy replicas posts made newer bare p new same e =
     (e ∙ ap (λ (c : Config). adopting posts c replicas) same)
 
 -- an older one is nothing
-pub older_made : (v : ServerValue) (config : Config) (made : ServerMade) → config.epoch.0 ≤ v.state.config.epoch.0 → folded_server v.state ≡ v.state → made ≡ unmoved_made → IsStepMade v (install_at v.space v.state config) made
+pub older_made : (v : ServerValue) (config : Config) (made : ServerOutput) → config.epoch.0 ≤ v.state.config.epoch.0 → folded_server v.state ≡ v.state → made ≡ unmoved_made → IsStepOutput v (install_at v.space v.state config) made
 older_made v config made older bare e =
     nothing_made v (install_at v.space v.state config) made bare (cond-false _ (adopted v.space (with_config v.state config)) (unmoved v.state) (le-ltb v.state.config.epoch.0 config.epoch.0 older)) e
 

@@ -133,12 +133,12 @@ one_offer g s after u us e =
     by false = refl
 
 -- acknowledgements and commits don't look at early updates
-settled_any : (ends : List Version) (s : KeyState) (early : List Update) → settled (moved_all (acknowledging ends) (record s { early = early })) ≡ settled (moved_all (acknowledging ends) s)
+settled_any : (tail_versions : List Version) (s : KeyState) (early : List Update) → settled (moved_all (acknowledging tail_versions) (record s { early = early })) ≡ settled (moved_all (acknowledging tail_versions) s)
 settled_any [] s early = refl
-settled_any (v ∷ ends) s early = settled_any ends (moved (Acknowledge v.0) s) early
+settled_any (v ∷ tail_versions) s early = settled_any tail_versions (moved (Acknowledge v.0) s) early
 
-settled_same : (ends : List Version) (s : KeyState) → s.acked ≡ [] → settled (moved_all (acknowledging ends) (moved Forget s)) ≡ settled (moved_all (acknowledging ends) s)
-settled_same ends s none = settled_any ends (record s { acked = [] }) [] ∙ ap (λ (l : List ℕ). settled (moved_all (acknowledging ends) (record s { acked = l }))) (sym none)
+settled_same : (tail_versions : List Version) (s : KeyState) → s.acked ≡ [] → settled (moved_all (acknowledging tail_versions) (moved Forget s)) ≡ settled (moved_all (acknowledging tail_versions) s)
+settled_same tail_versions s none = settled_any tail_versions (record s { acked = [] }) [] ∙ ap (λ (l : List ℕ). settled (moved_all (acknowledging tail_versions) (record s { acked = l }))) (sym none)
 
 -- a slot that was offered the updates of its key
 module _ (context : ModelContext) (us : List Update) (s x : KeyState) (fresh : IsFresh context.region s) (come : All (CanCome context.region) us) (is : x ≡ moved_all (offered_all context.region s (of_key s.base.key us)) s) where
@@ -169,9 +169,9 @@ module _ (context : ModelContext) (us : List Update) (s x : KeyState) (fresh : I
   marked = ap (moved_all marks) is ∙ sym (moved_all_append ms marks s)
 
   -- its state afterwards
-  pub joined_state : (ends : List Version) (next : KeyState) → acknowledging ends ≡ tail_acks context (pending_of x) → next ≡ folded g (moved_all (acknowledging ends ++ settled (moved_all (acknowledging ends) x)) x)
+  pub joined_state : (tail_versions : List Version) (next : KeyState) → acknowledging tail_versions ≡ tail_acks context (pending_of x) → next ≡ folded g (moved_all (acknowledging tail_versions ++ settled (moved_all (acknowledging tail_versions) x)) x)
       → next ≡ folded g (moved_all (joining context us s) s)
-  joined_state ends next e n =
+  joined_state tail_versions next e n =
       n ∙ ap (λ (l : List Move). folded g (moved_all (l ++ settled (moved_all l x)) x)) (e ∙ ap (tail_acks context) pending_are)
       ∙ ap (folded g)
       (
@@ -181,14 +181,14 @@ module _ (context : ModelContext) (us : List Update) (s x : KeyState) (fresh : I
       )
 
   -- and all that is posted of it
-  pub joined_posts : (ends : List Version) (old posts : List Post) → acknowledging ends ≡ tail_acks context (pending_of x) → posts ≡ old ++ (flat_map (passed_on context) (pending_of x) ++ flat_map (move_posts context) (resumed context x))
+  pub joined_posts : (tail_versions : List Version) (old posts : List Post) → acknowledging tail_versions ≡ tail_acks context (pending_of x) → posts ≡ old ++ (flat_map (passed_on context) (pending_of x) ++ flat_map (move_posts context) (resumed context x))
       → posts ≡ old ++ flat_map (move_posts context) (joining context us s)
-  joined_posts ends old posts e p =
+  joined_posts tail_versions old posts e p =
       let f : List Move → List Post = flat_map (move_posts context) in
       let them : List Move = tail_acks context (pending_of x) in
       let rest : List Move = settled (moved_all (ms ++ marks) s) in
       let settle : settled (moved_all them (moved Forget x)) ≡ rest =
-      ap (λ (l : List Move). settled (moved_all l (moved Forget x))) (sym e) ∙ settled_same ends x none_acked
+      ap (λ (l : List Move). settled (moved_all l (moved Forget x))) (sym e) ∙ settled_same tail_versions x none_acked
       ∙ ap (λ (l : List Move). settled (moved_all l x)) (e ∙ ap (tail_acks context) pending_are) ∙ ap settled marked in
       let goes : f (resumed context x) ≡ f rest =
       flat_map-append (move_posts context) them (settled (moved_all them (moved Forget x)))

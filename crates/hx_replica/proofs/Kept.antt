@@ -28,7 +28,7 @@ use Rattle.hx_store.proofs.Lists.{at-within}
 use Rattle.hx_store.proofs.Moves.{moved_all_append, moved_all_parts}
 use Rattle.hx_replica.specs.declared.replicas.Replica.{Replica}
 use Rattle.hx_replica.specs.Adopting.{IsPendingAt, changed_at, lean_adopted, lean_replica, marked_end}
-use Rattle.hx_replica.specs.Made.{end_of}
+use Rattle.hx_replica.specs.Outputs.{tail_version}
 use Rattle.hx_replica.specs.Replicas.{AreReplicas, IsReplicaIn, new_replica, view_of, views_of}
 use Rattle.hx_replica.specs.Ticking.{standing}
 use Rattle.hx_replica.proofs.Changing.{set_is_with, set_replicas, view_at}
@@ -108,7 +108,7 @@ upto_length f (suc n) (x ∷ xs) = ap suc (upto_length f n xs)
 
 -- the first pending updates are acknowledged, where their chain ends here
 abbrev pub marked_upto : ModelContext → ℕ → KeyState → KeyState
-marked_upto context k s = moved_all (acknowledging (flat_map (end_of context) (take k (pending_of s)))) s
+marked_upto context k s = moved_all (acknowledging (flat_map (tail_version context) (take k (pending_of s)))) s
 
 pub one_marked : (context : ModelContext) (k i : ℕ) (xs : List KeyState) → k < when_some (slice_get xs i) 0 (λ (s : KeyState). length (pending_of s))
     → changed_at (marked_end context k) i (changed_at (marked_upto context k) i xs) ≡ changed_at (marked_upto context (k + 1)) i xs
@@ -120,14 +120,14 @@ one_marked context k i xs l =
     one : (s : KeyState) → k < length (pending_of s) → marked_end context k (marked_upto context k s) ≡ marked_upto context (k + 1) s
     one s l =
         let us = pending_of s in
-        let ends = flat_map (end_of context) (take k us) in
+        let tail_versions = flat_map (tail_version context) (take k us) in
         let before = marked_upto context k s in
         let at = at-within us k l in
-        ap (λ (ps : List Update). moved_all (acknowledging (when_some (slice_get ps k) [] (end_of context))) before) (marks_pending ends s)
-        ∙ ap (λ (o : Option Update). moved_all (acknowledging (when_some o [] (end_of context))) before) at.1
-        ∙ sym (moved_all_append (acknowledging ends) (acknowledging (end_of context at.0)) s)
-        ∙ ap (λ (ms : List Move). moved_all ms s) (sym (acknowledging_append ends (end_of context at.0)))
-        ∙ ap (λ (vs : List Version). moved_all (acknowledging vs) s) (flat_more (end_of context) us k at.0 ends (ends ++ end_of context at.0) [] at.1 refl refl)
+        ap (λ (ps : List Update). moved_all (acknowledging (when_some (slice_get ps k) [] (tail_version context))) before) (marks_pending tail_versions s)
+        ∙ ap (λ (o : Option Update). moved_all (acknowledging (when_some o [] (tail_version context))) before) at.1
+        ∙ sym (moved_all_append (acknowledging tail_versions) (acknowledging (tail_version context at.0)) s)
+        ∙ ap (λ (ms : List Move). moved_all ms s) (sym (acknowledging_append tail_versions (tail_version context at.0)))
+        ∙ ap (λ (vs : List Version). moved_all (acknowledging vs) s) (flat_more (tail_version context) us k at.0 tail_versions (tail_versions ++ tail_version context at.0) [] at.1 refl refl)
 
 take_whole : {A : Type 0} (n : ℕ) (xs : List A) → length xs ≤ n → take n xs ≡ xs
 take_whole zero [] l = refl
@@ -141,7 +141,7 @@ all_marked_ends context n i xs l =
     changed_same (marked_upto context n) (λ (s : KeyState). moved_all (tail_acks context (pending_of s)) s) i xs
     (
     λ s at. let past = subst (λ (o : Option KeyState). when_some o 0 (λ (t : KeyState). length (pending_of t)) ≤ n) at l in
-    ap (λ (us : List Update). moved_all (acknowledging (flat_map (end_of context) us)) s) (take_whole n (pending_of s) past)
+    ap (λ (us : List Update). moved_all (acknowledging (flat_map (tail_version context) us)) s) (take_whole n (pending_of s) past)
     ∙ ap (λ (ms : List Move). moved_all ms s) (marks_of_ends context (pending_of s))
     )
 
@@ -158,7 +158,7 @@ any_at (x ∷ us) (suc k) u e = by (x.version.0 == u.version.0) (any_at us k u e
     by false h = h
 
 abbrev pub ends_at : ModelContext → List KeyState → ℕ → ℕ → List Version
-ends_at context xs i k = when_some (slice_get xs i) [] (λ (s : KeyState). when_some (slice_get (pending_of s) k) [] (end_of context))
+ends_at context xs i k = when_some (slice_get xs i) [] (λ (s : KeyState). when_some (slice_get (pending_of s) k) [] (tail_version context))
 
 pub pending_end : (context : ModelContext) (xs : List KeyState) (i k : ℕ) (v : Version) → v ∷ [] ≡ ends_at context xs i k → IsPendingAt i v xs
 pending_end context xs i k v e = of (slice_get xs i) e
@@ -167,11 +167,11 @@ pending_end context xs i k v e = of (slice_get xs i) e
     ended us u false e h = absurd cc
     ended us u true e h = let same : u.version ≡ v = cc in subst (λ (w : Version). list_any (λ (x : Update). x.version.0 == w.0) us ≡ true) same h
 
-    at : (us : List Update) (o : Option Update) → slice_get us k ≡ o → v ∷ [] ≡ when_some o [] (end_of context) → list_any (λ (x : Update). x.version.0 == v.0) us ≡ true
+    at : (us : List Update) (o : Option Update) → slice_get us k ≡ o → v ∷ [] ≡ when_some o [] (tail_version context) → list_any (λ (x : Update). x.version.0 == v.0) us ≡ true
     at us None q e = absurd cc
     at us (Some u) q e = ended us u (is_end (next_at context u)) e (any_at us k u q)
 
-    of : (o : Option KeyState) → v ∷ [] ≡ when_some o [] (λ (s : KeyState). when_some (slice_get (pending_of s) k) [] (end_of context)) → IsSomeAnd o (λ (s : KeyState). is_pending v.0 s ≡ true)
+    of : (o : Option KeyState) → v ∷ [] ≡ when_some o [] (λ (s : KeyState). when_some (slice_get (pending_of s) k) [] (tail_version context)) → IsSomeAnd o (λ (s : KeyState). is_pending v.0 s ≡ true)
     of None e = absurd cc
     of (Some s) e = at (pending_of s) (slice_get (pending_of s) k) refl e
 
@@ -186,7 +186,7 @@ none_listed (Some v) h = absurd (h v refl)
 pub marked_as : (context : ModelContext) (xs : List KeyState) (i k : ℕ) (vs : List Version) → vs ≡ ends_at context xs i k → changed_at (λ (s : KeyState). moved_all (acknowledging vs) s) i xs ≡ changed_at (marked_end context k) i xs
 marked_as context xs i k vs e =
     changed_same (λ (s : KeyState). moved_all (acknowledging vs) s) (marked_end context k) i xs
-    (λ s at. ap (λ (l : List Version). moved_all (acknowledging l) s) (e ∙ ap (λ (o : Option KeyState). when_some o [] (λ (t : KeyState). when_some (slice_get (pending_of t) k) [] (end_of context))) at))
+    (λ s at. ap (λ (l : List Version). moved_all (acknowledging l) s) (e ∙ ap (λ (o : Option KeyState). when_some o [] (λ (t : KeyState). when_some (slice_get (pending_of t) k) [] (tail_version context))) at))
 
 -- a slot that goes on forgets, acknowledges what ends here and commits what it can
 pub gone_on : (context : ModelContext) (g : RegionId) (i : ℕ) (a b c d : List KeyState) → g ≡ context.region → b ≡ changed_at (moved Forget) i a → c ≡ changed_at (λ (s : KeyState). moved_all (tail_acks context (pending_of s)) s) i b → d ≡ changed_at (settled_at g) i c

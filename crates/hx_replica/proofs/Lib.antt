@@ -11,7 +11,7 @@ pub mod Hearing
 pub mod Planning
 pub mod Asking
 pub mod Changing
-pub mod Inside
+pub mod Invariant
 pub mod Sending
 pub mod Searching
 pub mod Committing

@@ -21,7 +21,7 @@ use Rattle.hx_model.specs.ServerSteps.{SlotContext as ModelContext, tail_acks, m
 use Rattle.hx_model.specs.Slots.{Acknowledge, Commit, Hold, KeyState, Move, Take, commits, follows, moved, moved_all, offered, pending_above, pending_of, place_in, settled, taken, top_of, turns}
 use Rattle.hx_store.specs.Stores.{ArePending, acknowledging}
 use Rattle.hx_store.proofs.Moves.{moved_all_append}
-use Rattle.hx_replica.specs.Made.{IsAccepted, IsNew, end_of, seen, settled_among, settles, told_of}
+use Rattle.hx_replica.specs.Outputs.{IsAccepted, IsNew, tail_version, seen, settled_among, settles, told_of}
 
 -- the place in a region is that of its number
 pub place_there : (g : RegionId) (places : List Place) → slice_get places (place_number g places) ≡ place_in g places
@@ -112,13 +112,13 @@ offered_is context g s u above = cond-false _ [] _ (not_known u.version.0 (top_o
     not_known v top l = grind (arith, nat_tests)
 
 -- acknowledgements leave what is pending
-pub marks_pending : (ends : List Version) (s : KeyState) → pending_of (moved_all (acknowledging ends) s) ≡ pending_of s
+pub marks_pending : (tail_versions : List Version) (s : KeyState) → pending_of (moved_all (acknowledging tail_versions) s) ≡ pending_of s
 marks_pending [] s = refl
-marks_pending (e ∷ ends) s = marks_pending ends (moved (Acknowledge e.0) s)
+marks_pending (e ∷ tail_versions) s = marks_pending tail_versions (moved (Acknowledge e.0) s)
 
-marks_posts : (context : ModelContext) (ends : List Version) → flat_map (move_posts context) (acknowledging ends) ≡ []
+marks_posts : (context : ModelContext) (tail_versions : List Version) → flat_map (move_posts context) (acknowledging tail_versions) ≡ []
 marks_posts context [] = refl
-marks_posts context (e ∷ ends) = marks_posts context ends
+marks_posts context (e ∷ tail_versions) = marks_posts context tail_versions
 
 others_stay : (v w : ℕ) (acked : List ℕ) → w == v ≡ false → list_any (λ x. x == v) (filter (λ x. not (x == w)) acked) ≡ list_any (λ x. x == v) acked
 others_stay v w [] apart = refl
@@ -144,23 +144,23 @@ or_turned false true c = refl
 or_turned false false c = refl
 
 -- what is acknowledged afterwards
-pub marks_acked : (ends : List Version) (s : KeyState) (v : Version) → list_any (λ w. w == v.0) (moved_all (acknowledging ends) s).acked ≡ settles s.acked ends v
+pub marks_acked : (tail_versions : List Version) (s : KeyState) (v : Version) → list_any (λ w. w == v.0) (moved_all (acknowledging tail_versions) s).acked ≡ settles s.acked tail_versions v
 marks_acked [] s v = refl
-marks_acked (e ∷ ends) s v =
-    marks_acked ends (moved (Acknowledge e.0) s) v
-    ∙ ap (λ b. list_any (λ (x : Version). x.0 == v.0) ends || b) (mark_any v.0 e.0 s.acked)
-    ∙ or_turned (list_any (λ (x : Version). x.0 == v.0) ends) (e.0 == v.0) (list_any (λ w. w == v.0) s.acked)
+marks_acked (e ∷ tail_versions) s v =
+    marks_acked tail_versions (moved (Acknowledge e.0) s) v
+    ∙ ap (λ b. list_any (λ (x : Version). x.0 == v.0) tail_versions || b) (mark_any v.0 e.0 s.acked)
+    ∙ or_turned (list_any (λ (x : Version). x.0 == v.0) tail_versions) (e.0 == v.0) (list_any (λ w. w == v.0) s.acked)
 
 -- what is told of the first updates that are acknowledged is what is posted of committing them
-pub told_commits : (context : ModelContext) (acked after : List ℕ) (ends : List Version) → ((v : Version) → list_any (λ w. w == v.0) after ≡ settles acked ends v) → (bs : List (Bor Update))
-    → flat_map (λ (b : Bor Update). told_of context b.now) (settled_among acked ends bs) ≡ flat_map (move_posts context) (commits after (seen bs))
-told_commits context acked after ends same [] = refl
-told_commits context acked after ends same (b ∷ bs) =
-    by (settles acked ends b.now.version) (told_commits context acked after ends same bs)
+pub told_commits : (context : ModelContext) (acked after : List ℕ) (tail_versions : List Version) → ((v : Version) → list_any (λ w. w == v.0) after ≡ settles acked tail_versions v) → (bs : List (Bor Update))
+    → flat_map (λ (b : Bor Update). told_of context b.now) (settled_among acked tail_versions bs) ≡ flat_map (move_posts context) (commits after (seen bs))
+told_commits context acked after tail_versions same [] = refl
+told_commits context acked after tail_versions same (b ∷ bs) =
+    by (settles acked tail_versions b.now.version) (told_commits context acked after tail_versions same bs)
     ∙ sym (ap (λ t. flat_map (move_posts context) (provided t (Commit b.now ∷ commits after (seen bs)))) (same b.now.version))
   where
     p : Bor Update → Bool
-    p x = settles acked ends x.now.version
+    p x = settles acked tail_versions x.now.version
 
     by : (t : Bool) → flat_map (λ (x : Bor Update). told_of context x.now) (take (prefix_len p bs) bs) ≡ flat_map (move_posts context) (commits after (seen bs))
         → flat_map (λ (x : Bor Update). told_of context x.now) (take (cond t (1 + prefix_len p bs) 0) (b ∷ bs)) ≡ flat_map (move_posts context) (provided t (Commit b.now ∷ commits after (seen bs)))
@@ -174,14 +174,14 @@ pub acknowledging_append : (xs ys : List Version) → acknowledging (xs ++ ys) �
 acknowledging_append [] ys = refl
 acknowledging_append (x ∷ xs) ys = ap (λ ms. Acknowledge x.0 ∷ ms) (acknowledging_append xs ys)
 
-pub ends_marked : (context : ModelContext) (bs : List (Bor Update)) → acknowledging (flat_map (λ (b : Bor Update). end_of context b.now) bs) ≡ tail_acks context (seen bs)
+pub ends_marked : (context : ModelContext) (bs : List (Bor Update)) → acknowledging (flat_map (λ (b : Bor Update). tail_version context b.now) bs) ≡ tail_acks context (seen bs)
 ends_marked context [] = refl
 ends_marked context (b ∷ bs) =
-    acknowledging_append (end_of context b.now) (flat_map (λ (x : Bor Update). end_of context x.now) bs)
+    acknowledging_append (tail_version context b.now) (flat_map (λ (x : Bor Update). tail_version context x.now) bs)
     ∙ by (is_end (next_at context b.now)) (ends_marked context bs)
   where
-    by : (t : Bool) → acknowledging (flat_map (λ (x : Bor Update). end_of context x.now) bs) ≡ tail_acks context (seen bs)
-        → acknowledging (provided t (b.now.version ∷ [])) ++ acknowledging (flat_map (λ (x : Bor Update). end_of context x.now) bs)
+    by : (t : Bool) → acknowledging (flat_map (λ (x : Bor Update). tail_version context x.now) bs) ≡ tail_acks context (seen bs)
+        → acknowledging (provided t (b.now.version ∷ [])) ++ acknowledging (flat_map (λ (x : Bor Update). tail_version context x.now) bs)
         ≡ map (λ (u : Update). Acknowledge u.version.0) (cond t (b.now ∷ filter (λ (u : Update). is_end (next_at context u)) (seen bs)) (filter (λ (u : Update). is_end (next_at context u)) (seen bs)))
     by true more = ap (λ ms. Acknowledge b.now.version.0 ∷ ms) more
     by false more = more
@@ -194,10 +194,10 @@ pub all_append : {A : Type 0} (P : A → Type 0) (xs ys : List A) → All P xs �
 all_append P [] ys h k = k
 all_append P (x ∷ xs) ys h k = All-cons P x (xs ++ ys) (All-head P x xs h) (all_append P xs ys (All-tail P x xs h) k)
 
-pub ends_stand : (context : ModelContext) (us : List Update) (bs : List (Bor Update)) → All (λ (b : Bor Update). Stands us b.now.version) bs → All (Stands us) (flat_map (λ (b : Bor Update). end_of context b.now) bs)
+pub ends_stand : (context : ModelContext) (us : List Update) (bs : List (Bor Update)) → All (λ (b : Bor Update). Stands us b.now.version) bs → All (Stands us) (flat_map (λ (b : Bor Update). tail_version context b.now) bs)
 ends_stand context us [] h = All-nil (Stands us)
 ends_stand context us (b ∷ bs) h =
-    all_append (Stands us) (end_of context b.now) (flat_map (λ (x : Bor Update). end_of context x.now) bs)
+    all_append (Stands us) (tail_version context b.now) (flat_map (λ (x : Bor Update). tail_version context x.now) bs)
     (by (is_end (next_at context b.now)) (All-head (λ (x : Bor Update). Stands us x.now.version) b bs h))
     (ends_stand context us bs (All-tail (λ (x : Bor Update). Stands us x.now.version) b bs h))
   where
@@ -237,32 +237,32 @@ no_end_posts context (x ∷ xs) = by (is_end (next_at context x)) (no_end_posts 
     by false more = more
 
 -- all together
-pub acceptance : (context : ModelContext) (s : KeyState) (u : Update) (bs line : List (Bor Update)) (ends : List Version) (posts : List Post)
+pub acceptance : (context : ModelContext) (s : KeyState) (u : Update) (bs line : List (Bor Update)) (tail_versions : List Version) (posts : List Post)
     → top_of s < u.version.0 → seen bs ≡ taken (offered context.region s u) → All (IsNew context.region s.floor) bs
-    → ends ≡ flat_map (λ (b : Bor Update). end_of context b.now) bs
+    → tail_versions ≡ flat_map (λ (b : Bor Update). tail_version context b.now) bs
     → seen line ≡ pending_of s ++ seen bs
-    → posts ≡ flat_map (λ (b : Bor Update). passed_on context b.now) bs ++ flat_map (λ (b : Bor Update). told_of context b.now) (settled_among s.acked ends line)
-    → IsAccepted context s u posts ends
-acceptance context s u bs line ends posts top took new ended lined posted =
+    → posts ≡ flat_map (λ (b : Bor Update). passed_on context b.now) bs ++ flat_map (λ (b : Bor Update). told_of context b.now) (settled_among s.acked tail_versions line)
+    → IsAccepted context s u posts tail_versions
+acceptance context s u bs line tail_versions posts top took new ended lined posted =
     let moves = offered context.region s u in
     let same : moves ≡ offer_by context.region s u (follows context.region (top_of s) u) = offered_is context context.region s u top in
     let offer : IsOffer context s moves = subst (IsOffer context s) (sym same) (offer_is context context.region s u (follows context.region (top_of s) u)) in
     let above : AreAbove s.floor (taken moves) = subst (AreAbove s.floor) took (above_seen context.region s.floor bs new) in
     let after = moved_all moves s in
-    let marked : acknowledging ends ≡ tail_acks context (taken moves) = ap acknowledging ended ∙ ends_marked context bs ∙ ap (tail_acks context) took in
+    let marked : acknowledging tail_versions ≡ tail_acks context (taken moves) = ap acknowledging ended ∙ ends_marked context bs ∙ ap (tail_acks context) took in
     let pending : pending_of after ≡ pending_of s ++ seen bs = offer.pending above ∙ ap (λ (us : List Update). pending_of s ++ us) (sym took) in
-    let all = moved_all (acknowledging ends) after in
-    let now : moved_all (moves ++ tail_acks context (taken moves)) s ≡ all = ap (λ ms. moved_all (moves ++ ms) s) (sym marked) ∙ moved_all_append moves (acknowledging ends) s in
-    let settle : settled all ≡ commits all.acked (seen line) = ap (commits all.acked) (marks_pending ends after ∙ pending ∙ sym lined) in
-    let told = told_commits context s.acked all.acked ends (λ v. marks_acked ends after v ∙ ap (λ (acked : List ℕ). settles acked ends v) offer.acked) line in
+    let all = moved_all (acknowledging tail_versions) after in
+    let now : moved_all (moves ++ tail_acks context (taken moves)) s ≡ all = ap (λ ms. moved_all (moves ++ ms) s) (sym marked) ∙ moved_all_append moves (acknowledging tail_versions) s in
+    let settle : settled all ≡ commits all.acked (seen line) = ap (commits all.acked) (marks_pending tail_versions after ∙ pending ∙ sym lined) in
+    let told = told_commits context s.acked all.acked tail_versions (λ v. marks_acked tail_versions after v ∙ ap (λ (acked : List ℕ). settles acked tail_versions v) offer.acked) line in
     record {
       posts_are =
           posted
-          ∙ ap (λ (ps : List Post). ps ++ flat_map (λ (b : Bor Update). told_of context b.now) (settled_among s.acked ends line)) (passed_seen bs ∙ ap (flat_map (passed_on context)) took ∙ sym offer.posts)
+          ∙ ap (λ (ps : List Post). ps ++ flat_map (λ (b : Bor Update). told_of context b.now) (settled_among s.acked tail_versions line)) (passed_seen bs ∙ ap (flat_map (passed_on context)) took ∙ sym offer.posts)
           ∙ ap (λ (ps : List Post). flat_map (move_posts context) moves ++ ps) (told ∙ ap (flat_map (move_posts context)) (sym settle ∙ ap settled (sym now)))
           ∙ sym (whole (settled (moved_all (moves ++ tail_acks context (taken moves)) s)));
       ends_are = marked;
-      pending = subst (λ (vs : List Version). ArePending after vs) (sym ended) (subst (λ (us : List Update). All (Stands us) (flat_map (λ (b : Bor Update). end_of context b.now) bs)) (sym pending) (ends_stand context (pending_of s ++ seen bs) bs (seen_stand (pending_of s) bs)));
+      pending = subst (λ (vs : List Version). ArePending after vs) (sym ended) (subst (λ (us : List Update). All (Stands us) (flat_map (λ (b : Bor Update). tail_version context b.now) bs)) (sym pending) (ends_stand context (pending_of s ++ seen bs) bs (seen_stand (pending_of s) bs)));
     }
   where
     passed_seen : (xs : List (Bor Update)) → flat_map (λ (b : Bor Update). passed_on context b.now) xs ≡ flat_map (passed_on context) (seen xs)

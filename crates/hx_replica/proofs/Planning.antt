@@ -21,16 +21,16 @@ use Rattle.hx_model.specs.Slots.{KeyState, Move, moved_all}
 use Rattle.hx_store.specs.Stores.{Room}
 use Rattle.hx_folds.specs.Folding.{folded, folded_server}
 use Rattle.hx_folds.proofs.Servers.{found-lean, state-lean, with-slot-lean}
-use Rattle.hx_replica.specs.declared.made.SlotChange.TheVariants.{Open, Accept, Acknowledge}
-use Rattle.hx_replica.specs.declared.made.SlotChange.{SlotChange}
-use Rattle.hx_replica.specs.declared.made.SlotMade.{SlotMade}
-use Rattle.hx_replica.specs.declared.plans.Change.{Change}
-use Rattle.hx_replica.specs.declared.plans.ServerMade.{ServerMade}
-use Rattle.hx_replica.specs.declared.plans.Plan.{Plan}
-use Rattle.hx_replica.specs.declared.plans.Change.TheVariants as a_change
+use Rattle.hx_replica.specs.declared.outputs.SlotChange.TheVariants.{Open, Accept, Acknowledge}
+use Rattle.hx_replica.specs.declared.outputs.SlotChange.{SlotChange}
+use Rattle.hx_replica.specs.declared.outputs.SlotOutput.{SlotOutput}
+use Rattle.hx_replica.specs.declared.prepared.Change.{Change}
+use Rattle.hx_replica.specs.declared.prepared.ServerOutput.{ServerOutput}
+use Rattle.hx_replica.specs.declared.prepared.Plan.{Plan}
+use Rattle.hx_replica.specs.declared.prepared.Change.TheVariants as a_change
 use Rattle.hx_replica.specs.Hearing.{IsOfOneSlot, heard}
-use Rattle.hx_replica.specs.Made.{HasRoomFor, IsMade, key_in, moves_by, room_of, slot_step_of, stepped}
-use Rattle.hx_replica.specs.Plans.{CanHear, CanStep, HasRoomAt, IsChange, IsMadeAt, IsPlanOn, IsServerMade, IsStepMade}
+use Rattle.hx_replica.specs.Outputs.{HasRoomFor, IsOutputOf, key_in, moves_by, room_of, slot_step_of, stepped}
+use Rattle.hx_replica.specs.Plans.{CanHear, CanStep, HasRoomAt, IsChange, IsOutputAt, IsPlanOn, IsServerOutput, IsStepOutput}
 use Rattle.hx_replica.specs.Servers.{CanTake, ServerValue}
 use Rattle.hx_replica.proofs.Hearing.{message_heard, message_unheard}
 
@@ -53,17 +53,17 @@ pub running_step : (v : ServerValue) (input : Input) → v.state.halted ≡ fals
 running_step v input running = cond-false v.state.halted (unmoved v.state) (input_step v.space v.state input) running
 
 -- what a step makes that moves nothing, and what one of a slot makes
-abbrev pub unmoved_made : ServerMade
+abbrev pub unmoved_made : ServerOutput
 unmoved_made = record { posts = []; notes = []; change = a_change.Nothing }
 
-abbrev pub moved_made : ℕ → ℕ → SlotMade → ServerMade
+abbrev pub moved_made : ℕ → ℕ → SlotOutput → ServerOutput
 moved_made number place slot = record { posts = slot.posts; notes = slot.notes; change = a_change.Slot number place slot.change }
 
 -- what a step makes, by its parts
-pub step_made : (v : ServerValue) (step : ServerStep) (posts : List Post) (notes : List Note) (change : Change) (made : ServerMade) → posts ≡ step.posts → notes ≡ step.notes
-    → ((input : Input) → server_step v.space v.state input ≡ step → IsChange v input change) → made ≡ record { posts = posts; notes = notes; change = change } → IsStepMade v step made
+pub step_made : (v : ServerValue) (step : ServerStep) (posts : List Post) (notes : List Note) (change : Change) (made : ServerOutput) → posts ≡ step.posts → notes ≡ step.notes
+    → ((input : Input) → server_step v.space v.state input ≡ step → IsChange v input change) → made ≡ record { posts = posts; notes = notes; change = change } → IsStepOutput v step made
 step_made v step posts notes change made p n changes e input is =
-    subst (IsServerMade v input) (sym e)
+    subst (IsServerOutput v input) (sym e)
     (record {
       posts = p ∙ ap (λ (t : ServerStep). t.posts) (sym is);
       notes = n ∙ ap (λ (t : ServerStep). t.notes) (sym is);
@@ -71,20 +71,20 @@ step_made v step posts notes change made p n changes e input is =
     })
 
 -- a step after which the server is as it was
-pub staying_made : (v : ServerValue) (step : ServerStep) (posts : List Post) (made : ServerMade) → folded_server v.state ≡ v.state → step.state ≡ v.state → posts ≡ step.posts → [] ≡ step.notes
-    → made ≡ record { posts = posts; notes = []; change = a_change.Nothing } → IsStepMade v step made
+pub staying_made : (v : ServerValue) (step : ServerStep) (posts : List Post) (made : ServerOutput) → folded_server v.state ≡ v.state → step.state ≡ v.state → posts ≡ step.posts → [] ≡ step.notes
+    → made ≡ record { posts = posts; notes = []; change = a_change.Nothing } → IsStepOutput v step made
 staying_made v step posts made bare stays p n e =
     step_made v step posts [] a_change.Nothing made p n (λ input is. ap (λ (t : ServerStep). folded_server t.state) is ∙ ap folded_server stays ∙ bare) e
 
 -- a step that makes nothing
-pub nothing_made : (v : ServerValue) (step : ServerStep) (made : ServerMade) → folded_server v.state ≡ v.state → step ≡ unmoved v.state → made ≡ unmoved_made → IsStepMade v step made
+pub nothing_made : (v : ServerValue) (step : ServerStep) (made : ServerOutput) → folded_server v.state ≡ v.state → step ≡ unmoved v.state → made ≡ unmoved_made → IsStepOutput v step made
 nothing_made v step made bare is e =
     staying_made v step [] made bare (ap (λ (t : ServerStep). t.state) is) (ap (λ (t : ServerStep). t.posts) (sym is)) (ap (λ (t : ServerStep). t.notes) (sym is)) e
 
 -- a change of a slot without a past, without its past
 stepped_lean : (change : SlotChange) (g : RegionId) (s : KeyState) → folded g s ≡ s → folded g (moved_all (moves_by g s change) s) ≡ stepped change g s
 stepped_lean Open g s e = e
-stepped_lean (Accept u place ends) g s e = refl
+stepped_lean (Accept u place tail_versions) g s e = refl
 stepped_lean (Acknowledge v) g s e = refl
 
 -- room for fewer updates
@@ -103,15 +103,15 @@ less_room number key n k v place l = at (slice_get v.rooms number)
     at (Some rooms) h = less_in key n k place rooms l h
 
 -- the replica with this number hears it, and its slot makes this
-moved_planned : (v : ServerValue) (from : Actor) (m : Message) (number n place : ℕ) (key : List ℕ) (slot : SlotMade) (made : ServerMade) → CanHear v.space v.state from m
-    → IsFound v.state.replicas number (heard v.space v.state m) → IsMadeAt v number from m slot → room_of slot.change ≤ n → HasRoomAt number key n v place → key ≡ key_in m
-    → made ≡ moved_made number place slot → IsStepMade v (message_step v.space v.state from m) made
+moved_planned : (v : ServerValue) (from : Actor) (m : Message) (number n place : ℕ) (key : List ℕ) (slot : SlotOutput) (made : ServerOutput) → CanHear v.space v.state from m
+    → IsFound v.state.replicas number (heard v.space v.state m) → IsOutputAt v number from m slot → room_of slot.change ≤ n → HasRoomAt number key n v place → key ≡ key_in m
+    → made ≡ moved_made number place slot → IsStepOutput v (message_step v.space v.state from m) made
 moved_planned v from m number n place key slot made hears at is few room k e =
     let can = hears.can in
     let r : Replica = at.replica in
     let s : KeyState = state_in v.space r (key_in m) in
     let by = slot_step_of (context_of v.space v.state r.region) s from m in
-    let so : IsMade r.region s (key_in m) by slot = is r at.at_place in
+    let so : IsOutputOf r.region s (key_in m) by slot = is r at.at_place in
     let step : message_step v.space v.state from m ≡ at_slot v.state r s by = message_heard v.space v.state from (Server v.state.id) m r can.input_to.sound.between at.is in
     step_made v (message_step v.space v.state from m) slot.posts slot.notes (a_change.Slot number place slot.change) made (so.posts ∙ ap (λ (t : ServerStep). t.posts) (sym step)) (so.notes ∙ ap (λ (t : ServerStep). t.notes) (sym step))
     (
@@ -127,8 +127,8 @@ moved_planned v from m number n place key slot made hears at is few room k e =
     e
 
 -- no replica hears it
-pub nothing_prepared : (v : ServerValue) (from : Actor) (m : Message) (made : ServerMade) → CanHear v.space v.state from m → IsOfOneSlot m → None ≡ option_map (λ (r : Replica). Some r) (heard v.space v.state m) → made ≡ unmoved_made
-    → IsStepMade v (message_step v.space v.state from m) made
+pub nothing_prepared : (v : ServerValue) (from : Actor) (m : Message) (made : ServerOutput) → CanHear v.space v.state from m → IsOfOneSlot m → None ≡ option_map (λ (r : Replica). Some r) (heard v.space v.state m) → made ≡ unmoved_made
+    → IsStepOutput v (message_step v.space v.state from m) made
 nothing_prepared v from m made hears one none e =
     nothing_made v (message_step v.space v.state from m) made hears.can.bare (message_unheard v.space v.state from m one (found_nowhere (heard v.space v.state m) none)) e
 
@@ -137,8 +137,8 @@ module _ (old new : ServerValue) (from : Actor) (m : Message) (space : new.space
   heard_still : heard old.space old.state m ≡ heard new.space new.state m
   heard_still = ap (λ (x : Space). heard x old.state m) (sym space) ∙ ap (λ (x : ServerState). heard new.space x m) (sym state)
 
-  pub move_prepared : (number n place : ℕ) (key : List ℕ) (slot : SlotMade) (made : ServerMade) → CanHear old.space old.state from m → Some (slice_get old.state.replicas number) ≡ option_map (λ (r : Replica). Some r) (heard old.space old.state m)
-      → key ≡ key_in m → IsMadeAt new number from m slot → room_of slot.change ≤ n → HasRoomAt number key n new place → made ≡ moved_made number place slot → IsStepMade new (message_step new.space new.state from m) made
+  pub move_prepared : (number n place : ℕ) (key : List ℕ) (slot : SlotOutput) (made : ServerOutput) → CanHear old.space old.state from m → Some (slice_get old.state.replicas number) ≡ option_map (λ (r : Replica). Some r) (heard old.space old.state m)
+      → key ≡ key_in m → IsOutputAt new number from m slot → room_of slot.change ≤ n → HasRoomAt number key n new place → made ≡ moved_made number place slot → IsStepOutput new (message_step new.space new.state from m) made
   move_prepared number n place key slot made hears at k so few room e =
       moved_planned new from m number n place key slot made
       (subst (λ (x : ServerState). CanHear new.space x from m) (sym state) (subst (λ (x : Space). CanHear x old.state from m) (sym space) hears))
@@ -150,7 +150,7 @@ module _ (old new : ServerValue) (from : Actor) (m : Message) (space : new.space
       subst (λ (x : ServerState). CanStep new.space x number key from m) (sym state) (subst (λ (x : Space). CanStep x old.state number key from m) (sym space) h)
 
 -- the plan of an input, and what its step makes
-pub made_planned : (v : ServerValue) (input : Input) (server : ServerId) (made : ServerMade) (plan : Plan) → server ≡ v.state.id → IsServerMade v input made
+pub made_planned : (v : ServerValue) (input : Input) (server : ServerId) (made : ServerOutput) (plan : Plan) → server ≡ v.state.id → IsServerOutput v input made
     → plan ≡ record { entry = record { actor = Server server; input = input; outputs = made.posts; notes = made.notes }; change = made.change } → IsPlanOn v plan
 made_planned v input server made plan me is e =
     subst (IsPlanOn v) (sym e)
@@ -162,7 +162,7 @@ made_planned v input server made plan me is e =
     })
 
 -- an input, and the step of which something was made
-pub on_input : (old v : ServerValue) (input : Input) (step : ServerStep) (made : ServerMade) → v.state ≡ old.state → CanTake old.space old.state input → input_step v.space v.state input ≡ step → IsStepMade v step made → IsServerMade v input made
+pub on_input : (old v : ServerValue) (input : Input) (step : ServerStep) (made : ServerOutput) → v.state ≡ old.state → CanTake old.space old.state input → input_step v.space v.state input ≡ step → IsStepOutput v step made → IsServerOutput v input made
 on_input old v input step made state can e h = h input (running_step v input (ap (λ (s : ServerState). s.halted) state ∙ can.running) ∙ e)
 
 -- a post of a message that can be taken
@@ -170,11 +170,11 @@ pub can_hear : (space : Space) (s : ServerState) (input : Input) (id : PostId) (
 can_hear space s input id from m can is = record { id = id; can = subst (CanTake space s) is can }
 
 -- a search changes nothing
-pub asked_made : (v : ServerValue) (from : Actor) (epoch : Epoch) (number : ℕ) (terms : List Term) (o : Option Replica) (posts : List Post) (made : ServerMade) → folded_server v.state ≡ v.state → posts ≡ (asked v.state from epoch number terms o).posts
-    → made ≡ record { posts = posts; notes = []; change = a_change.Nothing } → IsStepMade v (asked v.state from epoch number terms o) made
+pub asked_made : (v : ServerValue) (from : Actor) (epoch : Epoch) (number : ℕ) (terms : List Term) (o : Option Replica) (posts : List Post) (made : ServerOutput) → folded_server v.state ≡ v.state → posts ≡ (asked v.state from epoch number terms o).posts
+    → made ≡ record { posts = posts; notes = []; change = a_change.Nothing } → IsStepOutput v (asked v.state from epoch number terms o) made
 asked_made v from epoch number terms None posts made bare p e = staying_made v (asked v.state from epoch number terms None) posts made bare refl p refl e
 asked_made v from epoch number terms (Some r) posts made bare p e = staying_made v (asked v.state from epoch number terms (Some r)) posts made bare refl p refl e
 
 -- what the step on a message makes, by what the message is
-pub on_message : {E : Type 0} (v : ServerValue) (from : Actor) (m n : Message) (r : Result ServerMade E) → m ≡ n → IfOk r (IsStepMade v (message_step v.space v.state from n)) → IfOk r (IsStepMade v (message_step v.space v.state from m))
-on_message v from m n r e = subst (λ (x : Message). IfOk r (IsStepMade v (message_step v.space v.state from x))) (sym e)
+pub on_message : {E : Type 0} (v : ServerValue) (from : Actor) (m n : Message) (r : Result ServerOutput E) → m ≡ n → IfOk r (IsStepOutput v (message_step v.space v.state from n)) → IfOk r (IsStepOutput v (message_step v.space v.state from m))
+on_message v from m n r e = subst (λ (x : Message). IfOk r (IsStepOutput v (message_step v.space v.state from x))) (sym e)

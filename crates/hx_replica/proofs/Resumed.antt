@@ -17,7 +17,7 @@ use Rattle.hx_folds.specs.Folding.{Descends, IsSlotOf}
 use Rattle.hx_store.specs.Stores.{ArePending, acknowledging}
 use Rattle.hx_store.proofs.Moves.{moved_all_append}
 use Rattle.hx_replica.specs.Adopting.{IsCarriedOn, doubt_of, doubts_among, doubts_on}
-use Rattle.hx_replica.specs.Made.{end_of, ended_count, told_of}
+use Rattle.hx_replica.specs.Outputs.{tail_version, ended_count, told_of}
 use Rattle.hx_replica.proofs.Acked.{told_first}
 use Rattle.hx_replica.proofs.Committing.{commits_left, ended_is}
 use Rattle.hx_replica.proofs.Offers.{Stands, acknowledging_append, all_append, marks_acked, marks_pending, no_end_posts, self_among}
@@ -45,12 +45,12 @@ doubts_same context s = by (stuck_among context.config (pending_of s))
     by (Some x) = ap (provided (leads context.space context.config context.server context.region)) (doubts context (pending_of s) x)
 
 -- the versions of the updates whose chain ends here
-pub marks_of_ends : (context : ModelContext) (us : List Update) → acknowledging (flat_map (end_of context) us) ≡ tail_acks context us
+pub marks_of_ends : (context : ModelContext) (us : List Update) → acknowledging (flat_map (tail_version context) us) ≡ tail_acks context us
 marks_of_ends context [] = refl
-marks_of_ends context (u ∷ us) = acknowledging_append (end_of context u) (flat_map (end_of context) us) ∙ by (is_end (next_at context u)) (marks_of_ends context us)
+marks_of_ends context (u ∷ us) = acknowledging_append (tail_version context u) (flat_map (tail_version context) us) ∙ by (is_end (next_at context u)) (marks_of_ends context us)
   where
-    by : (t : Bool) → acknowledging (flat_map (end_of context) us) ≡ tail_acks context us
-        → acknowledging (provided t (u.version ∷ [])) ++ acknowledging (flat_map (end_of context) us)
+    by : (t : Bool) → acknowledging (flat_map (tail_version context) us) ≡ tail_acks context us
+        → acknowledging (provided t (u.version ∷ [])) ++ acknowledging (flat_map (tail_version context) us)
         ≡ map (λ (v : Update). Acknowledge v.version.0) (cond t (u ∷ filter (λ (v : Update). is_end (next_at context v)) us) (filter (λ (v : Update). is_end (next_at context v)) us))
     by true more = ap (λ ms. Acknowledge u.version.0 ∷ ms) more
     by false more = more
@@ -61,10 +61,10 @@ stand_among before (u ∷ us) =
     All-cons (λ (x : Update). Stands (before ++ u ∷ us) x.version) u us (self_among before u us)
     (subst (λ (all : List Update). All (λ (x : Update). Stands all x.version) us) (append_assoc before (u ∷ []) us) (stand_among (before ++ u ∷ []) us))
 
-ends_among : (context : ModelContext) (all us : List Update) → All (λ (u : Update). Stands all u.version) us → All (Stands all) (flat_map (end_of context) us)
+ends_among : (context : ModelContext) (all us : List Update) → All (λ (u : Update). Stands all u.version) us → All (Stands all) (flat_map (tail_version context) us)
 ends_among context all [] h = All-nil (Stands all)
 ends_among context all (u ∷ us) h =
-    all_append (Stands all) (end_of context u) (flat_map (end_of context) us)
+    all_append (Stands all) (tail_version context u) (flat_map (tail_version context) us)
     (by (is_end (next_at context u)) (All-head (λ (x : Update). Stands all x.version) u us h))
     (ends_among context all us (All-tail (λ (x : Update). Stands all x.version) u us h))
   where
@@ -72,22 +72,22 @@ ends_among context all (u ∷ us) h =
     by true s = All-cons (Stands all) u.version [] s (All-nil (Stands all))
     by false s = All-nil (Stands all)
 
-pub ends_pending : (context : ModelContext) (s : KeyState) → ArePending s (flat_map (end_of context) (pending_of s))
+pub ends_pending : (context : ModelContext) (s : KeyState) → ArePending s (flat_map (tail_version context) (pending_of s))
 ends_pending context s = ends_among context (pending_of s) (pending_of s) (stand_among [] (pending_of s))
 
 -- the pending updates are passed on, end and are told of
-pub carried_on : (context : ModelContext) (s : KeyState) (ends : List Version) (old passed posts : List Post) → ends ≡ flat_map (end_of context) (pending_of s)
+pub carried_on : (context : ModelContext) (s : KeyState) (tail_versions : List Version) (old passed posts : List Post) → tail_versions ≡ flat_map (tail_version context) (pending_of s)
     → passed ≡ old ++ flat_map (passed_on context) (pending_of s)
-    → posts ≡ passed ++ flat_map (told_of context) (take (ended_count ends (pending_of s)) (pending_of s))
-    → IsCarriedOn context s old posts ends
-carried_on context s ends old passed posts ended went posted =
+    → posts ≡ passed ++ flat_map (told_of context) (take (ended_count tail_versions (pending_of s)) (pending_of s))
+    → IsCarriedOn context s old posts tail_versions
+carried_on context s tail_versions old passed posts ended went posted =
     let fresh : KeyState = moved Forget s in
     let us = pending_of s in
     let marks = tail_acks context us in
-    let marked : acknowledging ends ≡ marks = ap acknowledging ended ∙ marks_of_ends context us in
-    let all : KeyState = moved_all (acknowledging ends) fresh in
-    let same : ended_count ends us ≡ length (commits all.acked us) = ended_is ends all.acked (λ v. marks_acked ends fresh v) us in
-    let settle : settled all ≡ commits all.acked us = ap (commits all.acked) (marks_pending ends fresh) in
+    let marked : acknowledging tail_versions ≡ marks = ap acknowledging ended ∙ marks_of_ends context us in
+    let all : KeyState = moved_all (acknowledging tail_versions) fresh in
+    let same : ended_count tail_versions us ≡ length (commits all.acked us) = ended_is tail_versions all.acked (λ v. marks_acked tail_versions fresh v) us in
+    let settle : settled all ≡ commits all.acked us = ap (commits all.acked) (marks_pending tail_versions fresh) in
     let rest : List Move = settled (moved_all marks fresh) in
     let whole : flat_map (move_posts context) (marks ++ rest) ≡ flat_map (move_posts context) rest = flat_map-append (move_posts context) marks rest ∙ ap (λ (ps : List Post). ps ++ flat_map (move_posts context) rest) (no_end_posts context us) in
     record {
@@ -104,32 +104,32 @@ carried_on context s ends old passed posts ended went posted =
       pending = subst (ArePending s) (sym ended) (ends_pending context s);
     }
 
-marks_accepted : (ends : List Version) (s : KeyState) → (moved_all (acknowledging ends) s).accepted ≡ s.accepted
+marks_accepted : (tail_versions : List Version) (s : KeyState) → (moved_all (acknowledging tail_versions) s).accepted ≡ s.accepted
 marks_accepted [] s = refl
-marks_accepted (e ∷ ends) s = marks_accepted ends (moved (Acknowledge e.0) s)
+marks_accepted (e ∷ tail_versions) s = marks_accepted tail_versions (moved (Acknowledge e.0) s)
 
 -- what is pending once it went on
-left_pending : (context : ModelContext) (s : KeyState) (ends : List Version) → IsSlotOf context.region s → acknowledging ends ≡ tail_acks context (pending_of s) → pending_of (moved_all (resumed context s) s) ≡ drop (ended_count ends (pending_of s)) (pending_of s)
-left_pending context s ends is marked =
+left_pending : (context : ModelContext) (s : KeyState) (tail_versions : List Version) → IsSlotOf context.region s → acknowledging tail_versions ≡ tail_acks context (pending_of s) → pending_of (moved_all (resumed context s) s) ≡ drop (ended_count tail_versions (pending_of s)) (pending_of s)
+left_pending context s tail_versions is marked =
     let fresh : KeyState = moved Forget s in
     let us = pending_of s in
-    let all : KeyState = moved_all (acknowledging ends) fresh in
-    let pending : pending_of all ≡ us = marks_pending ends fresh in
-    let same : ended_count ends us ≡ length (commits all.acked us) = ended_is ends all.acked (λ v. marks_acked ends fresh v) us in
+    let all : KeyState = moved_all (acknowledging tail_versions) fresh in
+    let pending : pending_of all ≡ us = marks_pending tail_versions fresh in
+    let same : ended_count tail_versions us ≡ length (commits all.acked us) = ended_is tail_versions all.acked (λ v. marks_acked tail_versions fresh v) us in
     ap pending_of
     (
     ap (λ (ms : List Move). moved_all (ms ++ settled (moved_all ms fresh)) fresh) (sym marked)
-    ∙ moved_all_append (acknowledging ends) (settled all) fresh
+    ∙ moved_all_append (acknowledging tail_versions) (settled all) fresh
     ∙ ap (λ (l : List Update). moved_all (commits all.acked l) all) pending
     )
-    ∙ commits_left s.base.floor.0 all.acked us all (subst (Descends s.base.floor.0) (sym (marks_accepted ends fresh)) is.descends) pending
+    ∙ commits_left s.base.floor.0 all.acked us all (subst (Descends s.base.floor.0) (sym (marks_accepted tail_versions fresh)) is.descends) pending
     ∙ ap (λ n. drop n us) (sym same)
 
 -- and all that is posted of it
-pub resumed_whole : (context : ModelContext) (s : KeyState) (ends : List Version) (old carried posts : List Post) → IsSlotOf context.region s → IsCarriedOn context s old carried ends
-    → posts ≡ carried ++ doubts_among context (drop (ended_count ends (pending_of s)) (pending_of s)) → posts ≡ old ++ resumed_posts context s
-resumed_whole context s ends old carried posts is went p =
-    p ∙ ap (λ (us : List Update). carried ++ doubts_among context us) (sym (left_pending context s ends is went.ends_are))
+pub resumed_whole : (context : ModelContext) (s : KeyState) (tail_versions : List Version) (old carried posts : List Post) → IsSlotOf context.region s → IsCarriedOn context s old carried tail_versions
+    → posts ≡ carried ++ doubts_among context (drop (ended_count tail_versions (pending_of s)) (pending_of s)) → posts ≡ old ++ resumed_posts context s
+resumed_whole context s tail_versions old carried posts is went p =
+    p ∙ ap (λ (us : List Update). carried ++ doubts_among context us) (sym (left_pending context s tail_versions is went.ends_are))
     ∙ ap (λ (ps : List Post). carried ++ ps) (sym (doubts_same context (moved_all (resumed context s) s)))
     ∙ ap (λ (ps : List Post). ps ++ leader_doubts context (moved_all (resumed context s) s)) went.posts
     ∙ append_assoc old (flat_map (passed_on context) (pending_of s) ++ flat_map (move_posts context) (resumed context s)) (leader_doubts context (moved_all (resumed context s) s))
@@ -142,7 +142,7 @@ pub resumed_nothing : (context : ModelContext) (s : KeyState) (old : List Post) 
 resumed_nothing context s old is none =
     let empty : pending_of s ≡ [] = by (pending_of s) none in
     let start = λ (us : List Update). old ++ flat_map (passed_on context) us in
-    let went : IsCarriedOn context s old old [] = carried_on context s [] old old old (sym (ap (flat_map (end_of context)) empty)) (sym (ap start empty ∙ append-nil old)) (sym (ap (λ (us : List Update). old ++ flat_map (told_of context) (take (ended_count [] us) us)) empty ∙ append-nil old)) in
+    let went : IsCarriedOn context s old old [] = carried_on context s [] old old old (sym (ap (flat_map (tail_version context)) empty)) (sym (ap start empty ∙ append-nil old)) (sym (ap (λ (us : List Update). old ++ flat_map (told_of context) (take (ended_count [] us) us)) empty ∙ append-nil old)) in
     resumed_whole context s [] old old old is went
     (sym (ap (λ (us : List Update). old ++ doubts_among context (drop (ended_count [] us) us)) empty ∙ ap (λ (ps : List Post). old ++ ps) (nothing (leads context.space context.config context.server context.region)) ∙ append-nil old))
   where

@@ -16,7 +16,7 @@ use Rattle.hx_model.specs.ServerSteps.{Replica as ReplicaState, ServerState, ask
 use Rattle.hx_model.specs.Slots.{KeyState, found_in}
 use Rattle.hx_replica.specs.declared.replicas.Replica.{Replica}
 use Rattle.hx_replica.specs.declared.servers.Server.TheInside.{Inside}
-use Rattle.hx_replica.specs.Inside.{IsServer, value_of}
+use Rattle.hx_replica.specs.Invariant.{IsServer, value_of}
 use Rattle.hx_replica.specs.Replicas.{IsReplicaIn, view_of, views_of}
 use Rattle.hx_replica.specs.Servers.{ServerValue}
 use Rattle.hx_store.specs.Stores.{StoreState}

@@ -11,7 +11,7 @@ use Rattle.hx_types.specs.Configs.{joiner_for}
 use Rattle.hx_types.specs.Words.{provided}
 use Rattle.hx_model.specs.ServerSteps.{Replica as ReplicaState, ServerState, is_active, pending_posts, ready_post, replica_tick, snap_to, context_of, tick_step}
 use Rattle.hx_replica.specs.declared.replicas.Replica.{Replica}
-use Rattle.hx_replica.specs.Made.{seen}
+use Rattle.hx_replica.specs.Outputs.{seen}
 use Rattle.hx_replica.specs.Replicas.{view_of, views_of}
 use Rattle.hx_replica.specs.Ticking.{standing}
 

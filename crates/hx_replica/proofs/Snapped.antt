@@ -28,13 +28,13 @@ use Rattle.hx_folds.specs.Folding.{KeptsAscend, folded, folded_replica, folded_s
 use Rattle.hx_folds.proofs.Servers.{with-replica-folded}
 use Rattle.hx_slot.specs.States.{IsOrderly, IsRowUpTo}
 use Rattle.hx_store.specs.Stores.{StoreState}
-use Rattle.hx_replica.specs.declared.plans.Change.TheVariants as a_change
-use Rattle.hx_replica.specs.declared.plans.ServerMade.{ServerMade}
+use Rattle.hx_replica.specs.declared.prepared.Change.TheVariants as a_change
+use Rattle.hx_replica.specs.declared.prepared.ServerOutput.{ServerOutput}
 use Rattle.hx_replica.specs.declared.replicas.Replica.{Replica}
 use Rattle.hx_replica.specs.declared.servers.Server.TheInside.{Inside}
-use Rattle.hx_replica.specs.Inside.{value_of}
+use Rattle.hx_replica.specs.Invariant.{value_of}
 use Rattle.hx_replica.specs.Installing.{CanCome, IsSnapshot}
-use Rattle.hx_replica.specs.Plans.{CanHear, IsJoinOn, IsStepMade}
+use Rattle.hx_replica.specs.Plans.{CanHear, IsJoinOn, IsStepOutput}
 use Rattle.hx_replica.specs.Replicas.{view_of}
 use Rattle.hx_replica.specs.Servers.{ServerValue}
 use Rattle.hx_replica.specs.Ticking.{standing}
@@ -117,8 +117,8 @@ module _ (v : ServerValue) (epoch : Epoch) (g : RegionId) (snapshot : List Kept)
 
   module _ (number : ℕ) (y : Replica) (heard : IsHeardBy v epoch g number y) where
     -- it was installed before
-    pub ready_made : (before posts : List Post) (made : ServerMade) → y.installed ≡ true → before ≡ [] → posts ≡ before ++ ready_post (standing s.config s.id) g → made ≡ record { posts = posts; notes = []; change = a_change.Nothing }
-        → IsStepMade v (snapped v.space s snapshot pending (replica_in_epoch s epoch g)) made
+    pub ready_made : (before posts : List Post) (made : ServerOutput) → y.installed ≡ true → before ≡ [] → posts ≡ before ++ ready_post (standing s.config s.id) g → made ≡ record { posts = posts; notes = []; change = a_change.Nothing }
+        → IsStepOutput v (snapped v.space s snapshot pending (replica_in_epoch s epoch g)) made
     ready_made before posts made installed none p e =
         let step : snapped v.space s snapshot pending (replica_in_epoch s epoch g) ≡ saying s (ready_post s g) =
         ap (snapped v.space s snapshot pending) heard.hears ∙ cond-true y.installed (saying s (ready_post s y.region)) _ installed ∙ ap (λ (h : RegionId). saying s (ready_post s h)) heard.region in
@@ -127,9 +127,9 @@ module _ (v : ServerValue) (epoch : Epoch) (g : RegionId) (snapshot : List Kept)
         (ap (λ (t : ServerStep). t.notes) (sym step)) e
 
     -- it is installed now
-    pub join_made : (store : StoreState) (boxed : Box Replica Global) (before joined posts : List Post) (made : ServerMade) → y.installed ≡ false → before ≡ [] → joined ≡ before ++ (installed_slots (context_of v.space s g) snapshot pending).posts
+    pub join_made : (store : StoreState) (boxed : Box Replica Global) (before joined posts : List Post) (made : ServerOutput) → y.installed ≡ false → before ≡ [] → joined ≡ before ++ (installed_slots (context_of v.space s g) snapshot pending).posts
         → posts ≡ joined ++ ready_post (standing s.config s.id) g → store.region ≡ g → store.marks ≡ is_key_region v.space g → store.states ≡ map (folded g) (installed_slots (context_of v.space s g) snapshot pending).states
-        → boxed.value ≡ record { region = g; installed = true; store = store } → made ≡ record { posts = posts; notes = []; change = a_change.Join number boxed } → IsStepMade v (snapped v.space s snapshot pending (replica_in_epoch s epoch g)) made
+        → boxed.value ≡ record { region = g; installed = true; store = store } → made ≡ record { posts = posts; notes = []; change = a_change.Join number boxed } → IsStepOutput v (snapped v.space s snapshot pending (replica_in_epoch s epoch g)) made
     join_made store boxed before joined posts made out none j p region marks states held e =
         let slots = installed_slots (context_of v.space s g) snapshot pending in
         let new : ReplicaState = record { region = g; installed = true; states = slots.states } in

@@ -9,7 +9,7 @@ use Rattle.hx_types.specs.declared.ids.RegionId.{RegionId}
 use Rattle.hx_types.specs.declared.updates.Update.{Update}
 use Rattle.hx_types.specs.Words.{when_some}
 use Rattle.hx_model.specs.Slots.{Take, follows, taken, turns}
-use Rattle.hx_replica.specs.Made.{IsHere, IsNew, seen}
+use Rattle.hx_replica.specs.Outputs.{IsHere, IsNew, seen}
 
 pub seen_append : (xs ys : List (Bor Update)) → seen (xs ++ ys) ≡ seen xs ++ seen ys
 seen_append [] ys = refl

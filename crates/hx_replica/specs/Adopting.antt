@@ -14,7 +14,7 @@ use Rattle.hx_model.specs.ServerSteps.{Replica as ReplicaState, ServerState, Slo
 use Rattle.hx_model.specs.Slots.{Forget, KeyState, is_pending, moved, moved_all, pending_of}
 use Rattle.hx_folds.specs.Folding.{folded}
 use Rattle.hx_store.specs.Stores.{ArePending, acknowledging}
-use Rattle.hx_replica.specs.Made.{end_of}
+use Rattle.hx_replica.specs.Outputs.{tail_version}
 use Rattle.hx_replica.specs.Ticking.{kept_here, standing}
 
 -- the caller of an update from a version on is told of a lost region
@@ -30,10 +30,10 @@ abbrev pub doubts_among : ModelContext → List Update → List Post
 doubts_among context us = provided (leads context.space context.config context.server context.region) (doubts_on context us (stuck_among context.config us))
 
 -- the pending updates were passed on and told of, and these versions end here
-pub record IsCarriedOn (context : ModelContext) (s : KeyState) (old new : List Post) (ends : List Version) : Type 0 where
+pub record IsCarriedOn (context : ModelContext) (s : KeyState) (old new : List Post) (tail_versions : List Version) : Type 0 where
   pub posts : new ≡ old ++ (flat_map (passed_on context) (pending_of s) ++ flat_map (move_posts context) (resumed context s))
-  pub ends_are : acknowledging ends ≡ tail_acks context (pending_of s)
-  pub pending : ArePending s ends
+  pub ends_are : acknowledging tail_versions ≡ tail_acks context (pending_of s)
+  pub pending : ArePending s tail_versions
 
 -- what a replica that goes on posts
 abbrev pub kept_posts : ModelContext → List KeyState → List Post
@@ -68,4 +68,4 @@ IsPendingAt i v states = IsSomeAnd (slice_get states i) (λ (s : KeyState). is_p
 
 -- the pending update with a number is acknowledged, where its chain ends here
 abbrev pub marked_end : ModelContext → ℕ → KeyState → KeyState
-marked_end context k s = moved_all (acknowledging (when_some (slice_get (pending_of s) k) [] (end_of context))) s
+marked_end context k s = moved_all (acknowledging (when_some (slice_get (pending_of s) k) [] (tail_version context))) s

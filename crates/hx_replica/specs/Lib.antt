@@ -1,8 +1,8 @@
-pub mod Made
+pub mod Outputs
 pub mod Replicas
 pub mod Hearing
 pub mod Servers
-pub mod Inside
+pub mod Invariant
 pub mod Plans
 pub mod Examples
 pub mod Ticking

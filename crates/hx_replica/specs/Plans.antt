@@ -9,13 +9,13 @@ use Rattle.hx_types.specs.declared.traces.Input.{Input}
 use Rattle.hx_types.specs.declared.traces.Input.TheVariants.{Deliver}
 use Rattle.hx_model.specs.ServerSteps.{Replica as ReplicaState, ServerState, ServerStep, listed_regions, server_step, context_of, state_in, with_replica, with_slot}
 use Rattle.hx_folds.specs.Folding.{folded_server}
-use Rattle.hx_replica.specs.declared.made.SlotChange.{SlotChange}
-use Rattle.hx_replica.specs.declared.made.SlotMade.{SlotMade}
-use Rattle.hx_replica.specs.declared.plans.Change.{Change}
-use Rattle.hx_replica.specs.declared.plans.Change.TheVariants.{Nothing, Seal, Halt, Adopt, Join, Slot}
-use Rattle.hx_replica.specs.declared.plans.Plan.{Plan}
-use Rattle.hx_replica.specs.declared.plans.ServerMade.{ServerMade}
-use Rattle.hx_replica.specs.Made.{ChangeFits, HasRoomFor, IsMade, IsSlotInput, key_in, room_of, slot_step_of, stepped}
+use Rattle.hx_replica.specs.declared.outputs.SlotChange.{SlotChange}
+use Rattle.hx_replica.specs.declared.outputs.SlotOutput.{SlotOutput}
+use Rattle.hx_replica.specs.declared.prepared.Change.{Change}
+use Rattle.hx_replica.specs.declared.prepared.Change.TheVariants.{Nothing, Seal, Halt, Adopt, Join, Slot}
+use Rattle.hx_replica.specs.declared.prepared.Plan.{Plan}
+use Rattle.hx_replica.specs.declared.prepared.ServerOutput.{ServerOutput}
+use Rattle.hx_replica.specs.Outputs.{ChangeFits, HasRoomFor, IsOutputOf, IsSlotInput, key_in, room_of, slot_step_of, stepped}
 use Rattle.hx_replica.specs.declared.replicas.Replica.{Replica}
 use Rattle.hx_replica.specs.Adopting.{lean_with_config}
 use Rattle.hx_replica.specs.Replicas.{IsReplicaIn, new_replica, view_of}
@@ -37,10 +37,10 @@ pub record CanStep (space : Space) (s : ServerState) (place : ℕ) (key : List �
   pub within : place < length s.replicas
 
 -- what was made is the step of the slot at the replica of the place
-abbrev pub IsMadeAt : ServerValue → ℕ → Actor → Message → SlotMade → Type 0
-IsMadeAt s place from m made =
+abbrev pub IsOutputAt : ServerValue → ℕ → Actor → Message → SlotOutput → Type 0
+IsOutputAt s place from m made =
     (r : ReplicaState) → slice_get s.state.replicas place ≡ Some r
-    → IsMade r.region (state_in s.space r (key_in m)) (key_in m) (slot_step_of (context_of s.space s.state r.region) (state_in s.space r (key_in m)) from m) made
+    → IsOutputOf r.region (state_in s.space r (key_in m)) (key_in m) (slot_step_of (context_of s.space s.state r.region) (state_in s.space r (key_in m)) from m) made
 
 -- the slot at the place of the replica with this number can make the change, and that is the server's step without its past
 pub record IsChangeOn (s : ServerValue) (input : Input) (number place : ℕ) (change : SlotChange) : Type 0 where
@@ -73,14 +73,14 @@ IsChange s input (Join number replica) = IsJoinOn s input number replica.value
 IsChange s input (Slot number place change) = IsChangeOn s input number place change
 
 -- what was made is the server's step on the input, and there is room for its change
-pub record IsServerMade (s : ServerValue) (input : Input) (made : ServerMade) : Type 0 where
+pub record IsServerOutput (s : ServerValue) (input : Input) (made : ServerOutput) : Type 0 where
   pub posts : made.posts ≡ (server_step s.space s.state input).posts
   pub notes : made.notes ≡ (server_step s.space s.state input).notes
   pub change : IsChange s input made.change
 
 -- that is so on each input of which the server's step is this one
-abbrev pub IsStepMade : ServerValue → ServerStep → ServerMade → Type 0
-IsStepMade s step made = (input : Input) → server_step s.space s.state input ≡ step → IsServerMade s input made
+abbrev pub IsStepOutput : ServerValue → ServerStep → ServerOutput → Type 0
+IsStepOutput s step made = (input : Input) → server_step s.space s.state input ≡ step → IsServerOutput s input made
 
 -- the plan is that of the server's step, and there is room for its change
 pub record IsPlanOn (s : ServerValue) (plan : Plan) : Type 0 where

@@ -5,10 +5,10 @@ ghost use Rattle.hx_types.specs.declared.updates.Update.{Update as Updated};
 ghost use Rattle.hx_model.specs.Neighbours.{place_number};
 ghost use Rattle.hx_model.specs.ServerSteps.{passed_on};
 ghost use Rattle.hx_model.specs.Slots.{follows, offered, pending_of, taken, top_of, turns};
-ghost use Rattle.hx_replica.specs.Made.{IsAccepted, IsComing, IsHere, IsNew, end_of, seen, context_seen};
+ghost use Rattle.hx_replica.specs.Outputs.{IsAccepted, IsComing, IsHere, IsNew, tail_version, seen, context_seen};
 
-use crate::contexts::{SlotContext, pass_on, place_at};
-use crate::settling::{line_of, tell_settled};
+use crate::contexts::{SlotContext, place_at, post_update};
+use crate::settling::{line_of, post_commits};
 use hx_slot::Slot;
 use hx_types::{Memory, Posts, Shared, Update, Version};
 use std::alloc::Global;
@@ -17,7 +17,7 @@ use std::alloc::Global;
 #[derive(Drop)]
 pub struct Acceptance {
     pub posts: Posts,
-    pub ends: Vec<Version>,
+    pub tail_versions: Vec<Version>,
 }
 
 /// A slot is offered an update above its top: the update and each early one whose turn then comes
@@ -30,7 +30,7 @@ pub fn accepted(
 ) -> Result<Acceptance, Memory>
     requires coming { IsComing context.now.region slot.now.state update.now }
     requires region { slot.now.region ≡ context.now.region }
-    ensures { IfOk result (λ made. IsAccepted (context_seen context.now) slot.now.state update.now made.posts made.ends.items) }
+    ensures { IfOk result (λ made. IsAccepted (context_seen context.now) slot.now.state update.now made.posts made.tail_versions.items) }
 {
     if slot.early_count() == 0 && slot.pending_count() == 0 {
         return accepted_alone(alloc, context, slot, update);
@@ -58,7 +58,7 @@ fn accepted_alone(
     requires region { slot.now.region ≡ context.now.region }
     requires early { slot.now.state.early ≡ [] }
     requires pending { pending_of slot.now.state ≡ [] }
-    ensures { IfOk result (λ made. IsAccepted (context_seen context.now) slot.now.state update.now made.posts made.ends.items) }
+    ensures { IfOk result (λ made. IsAccepted (context_seen context.now) slot.now.state update.now made.posts made.tail_versions.items) }
 {
     if is_in_turn(context, slot, update) {
         let only = [update];
@@ -84,15 +84,25 @@ fn take_all(
     requires new { All (IsNew context.now.region slot.now.state.floor) updates.now }
     requires line { seen line.now ≡ pending_of slot.now.state ++ seen updates.now }
     requires here { All (IsHere context.now.region) line.now }
-    ensures { IfOk result (λ made. IsAccepted (context_seen context.now) slot.now.state update.now made.posts made.ends.items) }
+    ensures { IfOk result (λ made. IsAccepted (context_seen context.now) slot.now.state update.now made.posts made.tail_versions.items) }
 {
     // The contract alone speaks of the update that is offered.
     let _ = update;
     let mut posts = Posts::new(alloc);
-    let mut ends = Vec::new(alloc);
-    pass_on_all(alloc, context, updates, &mut posts, &mut ends)?;
-    tell_settled(alloc, context, slot, line, ends.as_slice(), &mut posts)?;
-    Ok(Acceptance { posts, ends })
+    let mut tail_versions = Vec::new(alloc);
+    post_updates(alloc, context, updates, &mut posts, &mut tail_versions)?;
+    post_commits(
+        alloc,
+        context,
+        slot,
+        line,
+        tail_versions.as_slice(),
+        &mut posts,
+    )?;
+    Ok(Acceptance {
+        posts,
+        tail_versions,
+    })
 }
 
 /// The updates that the slot takes with this one, in order; none where its turn hasn't come.
@@ -151,19 +161,19 @@ fn taken_from<'a>(
 }
 
 /// Each update goes to the next replica of its chain, or its chain ends here.
-pub fn pass_on_all(
+pub fn post_updates(
     alloc: Global,
     context: &SlotContext,
     updates: &[&Shared<Update>],
     posts: &mut Posts,
-    ends: &mut Vec<Version>,
+    tail_versions: &mut Vec<Version>,
 ) -> Result<(), Memory>
     requires { All (IsHere context.now.region) updates.now }
     ensures posts { OnOk result (posts.new ≡ posts.old ++ flat_map (λ (b : Bor Updated). passed_on (context_seen context.now) b.now) updates.now) }
-    ensures ends { OnOk result (ends.new.items ≡ ends.old.items ++ flat_map (λ (b : Bor Updated). end_of (context_seen context.now) b.now) updates.now) }
+    ensures tail_versions { OnOk result (tail_versions.new.items ≡ tail_versions.old.items ++ flat_map (λ (b : Bor Updated). tail_version (context_seen context.now) b.now) updates.now) }
 {
     for update in updates {
-        pass_on(alloc, context, update, posts, ends)?;
+        post_update(alloc, context, update, posts, tail_versions)?;
     }
     Ok(())
 }

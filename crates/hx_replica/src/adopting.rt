@@ -3,14 +3,14 @@ ghost use Rattle.std.specs.List.{flat_map};
 ghost use Rattle.hx_types.specs.Subspaces.{region_count};
 ghost use Rattle.hx_types.specs.declared.ids.RegionId.{RegionId as Numbered};
 ghost use Rattle.hx_model.specs.ServerSteps.{adopted_posts, is_active, listed_regions, replica_or_new, resumed_posts};
-ghost use Rattle.hx_replica.specs.Made.{context_seen};
+ghost use Rattle.hx_replica.specs.Outputs.{context_seen};
 ghost use Rattle.hx_replica.specs.Replicas.{AreReplicas, IsReplicaIn, view_of, views_of};
 ghost use Rattle.hx_replica.specs.Ticking.{standing};
 
 use crate::contexts::SlotContext;
 use crate::replicas::{Replica, place_of};
 use crate::resuming::post_resumed;
-use crate::ticking::{snap, tell_ready};
+use crate::ticking::{post_ready, snap};
 use hx_region::RegionMap;
 use hx_store::Store;
 use hx_types::{Config, Memory, Posts, RegionId, ServerId, Space};
@@ -81,7 +81,7 @@ fn post_replica(
     }
     snap(alloc, context, &replica.store, posts)?;
     post_slots(alloc, context, &replica.store, posts)?;
-    tell_ready(context, posts)
+    post_ready(context, posts)
 }
 
 /// Whether a replica is installed and its region isn't lost.

@@ -5,7 +5,7 @@ ghost use Rattle.hx_types.specs.Words.{list_of};
 ghost use Rattle.hx_model.specs.Neighbours.{place_number, region_at};
 ghost use Rattle.hx_model.specs.ServerSteps.{ack_to, doubt_in, next_at, passed_on, prev_at, reply, update_to};
 ghost use Rattle.hx_slot.specs.States.{IsPlacedIn};
-ghost use Rattle.hx_replica.specs.Made.{end_of, context_seen, told_of};
+ghost use Rattle.hx_replica.specs.Outputs.{tail_version, context_seen, told_of};
 
 use hx_chain::{next, place_number, prev};
 use hx_region::RegionMap;
@@ -57,7 +57,7 @@ fn next_of(context: &SlotContext, update: &Update) -> Hop
 pub fn end_version(context: &SlotContext, update: &Update) -> Option<Version>
     requires placed { IsPlacedIn context.now.region update.now }
     requires few { length update.now.places ≤ 17 }
-    ensures { list_of result ≡ end_of (context_seen context.now) update.now }
+    ensures { list_of result ≡ tail_version (context_seen context.now) update.now }
 {
     match next_of(context, update) {
         Hop::End => Some(update.version),
@@ -92,17 +92,17 @@ fn region_at(update: &Update, place: u32) -> RegionId
 
 /// Posts an update to the next replica of its chain; where the chain ends here, its version is one
 /// more of those that end.
-pub fn pass_on(
+pub fn post_update(
     alloc: Global,
     context: &SlotContext,
     update: &Shared<Update>,
     posts: &mut Posts,
-    ends: &mut Vec<Version>,
+    tail_versions: &mut Vec<Version>,
 ) -> Result<(), Memory>
     requires placed { IsPlacedIn context.now.region update.now }
     requires few { length update.now.places ≤ 17 }
     ensures posts { OnOk result (posts.new ≡ posts.old ++ passed_on (context_seen context.now) update.now) }
-    ensures ends { OnOk result (ends.new.items ≡ ends.old.items ++ end_of (context_seen context.now) update.now) }
+    ensures tail_versions { OnOk result (tail_versions.new.items ≡ tail_versions.old.items ++ tail_version (context_seen context.now) update.now) }
 {
     match next_of(context, update) {
         Hop::At { server, place } => {
@@ -110,7 +110,7 @@ pub fn pass_on(
             Ok(())
         }
         Hop::End => {
-            ends.push(update.version)?;
+            tail_versions.push(update.version)?;
             Ok(())
         }
         Hop::Blocked(_) => Ok(()),
@@ -159,7 +159,7 @@ fn ack_post(
 }
 
 /// Acknowledges an update to the previous replica of its chain, if there is one.
-pub fn acknowledge_back(
+pub fn post_ack(
     alloc: Global,
     context: &SlotContext,
     update: &Update,
@@ -180,7 +180,7 @@ pub fn acknowledge_back(
 
 /// Tells of an update that is committed: the previous replica of its chain, or where there is none
 /// its caller.
-pub fn tell(
+pub fn post_commit(
     alloc: Global,
     context: &SlotContext,
     update: &Update,

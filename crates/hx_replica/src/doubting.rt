@@ -2,7 +2,7 @@ ghost use Rattle.std.specs.Prelude.{◌≡◌, ◌++◌, OnOk, drop};
 ghost use Rattle.std.specs.List.{flat_map};
 ghost use Rattle.hx_model.specs.Slots.{pending_of};
 ghost use Rattle.hx_replica.specs.Adopting.{doubt_of, doubts_among};
-ghost use Rattle.hx_replica.specs.Made.{context_seen};
+ghost use Rattle.hx_replica.specs.Outputs.{context_seen};
 
 use crate::contexts::{SlotContext, doubt};
 use hx_leader::stuck_from;
@@ -12,7 +12,7 @@ use hx_types::{Memory, Posts, RegionId, Update, Version};
 /// Where the server leads the region and a lost region stands in the way of a pending update, the
 /// callers of that update and of all later ones are told that their writes are in doubt. So many of
 /// the lowest pending updates are committed before.
-pub fn tell_doubts(
+pub fn post_doubts(
     context: &SlotContext,
     slot: &Slot,
     committed: u32,

@@ -8,13 +8,13 @@ ghost use Rattle.hx_model.specs.Slots.{Forget, KeyState, moved, moved_all};
 ghost use Rattle.hx_slot.specs.States.{IsOrderly};
 ghost use Rattle.hx_store.specs.Stores.{state_at};
 ghost use Rattle.hx_replica.specs.Installing.{CanCome, IsFresh, TextsAscend, joined_slots, joining, of_key, own_offer, texts};
-ghost use Rattle.hx_replica.specs.Made.{context_seen};
+ghost use Rattle.hx_replica.specs.Outputs.{context_seen};
 ghost use Rattle.hx_replica.specs.Ticking.{standing};
 
 use crate::contexts::{SlotContext, place_at};
 use crate::keys::keys_of;
 use crate::resuming::carry_on;
-use crate::ticking::tell_ready;
+use crate::ticking::post_ready;
 use hx_slot::Slot;
 use hx_store::{Store, settle_all};
 use hx_types::{Exact, Memory, Posts, Same, Shared, Snapshot, Text, Update, Updates};
@@ -72,7 +72,7 @@ fn install_all(
     store.install(alloc, snapshot)?;
     let keys = keys_of(alloc, pending)?;
     join_all(alloc, context, keys.as_slice(), pending, store, posts)?;
-    tell_ready(context, posts)
+    post_ready(context, posts)
 }
 
 /// The slots of these keys take the pending updates of their keys, one after another.
@@ -139,8 +139,8 @@ fn join(
     ensures posts { OnOk result (posts.new ≡ posts.old ++ flat_map (move_posts (context_seen context.now)) (joining (context_seen context.now) pending.now slot.old.state)) }
 {
     offer_all(alloc, context, slot, pending)?;
-    let ends = carry_on(alloc, context, slot, posts)?;
-    settle_all(slot, ends.as_slice());
+    let tail_versions = carry_on(alloc, context, slot, posts)?;
+    settle_all(slot, tail_versions.as_slice());
     Ok(())
 }
 

@@ -7,7 +7,7 @@ ghost use Rattle.std.specs.Prelude.{slice_get, Some, true, []};
 ghost use Rattle.std.specs.Option.{option_map};
 ghost use Rattle.hx_store.specs.Stores.{acknowledging, settled_at};
 ghost use Rattle.hx_replica.specs.Adopting.{IsPendingAt, changed_at, lean_adopted, lean_replica, marked_end};
-ghost use Rattle.hx_replica.specs.Made.{end_of, context_seen};
+ghost use Rattle.hx_replica.specs.Outputs.{tail_version, context_seen};
 ghost use Rattle.hx_replica.specs.Replicas.{AreReplicas, IsReplicaIn, new_replica, view_of, views_of};
 ghost use Rattle.hx_replica.specs.Ticking.{standing};
 
@@ -170,14 +170,14 @@ fn mark_end(context: &SlotContext, store: &mut Store, i: usize, k: u32)
 /// here.
 fn end_at(context: &SlotContext, store: &Store, i: usize, k: u32) -> Option<Version>
     requires { store.now.region ≡ context.now.region }
-    ensures { list_of result ≡ when_some (slice_get store.now.states i) [] (λ (s : KeyState). when_some (slice_get (pending_of s) k) [] (end_of (context_seen context.now))) }
+    ensures { list_of result ≡ when_some (slice_get store.now.states i) [] (λ (s : KeyState). when_some (slice_get (pending_of s) k) [] (tail_version (context_seen context.now))) }
 {
     end_of_slot(context, store.nth(i)?, k)
 }
 
 fn end_of_slot(context: &SlotContext, slot: &Slot, k: u32) -> Option<Version>
     requires { slot.now.region ≡ context.now.region }
-    ensures { list_of result ≡ when_some (slice_get (pending_of slot.now.state) k) [] (end_of (context_seen context.now)) }
+    ensures { list_of result ≡ when_some (slice_get (pending_of slot.now.state) k) [] (tail_version (context_seen context.now)) }
 {
     end_version(context, slot.pending(k)?)
 }

@@ -6,10 +6,10 @@ ghost use Rattle.hx_types.specs.Spaces.{IsSpace};
 ghost use Rattle.hx_types.specs.Subspaces.{region_count};
 ghost use Rattle.hx_model.specs.ServerSteps.{listed_regions, replica_of};
 ghost use Rattle.hx_store.specs.Stores.{after_step, key_at, state_at};
-ghost use Rattle.hx_replica.specs.Made.{ChangeFits, HasRoomFor, room_of, stepped};
+ghost use Rattle.hx_replica.specs.Outputs.{ChangeFits, HasRoomFor, room_of, stepped};
 ghost use Rattle.hx_replica.specs.Replicas.{AscendByRegion, first_replica, new_replica, views_of};
 
-use crate::made::SlotChange;
+use crate::outputs::SlotChange;
 use hx_store::Store;
 use hx_types::{Config, Memory, RegionId, ServerId, Shared, Space, first_config};
 use std::alloc::Global;
@@ -130,8 +130,8 @@ pub fn change_slot(store: &mut Store, place: usize, change: SlotChange)
         SlotChange::Accept {
             update,
             place: number,
-            ends,
-        } => store.accept(place, update, number, ends.as_slice()),
+            tail_versions,
+        } => store.accept(place, update, number, tail_versions.as_slice()),
         SlotChange::Acknowledge { version } => store.acknowledge(place, version),
     }
 }

@@ -1,11 +1,11 @@
 ghost use Rattle.std.specs.Prelude.{◌≡◌, ◌++◌, IfOk, OnOk};
 ghost use Rattle.hx_model.specs.ServerSteps.{resumed_posts};
 ghost use Rattle.hx_replica.specs.Adopting.{IsCarriedOn};
-ghost use Rattle.hx_replica.specs.Made.{context_seen};
+ghost use Rattle.hx_replica.specs.Outputs.{context_seen};
 
 use crate::contexts::SlotContext;
-use crate::doubting::tell_doubts;
-use crate::settling::{ended_count, pass_on_pending, tell_lowest};
+use crate::doubting::post_doubts;
+use crate::settling::{ended_count, post_lowest_commits, post_pending};
 use hx_slot::Slot;
 use hx_types::{Memory, Posts, Version};
 use std::alloc::Global;
@@ -25,8 +25,13 @@ pub fn post_resumed(
     if !slot.has_pending() {
         return Ok(());
     }
-    let ends = carry_on(alloc, context, slot, posts)?;
-    tell_doubts(context, slot, ended_count(slot, ends.as_slice()), posts)
+    let tail_versions = carry_on(alloc, context, slot, posts)?;
+    post_doubts(
+        context,
+        slot,
+        ended_count(slot, tail_versions.as_slice()),
+        posts,
+    )
 }
 
 /// Passes every pending update on, and tells of those that can then be committed, where no other is
@@ -38,11 +43,11 @@ pub fn carry_on(
     posts: &mut Posts,
 ) -> Result<Vec<Version>, Memory>
     requires { slot.now.region ≡ context.now.region }
-    ensures { IfOk result (λ ends. IsCarriedOn (context_seen context.now) slot.now.state posts.old posts.new ends.items) }
+    ensures { IfOk result (λ tail_versions. IsCarriedOn (context_seen context.now) slot.now.state posts.old posts.new tail_versions.items) }
 {
-    let mut ends = Vec::new(alloc);
-    pass_on_pending(alloc, context, slot, posts, &mut ends)?;
-    let committed = ended_count(slot, ends.as_slice());
-    tell_lowest(alloc, context, slot, committed, posts)?;
-    Ok(ends)
+    let mut tail_versions = Vec::new(alloc);
+    post_pending(alloc, context, slot, posts, &mut tail_versions)?;
+    let committed = ended_count(slot, tail_versions.as_slice());
+    post_lowest_commits(alloc, context, slot, committed, posts)?;
+    Ok(tail_versions)
 }

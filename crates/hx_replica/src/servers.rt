@@ -14,26 +14,28 @@ ghost use Rattle.hx_model.specs.Slots.{found_in, new_state};
 ghost use Rattle.hx_replica.specs.Hearing.{IsOfOneSlot, heard, leading};
 ghost use Rattle.hx_replica.specs.Installing.{IsSnapshot};
 ghost use Rattle.hx_replica.specs.Adopting.{lean_with_config};
-ghost use Rattle.hx_replica.specs.Made.{key_in, room_by, room_of};
+ghost use Rattle.hx_replica.specs.Outputs.{key_in, room_by, room_of};
 ghost use Rattle.hx_replica.specs.Named.{known_to};
 ghost use Rattle.hx_replica.specs.Replicas.{KeepAllRooms, first_replica, new_replica};
 ghost use Rattle.hx_replica.specs.Sound.{IsSoundInput, IsSoundServer};
 ghost use Rattle.hx_store.specs.Stores.{has_slot};
-ghost use Rattle.hx_replica.specs.Plans.{CanHear, CanStep, HasRoomAt, IsMadeAt, IsPlanOn, IsServerMade, IsStepMade};
+ghost use Rattle.hx_replica.specs.Plans.{CanHear, CanStep, HasRoomAt, IsOutputAt, IsPlanOn, IsServerOutput, IsStepOutput};
 ghost use Rattle.hx_replica.specs.Servers.{CanTake};
 
 use crate::adopting::post_adoption;
 use crate::contexts::SlotContext;
 use crate::installing::installed;
 use crate::keeping::keep_all;
-use crate::made::{SlotMade, room_by};
-use crate::plans::{Change, Plan, ServerMade, moved, said, to_coordinator, unmoved};
+use crate::outputs::{SlotOutput, room_by};
+use crate::prepared::{
+    Change, Plan, ServerOutput, plan_nothing, plan_posting, plan_slot, to_coordinator,
+};
 use crate::replicas::{
     Replica, change_slot, config_at_start, first_replicas, joined_replica, new_replicas, place_of,
     put_replica,
 };
-use crate::rows::step_slot;
-use crate::ticking::{tell_ready, tick_all};
+use crate::slot_steps::step_slot;
+use crate::ticking::{post_ready, tick_all};
 use hx_region::RegionMap;
 use hx_slot::Slot;
 use hx_types::{
@@ -62,7 +64,7 @@ impl Model for Server {
 
     ghost Value = { ServerValue };
 
-    ghost use Rattle.hx_replica.specs.Inside.{IsServer, value_of};
+    ghost use Rattle.hx_replica.specs.Invariant.{IsServer, value_of};
 
     ghost view = { value_of };
 
@@ -71,7 +73,7 @@ impl Model for Server {
 
 /// A replica that hears a message, by its place among the server's, and the key of the message.
 #[derive(Drop)]
-struct Heard<'a> {
+struct Addressee<'a> {
     replica: usize,
     key: &'a Text,
 }
@@ -159,9 +161,9 @@ impl Server {
 
     /// What the step on an input makes.
     #[tactic(auto, using(crate::proofs::Roomy::all_same))]
-    fn made_on(&mut self, alloc: Global, input: &Input) -> Result<ServerMade, Memory>
+    fn made_on(&mut self, alloc: Global, input: &Input) -> Result<ServerOutput, Memory>
         requires { CanTake self.old.space self.old.state input.now }
-        ensures made { IfOk result (IsServerMade self.new input.now) }
+        ensures made { IfOk result (IsServerOutput self.new input.now) }
         ensures rooms { KeepAllRooms self.old.rooms self.new.rooms }
         ensures space { self.new.space ≡ self.old.space }
         ensures state { self.new.state ≡ self.old.state }
@@ -239,12 +241,12 @@ impl Server {
 
     /// What is pending is sent again; where the server is sealed, it says that instead.
     #[inline(never)]
-    fn tick(&self, alloc: Global) -> Result<ServerMade, Memory>
+    fn tick(&self, alloc: Global) -> Result<ServerOutput, Memory>
         requires { folded_server self.now.state ≡ self.now.state }
-        ensures { IfOk result (IsStepMade self.now (tick_step self.now.space self.now.state)) }
+        ensures { IfOk result (IsStepOutput self.now (tick_step self.now.space self.now.state)) }
     {
         let posts = self.sent_again(alloc)?;
-        Ok(said(alloc, posts, Change::Nothing))
+        Ok(plan_posting(alloc, posts, Change::Nothing))
     }
 
     /// The posts of a tick.
@@ -269,40 +271,40 @@ impl Server {
     /// The server stops for good, and says so.
     #[cold]
     #[inline(never)]
-    fn halt(&self, alloc: Global) -> Result<ServerMade, Memory>
+    fn halt(&self, alloc: Global) -> Result<ServerOutput, Memory>
         requires { folded_server self.now.state ≡ self.now.state }
-        ensures { IfOk result (IsStepMade self.now (halting self.now.state)) }
+        ensures { IfOk result (IsStepOutput self.now (halting self.now.state)) }
     {
         let posts = to_coordinator(alloc, self.id, Message::Gone)?;
-        Ok(said(alloc, posts, Change::Halt))
+        Ok(plan_posting(alloc, posts, Change::Halt))
     }
 
     /// The server takes part in its epoch no longer, and says so. Another epoch's seal is nothing
     /// to it.
     #[cold]
     #[inline(never)]
-    fn seal(&self, alloc: Global, epoch: Epoch) -> Result<ServerMade, Memory>
+    fn seal(&self, alloc: Global, epoch: Epoch) -> Result<ServerOutput, Memory>
         requires { folded_server self.now.state ≡ self.now.state }
-        ensures { IfOk result (IsStepMade self.now (seal_at self.now.state epoch)) }
+        ensures { IfOk result (IsStepOutput self.now (seal_at self.now.state epoch)) }
     {
         if epoch.0 != self.config.epoch.0 {
-            return Ok(unmoved(alloc));
+            return Ok(plan_nothing(alloc));
         }
         let posts = to_coordinator(alloc, self.id, Message::Sealed { epoch })?;
-        Ok(said(alloc, posts, Change::Seal))
+        Ok(plan_posting(alloc, posts, Change::Seal))
     }
 
     /// The server adopts a configuration of a higher epoch than its own. An older one, or the same,
     /// is nothing to it.
     #[cold]
     #[inline(never)]
-    fn install(&self, alloc: Global, config: &Shared<Config>) -> Result<ServerMade, Memory>
+    fn install(&self, alloc: Global, config: &Shared<Config>) -> Result<ServerOutput, Memory>
         requires config { IsConfigOf self.now.space config.now }
         requires bare { folded_server self.now.state ≡ self.now.state }
-        ensures { IfOk result (IsStepMade self.now (install_at self.now.space self.now.state config.now)) }
+        ensures { IfOk result (IsStepOutput self.now (install_at self.now.space self.now.state config.now)) }
     {
         if config.epoch.0 <= self.config.epoch.0 {
-            return Ok(unmoved(alloc));
+            return Ok(plan_nothing(alloc));
         }
         let mut posts = Posts::new(alloc);
         post_adoption(
@@ -316,7 +318,7 @@ impl Server {
         )?;
         let replicas = new_replicas(alloc, &self.space, config, self.map.regions(), self.id)?;
         let config = config.copy(alloc)?;
-        Ok(said(alloc, posts, Change::Adopt { config, replicas }))
+        Ok(plan_posting(alloc, posts, Change::Adopt { config, replicas }))
     }
 
     /// A replica that isn't installed installs a snapshot with its pending updates. The coordinator
@@ -330,13 +332,13 @@ impl Server {
         region: RegionId,
         snapshot: &Snapshot,
         pending: &Updates,
-    ) -> Result<ServerMade, Memory>
+    ) -> Result<ServerOutput, Memory>
         requires bare { folded_server self.now.state ≡ self.now.state }
         requires snapshot { IsSnapshot region snapshot.now pending.now }
-        ensures { IfOk result (IsStepMade self.now (snapped self.now.space self.now.state snapshot.now pending.now (replica_in_epoch self.now.state epoch region))) }
+        ensures { IfOk result (IsStepOutput self.now (snapped self.now.space self.now.state snapshot.now pending.now (replica_in_epoch self.now.state epoch region))) }
     {
         let Some(number) = self.replica_in_epoch(epoch, region) else {
-            return Ok(unmoved(alloc));
+            return Ok(plan_nothing(alloc));
         };
         let context = SlotContext {
             space: &self.space,
@@ -347,8 +349,8 @@ impl Server {
         };
         let mut posts = Posts::new(alloc);
         if self.replicas[number].installed {
-            tell_ready(&context, &mut posts)?;
-            return Ok(said(alloc, posts, Change::Nothing));
+            post_ready(&context, &mut posts)?;
+            return Ok(plan_posting(alloc, posts, Change::Nothing));
         }
         let Ok(store) = installed(alloc, &context, snapshot, pending, &mut posts) else {
             return Err(Memory);
@@ -356,7 +358,7 @@ impl Server {
         let Ok(replica) = joined_replica(alloc, region, store) else {
             return Err(Memory);
         };
-        Ok(said(alloc, posts, Change::Join { number, replica }))
+        Ok(plan_posting(alloc, posts, Change::Join { number, replica }))
     }
 
     /// What the step on a message makes.
@@ -366,9 +368,9 @@ impl Server {
         alloc: Global,
         from: Actor,
         message: &Message,
-    ) -> Result<ServerMade, Memory>
+    ) -> Result<ServerOutput, Memory>
         requires { CanHear self.old.space self.old.state from message.now }
-        ensures made { IfOk result (IsStepMade self.new (message_step self.new.space self.new.state from message.now)) }
+        ensures made { IfOk result (IsStepOutput self.new (message_step self.new.space self.new.state from message.now)) }
         ensures rooms { KeepAllRooms self.old.rooms self.new.rooms }
         ensures space { self.new.space ≡ self.old.space }
         ensures state { self.new.state ≡ self.old.state }
@@ -381,7 +383,7 @@ impl Server {
                 terms,
             } => {
                 let posts = self.found(alloc, from, *epoch, *number, *region, terms)?;
-                Ok(said(alloc, posts, Change::Nothing))
+                Ok(plan_posting(alloc, posts, Change::Nothing))
             }
             Message::Seal { epoch } => self.seal(alloc, *epoch),
             Message::Install { config } => self.install(alloc, config),
@@ -446,29 +448,34 @@ impl Server {
 
     /// What the slot makes to which a message goes; where none hears it, nothing moves.
     #[tactic(auto, using(crate::proofs::Roomy::all_same))]
-    fn take(&mut self, alloc: Global, from: Actor, message: &Message) -> Result<ServerMade, Memory>
+    fn take(
+        &mut self,
+        alloc: Global,
+        from: Actor,
+        message: &Message,
+    ) -> Result<ServerOutput, Memory>
         requires can { CanHear self.old.space self.old.state from message.now }
         requires slot { IsOfOneSlot message.now }
-        ensures made { IfOk result (IsStepMade self.new (message_step self.new.space self.new.state from message.now)) }
+        ensures made { IfOk result (IsStepOutput self.new (message_step self.new.space self.new.state from message.now)) }
         ensures rooms { KeepAllRooms self.old.rooms self.new.rooms }
         ensures space { self.new.space ≡ self.old.space }
         ensures state { self.new.state ≡ self.old.state }
     {
         // What the invariant says of the slots is known from here on.
         let _ = &self.id;
-        let Some(heard) = self.heard(message) else {
-            return Ok(unmoved(alloc));
+        let Some(addressee) = self.addressee_of(message) else {
+            return Ok(plan_nothing(alloc));
         };
-        let place = self.reserve(alloc, &heard, room_by(message))?;
-        let Ok(made) = self.step(alloc, &heard, place, from, message) else {
+        let place = self.reserve(alloc, &addressee, room_by(message))?;
+        let Ok(made) = self.step(alloc, &addressee, place, from, message) else {
             return Err(Memory);
         };
-        Ok(moved(heard.replica, place, made))
+        Ok(plan_slot(addressee.replica, place, made))
     }
 
     /// The replica that hears a message on a key, if one does.
     #[inline]
-    fn heard<'a>(&self, message: &'a Message) -> Option<Heard<'a>>
+    fn addressee_of<'a>(&self, message: &'a Message) -> Option<Addressee<'a>>
         ensures replica { option_map (λ h. slice_get self.now.state.replicas h.replica) result ≡ option_map Some (heard self.now.space self.now.state message.now) }
         ensures key { IfSome result (λ h. h.key.now ≡ key_in message.now) }
     {
@@ -490,7 +497,7 @@ impl Server {
     }
 
     /// The replica of the key of a call, where this server leads its region.
-    fn leading<'a>(&self, epoch: Epoch, op: &'a Op) -> Option<Heard<'a>>
+    fn leading<'a>(&self, epoch: Epoch, op: &'a Op) -> Option<Addressee<'a>>
         ensures replica { option_map (λ h. slice_get self.now.state.replicas h.replica) result ≡ option_map Some (when_some (key_of op.now) None (leading self.now.space self.now.state epoch)) }
         ensures key { IfSome result (λ h. Some h.key.now ≡ key_of op.now) }
     {
@@ -500,17 +507,17 @@ impl Server {
             return None;
         }
         let replica = self.replica_in_epoch(epoch, region)?;
-        Some(Heard { replica, key })
+        Some(Addressee { replica, key })
     }
 
     /// The replica of a region, where it is installed.
     #[inline]
-    fn installed<'a>(&self, epoch: Epoch, region: RegionId, key: &'a Text) -> Option<Heard<'a>>
+    fn installed<'a>(&self, epoch: Epoch, region: RegionId, key: &'a Text) -> Option<Addressee<'a>>
         ensures replica { option_map (λ h. slice_get self.now.state.replicas h.replica) result ≡ option_map Some (if_installed (replica_in_epoch self.now.state epoch region)) }
         ensures key { IfSome result (λ h. h.key.now ≡ key.now) }
     {
         let replica = self.installed_at(epoch, region)?;
-        Some(Heard { replica, key })
+        Some(Addressee { replica, key })
     }
 
     /// The place of the replica of a region, where it is installed.
@@ -540,32 +547,32 @@ impl Server {
 
     /// Makes room for n updates more at the slot to which a message goes, and gives the place of its
     /// key in the replica's store.
-    fn reserve(&mut self, alloc: Global, heard: &Heard, n: u32) -> Result<usize, Memory>
-        requires { heard.now.replica < length self.old.state.replicas }
-        ensures room { IfOk result (HasRoomAt heard.now.replica heard.now.key.now n self.new) }
+    fn reserve(&mut self, alloc: Global, addressee: &Addressee, n: u32) -> Result<usize, Memory>
+        requires { addressee.now.replica < length self.old.state.replicas }
+        ensures room { IfOk result (HasRoomAt addressee.now.replica addressee.now.key.now n self.new) }
         ensures rooms { KeepAllRooms self.old.rooms self.new.rooms }
         ensures space { self.new.space ≡ self.old.space }
         ensures state { self.new.state ≡ self.old.state }
     {
-        let replica = &mut self.replicas[heard.replica];
-        replica.store.reserve(alloc, heard.key, n)
+        let replica = &mut self.replicas[addressee.replica];
+        replica.store.reserve(alloc, addressee.key, n)
     }
 
     /// What a message makes of the slot to which it goes.
     fn step(
         &self,
         alloc: Global,
-        heard: &Heard,
+        addressee: &Addressee,
         place: usize,
         from: Actor,
         message: &Message,
-    ) -> Result<SlotMade, Memory>
-        requires can { CanStep self.now.space self.now.state heard.now.replica heard.now.key.now from message.now }
-        requires room { HasRoomAt heard.now.replica heard.now.key.now (room_by message.now) self.now place }
-        ensures made { IfOk result (IsMadeAt self.now heard.now.replica from message.now) }
+    ) -> Result<SlotOutput, Memory>
+        requires can { CanStep self.now.space self.now.state addressee.now.replica addressee.now.key.now from message.now }
+        requires room { HasRoomAt addressee.now.replica addressee.now.key.now (room_by message.now) self.now place }
+        ensures made { IfOk result (IsOutputAt self.now addressee.now.replica from message.now) }
         ensures room { IfOk result (λ made. room_of made.change ≤ room_by message.now) }
     {
-        let replica = &self.replicas[heard.replica];
+        let replica = &self.replicas[addressee.replica];
         let context = SlotContext {
             space: &self.space,
             map: &self.map,

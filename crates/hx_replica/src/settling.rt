@@ -5,9 +5,9 @@ ghost use Rattle.hx_model.specs.ServerSteps.{passed_on};
 ghost use Rattle.hx_model.specs.Slots.{pending_of};
 ghost use Rattle.hx_types.specs.declared.ids.Version.{Version as Numbered};
 ghost use Rattle.hx_types.specs.declared.updates.Update.{Update as Updated};
-ghost use Rattle.hx_replica.specs.Made.{IsHere, end_of, ended_count, seen, settled_among, settles, context_seen, told_of};
+ghost use Rattle.hx_replica.specs.Outputs.{IsHere, tail_version, ended_count, seen, settled_among, settles, context_seen, told_of};
 
-use crate::contexts::{SlotContext, pass_on, tell};
+use crate::contexts::{SlotContext, post_commit, post_update};
 use hx_slot::Slot;
 use hx_types::{Memory, Posts, Shared, Update, Version};
 use std::alloc::Global;
@@ -19,39 +19,39 @@ fn is_among(versions: &[Version], version: Version) -> bool
 }
 
 /// Whether a version is acknowledged, or one of those that are being acknowledged.
-fn is_settled(slot: &Slot, ends: &[Version], version: Version) -> bool
-    ensures { result ≡ settles slot.now.state.acked ends.now version }
+fn is_settled(slot: &Slot, tail_versions: &[Version], version: Version) -> bool
+    ensures { result ≡ settles slot.now.state.acked tail_versions.now version }
 {
-    is_among(ends, version) || slot.is_acknowledged(version)
+    is_among(tail_versions, version) || slot.is_acknowledged(version)
 }
 
 /// How many updates at the front of a line are acknowledged.
-fn settled_count(slot: &Slot, line: &[&Shared<Update>], ends: &[Version]) -> usize
-    ensures { result ≡ prefix_len (λ (b : Bor Updated). settles slot.now.state.acked ends.now b.now.version) line.now }
+fn settled_count(slot: &Slot, line: &[&Shared<Update>], tail_versions: &[Version]) -> usize
+    ensures { result ≡ prefix_len (λ (b : Bor Updated). settles slot.now.state.acked tail_versions.now b.now.version) line.now }
 {
     line.iter()
-        .take_while(|update| is_settled(slot, ends, update.version))
+        .take_while(|update| is_settled(slot, tail_versions, update.version))
         .count()
 }
 
 /// Tells of the updates at the front of a line that are acknowledged, one after another: they are
 /// committed.
-pub fn tell_settled(
+pub fn post_commits(
     alloc: Global,
     context: &SlotContext,
     slot: &Slot,
     line: &[&Shared<Update>],
-    ends: &[Version],
+    tail_versions: &[Version],
     posts: &mut Posts,
 ) -> Result<(), Memory>
     requires { All (IsHere context.now.region) line.now }
-    ensures { OnOk result (posts.new ≡ posts.old ++ flat_map (λ (b : Bor Updated). told_of (context_seen context.now) b.now) (settled_among slot.now.state.acked ends.now line.now)) }
+    ensures { OnOk result (posts.new ≡ posts.old ++ flat_map (λ (b : Bor Updated). told_of (context_seen context.now) b.now) (settled_among slot.now.state.acked tail_versions.now line.now)) }
 {
-    let (settled, _) = line.split_at(settled_count(slot, line, ends));
-    tell_all(alloc, context, settled, posts)
+    let (settled, _) = line.split_at(settled_count(slot, line, tail_versions));
+    post_each_commit(alloc, context, settled, posts)
 }
 
-fn tell_all(
+fn post_each_commit(
     alloc: Global,
     context: &SlotContext,
     updates: &[&Shared<Update>],
@@ -61,7 +61,7 @@ fn tell_all(
     ensures { OnOk result (posts.new ≡ posts.old ++ flat_map (λ (b : Bor Updated). told_of (context_seen context.now) b.now) updates.now) }
 {
     for update in updates {
-        tell(alloc, context, update, posts)?;
+        post_commit(alloc, context, update, posts)?;
     }
     Ok(())
 }
@@ -85,20 +85,20 @@ pub fn line_of<'a>(
 
 /// Each pending update goes to the next replica of its chain, the lowest version first; the versions
 /// of those whose chain ends here are added.
-pub fn pass_on_pending(
+pub fn post_pending(
     alloc: Global,
     context: &SlotContext,
     slot: &Slot,
     posts: &mut Posts,
-    ends: &mut Vec<Version>,
+    tail_versions: &mut Vec<Version>,
 ) -> Result<(), Memory>
     requires { slot.now.region ≡ context.now.region }
     ensures posts { OnOk result (posts.new ≡ posts.old ++ flat_map (passed_on (context_seen context.now)) (pending_of slot.now.state)) }
-    ensures ends { OnOk result (ends.new.items ≡ ends.old.items ++ flat_map (end_of (context_seen context.now)) (pending_of slot.now.state)) }
+    ensures tail_versions { OnOk result (tail_versions.new.items ≡ tail_versions.old.items ++ flat_map (tail_version (context_seen context.now)) (pending_of slot.now.state)) }
 {
     for i in 0..slot.pending_count() {
         match slot.pending(i) {
-            Some(update) => pass_on(alloc, context, update, posts, ends)?,
+            Some(update) => post_update(alloc, context, update, posts, tail_versions)?,
             None => unreachable!(),
         }
     }
@@ -106,14 +106,14 @@ pub fn pass_on_pending(
 }
 
 /// How many of the lowest pending updates have one of these versions.
-pub fn ended_count(slot: &Slot, ends: &[Version]) -> u32
-    ensures { result ≡ ended_count ends.now (pending_of slot.now.state) }
+pub fn ended_count(slot: &Slot, tail_versions: &[Version]) -> u32
+    ensures { result ≡ ended_count tail_versions.now (pending_of slot.now.state) }
 {
     let count = slot.pending_count();
     for i in 0..count {
         match slot.pending(i) {
             Some(update) => {
-                if !is_among(ends, update.version) {
+                if !is_among(tail_versions, update.version) {
                     return i;
                 }
             }
@@ -124,7 +124,7 @@ pub fn ended_count(slot: &Slot, ends: &[Version]) -> u32
 }
 
 /// Tells of so many of the lowest pending updates: they are committed.
-pub fn tell_lowest(
+pub fn post_lowest_commits(
     alloc: Global,
     context: &SlotContext,
     slot: &Slot,
@@ -137,7 +137,7 @@ pub fn tell_lowest(
 {
     for i in 0..count {
         match slot.pending(i) {
-            Some(update) => tell(alloc, context, update, posts)?,
+            Some(update) => post_commit(alloc, context, update, posts)?,
             None => unreachable!(),
         }
     }

@@ -3,7 +3,7 @@ ghost use Rattle.std.specs.List.{All, flat_map};
 ghost use Rattle.hx_types.specs.Spaces.{IsSpace};
 ghost use Rattle.hx_model.specs.ServerSteps.{passed_on, pending_posts, ready_post, replica_tick, snap_posts, snap_to};
 ghost use Rattle.hx_model.specs.Slots.{pending_of};
-ghost use Rattle.hx_replica.specs.Made.{context_seen};
+ghost use Rattle.hx_replica.specs.Outputs.{context_seen};
 ghost use Rattle.hx_replica.specs.Replicas.{view_of};
 ghost use Rattle.hx_replica.specs.Ticking.{kept_here, standing};
 ghost use Rattle.hx_replica.specs.declared.replicas.Replica.{Replica as Held};
@@ -11,7 +11,7 @@ ghost use Rattle.hx_replica.specs.declared.replicas.Replica.{Replica as Held};
 use crate::contexts::SlotContext;
 use crate::members::joiner_for;
 use crate::replicas::Replica;
-use crate::settling::pass_on_pending;
+use crate::settling::post_pending;
 use hx_region::RegionMap;
 use hx_slot::Slot;
 use hx_store::Store;
@@ -61,7 +61,7 @@ fn tick_replica(
     }
     snap(alloc, context, &replica.store, posts)?;
     send_pending(alloc, context, &replica.store, posts)?;
-    tell_ready(context, posts)
+    post_ready(context, posts)
 }
 
 /// Posts a snapshot to the joiner that this server feeds, if there is one.
@@ -131,12 +131,12 @@ fn send_slot(
     requires { slot.now.region ≡ context.now.region }
     ensures { OnOk result (posts.new ≡ posts.old ++ flat_map (passed_on (context_seen context.now)) (pending_of slot.now.state)) }
 {
-    let mut ends = Vec::new(alloc);
-    pass_on_pending(alloc, context, slot, posts, &mut ends)
+    let mut tail_versions = Vec::new(alloc);
+    post_pending(alloc, context, slot, posts, &mut tail_versions)
 }
 
 /// Tells the coordinator that this server has joined, where it is listed as joining.
-pub fn tell_ready(context: &SlotContext, posts: &mut Posts) -> Result<(), Memory>
+pub fn post_ready(context: &SlotContext, posts: &mut Posts) -> Result<(), Memory>
     ensures { OnOk result (posts.new ≡ posts.old ++ ready_post (standing context.now.config.now context.now.server) context.now.region) }
 {
     if context.config.lists_joining(context.region, context.server) {

@@ -26,7 +26,7 @@ use Rattle.hx_script.specs.Words.{named, name, new_name}
 use Rattle.hx_script.specs.Values.{short_text, value, free_attribute, assign, one_more, some_assigns, free_known, range, term, one_more_term}
 use Rattle.hx_script.specs.Calls.{put, get, del, cput, search_call, stop, add, deliver, tick, halt}
 use Rattle.hx_script.specs.Actors.{actor}
-use Rattle.hx_script.specs.Cuts.{free_axis, parts, axis, next_axis, subspace}
+use Rattle.hx_script.specs.Axes.{free_axis, parts, axis, next_axis, subspace}
 use Rattle.hx_script.specs.Grammar.{hx_line, space_line, key_line, string_attribute, int_attribute, attribute_line, subspace_line, servers_line, tolerate_line, session_line, steps_line, call_line, step_line, command}
 use Rattle.hx_script.specs.Texts.{read_lines, script_of}
 

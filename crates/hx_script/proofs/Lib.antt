@@ -2,7 +2,7 @@ pub mod Spelled
 pub mod Takes
 pub mod Assigning
 pub mod Asking
-pub mod Cutting
+pub mod MoreAxes
 pub mod Digits
 pub mod Lists
 pub mod Lines
@@ -13,6 +13,6 @@ mod Once
 mod Naming
 mod FittingCalls
 mod Sections
-mod FittingCuts
+mod FittingAxes
 mod SoundLines
 pub mod SoundTexts

@@ -17,7 +17,7 @@ use Rattle.hx_types.specs.declared.values.Term.{Term}
 use Rattle.hx_types.specs.declared.values.Value.{Value}
 use Rattle.hx_types.specs.declared.values.Value.TheVariants as values
 use Rattle.hx_types.specs.Subspaces.{kind_at}
-use Rattle.hx_script.specs.declared.cuts.Cut.{Cut}
+use Rattle.hx_script.specs.declared.axes.AxesDraft.{AxesDraft}
 use Rattle.hx_script.specs.declared.draft.Draft.{Draft}
 use Rattle.hx_script.specs.declared.draft.Section.{Section}
 use Rattle.hx_script.specs.declared.draft.Section.TheVariants as sections
@@ -39,7 +39,7 @@ use Rattle.hx_script.specs.Toks.{Tok, Word, Number, Text, Sign}
 use Rattle.hx_script.specs.Readers.{◌>>=◌, on_ok, Reader, give, judged, check, word, number, text, end, sign, fixed, is_between, number_in, natural, number_from, is_at, steps, repeat}
 use Rattle.hx_script.specs.Words.{may_name, named, name, is_declared, new_name, numbered, place_of, declared_number, known_number}
 use Rattle.hx_script.specs.Values.{short_text, is_of, is_short, any_value, value, has_assign, free_attribute, assign, one_more, more_assigns, some_assigns, has_term, free_known, range, is_dots, range_or_equal, rest_of_term, term, one_more_term, all_terms}
-use Rattle.hx_script.specs.Cuts.{has_axis, free_axis, parts, axis, next_axis, no_cut, subspace}
+use Rattle.hx_script.specs.Axes.{has_axis, free_axis, parts, axis, next_axis, no_axes_yet, subspace}
 use Rattle.hx_script.specs.Actors.{is_decimal, number_word, actor_word, actor}
 use Rattle.hx_script.specs.Calls.{put, get, del, cput, search_call, stop, add, call, deliver, tick, halt, step}
 use Rattle.hx_script.specs.Keywords.{keyword_of}
@@ -272,17 +272,17 @@ tells_parts : (regions size : ℕ) → Tells (parts regions size)
 unfolding parts
 tells_parts regions size = tells_then (tells_number_in _ _) (λ n. tells_then (tells_check _ reasons.Limit tt) (λ u. tells_give n))
 
-tells_axis : (space : Space) (regions : ℕ) (cut : Cut) → Tells (axis space regions cut)
+tells_axis : (space : Space) (regions : ℕ) (draft : AxesDraft) → Tells (axis space regions draft)
 unfolding axis
-tells_axis space regions cut = tells_then (tells_free_axis space cut.axes) (λ a. tells_then (tells_parts regions cut.size) (λ n. tells_give _))
+tells_axis space regions draft = tells_then (tells_free_axis space draft.axes) (λ a. tells_then (tells_parts regions draft.size) (λ n. tells_give _))
 
-tells_next_axis : (space : Space) (regions : ℕ) (cut : Cut) → Tells (next_axis space regions cut)
+tells_next_axis : (space : Space) (regions : ℕ) (draft : AxesDraft) → Tells (next_axis space regions draft)
 unfolding next_axis
-tells_next_axis space regions cut = tells_then (tells_sign _) (λ u. tells_axis space regions cut)
+tells_next_axis space regions draft = tells_then (tells_sign _) (λ u. tells_axis space regions draft)
 
 tells_subspace : (space : Space) (regions : ℕ) → Tells (subspace space regions)
 unfolding subspace
-tells_subspace space regions = tells_then (tells_axis space regions no_cut) (λ first. tells_repeat until.End (next_axis space regions) (tells_next_axis space regions) first)
+tells_subspace space regions = tells_then (tells_axis space regions no_axes_yet) (λ first. tells_repeat until.End (next_axis space regions) (tells_next_axis space regions) first)
 
 -- actors
 told_number_word : (most : ℕ) (digits : List ℕ) → Told (number_word most digits)

@@ -18,7 +18,7 @@ use Rattle.hx_types.specs.declared.spaces.Space.{Space}
 use Rattle.hx_types.specs.declared.traces.Step.{Step}
 use Rattle.hx_types.specs.Spaces.{IsName, IsKind, ArePart, Fits}
 use Rattle.hx_types.specs.Subspaces.{size_of, sizes_sum}
-use Rattle.hx_script.specs.declared.cuts.Cut.{Cut}
+use Rattle.hx_script.specs.declared.axes.AxesDraft.{AxesDraft}
 use Rattle.hx_script.specs.declared.draft.Draft.{Draft}
 use Rattle.hx_script.specs.declared.draft.Section.{Section}
 use Rattle.hx_script.specs.declared.draft.Section.TheVariants as sections
@@ -37,7 +37,7 @@ use Rattle.hx_script.specs.Calls.{deliver, tick, halt, step}
 use Rattle.hx_script.specs.Keywords.{keyword_of}
 use Rattle.hx_script.specs.Grammar.{hx_line, space_line, key_line, string_attribute, int_attribute, attribute_line, subspace_line, servers_line, tolerate_line, session_line, steps_line, push_to_last, call_line, step_line, heading_line, line_for, command}
 use Rattle.hx_script.proofs.FittingCalls.{yields_call}
-use Rattle.hx_script.proofs.FittingCuts.{CutFits, yields_subspace, sizes_push}
+use Rattle.hx_script.proofs.FittingAxes.{DraftFits, yields_subspace, sizes_push}
 use Rattle.hx_script.proofs.Naming.{IsNew, yields_name, yields_new_name}
 use Rattle.hx_script.proofs.Once.{or_left, or_right, named_once}
 use Rattle.hx_script.proofs.Sections.{AreAxes, Spaced, SpaceSoFar, Called, CallsSoFar, Fresh, Headed, HasServers, Complete, BySection, Sound}
@@ -104,24 +104,24 @@ yields_attribute : (d : Draft) (attribute : Space → Reader Attribute) → d.se
 unfolding attribute_line
 yields_attribute d attribute e s c st y = yields_then (λ u. nat_lt (length d.space.attributes) 16 ≡ true) (yields_check (nat_lt (length d.space.attributes) 16) Limit) (λ u room. yields_then (IsNextAttribute d.space) y (λ a n. yields_give (record d { space = record d.space { attributes = d.space.attributes ++ a ∷ [] } }) (record { space = one_attribute_more d a s st.1 (ltb-true (length d.space.attributes) 16 room) n; calls = c; stage = rw e st })))
 
-one_subspace_more : (d : Draft) (cut : Cut) → SpaceSoFar d → length d.space.subspaces < 8 → CutFits d.space d.regions cut → Spaced d.space.key_name d.space.key_parts d.space.attributes (d.space.subspaces ++ cut.axes ∷ []) (d.regions + cut.size)
-one_subspace_more d cut s room fits =
-    let sum : sizes_sum (d.space.subspaces ++ cut.axes ∷ []) ≡ sizes_sum d.space.subspaces + size_of cut.axes = sizes_push d.space.subspaces cut.axes in
+one_subspace_more : (d : Draft) (axes_draft : AxesDraft) → SpaceSoFar d → length d.space.subspaces < 8 → DraftFits d.space d.regions axes_draft → Spaced d.space.key_name d.space.key_parts d.space.attributes (d.space.subspaces ++ axes_draft.axes ∷ []) (d.regions + axes_draft.size)
+one_subspace_more d axes_draft s room fits =
+    let sum : sizes_sum (d.space.subspaces ++ axes_draft.axes ∷ []) ≡ sizes_sum d.space.subspaces + size_of axes_draft.axes = sizes_push d.space.subspaces axes_draft.axes in
     let count : d.regions ≡ d.space.key_parts * 1 + sizes_sum d.space.subspaces = s.count in
-    let size : cut.size ≡ size_of cut.axes = fits.size in
+    let size : axes_draft.size ≡ size_of axes_draft.axes = fits.size in
     record {
       names = s.names;
       differ = s.differ;
       few = s.few;
-      axes = All-push (AreAxes (length d.space.attributes)) d.space.subspaces cut.axes s.axes fits.axes;
-      few_subspaces = shorter d.space.subspaces cut.axes 8 room;
+      axes = All-push (AreAxes (length d.space.attributes)) d.space.subspaces axes_draft.axes s.axes fits.axes;
+      few_subspaces = shorter d.space.subspaces axes_draft.axes 8 room;
       count = omega (arith, sum, count, size);
       few_regions = fits.room;
     }
 
 yields_subspace_line : (d : Draft) → SpaceSoFar d → CallsSoFar d → Headed d × (d.sessions ≡ []) → Yields (subspace_line d) Sound
 unfolding subspace_line
-yields_subspace_line d s c st = yields_then (λ u. nat_lt (length d.space.subspaces) 8 ≡ true) (yields_check (nat_lt (length d.space.subspaces) 8) Limit) (λ u room. yields_then (CutFits d.space d.regions) (yields_subspace d.space d.regions) (λ x f. yields_give (record d { section = sections.Subspaces; regions = d.regions + x.size; space = record d.space { subspaces = d.space.subspaces ++ x.axes ∷ [] } }) (record { space = one_subspace_more d x s (ltb-true (length d.space.subspaces) 8 room) f; calls = c; stage = st })))
+yields_subspace_line d s c st = yields_then (λ u. nat_lt (length d.space.subspaces) 8 ≡ true) (yields_check (nat_lt (length d.space.subspaces) 8) Limit) (λ u room. yields_then (DraftFits d.space d.regions) (yields_subspace d.space d.regions) (λ x f. yields_give (record d { section = sections.Subspaces; regions = d.regions + x.size; space = record d.space { subspaces = d.space.subspaces ++ x.axes ∷ [] } }) (record { space = one_subspace_more d x s (ltb-true (length d.space.subspaces) 8 room) f; calls = c; stage = st })))
 
 yields_servers : (d : Draft) → SpaceSoFar d → CallsSoFar d → Headed d × (d.sessions ≡ []) → Yields (servers_line d) Sound
 unfolding servers_line

@@ -18,7 +18,7 @@ use Rattle.hx_script.specs.declared.keyword.Keyword.{Keyword}
 use Rattle.hx_script.specs.declared.keyword.Keyword.TheVariants as keywords
 use Rattle.hx_script.specs.declared.keyword.StepWord.{StepWord}
 use Rattle.hx_script.specs.Calls.{call, step}
-use Rattle.hx_script.specs.Cuts.{subspace}
+use Rattle.hx_script.specs.Axes.{subspace}
 use Rattle.hx_script.specs.Keywords.{keyword_of}
 use Rattle.hx_script.specs.Readers.{◌>>=◌, on_ok, Reader, give, refuse, check, word, number, number_in, number_from, end}
 use Rattle.hx_script.specs.Toks.{Tok, meaning}

@@ -4,7 +4,7 @@ pub mod Parts
 pub mod Keywords
 pub mod Words
 pub mod Values
-pub mod Cuts
+pub mod Axes
 pub mod Actors
 pub mod Calls
 pub mod Grammar

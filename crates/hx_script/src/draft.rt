@@ -5,7 +5,7 @@ ghost use Rattle.hx_script.specs.Readers.{Reads, Gives};
 ghost use Rattle.hx_script.specs.Grammar.{hx_line, space_line, key_line, string_attribute, int_attribute, attribute_line, subspace_line, servers_line, tolerate_line, session_line, steps_line, push_to_last, call_line, step_line, heading_line, command, line_of};
 ghost use Rattle.hx_script.specs.Texts.{empty_draft, finished, may_end};
 
-use crate::cuts::subspace;
+use crate::axes::subspace;
 use crate::errors::{Reason, ScriptError, Stop};
 use crate::keyword::{CallWord, Heading, Keyword, StepWord, keyword_of};
 use crate::line::Line;
@@ -151,9 +151,9 @@ impl Draft {
         if self.space.subspaces.len() >= 8 {
             return Err(Stop::Fault(Reason::Limit));
         }
-        let cut = subspace(alloc, &self.space, self.regions, line)?;
-        self.regions += cut.size;
-        self.space.subspaces.push(cut.axes)?;
+        let axes_draft = subspace(alloc, &self.space, self.regions, line)?;
+        self.regions += axes_draft.size;
+        self.space.subspaces.push(axes_draft.axes)?;
         self.section = Section::Subspaces;
         Ok(())
     }

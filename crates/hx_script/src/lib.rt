@@ -44,7 +44,7 @@
 // Where the definitions of `specs/` speak of a type of these modules it is `pub`, so that proofs of
 // other crates can name it. None of them is handed out but those below.
 mod actors;
-mod cuts;
+mod axes;
 mod draft;
 mod errors;
 mod keyword;

@@ -29,10 +29,10 @@ use Rattle.hx_model.specs.Regions.{key_region}
 use Rattle.hx_model.specs.SessionSteps.{Part as PartSeen, SessionState, SessionStep, all_parts, ask_regions, awaits, begin, call_under_way, end_with_parts, ending, is_administrative, is_key_call, send, send_to, session_message, session_step, staying, with_part, with_poll}
 use Rattle.hx_plan.proofs.Planned.{asked}
 use Rattle.hx_session.specs.declared.parts.Part.{Part}
-use Rattle.hx_session.specs.declared.plans.Change.{Change}
+use Rattle.hx_session.specs.declared.prepared.Change.{Change}
 use Rattle.hx_session.specs.declared.sessions.Session.TheInside.{Inside}
 use Rattle.hx_session.specs.Changes.{changed, part_seen, parts_after}
-use Rattle.hx_session.specs.Inside.{IsInOrder, IsSession, IsStateOf, value_of}
+use Rattle.hx_session.specs.Invariant.{IsInOrder, IsSession, IsStateOf, value_of}
 use Rattle.hx_session.specs.Sessions.{CanTake, SessionValue}
 use Rattle.hx_session.proofs.Kept.{regions_of, regions_stay}
 use Rattle.hx_session.proofs.Staying.{step_of_space}

@@ -20,10 +20,10 @@ use Rattle.hx_model.specs.SessionSteps.{Part as PartSeen, SessionState, SessionS
 use Rattle.hx_session.specs.declared.parts.Part.{Part}
 use Rattle.hx_session.specs.declared.parts.PartsChange.{PartsChange}
 use Rattle.hx_session.specs.declared.parts.PartsChange.TheVariants.{Stay, Replace, Put}
-use Rattle.hx_session.specs.declared.plans.Change.{Change}
-use Rattle.hx_session.specs.declared.plans.Made.{Made}
-use Rattle.hx_session.specs.declared.plans.Plan.{Plan}
-use Rattle.hx_session.specs.declared.plans.Progress.{Progress}
+use Rattle.hx_session.specs.declared.prepared.Change.{Change}
+use Rattle.hx_session.specs.declared.prepared.StepOutput.{StepOutput}
+use Rattle.hx_session.specs.declared.prepared.Plan.{Plan}
+use Rattle.hx_session.specs.declared.prepared.Progress.{Progress}
 use Rattle.hx_session.specs.declared.sending.Sender.{Sender}
 use Rattle.hx_session.specs.Sessions.{CanTake, SessionValue, session_entry}
 
@@ -68,7 +68,7 @@ changed s c =
     }
 
 -- what was made is the step
-pub record IsMade (s : SessionState) (step : SessionStep) (made : Made) : Type 0 where
+pub record IsOutputOf (s : SessionState) (step : SessionStep) (made : StepOutput) : Type 0 where
   pub posts : made.posts ≡ step.posts
   pub notes : made.notes ≡ step.notes
   pub state : changed s made.change ≡ step.state
@@ -80,11 +80,11 @@ pub record IsPlanOn (s : SessionValue) (plan : Plan) : Type 0 where
   pub change : changed s.state plan.change ≡ (session_step s.space s.state plan.entry.input).state
 
 -- nothing is posted, noted or changed
-abbrev pub unmoved_at : Progress → Made
+abbrev pub unmoved_at : Progress → StepOutput
 unmoved_at progress = record { posts = []; notes = []; change = record { config = None; progress = progress; parts = Stay } }
 
 -- the call under way ends
-abbrev pub ended_as : Progress → Version → Answer → Made
+abbrev pub ended_as : Progress → Version → Answer → StepOutput
 ended_as progress version answer =
     record {
       posts = [];
@@ -106,7 +106,7 @@ sender_seen s calls parts =
     }
 
 -- a call begins before what was made of sending it
-abbrev pub begun_as : ℕ → Made → Made
+abbrev pub begun_as : ℕ → StepOutput → StepOutput
 begun_as number made =
     record {
       posts = made.posts;
@@ -115,7 +115,7 @@ begun_as number made =
     }
 
 -- where the call is still under way, the newest configuration is asked for
-abbrev pub polled_as : SessionId → Epoch → Made → Made
+abbrev pub polled_as : SessionId → Epoch → StepOutput → StepOutput
 polled_as id epoch made =
     record {
       posts = made.posts ++ provided made.change.progress.under_way (post (Session id) Coordinator (a_message.Poll epoch) ∷ []);
@@ -124,7 +124,7 @@ polled_as id epoch made =
     }
 
 -- the first member of each region is asked, and no region has answered
-abbrev pub asked_as : Sender → List Term → List RegionId → Made
+abbrev pub asked_as : Sender → List Term → List RegionId → StepOutput
 asked_as s terms regions =
     record {
       posts = flat_map (λ (g : RegionId). ask_to (sender_seen s [] []) terms g (head_of s.config.now g)) regions;
@@ -133,7 +133,7 @@ asked_as s terms regions =
     }
 
 -- a configuration is adopted, too
-abbrev pub adopting_as : Config → Made → Made
+abbrev pub adopting_as : Config → StepOutput → StepOutput
 adopting_as config made =
     record {
       posts = made.posts;
@@ -142,7 +142,7 @@ adopting_as config made =
     }
 
 -- a part is kept
-abbrev pub kept_as : Progress → ℕ → Part → Made
+abbrev pub kept_as : Progress → ℕ → Part → StepOutput
 kept_as progress place part = record { posts = []; notes = []; change = record { config = None; progress = progress; parts = Put place part } }
 
 -- the parts once a region has rows

@@ -5,11 +5,11 @@
 #![tactic(auto)]
 
 mod kinds;
+mod merging;
 mod parts;
-mod plans;
-mod rows;
+mod prepared;
 mod sending;
 mod sessions;
 
-pub use plans::Plan;
+pub use prepared::Plan;
 pub use sessions::Session;

@@ -3,10 +3,10 @@ ghost use Rattle.hx_types.specs.declared.calls.Op.{Op as Operation};
 ghost use Rattle.hx_types.specs.Configs.{head_of};
 ghost use Rattle.hx_model.specs.Planning.{plan_of};
 ghost use Rattle.hx_model.specs.SessionSteps.{Part as PartSeen, ask_regions, ask_to, call_to, lost_answer, send, send_to, to_coordinator};
-ghost use Rattle.hx_session.specs.Changes.{IsMade, asked_as, sender_seen};
+ghost use Rattle.hx_session.specs.Changes.{IsOutputOf, asked_as, sender_seen};
 
 use crate::parts::{Part, Parts, PartsChange};
-use crate::plans::{Change, Made, Progress, ended};
+use crate::prepared::{Change, Progress, StepOutput, ended};
 use hx_plan::plan;
 use hx_region::RegionMap;
 use hx_types::{
@@ -32,9 +32,9 @@ pub struct Sender<'a> {
 /// has no plan, the call ends: a write that was sent before in doubt, any other refused. That a
 /// client does so by itself, with its own configuration, is HyperDex's; the two answers are this
 /// project's choice.
-pub fn send(alloc: Global, sender: &Sender, op: &Op) -> Result<Made, Memory>
+pub fn send(alloc: Global, sender: &Sender, op: &Op) -> Result<StepOutput, Memory>
     requires { sender.now.map.now ≡ sender.now.space.now }
-    ensures made { IfOk result (λ made. (calls : List Operation) (parts : List PartSeen) → IsMade (sender_seen sender.now calls parts) (send sender.now.space.now (sender_seen sender.now calls parts) op.now) made) }
+    ensures made { IfOk result (λ made. (calls : List Operation) (parts : List PartSeen) → IsOutputOf (sender_seen sender.now calls parts) (send sender.now.space.now (sender_seen sender.now calls parts) op.now) made) }
     ensures config { IfOk result (λ made. made.change.config ≡ None) }
 {
     match op {
@@ -62,8 +62,8 @@ pub fn send(alloc: Global, sender: &Sender, op: &Op) -> Result<Made, Memory>
 }
 
 /// A call on a key goes to the first member of the key's region.
-fn send_to(alloc: Global, sender: &Sender, op: &Op, region: RegionId) -> Result<Made, Memory>
-    ensures made { IfOk result (λ made. (calls : List Operation) (parts : List PartSeen) → IsMade (sender_seen sender.now calls parts) (send_to (sender_seen sender.now calls parts) op.now region) made) }
+fn send_to(alloc: Global, sender: &Sender, op: &Op, region: RegionId) -> Result<StepOutput, Memory>
+    ensures made { IfOk result (λ made. (calls : List Operation) (parts : List PartSeen) → IsOutputOf (sender_seen sender.now calls parts) (send_to (sender_seen sender.now calls parts) op.now region) made) }
     ensures config { IfOk result (λ made. made.change.config ≡ None) }
 {
     if sender.config.is_lost(region) {
@@ -71,7 +71,7 @@ fn send_to(alloc: Global, sender: &Sender, op: &Op, region: RegionId) -> Result<
         return ended(alloc, sender.progress, Version(0), answer);
     }
     let posts = call_to(alloc, sender, op, region)?;
-    Ok(Made {
+    Ok(StepOutput {
         posts,
         notes: Notes::new(alloc),
         change: Change {
@@ -120,8 +120,8 @@ fn call_to(alloc: Global, sender: &Sender, op: &Op, region: RegionId) -> Result<
 /// The coordinator is asked.
 #[cold]
 #[inline(never)]
-fn to_coordinator(alloc: Global, sender: &Sender, message: Message) -> Result<Made, Memory>
-    ensures made { IfOk result (λ made. (calls : List Operation) (parts : List PartSeen) → IsMade (sender_seen sender.now calls parts) (to_coordinator (sender_seen sender.now calls parts) message) made) }
+fn to_coordinator(alloc: Global, sender: &Sender, message: Message) -> Result<StepOutput, Memory>
+    ensures made { IfOk result (λ made. (calls : List Operation) (parts : List PartSeen) → IsOutputOf (sender_seen sender.now calls parts) (to_coordinator (sender_seen sender.now calls parts) message) made) }
     ensures config { IfOk result (λ made. made.change.config ≡ None) }
 {
     let mut posts = Posts::new(alloc);
@@ -130,7 +130,7 @@ fn to_coordinator(alloc: Global, sender: &Sender, message: Message) -> Result<Ma
         to: Actor::Coordinator,
         message,
     })?;
-    Ok(Made {
+    Ok(StepOutput {
         posts,
         notes: Notes::new(alloc),
         change: Change {
@@ -143,9 +143,9 @@ fn to_coordinator(alloc: Global, sender: &Sender, message: Message) -> Result<Ma
 
 /// A search asks the regions of its plan, or ends where it has none.
 #[inline(never)]
-fn search(alloc: Global, sender: &Sender, terms: &Terms) -> Result<Made, Memory>
+fn search(alloc: Global, sender: &Sender, terms: &Terms) -> Result<StepOutput, Memory>
     requires { sender.now.map.now ≡ sender.now.space.now }
-    ensures made { IfOk result (λ made. (calls : List Operation) (parts : List PartSeen) → IsMade (sender_seen sender.now calls parts) (ask_regions (sender_seen sender.now calls parts) terms.now (plan_of sender.now.space.now sender.now.config.now terms.now)) made) }
+    ensures made { IfOk result (λ made. (calls : List Operation) (parts : List PartSeen) → IsOutputOf (sender_seen sender.now calls parts) (ask_regions (sender_seen sender.now calls parts) terms.now (plan_of sender.now.space.now sender.now.config.now terms.now)) made) }
     ensures config { IfOk result (λ made. made.change.config ≡ None) }
 {
     match plan(alloc, sender.map, sender.config, terms)? {
@@ -164,7 +164,7 @@ fn ask_regions(
     sender: &Sender,
     terms: &Terms,
     regions: &RegionList,
-) -> Result<Made, Memory>
+) -> Result<StepOutput, Memory>
     ensures { IfOk result (λ made. made ≡ asked_as sender.now terms.now regions.now) }
 {
     let mut posts = Posts::new(alloc);
@@ -176,7 +176,7 @@ fn ask_regions(
             rows: None,
         })?;
     }
-    Ok(Made {
+    Ok(StepOutput {
         posts,
         notes: Notes::new(alloc),
         change: Change {

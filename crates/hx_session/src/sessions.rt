@@ -6,17 +6,17 @@ ghost use Rattle.hx_types.specs.Fitting.{numbered};
 ghost use Rattle.hx_types.specs.Spaces.{Fits, IsSpace};
 ghost use Rattle.hx_model.specs.Schedule.{is_idle};
 ghost use Rattle.hx_model.specs.SessionSteps.{Part as PartSeen, awaits, begin, call_under_way, end_with_parts, ending, found_step, session_at_start, session_install, session_message, session_step, session_tick, staying};
-ghost use Rattle.hx_session.specs.Changes.{IsMade, IsPlanOn, in_config, sent_anew, with_parts};
+ghost use Rattle.hx_session.specs.Changes.{IsOutputOf, IsPlanOn, in_config, sent_anew, with_parts};
 ghost use Rattle.hx_types.specs.Posted.{ArePostsOf, InputUpTo, NameOnly, PostsUpTo};
 ghost use Rattle.hx_session.specs.Sessions.{CanTake, SessionUpTo, is_ended, known_to};
 ghost use Rattle.hx_session.specs.Kinds.{kind_test};
 
 use crate::kinds::{CallKind, is_of};
+use crate::merging::merged;
 use crate::parts::{Part, Parts, all_found, lacking, put_parts};
-use crate::plans::{
-    Change, Made, Plan, Progress, adopt, adopting, begun, ended, kept, polled, unmoved,
+use crate::prepared::{
+    Change, Plan, Progress, StepOutput, adopt, adopting, begun, ended, kept, plan_nothing, polled,
 };
-use crate::rows::merged;
 use crate::sending::{Sender, send};
 use hx_region::RegionMap;
 use hx_types::{
@@ -45,7 +45,7 @@ impl Model for Session {
 
     ghost Value = { SessionValue };
 
-    ghost use Rattle.hx_session.specs.Inside.{IsSession, value_of};
+    ghost use Rattle.hx_session.specs.Invariant.{IsSession, value_of};
 
     ghost view = { value_of };
 
@@ -177,9 +177,9 @@ impl Session {
     }
 
     /// What the step of an input makes.
-    fn made(&self, alloc: Global, input: &Input) -> Result<Made, Memory>
+    fn made(&self, alloc: Global, input: &Input) -> Result<StepOutput, Memory>
         requires { CanTake self.now.space self.now.state input.now }
-        ensures { IfOk result (IsMade self.now.state (session_step self.now.space self.now.state input.now)) }
+        ensures { IfOk result (IsOutputOf self.now.state (session_step self.now.space self.now.state input.now)) }
     {
         match input {
             Input::Tick => self.tick(alloc),
@@ -189,8 +189,8 @@ impl Session {
     }
 
     /// Its turn: the call under way is sent again, or the next one begins.
-    fn tick(&self, alloc: Global) -> Result<Made, Memory>
-        ensures { IfOk result (IsMade self.now.state (session_tick self.now.space self.now.state)) }
+    fn tick(&self, alloc: Global) -> Result<StepOutput, Memory>
+        ensures { IfOk result (IsOutputOf self.now.state (session_tick self.now.space self.now.state)) }
     {
         if self.progress.under_way {
             self.send_again(alloc)
@@ -202,9 +202,9 @@ impl Session {
     /// The call under way is sent again, and the newest configuration is asked for.
     #[cold]
     #[inline(never)]
-    fn send_again(&self, alloc: Global) -> Result<Made, Memory>
+    fn send_again(&self, alloc: Global) -> Result<StepOutput, Memory>
         requires { self.now.state.under_way ≡ true }
-        ensures { IfOk result (IsMade self.now.state (session_tick self.now.space self.now.state)) }
+        ensures { IfOk result (IsOutputOf self.now.state (session_tick self.now.space self.now.state)) }
     {
         match self.call(self.progress.begun) {
             Some(op) => {
@@ -212,26 +212,26 @@ impl Session {
                 let made = send(alloc, &sender, op)?;
                 polled(self.id, self.config.epoch, made)
             }
-            None => Ok(unmoved(alloc, self.progress)),
+            None => Ok(plan_nothing(alloc, self.progress)),
         }
     }
 
     /// The next call begins, where one is left.
-    fn begin_next(&self, alloc: Global) -> Result<Made, Memory>
+    fn begin_next(&self, alloc: Global) -> Result<StepOutput, Memory>
         requires { self.now.state.under_way ≡ false }
-        ensures { IfOk result (IsMade self.now.state (session_tick self.now.space self.now.state)) }
+        ensures { IfOk result (IsOutputOf self.now.state (session_tick self.now.space self.now.state)) }
     {
         let number = self.progress.begun + 1;
         match self.call(number) {
             Some(op) => self.begin(alloc, number, op),
-            None => Ok(unmoved(alloc, self.progress)),
+            None => Ok(plan_nothing(alloc, self.progress)),
         }
     }
 
     /// A call begins.
-    fn begin(&self, alloc: Global, number: u32, op: &Op) -> Result<Made, Memory>
+    fn begin(&self, alloc: Global, number: u32, op: &Op) -> Result<StepOutput, Memory>
         requires { number ≡ self.now.state.begun + 1 }
-        ensures { IfOk result (IsMade self.now.state (begin self.now.space self.now.state op.now)) }
+        ensures { IfOk result (IsOutputOf self.now.state (begin self.now.space self.now.state op.now)) }
     {
         let progress = Progress {
             begun: number,
@@ -244,8 +244,8 @@ impl Session {
     }
 
     /// What a message makes.
-    fn hear(&self, alloc: Global, message: &Message) -> Result<Made, Memory>
-        ensures { IfOk result (IsMade self.now.state (session_message self.now.space self.now.state message.now)) }
+    fn hear(&self, alloc: Global, message: &Message) -> Result<StepOutput, Memory>
+        ensures { IfOk result (IsOutputOf self.now.state (session_message self.now.space self.now.state message.now)) }
     {
         match message {
             Message::Reply {
@@ -263,7 +263,7 @@ impl Session {
                 rows,
             } => self.found(alloc, *epoch, *number, *region, rows),
             Message::Install { config } => self.install(alloc, config),
-            _ => Ok(unmoved(alloc, self.progress)),
+            _ => Ok(plan_nothing(alloc, self.progress)),
         }
     }
 
@@ -275,15 +275,15 @@ impl Session {
         number: u32,
         region: RegionId,
         rows: &Rows,
-    ) -> Result<Made, Memory>
-        ensures { IfOk result (IsMade self.now.state (found_step self.now.state epoch number region rows.now)) }
+    ) -> Result<StepOutput, Memory>
+        ensures { IfOk result (IsOutputOf self.now.state (found_step self.now.state epoch number region rows.now)) }
     {
         if !self.awaits(number, CallKind::Search) || epoch.0 != self.config.epoch.0 {
-            return Ok(unmoved(alloc, self.progress));
+            return Ok(plan_nothing(alloc, self.progress));
         }
         match lacking(self.parts.as_slice(), region) {
             Some(place) => self.keep(alloc, place, region, rows),
-            None => Ok(unmoved(alloc, self.progress)),
+            None => Ok(plan_nothing(alloc, self.progress)),
         }
     }
 
@@ -295,9 +295,9 @@ impl Session {
         place: usize,
         region: RegionId,
         rows: &Rows,
-    ) -> Result<Made, Memory>
+    ) -> Result<StepOutput, Memory>
         requires { IsSomeAnd (slice_get self.now.state.parts place) (λ (p : PartSeen). p.region ≡ region) }
-        ensures { IfOk result (IsMade self.now.state (end_with_parts (with_parts self.now.state region rows.now))) }
+        ensures { IfOk result (IsOutputOf self.now.state (end_with_parts (with_parts self.now.state region rows.now))) }
     {
         let parts = self.parts.as_slice();
         if all_found(parts, region) {
@@ -315,19 +315,19 @@ impl Session {
     /// A configuration of a higher epoch is adopted, and a call on a key or a search sent anew.
     #[cold]
     #[inline(never)]
-    fn install(&self, alloc: Global, config: &Shared<Config>) -> Result<Made, Memory>
-        ensures { IfOk result (IsMade self.now.state (session_install self.now.space self.now.state config.now)) }
+    fn install(&self, alloc: Global, config: &Shared<Config>) -> Result<StepOutput, Memory>
+        ensures { IfOk result (IsOutputOf self.now.state (session_install self.now.space self.now.state config.now)) }
     {
         if config.epoch.0 <= self.config.epoch.0 {
-            return Ok(unmoved(alloc, self.progress));
+            return Ok(plan_nothing(alloc, self.progress));
         }
         let made = self.send_anew(alloc, config)?;
         adopting(alloc, config, made)
     }
 
     /// A call on a key or a search is sent in another configuration.
-    fn send_anew(&self, alloc: Global, config: &Config) -> Result<Made, Memory>
-        ensures made { IfOk result (IsMade (in_config self.now.state config.now) (sent_anew self.now.space self.now.state config.now)) }
+    fn send_anew(&self, alloc: Global, config: &Config) -> Result<StepOutput, Memory>
+        ensures made { IfOk result (IsOutputOf (in_config self.now.state config.now) (sent_anew self.now.space self.now.state config.now)) }
         ensures config { IfOk result (λ made. made.change.config ≡ None) }
     {
         match self.call_under_way() {
@@ -335,7 +335,7 @@ impl Session {
                 let sender = self.sender(config, self.progress);
                 send(alloc, &sender, op)
             }
-            _ => Ok(unmoved(alloc, self.progress)),
+            _ => Ok(plan_nothing(alloc, self.progress)),
         }
     }
 
@@ -347,11 +347,11 @@ impl Session {
         kind: CallKind,
         version: Version,
         answer: &Answer,
-    ) -> Result<Made, Memory>
-        ensures { IfOk result (IsMade self.now.state (if awaits self.now.state number (kind_test kind) then ending self.now.state version answer.now else staying self.now.state)) }
+    ) -> Result<StepOutput, Memory>
+        ensures { IfOk result (IsOutputOf self.now.state (if awaits self.now.state number (kind_test kind) then ending self.now.state version answer.now else staying self.now.state)) }
     {
         if !self.awaits(number, kind) {
-            return Ok(unmoved(alloc, self.progress));
+            return Ok(plan_nothing(alloc, self.progress));
         }
         let answer = answer.copy(alloc)?;
         ended(alloc, self.progress, version, answer)

@@ -9,9 +9,9 @@ use Rattle.hx_coord.proofs.calls.stop_server.Goals as goal
 
 pub returns-in-Old : goal.returns-in-Old
 returns-in-Old c =
-    called c.args.config.now c.args.agenda c.args.caller (stops (standing c.args.config.now c.args.agenda) c.args.caller c.args.server) Old c.rest.result
+    called c.args.config.now c.args.agenda c.args.caller (stops (standing c.args.config.now c.args.agenda) c.args.caller c.args.server) Old c.no_output.result
     (subst (Comes c.args.agenda.newest c.args.caller) c.in-Old.is c.in_ok-compare_number.ensures)
-    (rested_made c.args.config.now c.args.agenda c.rest.result c.rest.ensures)
+    (rested_made c.args.config.now c.args.agenda c.no_output.result c.no_output.ensures)
 
 pub returns-in-Again : goal.returns-in-Again
 returns-in-Again c =

@@ -1,6 +1,6 @@
 use Rattle.std.proofs.Common.{sym}
 use Rattle.hx_model.specs.ServerSteps.{resumed_posts}
-use Rattle.hx_replica.specs.Made.{context_seen}
+use Rattle.hx_replica.specs.Outputs.{context_seen}
 use Rattle.hx_replica.proofs.Walking.{flat_more}
 use Rattle.hx_replica.proofs.adopting.post_slots.Goals as goal
 

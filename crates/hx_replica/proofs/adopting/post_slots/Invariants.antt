@@ -1,7 +1,7 @@
 use Rattle.std.proofs.Common.{◌≡◌, ◌++◌, take}
 use Rattle.std.specs.List.{flat_map}
 use Rattle.hx_model.specs.ServerSteps.{resumed_posts}
-use Rattle.hx_replica.specs.Made.{context_seen}
+use Rattle.hx_replica.specs.Outputs.{context_seen}
 use Rattle.hx_replica.proofs.adopting.post_slots.Given as goal
 
 abbrev pub invariant-loop-i : goal.invariant-loop-i

@@ -5,7 +5,7 @@ use Rattle.hx_types.specs.declared.messages.Post.{Post}
 use Rattle.hx_types.specs.declared.updates.Update.{Update}
 use Rattle.hx_model.specs.Slots.{pending_of}
 use Rattle.hx_replica.specs.Adopting.{doubt_of}
-use Rattle.hx_replica.specs.Made.{context_seen}
+use Rattle.hx_replica.specs.Outputs.{context_seen}
 use Rattle.hx_replica.proofs.Walking.{drop_at, none_within}
 use Rattle.hx_replica.proofs.doubting.doubt_from.Goals as goal
 

@@ -3,7 +3,7 @@ use Rattle.std.specs.Borrow.{Bor}
 use Rattle.hx_model.specs.Slots.{KeyState}
 use Rattle.hx_store.proofs.Lists.{at-map}
 use Rattle.hx_replica.specs.Installing.{joining, texts}
-use Rattle.hx_replica.specs.Made.{context_seen}
+use Rattle.hx_replica.specs.Outputs.{context_seen}
 use Rattle.hx_replica.proofs.Changing.{marks_stay}
 use Rattle.hx_replica.proofs.Joined.{is_fresh, join_next, none_joined, slot_marks}
 use Rattle.hx_replica.proofs.Turns.{at_item}

@@ -1,6 +1,6 @@
 use Rattle.std.proofs.Common.{◌≡◌, take}
 use Rattle.hx_replica.specs.Installing.{texts}
-use Rattle.hx_replica.specs.Made.{context_seen}
+use Rattle.hx_replica.specs.Outputs.{context_seen}
 use Rattle.hx_replica.proofs.Joined.{IsJoining}
 use Rattle.hx_replica.proofs.installing.join_all.Given as goal
 

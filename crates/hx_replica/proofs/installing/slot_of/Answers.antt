@@ -2,7 +2,7 @@ use Rattle.std.proofs.Common.{◌≡◌, Bool, ap, sym, ◌∙◌}
 use Rattle.hx_types.specs.Subspaces.{is_key_region}
 use Rattle.hx_model.specs.Slots.{Forget, moved, new_state}
 use Rattle.hx_store.specs.Stores.{state_at}
-use Rattle.hx_replica.proofs.Inside.{no_slot}
+use Rattle.hx_replica.proofs.Invariant.{no_slot}
 use Rattle.hx_replica.proofs.installing.slot_of.Goals as goal
 
 pub returns-in_ok-copy-in-None-clause-state : goal.returns-in_ok-copy-in-None-clause-state

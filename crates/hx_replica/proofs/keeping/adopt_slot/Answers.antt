@@ -2,7 +2,7 @@ use Rattle.std.proofs.Common.{◌<◌, ap, length, subst, sym, ◌∙◌}
 use Rattle.hx_model.specs.ServerSteps.{tail_acks}
 use Rattle.hx_model.specs.Slots.{Forget, KeyState, moved, moved_all, pending_of}
 use Rattle.hx_replica.specs.Adopting.{changed_at, lean_adopted}
-use Rattle.hx_replica.specs.Made.{context_seen}
+use Rattle.hx_replica.specs.Outputs.{context_seen}
 use Rattle.hx_replica.proofs.Kept.{changed_length, gone_on}
 use Rattle.hx_replica.proofs.keeping.adopt_slot.Goals as goal
 

@@ -1,6 +1,6 @@
 use Rattle.std.proofs.Common.{ap, arith, length, ◌∙◌}
 use Rattle.hx_replica.specs.Adopting.{changed_at, lean_adopted}
-use Rattle.hx_replica.specs.Made.{context_seen}
+use Rattle.hx_replica.specs.Outputs.{context_seen}
 use Rattle.hx_replica.proofs.Kept.{all_changed, one_changed, upto_length}
 use Rattle.hx_replica.proofs.keeping.adopt_slots.Goals as goal
 

@@ -1,6 +1,6 @@
 use Rattle.std.proofs.Common.{◌≡◌}
 use Rattle.hx_replica.specs.Adopting.{lean_adopted}
-use Rattle.hx_replica.specs.Made.{context_seen}
+use Rattle.hx_replica.specs.Outputs.{context_seen}
 use Rattle.hx_replica.proofs.Kept.{changed_upto}
 use Rattle.hx_replica.proofs.keeping.adopt_slots.Given as goal
 

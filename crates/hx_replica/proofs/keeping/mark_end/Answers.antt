@@ -1,6 +1,6 @@
 use Rattle.std.proofs.Common.{[], ◌∷◌, ap, sym, ◌∙◌}
 use Rattle.hx_types.specs.Words.{list_of}
-use Rattle.hx_replica.specs.Made.{context_seen}
+use Rattle.hx_replica.specs.Outputs.{context_seen}
 use Rattle.hx_replica.proofs.Kept.{changed_not, marked_as, none_listed, pending_end}
 use Rattle.hx_replica.proofs.keeping.mark_end.Goals as goal
 

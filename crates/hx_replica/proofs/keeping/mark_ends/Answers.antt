@@ -1,6 +1,6 @@
 use Rattle.std.proofs.Common.{◌<◌, ap, arith, length, refl, subst, sym, ◌∙◌}
 use Rattle.hx_replica.specs.Adopting.{changed_at, marked_end}
-use Rattle.hx_replica.specs.Made.{context_seen}
+use Rattle.hx_replica.specs.Outputs.{context_seen}
 use Rattle.hx_replica.proofs.Kept.{all_marked_ends, changed_length, changed_not, marked_upto, one_marked}
 use Rattle.hx_replica.proofs.keeping.mark_ends.Goals as goal
 

@@ -1,6 +1,6 @@
 use Rattle.std.proofs.Common.{◌≡◌}
 use Rattle.hx_replica.specs.Adopting.{changed_at}
-use Rattle.hx_replica.specs.Made.{context_seen}
+use Rattle.hx_replica.specs.Outputs.{context_seen}
 use Rattle.hx_replica.proofs.Kept.{marked_upto}
 use Rattle.hx_replica.proofs.keeping.mark_ends.Given as goal
 

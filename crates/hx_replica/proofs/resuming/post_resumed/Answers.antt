@@ -6,7 +6,7 @@ use Rattle.hx_types.specs.declared.ids.Version.{Version}
 use Rattle.hx_folds.specs.Folding.{IsSlotOf}
 use Rattle.hx_model.specs.Slots.{pending_of}
 use Rattle.hx_replica.specs.Adopting.{doubts_among}
-use Rattle.hx_replica.specs.Made.{ended_count, context_seen}
+use Rattle.hx_replica.specs.Outputs.{ended_count, context_seen}
 use Rattle.hx_replica.proofs.Resumed.{resumed_nothing, resumed_whole}
 use Rattle.hx_replica.proofs.resuming.post_resumed.Goals as goal
 
@@ -19,7 +19,7 @@ pub returns : goal.returns
 returns c =
     let s = c.args.slot.now.state in
     let context = context_seen c.args.context.now in
-    on_ok_weaker c.tell_doubts.result
-    (λ e. resumed_whole context s c.in_ok-ends.ends.items c.args.posts.now c.carry_on.new.posts c.tell_doubts.new.posts (subst (λ (g : RegionId). IsSlotOf g s) c.requires c.has_pending.ensures.slot) c.in_ok-ends.ensures
+    on_ok_weaker c.post_doubts.result
+    (λ e. resumed_whole context s c.in_ok-tail_versions.tail_versions.items c.args.posts.now c.carry_on.new.posts c.post_doubts.new.posts (subst (λ (g : RegionId). IsSlotOf g s) c.requires c.has_pending.ensures.slot) c.in_ok-tail_versions.ensures
     (e ∙ ap (λ n. c.carry_on.new.posts ++ doubts_among context (drop n (pending_of s))) (c.ended_count.ensures ∙ ap (λ (vs : List Version). ended_count vs (pending_of s)) c.as_slice.ensures.value)))
-    c.tell_doubts.ensures
+    c.post_doubts.ensures

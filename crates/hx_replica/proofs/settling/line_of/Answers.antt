@@ -4,7 +4,7 @@ use Rattle.std.specs.List.{All}
 use Rattle.std.proofs.lemmas.List.Elements.{All-push}
 use Rattle.hx_types.specs.declared.updates.Update.{Update}
 use Rattle.hx_model.specs.Slots.{pending_of}
-use Rattle.hx_replica.specs.Made.{IsHere, seen}
+use Rattle.hx_replica.specs.Outputs.{IsHere, seen}
 use Rattle.hx_replica.proofs.Turns.{all_at, at_item, seen_more}
 use Rattle.hx_replica.proofs.settling.line_of.Goals as goal
 

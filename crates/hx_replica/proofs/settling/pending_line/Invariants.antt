@@ -1,7 +1,7 @@
 use Rattle.std.proofs.Common.{◌≡◌, take}
 use Rattle.std.specs.List.{All}
 use Rattle.hx_model.specs.Slots.{pending_of}
-use Rattle.hx_replica.specs.Made.{IsHere, seen}
+use Rattle.hx_replica.specs.Outputs.{IsHere, seen}
 use Rattle.hx_replica.proofs.settling.pending_line.Given as goal
 
 abbrev pub invariant-loop-i : goal.invariant-loop-i

@@ -2,7 +2,7 @@ use Rattle.std.proofs.Common.{sym}
 use Rattle.std.specs.List.{flat_map}
 use Rattle.hx_model.specs.ServerSteps.{passed_on}
 use Rattle.hx_model.specs.Slots.{KeyState, pending_of}
-use Rattle.hx_replica.specs.Made.{context_seen}
+use Rattle.hx_replica.specs.Outputs.{context_seen}
 use Rattle.hx_replica.proofs.Walking.{flat_more}
 use Rattle.hx_replica.proofs.ticking.send_pending.Goals as goal
 

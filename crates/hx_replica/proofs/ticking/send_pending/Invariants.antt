@@ -1,6 +1,6 @@
 use Rattle.std.proofs.Common.{◌≡◌, ◌++◌, take}
 use Rattle.hx_model.specs.ServerSteps.{pending_posts}
-use Rattle.hx_replica.specs.Made.{context_seen}
+use Rattle.hx_replica.specs.Outputs.{context_seen}
 use Rattle.hx_replica.proofs.ticking.send_pending.Given as goal
 
 abbrev pub invariant-loop-i : goal.invariant-loop-i

@@ -8,11 +8,11 @@ use Rattle.hx_region.proofs.map.RegionMap.of_object.Goals as goal
 pub row-row-requires-clause-few : goal.row-row-requires-clause-few
 row-row-requires-clause-few c =
     let few = size-few c.args.self.now (subst IsSpace c.self.view_is c.self.invariant.valid) c.args.s c.requires in
-    let size = ap size_of (c.as_slice.ensures ∙ c.cut-cut.ensures.axes) in
+    let size = ap size_of (c.as_slice.ensures ∙ c.subspace-subspace.ensures.axes) in
     omega (arith, few, size)
 
 pub overflow_add-result : goal.overflow_add-result
 overflow_add-result c =
     let few = size-few c.args.self.now (subst IsSpace c.self.view_is c.self.invariant.valid) c.args.s c.requires in
-    let size = ap size_of (c.as_slice.ensures ∙ c.cut-cut.ensures.axes) in
-    omega (arith, few, size, c.cut-cut.ensures.first, c.row-row.ensures.within)
+    let size = ap size_of (c.as_slice.ensures ∙ c.subspace-subspace.ensures.axes) in
+    omega (arith, few, size, c.subspace-subspace.ensures.first, c.row-row.ensures.within)

@@ -6,10 +6,10 @@ use Rattle.hx_region.proofs.map.RegionMap.subspaces.Goals as goal
 
 pub overflow_cast-result : goal.overflow_cast-result
 overflow_cast-result c =
-    let e = length-table c.self.inside.space c.self.inside.cuts.items c.self.invariant.each in
+    let e = length-table c.self.inside.space c.self.inside.spans.items c.self.invariant.each in
     omega (arith, e, c.self.invariant.valid.few_subspaces)
 
 pub returns : goal.returns
 returns c =
-    let e = length-table c.self.inside.space c.self.inside.cuts.items c.self.invariant.each in
+    let e = length-table c.self.inside.space c.self.inside.spans.items c.self.invariant.each in
     omega (arith, e, ap subspace_count c.self.view_is, c.len.ensures)

@@ -1,9 +1,9 @@
 use Rattle.std.proofs.Common.{ap, arith, subst, sym, ◌∙◌}
 use Rattle.hx_store.specs.Stores.{after_step}
 use Rattle.hx_replica.proofs.Changing.{changed}
-use Rattle.hx_replica.proofs.Inside.{can_change, change_within, changed_state, join_of, joined_replicas, joined_server, planned}
+use Rattle.hx_replica.proofs.Invariant.{can_change, change_within, changed_state, join_of, joined_replicas, joined_server, planned}
 use Rattle.hx_replica.proofs.Installed.{adoption}
-use Rattle.hx_replica.specs.Made.{stepped}
+use Rattle.hx_replica.specs.Outputs.{stepped}
 use Rattle.hx_replica.specs.Plans.{IsChangeOn, IsJoinOn}
 use Rattle.hx_replica.proofs.servers.Server.apply.Goals as goal
 

@@ -3,7 +3,7 @@ use Rattle.hx_types.specs.declared.snapshots.Kept.{Kept}
 use Rattle.hx_types.specs.declared.updates.Update.{Update}
 use Rattle.hx_model.specs.ServerSteps.{replica_in_epoch, snapped}
 use Rattle.hx_replica.specs.Installing.{IsSnapshot}
-use Rattle.hx_replica.specs.Plans.{IsStepMade}
+use Rattle.hx_replica.specs.Plans.{IsStepOutput}
 use Rattle.hx_replica.proofs.Planning.{on_message}
 use Rattle.hx_replica.proofs.Snapped.{config_taken, snapshot_taken}
 use Rattle.hx_replica.proofs.servers.Server.deliver.Goals as goal
@@ -33,9 +33,9 @@ returns-in-Snap-clause-made c =
     let v = c.args.self.now in
     on_message v c.args.from c.args.message.now _ c.join.result c.in-Snap.is
     (
-    subst (λ (snapshot : List Kept). IfOk c.join.result (IsStepMade v (snapped v.space v.state snapshot c.in-Snap.pending (replica_in_epoch v.state c.in-Snap.epoch c.in-Snap.region)))) c.deref.ensures
+    subst (λ (snapshot : List Kept). IfOk c.join.result (IsStepOutput v (snapped v.space v.state snapshot c.in-Snap.pending (replica_in_epoch v.state c.in-Snap.epoch c.in-Snap.region)))) c.deref.ensures
     (
-    subst (λ (pending : List Update). IfOk c.join.result (IsStepMade v (snapped v.space v.state c.deref.result.now pending (replica_in_epoch v.state c.in-Snap.epoch c.in-Snap.region)))) c.deref-in-Snap.ensures
+    subst (λ (pending : List Update). IfOk c.join.result (IsStepOutput v (snapped v.space v.state c.deref.result.now pending (replica_in_epoch v.state c.in-Snap.epoch c.in-Snap.region)))) c.deref-in-Snap.ensures
     c.join.ensures
     )
     )

@@ -6,8 +6,8 @@ use Rattle.hx_types.specs.declared.messages.Post.{Post}
 use Rattle.hx_model.specs.ServerSteps.{adopted_posts, install_at, listed_regions, replica_or_new}
 use Rattle.hx_folds.specs.Folding.{folded_server}
 use Rattle.hx_replica.specs.declared.replicas.Replica.{Replica}
-use Rattle.hx_replica.specs.Inside.{value_of}
-use Rattle.hx_replica.specs.Plans.{IsStepMade}
+use Rattle.hx_replica.specs.Invariant.{value_of}
+use Rattle.hx_replica.specs.Plans.{IsStepOutput}
 use Rattle.hx_replica.specs.Replicas.{new_replica, views_of}
 use Rattle.hx_replica.specs.Servers.{ServerValue}
 use Rattle.hx_replica.specs.Ticking.{standing}
@@ -26,9 +26,9 @@ returns c =
     c.in_ok-post_adoption.ensures ∙ ap (λ (ps : List Post). ps ++ all c.deref-3.result.now c.as_slice.result.now) c.new-posts.ensures
     ∙ ap (λ (k : Config). all k c.as_slice.result.now) c.deref-3.ensures ∙ ap (all config) c.as_slice.ensures.value in
     let new : c.in_ok-replicas.replicas.items ≡ map (new_replica i.space) (listed_regions config i.id) = c.in_ok-replicas.ensures ∙ ap (λ (k : Config). map (new_replica i.space) (listed_regions k i.id)) c.deref-4.ensures in
-    subst (λ (v : ServerValue). IsStepMade v (install_at v.space v.state config) c.said.result) c.self.view_is
+    subst (λ (v : ServerValue). IsStepOutput v (install_at v.space v.state config) c.plan_posting.result) c.self.view_is
     (
-    adoption_made (value_of i) config c.in_ok-config.config c.in_ok-replicas.replicas c.post_adoption.new.posts c.said.result newer
+    adoption_made (value_of i) config c.in_ok-config.config c.in_ok-replicas.replicas c.post_adoption.new.posts c.plan_posting.result newer
     (subst (λ (v : ServerValue). folded_server v.state ≡ v.state) (sym c.self.view_is) c.requires.bare)
-    posts new c.in_ok-config.ensures c.said.ensures
+    posts new c.in_ok-config.ensures c.plan_posting.ensures
     )

@@ -3,7 +3,7 @@ use Rattle.hx_store.specs.Stores.{Room}
 use Rattle.hx_replica.specs.Replicas.{KeepAllRooms, rooms_of}
 use Rattle.hx_replica.specs.Servers.{ServerValue}
 use Rattle.hx_replica.proofs.Changing.{put, reserved, reserved_views}
-use Rattle.hx_replica.proofs.Inside.{ok_both, room_there, with_views, within}
+use Rattle.hx_replica.proofs.Invariant.{ok_both, room_there, with_views, within}
 use Rattle.hx_replica.proofs.Roomy.{set_rooms}
 use Rattle.hx_replica.proofs.servers.Server.reserve.Goals as goal
 
@@ -11,22 +11,22 @@ pub invariant_of-self : goal.invariant_of-self
 invariant_of-self c = record {
   valid = c.self.invariant.valid;
   map_is = c.self.invariant.map_is;
-  replicas_are = reserved c.self.inside.space c.self.inside.replicas.items c.args.heard.now.replica c.index_mut-replica.result.now c.reserve.new.self c.self.invariant.replicas_are (within c.self.inside c.args.self.now c.args.heard.now.replica c.self.view_is c.requires) c.index_mut-replica.ensures.value c.reserve.ensures.region c.reserve.ensures.marks c.reserve.ensures.states;
+  replicas_are = reserved c.self.inside.space c.self.inside.replicas.items c.args.addressee.now.replica c.index_mut-replica.result.now c.reserve.new.self c.self.invariant.replicas_are (within c.self.inside c.args.self.now c.args.addressee.now.replica c.self.view_is c.requires) c.index_mut-replica.ensures.value c.reserve.ensures.region c.reserve.ensures.marks c.reserve.ensures.states;
 }
 
 pub returns-clause-room : goal.returns-clause-room
 returns-clause-room c =
     ok_both c.reserve.result _ _ _
-    (λ place is enough. room_there c.self.inside c.args.heard.now.replica c.args.heard.now.key.now c.args.n place c.index_mut-replica.result.now c.reserve.new.self c.self.invariant (within c.self.inside c.args.self.now c.args.heard.now.replica c.self.view_is c.requires) c.index_mut-replica.ensures.value is enough)
+    (λ place is enough. room_there c.self.inside c.args.addressee.now.replica c.args.addressee.now.key.now c.args.n place c.index_mut-replica.result.now c.reserve.new.self c.self.invariant (within c.self.inside c.args.self.now c.args.addressee.now.replica c.self.view_is c.requires) c.index_mut-replica.ensures.value is enough)
     c.reserve.ensures.place c.reserve.ensures.room
 
 pub returns-clause-state : goal.returns-clause-state
 returns-clause-state c =
-    ap (with_views c.self.inside) (reserved_views c.self.inside.space c.self.inside.replicas.items c.args.heard.now.replica c.index_mut-replica.result.now c.reserve.new.self c.self.invariant.replicas_are (within c.self.inside c.args.self.now c.args.heard.now.replica c.self.view_is c.requires) c.index_mut-replica.ensures.value c.reserve.ensures.states)
+    ap (with_views c.self.inside) (reserved_views c.self.inside.space c.self.inside.replicas.items c.args.addressee.now.replica c.index_mut-replica.result.now c.reserve.new.self c.self.invariant.replicas_are (within c.self.inside c.args.self.now c.args.addressee.now.replica c.self.view_is c.requires) c.index_mut-replica.ensures.value c.reserve.ensures.states)
     ∙ ap (λ (v : ServerValue). v.state) c.self.view_is
 
 pub returns-clause-rooms : goal.returns-clause-rooms
 returns-clause-rooms c =
-    subst (λ (rooms : List (List Room)). KeepAllRooms rooms (rooms_of (set c.self.inside.replicas.items c.args.heard.now.replica (put c.self.inside.space c.self.inside.replicas.items c.args.heard.now.replica c.index_mut-replica.result.now c.reserve.new.self c.self.invariant.replicas_are (within c.self.inside c.args.self.now c.args.heard.now.replica c.self.view_is c.requires) c.index_mut-replica.ensures.value))))
+    subst (λ (rooms : List (List Room)). KeepAllRooms rooms (rooms_of (set c.self.inside.replicas.items c.args.addressee.now.replica (put c.self.inside.space c.self.inside.replicas.items c.args.addressee.now.replica c.index_mut-replica.result.now c.reserve.new.self c.self.invariant.replicas_are (within c.self.inside c.args.self.now c.args.addressee.now.replica c.self.view_is c.requires) c.index_mut-replica.ensures.value))))
     (ap (λ (v : ServerValue). v.rooms) c.self.view_is)
-    (set_rooms c.self.inside.replicas.items c.args.heard.now.replica c.index_mut-replica.result.now _ (within c.self.inside c.args.self.now c.args.heard.now.replica c.self.view_is c.requires) c.index_mut-replica.ensures.value c.reserve.ensures.rooms)
+    (set_rooms c.self.inside.replicas.items c.args.addressee.now.replica c.index_mut-replica.result.now _ (within c.self.inside c.args.self.now c.args.addressee.now.replica c.self.view_is c.requires) c.index_mut-replica.ensures.value c.reserve.ensures.rooms)

@@ -1,7 +1,7 @@
 use Rattle.std.proofs.Common.{List, ap, sym, subst, ◌∙◌}
 use Rattle.hx_replica.specs.declared.replicas.Replica.{Replica}
 use Rattle.hx_replica.specs.Replicas.{AreReplicas, rooms_of, views_of}
-use Rattle.hx_replica.proofs.Inside.{within}
+use Rattle.hx_replica.proofs.Invariant.{within}
 use Rattle.hx_replica.proofs.Searching.{if_found, rows_there, set_same}
 use Rattle.hx_replica.proofs.servers.Server.rows_of.Goals as goal
 

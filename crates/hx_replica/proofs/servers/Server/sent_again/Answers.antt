@@ -4,7 +4,7 @@ use Rattle.std.proofs.lemmas.Result.{IfOk-weaker}
 use Rattle.hx_types.specs.declared.configs.Config.{Config}
 use Rattle.hx_model.specs.ServerSteps.{replica_tick, tick_step}
 use Rattle.hx_replica.specs.declared.replicas.Replica.{Replica}
-use Rattle.hx_replica.specs.Inside.{value_of}
+use Rattle.hx_replica.specs.Invariant.{value_of}
 use Rattle.hx_replica.specs.Replicas.{view_of}
 use Rattle.hx_replica.specs.Servers.{ServerValue}
 use Rattle.hx_replica.specs.Ticking.{standing}

@@ -3,7 +3,7 @@ use Rattle.hx_types.specs.Words.{when_some}
 use Rattle.hx_store.specs.Stores.{has_slot}
 use Rattle.std.proofs.lemmas.Option.{IfSome_then}
 use Rattle.hx_model.specs.ServerSteps.{Replica as ReplicaState, replica_of}
-use Rattle.hx_replica.proofs.Inside.{at_some, if_none_then, if_there, is_here, no_slot}
+use Rattle.hx_replica.proofs.Invariant.{at_some, if_none_then, if_there, is_here, no_slot}
 use Rattle.hx_replica.proofs.servers.Server.slot.Goals as goal
 
 pub returns-clause-state : goal.returns-clause-state

@@ -1,24 +1,24 @@
 use Rattle.std.proofs.Common.{subst, sym, ◌∙◌}
 use Rattle.std.proofs.lemmas.Result.{IfOk-weaker}
 use Rattle.hx_types.specs.declared.configs.Config.{Config}
-use Rattle.hx_replica.specs.Made.{IsMade, key_in, room_by, slot_step_of}
+use Rattle.hx_replica.specs.Outputs.{IsOutputOf, key_in, room_by, slot_step_of}
 use Rattle.hx_replica.specs.Replicas.{IsReplicaIn}
 use Rattle.hx_replica.proofs.Changing.{replica_at}
-use Rattle.hx_replica.proofs.Inside.{asked, made_at, placed_at, slot_state, within}
+use Rattle.hx_replica.proofs.Invariant.{asked, made_at, placed_at, slot_state, within}
 use Rattle.hx_replica.proofs.servers.Server.step.Goals as goal
 
 pub slot_at-requires : goal.slot_at-requires
 slot_at-requires c =
     let i = c.self.inside in
-    let n = c.args.heard.now.replica in
+    let n = c.args.addressee.now.replica in
     let l = within i c.args.self.now n c.self.view_is c.requires.can.within in
-    (placed_at i c.args.self.now n c.args.heard.now.key.now (room_by c.args.message.now) c.args.place c.index-replica.result.now c.self.view_is l c.index-replica.ensures c.requires.room).is.within
+    (placed_at i c.args.self.now n c.args.addressee.now.key.now (room_by c.args.message.now) c.args.place c.index-replica.result.now c.self.view_is l c.index-replica.ensures c.requires.room).is.within
 
 pub step_slot-requires-clause-input : goal.step_slot-requires-clause-input
 step_slot-requires-clause-input c =
     let i = c.self.inside in
-    let n = c.args.heard.now.replica in
-    let key = c.args.heard.now.key.now in
+    let n = c.args.addressee.now.replica in
+    let key = c.args.addressee.now.key.now in
     let y = c.index-replica.result.now in
     let l = within i c.args.self.now n c.self.view_is c.requires.can.within in
     let room = placed_at i c.args.self.now n key (room_by c.args.message.now) c.args.place y c.self.view_is l c.index-replica.ensures c.requires.room in
@@ -29,7 +29,7 @@ step_slot-requires-clause-input c =
 pub step_slot-requires-clause-region : goal.step_slot-requires-clause-region
 step_slot-requires-clause-region c =
     let i = c.self.inside in
-    let n = c.args.heard.now.replica in
+    let n = c.args.addressee.now.replica in
     let y = c.index-replica.result.now in
     let l = within i c.args.self.now n c.self.view_is c.requires.can.within in
     let holds : IsReplicaIn i.space y = subst (IsReplicaIn i.space) (sym c.index-replica.ensures) (replica_at i.space i.replicas.items n y c.self.invariant.replicas_are.each l) in
@@ -38,8 +38,8 @@ step_slot-requires-clause-region c =
 pub returns-clause-made : goal.returns-clause-made
 returns-clause-made c =
     let i = c.self.inside in
-    let n = c.args.heard.now.replica in
-    let key = c.args.heard.now.key.now in
+    let n = c.args.addressee.now.replica in
+    let key = c.args.addressee.now.key.now in
     let y = c.index-replica.result.now in
     let l = within i c.args.self.now n c.self.view_is c.requires.can.within in
     let room = placed_at i c.args.self.now n key (room_by c.args.message.now) c.args.place y c.self.view_is l c.index-replica.ensures c.requires.room in
@@ -47,5 +47,5 @@ returns-clause-made c =
     IfOk-weaker c.step_slot.result _ _
     (λ made h. made_at i c.args.self.now n key c.args.from c.args.message.now y c.slot_at.result.now.state made c.self.view_is l c.index-replica.ensures
     (slot_state i y key c.args.place c.slot_at.result.now.state holds room.is.key_is c.slot_at.ensures.state) c.requires.can.key_is
-    (subst (λ (config : Config). IsMade y.region c.slot_at.result.now.state (key_in c.args.message.now) (slot_step_of (record { space = i.space; config = config; server = i.id; region = y.region }) c.slot_at.result.now.state c.args.from c.args.message.now) made) c.deref.ensures h))
+    (subst (λ (config : Config). IsOutputOf y.region c.slot_at.result.now.state (key_in c.args.message.now) (slot_step_of (record { space = i.space; config = config; server = i.id; region = y.region }) c.slot_at.result.now.state c.args.from c.args.message.now) made) c.deref.ensures h))
     c.step_slot.ensures.made

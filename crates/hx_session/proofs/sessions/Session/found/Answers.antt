@@ -15,5 +15,5 @@ returns-in-Some c =
 
 pub returns-in-None : goal.returns-in-None
 returns-in-None c =
-    unfound_made c.self.inside c.args.self.now c.args.epoch c.args.number c.args.region c.args.rows.now c.as_slice.result.now c.unmoved-in-None.result c.self.view_is c.as_slice.ensures
-    c.in-None.ensures.none c.unmoved-in-None.ensures
+    unfound_made c.self.inside c.args.self.now c.args.epoch c.args.number c.args.region c.args.rows.now c.as_slice.result.now c.plan_nothing-in-None.result c.self.view_is c.as_slice.ensures
+    c.in-None.ensures.none c.plan_nothing-in-None.ensures

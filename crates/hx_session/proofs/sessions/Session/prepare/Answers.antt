@@ -1,5 +1,5 @@
 use Rattle.std.proofs.Common.{sym, subst}
-use Rattle.hx_session.specs.Inside.{IsStateOf}
+use Rattle.hx_session.specs.Invariant.{IsStateOf}
 use Rattle.hx_types.specs.Posted.{ArePostsOf, NameOnly, PostsUpTo}
 use Rattle.hx_session.specs.Sessions.{SessionValue, known_to}
 use Rattle.hx_session.proofs.Posted.{posts_named, posts_of_space, posts_small}

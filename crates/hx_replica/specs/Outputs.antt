@@ -1,0 +1,159 @@
+-- What a step makes of one slot: its posts and notes, and the change by which the slot makes the step's moves.
+use Rattle.std.specs.Prelude.{◌≡◌, ℕ, ◌<◌, ◌≤◌, ◌==◌, ◌||◌, Bool, true, ⊤, ◌^◌, IsSome, IsSomeAnd, List, [], ◌∷◌, length, slice_get, take}
+use Rattle.std.specs.Borrow.{Bor}
+use Rattle.std.specs.List.{All, flat_map, list_any, prefix_len}
+use Rattle.hx_types.specs.declared.messages.Message.{Message}
+use Rattle.hx_types.specs.declared.messages.Post.{Post}
+use Rattle.hx_types.specs.declared.ids.Actor.{Actor}
+use Rattle.hx_types.specs.declared.ids.RegionId.{RegionId}
+use Rattle.hx_types.specs.declared.ids.SessionId.{SessionId}
+use Rattle.hx_types.specs.declared.ids.Version.{Version}
+use Rattle.hx_types.specs.declared.updates.Place.{Place}
+use Rattle.hx_types.specs.declared.updates.Update.{Update}
+use Rattle.hx_types.specs.declared.messages.Message.TheVariants as a_message
+use Rattle.hx_types.specs.declared.ids.Actor.TheVariants.{Coordinator, Server, Session}
+use Rattle.hx_types.specs.declared.spaces.Space.{Space}
+use Rattle.hx_types.specs.Effects.{key_of}
+use Rattle.hx_model.specs.Regions.{key_region}
+use Rattle.hx_types.specs.Words.{provided, when_some}
+use Rattle.hx_model.specs.ServerSteps.{SlotStep, SlotContext as ModelContext, accepting, ack_step, by_posts, call_step, tail_acks, move_posts, next_at, prev_at, told_to, update_step}
+use Rattle.hx_model.specs.Neighbours.{is_end}
+use Rattle.hx_model.specs.Slots.{KeyState, Move, acknowledged, moved_all, offered, taken, top_of}
+use Rattle.hx_slot.specs.States.{IsPlacedIn}
+use Rattle.hx_store.specs.Stores.{ArePending, CanBeOffered, Room, accepted, accepted_at, acknowledged_at, acknowledging}
+use Rattle.hx_replica.specs.declared.outputs.SlotChange.{SlotChange}
+use Rattle.hx_replica.specs.declared.outputs.SlotChange.TheVariants.{Open, Accept, Acknowledge}
+use Rattle.hx_replica.specs.declared.outputs.SlotOutput.{SlotOutput}
+use Rattle.hx_replica.specs.declared.contexts.SlotContext.{SlotContext}
+
+-- where a slot stands, as the definitions say it
+abbrev pub context_seen : SlotContext → ModelContext
+context_seen s = record { space = s.space.now; config = s.config.now; server = s.server; region = s.region }
+
+-- the updates that are lent
+abbrev pub seen : List (Bor Update) → List Update
+seen [] = []
+seen (b ∷ rest) = b.now ∷ seen rest
+
+-- the version of an update whose chain ends here
+abbrev pub tail_version : ModelContext → Update → List Version
+tail_version context u = provided (is_end (next_at context u)) (u.version ∷ [])
+
+-- how many of the lowest updates have one of these versions
+abbrev pub ended_count : List Version → List Update → ℕ
+ended_count tail_versions us = prefix_len (λ (u : Update). list_any (λ (e : Version). e.0 == u.version.0) tail_versions) us
+
+-- what is posted of an update that is committed
+abbrev pub told_of : ModelContext → Update → List Post
+told_of context u = told_to context u (prev_at context u)
+
+-- the moves of a change
+abbrev pub moves_by : RegionId → KeyState → SlotChange → List Move
+moves_by g s Open = []
+moves_by g s (Accept u place tail_versions) = accepted g s u tail_versions.items
+moves_by g s (Acknowledge v) = acknowledged s v.0
+
+-- the slot after a change, without its past
+abbrev pub stepped : SlotChange → RegionId → KeyState → KeyState
+stepped Open g s = s
+stepped (Accept u place tail_versions) g s = accepted_at u tail_versions.items g s
+stepped (Acknowledge v) g s = acknowledged_at v.0 g s
+
+-- for how many updates a change needs room
+abbrev pub room_of : SlotChange → ℕ
+room_of (Accept u place tail_versions) = 1
+room_of other = 0
+
+-- for how many updates the step of a message needs room: an acknowledgement brings none
+abbrev pub room_by : Message → ℕ
+room_by (a_message.Ack epoch g key version) = 0
+room_by other = 1
+
+-- the place in a store is the key's, with room for n more updates at its slot
+abbrev pub HasRoomFor : List ℕ → ℕ → ℕ → List Room → Type 0
+HasRoomFor key n place rooms = IsSomeAnd (slice_get rooms place) (λ (r : Room). (r.key ≡ key) × (n ≤ r.spare))
+
+-- the slot of the key can make the change
+abbrev pub ChangeFits : RegionId → KeyState → List ℕ → SlotChange → Type 0
+ChangeFits g s key Open = ⊤
+ChangeFits g s key (Accept u place tail_versions) = (u.key ≡ key) × CanBeOffered g u place × ArePending (moved_all (offered g s u) s) tail_versions.items
+ChangeFits g s key (Acknowledge v) = ⊤
+
+-- what was made is the step of the slot
+pub record IsOutputOf (g : RegionId) (s : KeyState) (key : List ℕ) (step : SlotStep) (made : SlotOutput) : Type 0 where
+  pub posts : made.posts ≡ step.posts
+  pub notes : made.notes ≡ step.notes
+  pub moves : moves_by g s made.change ≡ step.moves
+  pub fits : ChangeFits g s key made.change
+
+abbrev pub session_in : Actor → SessionId
+session_in Coordinator = record { 0 = 0 }
+session_in (Server s) = record { 0 = 0 }
+session_in (Session u) = u
+
+-- the key of the slot to which a message goes
+abbrev pub key_in : Message → List ℕ
+key_in (a_message.Call epoch number op) = when_some (key_of op) [] (λ k. k)
+key_in (a_message.Update epoch g u) = u.key
+key_in (a_message.Ack epoch g key version) = key
+key_in other = []
+
+-- the step of the slot to which a message goes
+abbrev pub slot_step_of : ModelContext → KeyState → Actor → Message → SlotStep
+slot_step_of context s from (a_message.Call epoch number op) = call_step context s (record { session = session_in from; number = number }) op
+slot_step_of context s from (a_message.Update epoch g u) = update_step context s u
+slot_step_of context s from (a_message.Ack epoch g key version) = ack_step context s version.0
+slot_step_of context s from other = by_posts []
+
+-- a version is acknowledged, or one of those that are being acknowledged
+abbrev pub settles : List ℕ → List Version → Version → Bool
+settles acked tail_versions v = list_any (λ (e : Version). e.0 == v.0) tail_versions || list_any (λ w. w == v.0) acked
+
+-- the first updates of a list that are acknowledged
+abbrev pub settled_among : List ℕ → List Version → List (Bor Update) → List (Bor Update)
+settled_among acked tail_versions us = take (prefix_len (λ (b : Bor Update). settles acked tail_versions b.now.version) us) us
+
+-- an update with a place in the region
+pub record IsHere (g : RegionId) (b : Bor Update) : Type 0 where
+  pub placed : IsPlacedIn g b.now
+  pub few : length b.now.places ≤ 17
+
+-- and above a version
+pub record IsNew (g : RegionId) (floor : ℕ) (b : Bor Update) : Type 0 where
+  pub placed : IsPlacedIn g b.now
+  pub few : length b.now.places ≤ 17
+  pub above : floor < b.now.version.0
+
+-- an update that can be accepted after these
+pub record IsComing (g : RegionId) (s : KeyState) (u : Update) : Type 0 where
+  pub placed : IsPlacedIn g u
+  pub few : length u.places ≤ 17
+  pub after : All (λ (p : Place). p.after.0 < u.version.0) u.places
+  pub above : top_of s < u.version.0
+  pub floor : s.floor ≤ top_of s
+
+-- what is posted of accepting an update, and the versions whose chain ends here
+pub record IsAccepted (context : ModelContext) (s : KeyState) (u : Update) (posts : List Post) (tail_versions : List Version) : Type 0 where
+  pub posts_are : posts ≡ flat_map (move_posts context) (accepting context s (offered context.region s u))
+  pub ends_are : acknowledging tail_versions ≡ tail_acks context (taken (offered context.region s u))
+  pub pending : ArePending (moved_all (offered context.region s u) s) tail_versions
+
+abbrev pub IsSessionActor : Actor → Type 0
+IsSessionActor Coordinator = ⊥
+IsSessionActor (Server s) = ⊥
+IsSessionActor (Session u) = ⊤
+
+-- the slot of a key at its leader, with room for a further version
+pub record IsLeading (space : Space) (g : RegionId) (s : KeyState) : Type 0 where
+  pub marks : s.marks ≡ true
+  pub region : g ≡ key_region space s.base.key
+  pub small : top_of s ≤ 2 ^ 62
+
+-- what a slot of a region is asked: a call by a session on its key at a key region where it keeps marks, an update with a place there, or an acknowledgement
+abbrev pub IsSlotInput : Space → RegionId → KeyState → Actor → Message → Type 0
+IsSlotInput space g s from (a_message.Call epoch number op) =
+    IsSessionActor from × IsSome (key_of op) × IsLeading space g s × (s.base.key ≡ key_in (a_message.Call epoch number op))
+IsSlotInput space g s from (a_message.Update epoch h u) =
+    IsPlacedIn g u × (length u.places ≤ 17) × All (λ (p : Place). p.after.0 < u.version.0) u.places
+IsSlotInput space g s from (a_message.Ack epoch h key version) = s.base.key ≡ key
+IsSlotInput space g s from other = ⊥

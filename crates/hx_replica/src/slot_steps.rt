@@ -1,0 +1,282 @@
+ghost use Rattle.std.specs.Prelude.{◌≡◌, ◌≤◌, ◌<◌, ◌^◌, ◌∷◌, [], IfOk, true, length};
+ghost use Rattle.std.specs.List.{All};
+ghost use Rattle.hx_types.specs.Spaces.{IsSpace};
+ghost use Rattle.hx_types.specs.declared.updates.Place.{Place};
+ghost use Rattle.hx_types.specs.declared.outcomes.Decision.TheVariants as a_decision;
+ghost use Rattle.hx_model.specs.Leading.{decide, stuck_of};
+ghost use Rattle.hx_model.specs.Regions.{key_region};
+ghost use Rattle.hx_model.specs.ServerSteps.{ack_step, accepting, by_moves, by_posts, call_step, decided, get_step, known_to, update_step, waiting_doubt, write_step};
+ghost use Rattle.hx_model.specs.Slots.{offered, top_of};
+ghost use Rattle.hx_slot.specs.States.{IsPlacedIn};
+ghost use Rattle.hx_replica.specs.Outputs.{IsComing, IsLeading, IsOutputOf, IsSlotInput, key_in, room_by, room_of, session_in, slot_step_of, context_seen};
+
+use crate::accepting::accepted;
+use crate::contexts::{SlotContext, doubt, place_at, post_ack, reply};
+use crate::outputs::{SlotChange, SlotOutput, slot_replies, slot_unchanged};
+use crate::settling::post_lowest_commits;
+use hx_leader::{decide, stuck};
+use hx_slot::Slot;
+use hx_types::{
+    Actor, Answer, Caller, Decision, Exact, Memory, Message, Note, Notes, Op, Posts, SessionId,
+    Shared, Update, Version,
+};
+use std::alloc::Global;
+
+/// What a step makes of the slot to which a message goes.
+pub fn step_slot(
+    alloc: Global,
+    context: &SlotContext,
+    slot: &Slot,
+    from: Actor,
+    message: &Message,
+) -> Result<SlotOutput, Memory>
+    requires map { context.now.map.now ≡ context.now.space.now }
+    requires space { IsSpace context.now.space.now }
+    requires region { slot.now.region ≡ context.now.region }
+    requires input { IsSlotInput context.now.space.now context.now.region slot.now.state from message.now }
+    ensures made { IfOk result (λ made. IsOutputOf context.now.region slot.now.state (key_in message.now) (slot_step_of (context_seen context.now) slot.now.state from message.now) made) }
+    ensures room { IfOk result (λ made. room_of made.change ≤ room_by message.now) }
+{
+    match message {
+        Message::Call { number, op, .. } => {
+            let caller = caller_of(from, *number);
+            call(alloc, context, slot, caller, op)
+        }
+        Message::Update { update, .. } => take(alloc, context, slot, update),
+        Message::Ack { version, .. } => settle(alloc, context, slot, *version),
+        _ => unreachable!(),
+    }
+}
+
+#[inline]
+fn caller_of(from: Actor, number: u32) -> Caller
+    ensures { result ≡ record { session = session_in from; number = number } }
+{
+    Caller {
+        session: session_in(from),
+        number,
+    }
+}
+
+#[inline]
+fn session_in(from: Actor) -> SessionId
+    ensures { result ≡ session_in from }
+{
+    match from {
+        Actor::Session(session) => session,
+        Actor::Coordinator | Actor::Server(_) => SessionId(0),
+    }
+}
+
+/// A call is a get, or a write on which the leader decides.
+fn call(
+    alloc: Global,
+    context: &SlotContext,
+    slot: &Slot,
+    caller: Caller,
+    op: &Op,
+) -> Result<SlotOutput, Memory>
+    requires map { context.now.map.now ≡ context.now.space.now }
+    requires space { IsSpace context.now.space.now }
+    requires region { slot.now.region ≡ context.now.region }
+    requires leading { IsLeading context.now.space.now context.now.region slot.now.state }
+    ensures { IfOk result (λ made. IsOutputOf context.now.region slot.now.state slot.now.state.base.key (call_step (context_seen context.now) slot.now.state caller op.now) made) }
+{
+    if op.is_write() {
+        write(alloc, context, slot, caller, op)
+    } else {
+        read(alloc, context, slot, caller)
+    }
+}
+
+/// A get is answered by the floor and the committed object.
+fn read(
+    alloc: Global,
+    context: &SlotContext,
+    slot: &Slot,
+    caller: Caller,
+) -> Result<SlotOutput, Memory>
+    requires { slot.now.region ≡ context.now.region }
+    ensures { IfOk result (λ made. IsOutputOf context.now.region slot.now.state slot.now.state.base.key (get_step (context_seen context.now) slot.now.state caller) made) }
+{
+    let answer = match slot.object() {
+        Some((_, object)) => Answer::Found(object.copy(alloc)?),
+        None => Answer::NotFound,
+    };
+    slot_replies(alloc, reply(context, caller, slot.floor(), answer))
+}
+
+/// A write, by what the leader decides on it.
+fn write(
+    alloc: Global,
+    context: &SlotContext,
+    slot: &Slot,
+    caller: Caller,
+    op: &Op,
+) -> Result<SlotOutput, Memory>
+    requires map { context.now.map.now ≡ context.now.space.now }
+    requires space { IsSpace context.now.space.now }
+    requires region { slot.now.region ≡ context.now.region }
+    requires leading { IsLeading context.now.space.now context.now.region slot.now.state }
+    ensures { IfOk result (λ made. IsOutputOf context.now.region slot.now.state slot.now.state.base.key (write_step (context_seen context.now) slot.now.state caller op.now) made) }
+{
+    let top = slot.top();
+    prove!(top.0 < u64::MAX);
+    match decide(
+        alloc,
+        context.space,
+        context.map,
+        context.config,
+        slot,
+        caller,
+        op,
+    )? {
+        Decision::Old => Ok(slot_unchanged(alloc, Posts::new(alloc))),
+        Decision::Again(version, answer) => {
+            slot_replies(alloc, reply(context, caller, version, answer))
+        }
+        Decision::Wait(version) => wait(alloc, context, slot, caller, version),
+        Decision::Stuck(region) => {
+            slot_replies(alloc, doubt(context, caller, Version(0), region))
+        }
+        Decision::Assign(update) => assign(alloc, context, slot, update),
+    }
+}
+
+/// A write that is assigned and not committed yet: in doubt where a lost region stands in its way,
+/// else nothing is said.
+fn wait(
+    alloc: Global,
+    context: &SlotContext,
+    slot: &Slot,
+    caller: Caller,
+    version: Version,
+) -> Result<SlotOutput, Memory>
+    requires { slot.now.region ≡ context.now.region }
+    ensures { IfOk result (λ made. IsOutputOf context.now.region slot.now.state slot.now.state.base.key (by_posts (waiting_doubt (context_seen context.now) caller version (stuck_of context.now.config.now slot.now.state))) made) }
+{
+    match stuck(context.config, slot) {
+        Some((first, region)) if first.0 <= version.0 => {
+            slot_replies(alloc, doubt(context, caller, version, region))
+        }
+        _ => Ok(slot_unchanged(alloc, Posts::new(alloc))),
+    }
+}
+
+/// The update that a write is given is noted, and accepted as the next one.
+fn assign(
+    alloc: Global,
+    context: &SlotContext,
+    slot: &Slot,
+    update: Shared<Update>,
+) -> Result<SlotOutput, Memory>
+    requires coming { IsComing context.now.region slot.now.state update }
+    requires region { slot.now.region ≡ context.now.region }
+    ensures { IfOk result (λ made. IsOutputOf context.now.region slot.now.state update.key (decided (context_seen context.now) slot.now.state update.caller (a_decision.Assign update)) made) }
+{
+    let note = Note::Assigned {
+        update: update.copy(alloc)?,
+    };
+    let mut notes = Notes::new(alloc);
+    notes.push(note)?;
+    let made = accept(alloc, context, slot, update)?;
+    Ok(SlotOutput {
+        posts: made.posts,
+        notes,
+        change: made.change,
+    })
+}
+
+/// An update is known, accepted or early.
+fn take(
+    alloc: Global,
+    context: &SlotContext,
+    slot: &Slot,
+    update: &Shared<Update>,
+) -> Result<SlotOutput, Memory>
+    requires placed { IsPlacedIn context.now.region update.now }
+    requires few { length update.now.places ≤ 17 }
+    requires after { All (λ (p : Place). p.after.0 < update.now.version.0) update.now.places }
+    requires region { slot.now.region ≡ context.now.region }
+    ensures { IfOk result (λ made. IsOutputOf context.now.region slot.now.state update.now.key (update_step (context_seen context.now) slot.now.state update.now) made) }
+{
+    if update.version.0 <= slot.top().0 {
+        return Ok(slot_unchanged(alloc, known(alloc, context, slot, update)?));
+    }
+    accept(alloc, context, slot, update.copy(alloc)?)
+}
+
+/// A known update is acknowledged again where it is committed.
+fn known(
+    alloc: Global,
+    context: &SlotContext,
+    slot: &Slot,
+    update: &Update,
+) -> Result<Posts, Memory>
+    requires placed { IsPlacedIn context.now.region update.now }
+    requires few { length update.now.places ≤ 17 }
+    ensures { IfOk result (λ posts. posts ≡ known_to (context_seen context.now) slot.now.state update.now) }
+{
+    let mut posts = Posts::new(alloc);
+    if update.version.0 <= slot.floor().0 {
+        post_ack(alloc, context, update, &mut posts)?;
+    }
+    Ok(posts)
+}
+
+/// An update above the top is offered to the slot.
+fn accept(
+    alloc: Global,
+    context: &SlotContext,
+    slot: &Slot,
+    update: Shared<Update>,
+) -> Result<SlotOutput, Memory>
+    requires coming { IsComing context.now.region slot.now.state update }
+    requires region { slot.now.region ≡ context.now.region }
+    ensures { IfOk result (λ made. IsOutputOf context.now.region slot.now.state update.key (by_moves (context_seen context.now) (accepting (context_seen context.now) slot.now.state (offered context.now.region slot.now.state update))) made) }
+{
+    let place = place_at(context, &update);
+    let made = accepted(alloc, context, slot, &update)?;
+    Ok(SlotOutput {
+        posts: made.posts,
+        notes: Notes::new(alloc),
+        change: SlotChange::Accept {
+            update,
+            place,
+            tail_versions: made.tail_versions,
+        },
+    })
+}
+
+/// A version is acknowledged, and what can be committed is told of.
+fn settle(
+    alloc: Global,
+    context: &SlotContext,
+    slot: &Slot,
+    version: Version,
+) -> Result<SlotOutput, Memory>
+    requires { slot.now.region ≡ context.now.region }
+    ensures made { IfOk result (λ made. IsOutputOf context.now.region slot.now.state slot.now.state.base.key (ack_step (context_seen context.now) slot.now.state version.0) made) }
+    ensures room { IfOk result (λ made. room_of made.change ≡ 0) }
+{
+    Ok(SlotOutput {
+        posts: settled(alloc, context, slot, version)?,
+        notes: Notes::new(alloc),
+        change: SlotChange::Acknowledge { version },
+    })
+}
+
+/// The posts of the updates that an acknowledgement commits.
+fn settled(
+    alloc: Global,
+    context: &SlotContext,
+    slot: &Slot,
+    version: Version,
+) -> Result<Posts, Memory>
+    requires { slot.now.region ≡ context.now.region }
+    ensures { IfOk result (λ posts. posts ≡ (ack_step (context_seen context.now) slot.now.state version.0).posts) }
+{
+    let mut posts = Posts::new(alloc);
+    post_lowest_commits(alloc, context, slot, slot.would_commit(version), &mut posts)?;
+    Ok(posts)
+}
