@@ -1,0 +1,6 @@
+pub mod Commands
+pub mod Outcomes
+pub mod Plans
+pub mod Steps
+pub mod Causes
+pub mod Calling

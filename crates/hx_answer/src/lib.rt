@@ -1,0 +1,18 @@
+//! What `replay` and `plan` make of a script's text: the words that say them, the replay of the script's steps and its
+//! schedule, the plans of its searches, the bytes of the answer, and how the call ends.
+//!
+//! `hyperstore_alone` is the top call without threads. No contract says that there is memory, so a call that always
+//! ended for want of it would be proved: the gate runs the program on scripts whose reports are known.
+#![tactic(auto)]
+
+mod alone;
+mod answering;
+mod outcomes;
+mod plans;
+mod replaying;
+mod steps;
+mod words;
+
+pub use alone::hyperstore_alone;
+pub use outcomes::{Done, Outcome, fault_text, status};
+pub use words::{Command, Question, command_of, question_of};

@@ -1,0 +1,4 @@
+pub mod Handing
+pub mod Deciding
+pub mod Tuning
+pub mod Wording

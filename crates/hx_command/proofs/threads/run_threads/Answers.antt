@@ -1,0 +1,24 @@
+-- All that the laws say of a run on threads; and tuning changes no count of a fate.
+use Rattle.std.proofs.Common.{◌≡◌, get_or, slice_get, Some, arith}
+use Rattle.std.proofs.lemmas.Option.{slice_get_within, slice_get-get_or}
+use Rattle.hx_command.proofs.Handing.{is_lawful, risen_from}
+use Rattle.hx_command.proofs.threads.run_threads.Goals as goal
+
+pub returns-clause-ran : goal.returns-clause-ran
+returns-clause-ran g c =
+    let e = c.in_ok-ran.ensures in
+    record {
+      ran = e.ran;
+      lawful =
+          is_lawful c.args.script.now c.in_ok-ran.ran.trace c.requires.script e.ran.run c.histories_are_linear.ensures c.searches_are_true_and_whole.ensures
+          c.answers_have_causes.ensures;
+      fates = e.fates;
+    }
+
+pub returns-clause-risen : goal.returns-clause-risen
+returns-clause-risen g c i f h t p q r =
+    let tuned = c.tune_first.new.fates.items in
+    let within = slice_get_within c.args.fates.items i f p in
+    let at : slice_get tuned i ≡ Some (get_or tuned i f) = slice_get-get_or tuned i f (omega (arith, c.tune_first.ensures.count, within)) in
+    let same = c.tune_first.ensures.same i f (get_or tuned i f) p at in
+    risen_from c.args.script.now c.args.threading.workers c.in_ok-ran.ran.trace i t _ _ _ _ _ _ _ same.0 same.1 same.2 (c.in_ok-ran.ensures.risen i (get_or tuned i f) h t at q r)

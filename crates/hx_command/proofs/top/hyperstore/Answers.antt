@@ -1,0 +1,88 @@
+-- The words are those of `run`, of `soak`, or of neither.
+use Rattle.std.proofs.Common.{inl, refl}
+use Rattle.hx_command.proofs.Wording.{none_some, not_both, same_some}
+use Rattle.hx_command.proofs.top.hyperstore.Goals as goal
+
+-- ---- the words of `run`
+pub returns-in-Some-clause-alone : goal.returns-in-Some-clause-alone
+returns-in-Some-clause-alone g c unthreaded = absurd (unthreaded.no_run c.in-Some.command ((c.in-Some.ensures.said c.in-Some.command).0 refl))
+
+pub returns-in-Some-clause-empty : goal.returns-in-Some-clause-empty
+returns-in-Some-clause-empty g c unthreaded = absurd (unthreaded.no_run c.in-Some.command ((c.in-Some.ensures.said c.in-Some.command).0 refl))
+
+pub returns-in-Some-clause-run : goal.returns-in-Some-clause-run
+returns-in-Some-clause-run g c command says = rw (same_some c.in-Some.command command ((c.in-Some.ensures.said command).1 says)) c.run_words.ensures.run
+
+pub returns-in-Some-clause-soak : goal.returns-in-Some-clause-soak
+returns-in-Some-clause-soak g c command says = absurd (not_both c.args.words.now c.in-Some.command command ((c.in-Some.ensures.said c.in-Some.command).0 refl) says)
+
+pub returns-in-Some-clause-soaked : goal.returns-in-Some-clause-soaked
+returns-in-Some-clause-soaked g c command says still =
+    absurd (not_both c.args.words.now c.in-Some.command command ((c.in-Some.ensures.said c.in-Some.command).0 refl) says)
+
+pub returns-in-Some-clause-unread : goal.returns-in-Some-clause-unread
+returns-in-Some-clause-unread g c command says = absurd (not_both c.args.words.now c.in-Some.command command ((c.in-Some.ensures.said c.in-Some.command).0 refl) says)
+
+-- ---- the words of `soak`
+pub returns-in-Some-soak_of-clause-alone : goal.returns-in-Some-soak_of-clause-alone
+returns-in-Some-soak_of-clause-alone g c unthreaded =
+    absurd (unthreaded.no_soak c.in-Some-soak_of.command ((c.in-Some-soak_of.ensures.said c.in-Some-soak_of.command).0 refl))
+
+pub returns-in-Some-soak_of-clause-empty : goal.returns-in-Some-soak_of-clause-empty
+returns-in-Some-soak_of-clause-empty g c unthreaded =
+    absurd (unthreaded.no_soak c.in-Some-soak_of.command ((c.in-Some-soak_of.ensures.said c.in-Some-soak_of.command).0 refl))
+
+pub returns-in-Some-soak_of-clause-run : goal.returns-in-Some-soak_of-clause-run
+returns-in-Some-soak_of-clause-run g c command says = absurd (none_some command ((c.in-None.ensures.said command).1 says))
+
+pub returns-in-Some-soak_of-clause-decided : goal.returns-in-Some-soak_of-clause-decided
+returns-in-Some-soak_of-clause-decided g c command says = absurd (none_some command ((c.in-None.ensures.said command).1 says))
+
+pub returns-in-Some-soak_of-clause-soak : goal.returns-in-Some-soak_of-clause-soak
+returns-in-Some-soak_of-clause-soak g c command says =
+    rw (same_some c.in-Some-soak_of.command command ((c.in-Some-soak_of.ensures.said command).1 says)) (c.soak_words.ensures.soak, c.soak_words.ensures.risen)
+
+-- ---- other words
+pub returns-in-None-soak_of-clause-fine : goal.returns-in-None-soak_of-clause-fine
+returns-in-None-soak_of-clause-fine g c =
+    let e = c.hyperstore_alone.ensures in
+    rw c.unthreaded.ensures.done
+    (λ is. let w = e.fine is in
+    inl (record {
+      unthreaded = record {
+        no_run = λ command says. none_some command ((c.in-None.ensures.said command).1 says);
+        no_soak = λ command says. none_some command ((c.in-None-soak_of.ensures.said command).1 says);
+      };
+      writes = record { command = w.0; text = w.1; bytes = w.2; says = w.3; reads = w.4; answer = w.5; written = w.6 };
+    }))
+
+pub returns-in-None-soak_of-clause-alone : goal.returns-in-None-soak_of-clause-alone
+returns-in-None-soak_of-clause-alone g c unthreaded =
+    let e = c.hyperstore_alone.ensures in
+    rw c.unthreaded.ensures.done (record {
+      fine = λ is. let w = e.fine is in record { command = w.0; text = w.1; bytes = w.2; says = w.3; reads = w.4; answer = w.5; written = w.6 };
+      usage = e.usage;
+      refused = e.refused;
+      too_large = e.too_large;
+      read_fault = e.read_fault;
+      write_fault = λ is.
+          let w = e.prefix is in
+          (e.write_fault is, record { command = w.0; text = w.1; bytes = w.2; says = w.3; reads = w.4; answer = w.5; written = w.6 });
+      worn = e.worn;
+      wears = λ command text worn a says replays left short is still. e.wears command text worn a says replays left short is still;
+      judged = e.judged;
+      faulty = e.faulty;
+      complete = e.complete;
+    })
+
+pub returns-in-None-soak_of-clause-run : goal.returns-in-None-soak_of-clause-run
+returns-in-None-soak_of-clause-run g c command says = absurd (none_some command ((c.in-None.ensures.said command).1 says))
+
+pub returns-in-None-soak_of-clause-decided : goal.returns-in-None-soak_of-clause-decided
+returns-in-None-soak_of-clause-decided g c command says = absurd (none_some command ((c.in-None.ensures.said command).1 says))
+
+pub returns-in-None-soak_of-clause-soak : goal.returns-in-None-soak_of-clause-soak
+returns-in-None-soak_of-clause-soak g c command says = absurd (none_some command ((c.in-None-soak_of.ensures.said command).1 says))
+
+pub returns-in-None-soak_of-clause-soaked : goal.returns-in-None-soak_of-clause-soaked
+returns-in-None-soak_of-clause-soaked g c command says still = absurd (none_some command ((c.in-None-soak_of.ensures.said command).1 says))

@@ -1,0 +1,46 @@
+-- What the program tells of a call, whichever words it has.
+use Rattle.std.specs.Prelude.{◌≡◌, ◌⊎◌, List}
+use Rattle.std.specs.declared.string.String.{String}
+use Rattle.std.specs.declared.alloc.Global.{Global}
+use Rattle.hx_io.specs.Causes.{Rose}
+use Rattle.hx_types.specs.declared.ids.Actor.{Actor}
+use Rattle.hx_types.specs.declared.traces.Script.{Script}
+use Rattle.hx_words.specs.declared.commands.Run.{Run}
+use Rattle.hx_words.specs.declared.commands.Soak.{Soak}
+use Rattle.hx_words.specs.Saying.{SaysRun, SaysSoak}
+use Rattle.hx_answer.specs.declared.outcomes.Outcome.{Outcome}
+use Rattle.hx_answer.specs.declared.outcomes.Outcome.TheVariants as an_outcome
+use Rattle.hx_answer.specs.Calling.{Drawn, Ends, Filled, Writes}
+use Rattle.hx_command.specs.Threads.{EndsRun, EndsSoak, Handed, IsDecided, IsUnthreaded}
+
+-- the answer to words that start no threads was written
+pub record AnswersAlone (words : List (String Global)) (source : Drawn) (sink : Filled) (h : Handed) : Type 0 where
+  pub unthreaded : IsUnthreaded words
+  pub writes : Writes words source sink h.trace
+
+-- the report of a run on threads was written
+pub record AnswersRun (words : List (String Global)) (source : Drawn) (sink : Filled) (h : Handed) : Type 0 where
+  pub command : Run
+  pub says : SaysRun words command
+  pub script : Script
+  pub ends : EndsRun command script source sink h an_outcome.Fine
+
+-- the summary of a soak was written
+pub record AnswersSoak (words : List (String Global)) (sink : Filled) (h : Handed) : Type 0 where
+  pub command : Soak
+  pub says : SaysSoak words command
+  pub ends : EndsSoak command sink h an_outcome.Fine
+
+-- the answer to the words was written
+abbrev pub Answers : List (String Global) → Drawn → Filled → Handed → Type 0
+Answers words source sink h = AnswersAlone words source sink h ⊎ (AnswersRun words source sink h ⊎ AnswersSoak words sink h)
+
+-- how a call ends, by its words; some value is handed back
+pub record Told (words : List (String Global)) (source : Drawn) (sink : Filled) (outcome : Outcome) : Type 0 where
+  pub h : Handed
+  pub alone : IsUnthreaded words → (outcome ≡ an_outcome.Memory) ⊎ Ends words source sink outcome h.trace
+  pub run : (command : Run) → SaysRun words command → (script : Script) × EndsRun command script source sink h outcome
+  pub decided : (command : Run) → SaysRun words command → IsDecided source sink outcome
+  pub soak : (command : Soak) → SaysSoak words command → EndsSoak command sink h outcome
+  pub soaked : (command : Soak) → SaysSoak words command → ¬ Rose sink.faults_before sink.faults_after
+      → (outcome ≡ an_outcome.Fine) ⊎ (outcome ≡ an_outcome.Memory) ⊎ ((a : Actor) × (outcome ≡ an_outcome.Worn a))

@@ -1,0 +1,130 @@
+-- What the program makes of a script on threads, and how a call with the words of `run` or of `soak` ends.
+use Rattle.std.specs.Prelude.{◌≡◌, ◌⊎◌, ◌+◌, ◌≤◌, ℕ, List, [], reverse, length, Option, None, Some, Ok, Err, Result, IfSome}
+use Rattle.std.specs.declared.string.String.{String}
+use Rattle.std.specs.declared.alloc.Global.{Global}
+use Rattle.std.specs.Io.KnownBytes.{Appends}
+use Rattle.hx_io.specs.Causes.{Rose}
+use Rattle.hx_io.specs.Pieces.{AppendsPrefix, ConsumesExactly}
+use Rattle.hx_types.specs.declared.calls.Caller.{Caller}
+use Rattle.hx_types.specs.declared.ids.Actor.{Actor}
+use Rattle.hx_types.specs.declared.totals.Totals.{Totals}
+use Rattle.hx_types.specs.declared.traces.Entry.{Entry}
+use Rattle.hx_types.specs.declared.traces.Script.{Script}
+use Rattle.hx_script.specs.Texts.{script_of}
+use Rattle.hx_model.specs.Linear.{IsLinear}
+use Rattle.hx_model.specs.Causes.{HasCauses}
+use Rattle.hx_model.specs.Searching.{FinishedSearch, search_of}
+use Rattle.hx_report.specs.Reporting.{IsReport}
+use Rattle.hx_mail.specs.Boxes.{Ported}
+use Rattle.hx_run.specs.Ran.{IsRan}
+use Rattle.hx_gen.specs.Soaking.{script_drawn, soak}
+use Rattle.hx_law_soak.specs.Sequence.{tally_in_order}
+use Rattle.hx_summary.specs.Summing.{tally_text}
+use Rattle.hx_words.specs.Saying.{SaysRun, SaysSoak}
+use Rattle.hx_words.specs.declared.commands.Run.{Run}
+use Rattle.hx_words.specs.declared.commands.Soak.{Soak}
+use Rattle.hx_answer.specs.declared.outcomes.Outcome.{Outcome}
+use Rattle.hx_answer.specs.declared.outcomes.Outcome.TheVariants as an_outcome
+use Rattle.hx_answer.specs.declared.words.Command.TheVariants as a_command
+use Rattle.hx_answer.specs.Calling.{Drawn, Filled}
+use Rattle.hx_answer.specs.Causes.{IsFaulty, IsJudged, IsRefused, IsSearchWell, IsTaken, ReadsText, limit}
+
+-- what a call hands back beside its outcome; of the fates, how many
+pub record Handed : Type 0 where
+  pub trace : List Entry
+  pub totals : List Totals
+  pub ports : List Ported
+  pub fates : ℕ
+
+abbrev pub nothing : Handed
+nothing = record { trace = []; totals = []; ports = []; fates = 0 }
+
+-- each key's history is linear, each finished search whole and true, and every answer has its cause
+pub record IsLawful (script : Script) (trace : List Entry) : Type 0 where
+  pub linear : (key : List ℕ) → IsLinear script (reverse trace) key
+  pub searches : (c : Caller) (s : FinishedSearch) → search_of script (reverse trace) c ≡ Some s → IsSearchWell script (reverse trace) s
+  pub causes : HasCauses script (reverse trace)
+
+-- so many threads ran the script, to its end or until this actor was worn, and each has its fate
+pub record IsThreaded (script : Script) (workers : ℕ) (h : Handed) (worn : Option Actor) : Type 0 where
+  pub ran : IsRan script workers h.trace h.totals h.ports worn
+  pub lawful : IsLawful script h.trace
+  pub fates : h.fates ≡ workers
+
+-- the report tells of the run and of what each driver posted
+pub record IsReported (run : Run) (script : Script) (h : Handed) (bytes : List ℕ) : Type 0 where
+  pub threaded : IsThreaded script run.workers h None
+  pub report_is : IsReport script (reverse h.trace) h.totals bytes run.with_trace
+
+-- the summary is that of the calls one after the other on one map, the same for every number of threads
+pub record IsSummed (soaked : Soak) (h : Handed) (bytes : List ℕ) : Type 0 where
+  pub threaded : IsThreaded (script_drawn soaked.seed soaked.calls) soaked.workers h None
+  pub summary_is : bytes ≡ tally_text soak (tally_in_order soaked.seed soaked.calls)
+
+-- these bytes were written, or a prefix of them and a fault rose
+abbrev pub IsWritten : Filled → List ℕ → Outcome → Type 0
+IsWritten sink bytes an_outcome.Fine = Appends sink.before sink.after bytes
+IsWritten sink bytes an_outcome.Usage = ⊥
+IsWritten sink bytes (an_outcome.Refused line reason) = ⊥
+IsWritten sink bytes an_outcome.TooLarge = ⊥
+IsWritten sink bytes an_outcome.ReadFault = ⊥
+IsWritten sink bytes an_outcome.WriteFault = Rose sink.faults_before sink.faults_after × AppendsPrefix sink.before sink.after bytes
+IsWritten sink bytes an_outcome.Memory = ⊥
+IsWritten sink bytes (an_outcome.Worn a) = ⊥
+
+-- how a script ends on threads, where `good` says what an answer is: it was written, or a prefix of it and a fault rose, or an actor is worn
+abbrev pub EndsOnThreads : (Handed → List ℕ → Type 0) → Script → ℕ → Filled → Handed → Outcome → Type 0
+EndsOnThreads good script workers sink h an_outcome.Fine = (bytes : List ℕ) × good h bytes × IsWritten sink bytes an_outcome.Fine
+EndsOnThreads good script workers sink h an_outcome.Usage = ⊥
+EndsOnThreads good script workers sink h (an_outcome.Refused line reason) = ⊥
+EndsOnThreads good script workers sink h an_outcome.TooLarge = ⊥
+EndsOnThreads good script workers sink h an_outcome.ReadFault = ⊥
+EndsOnThreads good script workers sink h an_outcome.WriteFault = (bytes : List ℕ) × good h bytes × IsWritten sink bytes an_outcome.WriteFault
+EndsOnThreads good script workers sink h an_outcome.Memory = h ≡ nothing
+EndsOnThreads good script workers sink h (an_outcome.Worn a) = IsThreaded script workers h (Some a)
+
+-- the source was read to its end, and its text is that of the script
+pub record ReadsScript (source : Drawn) (script : Script) : Type 0 where
+  pub text : List ℕ
+  pub reads : ReadsText source.before source.after text
+  pub text_is : script_of text ≡ Ok script
+
+-- what a source that tells its bytes says of what was read
+abbrev pub IsReadAs : List ℕ → Result Script Outcome → Type 0
+IsReadAs text (Ok script) = (length text ≤ limit) × (script_of text ≡ Ok script)
+IsReadAs text (Err outcome) = IsJudged a_command.Plan text outcome
+
+-- how a call with the words of `run` ends, with this script where the text is that of one
+abbrev pub EndsRun : Run → Script → Drawn → Filled → Handed → Outcome → Type 0
+EndsRun run script source sink h an_outcome.Fine =
+    ReadsScript source script × EndsOnThreads (IsReported run script) script run.workers sink h an_outcome.Fine
+EndsRun run script source sink h an_outcome.Usage = ⊥
+EndsRun run script source sink h (an_outcome.Refused line reason) =
+    (h ≡ nothing) × ((text : List ℕ) × ReadsText source.before source.after text × IsRefused text line reason)
+EndsRun run script source sink h an_outcome.TooLarge = (h ≡ nothing) × ConsumesExactly source.before source.after (limit + 1)
+EndsRun run script source sink h an_outcome.ReadFault = (h ≡ nothing) × Rose source.faults_before source.faults_after
+EndsRun run script source sink h an_outcome.WriteFault =
+    ReadsScript source script × EndsOnThreads (IsReported run script) script run.workers sink h an_outcome.WriteFault
+EndsRun run script source sink h an_outcome.Memory = h ≡ nothing
+EndsRun run script source sink h (an_outcome.Worn a) = ReadsScript source script × IsThreaded script run.workers h (Some a)
+
+-- how a call with the words of `soak` ends
+abbrev pub EndsSoak : Soak → Filled → Handed → Outcome → Type 0
+EndsSoak soaked sink h outcome = EndsOnThreads (IsSummed soaked) (script_drawn soaked.seed soaked.calls) soaked.workers sink h outcome
+
+-- for a source that tells its bytes these alone decide, but for faults, want of memory and worn actors
+pub record IsDecided (source : Drawn) (sink : Filled) (outcome : Outcome) : Type 0 where
+  pub judged : IfSome source.before (λ text. IsJudged a_command.Plan text outcome)
+  pub faulty : (text : List ℕ) (wanted : Outcome) → source.before ≡ Some text → IsFaulty a_command.Plan text wanted
+      → ¬ Rose source.faults_before source.faults_after
+      → (outcome ≡ wanted) ⊎ (outcome ≡ an_outcome.Memory)
+  pub complete : (text : List ℕ) → source.before ≡ Some text → length text ≤ limit → IsTaken a_command.Plan text
+      → ¬ Rose source.faults_before source.faults_after
+      → ¬ Rose sink.faults_before sink.faults_after
+      → (outcome ≡ an_outcome.Fine) ⊎ (outcome ≡ an_outcome.Memory)
+      ⊎ ((a : Actor) × (outcome ≡ an_outcome.Worn a))
+
+-- the words start no threads
+pub record IsUnthreaded (words : List (String Global)) : Type 0 where
+  pub no_run : (run : Run) → ¬ SaysRun words run
+  pub no_soak : (soak : Soak) → ¬ SaysSoak words soak

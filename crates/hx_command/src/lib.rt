@@ -1,0 +1,20 @@
+//! The commands of `hx`: the top call `hyperstore`, which takes the words, a source and a sink and runs scripts on one
+//! thread or several, and `run`, which makes that call for a process and tells its outcome.
+//!
+//! The contract of [`hyperstore`] is the theorem. No contract says that there is memory, so a program that always ended
+//! for want of it would be proved: the gate runs it on scripts whose reports are known.
+#![tactic(auto)]
+
+mod finished;
+mod program;
+mod reading;
+mod reporting;
+mod soaking;
+mod threaded;
+mod threads;
+mod top;
+mod writing;
+
+pub use finished::Finished;
+pub use program::run;
+pub use top::hyperstore;

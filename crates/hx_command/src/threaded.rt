@@ -1,0 +1,86 @@
+ghost use Rattle.std.specs.Prelude.{◌≡◌, ◌≤◌, ◌⊎◌, ℕ, length, slice_get, Some};
+ghost use Rattle.hx_io.specs.Causes.{Rose};
+ghost use Rattle.hx_types.specs.declared.ids.Actor.{Actor};
+ghost use Rattle.hx_types.specs.declared.totals.Totals.{Totals as TotalsSeen};
+ghost use Rattle.hx_types.specs.declared.traces.Script.{Script as ScriptSeen};
+ghost use Rattle.hx_gen.specs.Soaking.{script_drawn};
+ghost use Rattle.hx_run.specs.Ran.{HasRisen};
+ghost use Rattle.hx_words.specs.Limits.{IsRun, IsSoak};
+ghost use Rattle.hx_answer.specs.Outcomes.{IsSilent, status_of};
+ghost use Rattle.hx_command.specs.Threads.{EndsRun, EndsSoak, IsDecided};
+ghost use Rattle.hx_answer.specs.declared.outcomes.Outcome.{Outcome as OutcomeSeen};
+
+use crate::finished::{Finished, ended};
+use crate::reading::read_script;
+use crate::reporting::answer_run;
+use crate::soaking::answer_soak;
+use hx_answer::Outcome;
+use hx_desk::Gate;
+use hx_fate::Fate;
+use hx_gen::script_of;
+use hx_io::{Sink, Source};
+use hx_words::{Run, Soak};
+use std::alloc::Global;
+use std::sync::Wait;
+use std::thread::Threads;
+
+/// Runs the script of the source on threads, and writes the report.
+pub fn run_words<R: Threads + Wait + Sync, S: Source, K: Sink, G: Gate + Sync>(
+    rt: &R,
+    alloc: Global,
+    command: Run,
+    source: &mut S,
+    sink: &mut K,
+    fates: Vec<Box<dyn Fate + Send>>,
+    gate: &G,
+) -> Finished
+    requires fates { 16 ≤ length fates.items }
+    requires limits { IsRun command }
+    ensures status { result.done.status ≡ status_of result.done.outcome }
+    ensures run { (script : ScriptSeen) × EndsRun command script
+        (record { before = S.left source.old; after = S.left source.new; faults_before = S.faults source.old; faults_after = S.faults source.new })
+        (record { before = K.held sink.old; after = K.held sink.new; faults_before = K.faults sink.old; faults_after = K.faults sink.new })
+        (record { trace = result.done.trace; totals = result.totals.items; ports = result.ports.items; fates = length result.fates.items })
+        result.done.outcome
+        × ((i : ℕ) (f : _) (g : _) (t : TotalsSeen) → slice_get fates.items i ≡ Some f → slice_get result.fates.items i ≡ Some g → slice_get result.totals.items i ≡ Some t → HasRisen script command.workers result.done.trace i t (record { chosen = choices f; lost = losses f; doubled = repeats f }) (record { chosen = choices g; lost = losses g; doubled = repeats g })) }
+    ensures decided { IsDecided
+        (record { before = S.left source.old; after = S.left source.new; faults_before = S.faults source.old; faults_after = S.faults source.new })
+        (record { before = K.held sink.old; after = K.held sink.new; faults_before = K.faults sink.old; faults_after = K.faults sink.new })
+        result.done.outcome }
+    ensures silent { IsSilent result.done.outcome → sink.new ≡ sink.old }
+    ensures source_faults { S.faults source.old ≤ S.faults source.new }
+    ensures sink_faults { K.faults sink.old ≤ K.faults sink.new }
+{
+    match read_script(alloc, source) {
+        Ok(script) => answer_run(rt, alloc, command, &script, sink, fates, gate),
+        Err(outcome) => ended(alloc, outcome),
+    }
+}
+
+/// Runs a drawn script on threads, and writes its summary.
+pub fn soak_words<R: Threads + Wait + Sync, K: Sink, G: Gate + Sync>(
+    rt: &R,
+    alloc: Global,
+    command: Soak,
+    sink: &mut K,
+    fates: Vec<Box<dyn Fate + Send>>,
+    gate: &G,
+) -> Finished
+    requires fates { 16 ≤ length fates.items }
+    requires limits { IsSoak command }
+    ensures status { result.done.status ≡ status_of result.done.outcome }
+    ensures soak { EndsSoak command
+        (record { before = K.held sink.old; after = K.held sink.new; faults_before = K.faults sink.old; faults_after = K.faults sink.new })
+        (record { trace = result.done.trace; totals = result.totals.items; ports = result.ports.items; fates = length result.fates.items })
+        result.done.outcome }
+    ensures risen { (i : ℕ) (f : _) (g : _) (t : TotalsSeen) → slice_get fates.items i ≡ Some f → slice_get result.fates.items i ≡ Some g → slice_get result.totals.items i ≡ Some t → HasRisen (script_drawn command.seed command.calls) command.workers result.done.trace i t (record { chosen = choices f; lost = losses f; doubled = repeats f }) (record { chosen = choices g; lost = losses g; doubled = repeats g }) }
+    ensures soaked { ¬ Rose (K.faults sink.old) (K.faults sink.new)
+        → (result.done.outcome ≡ OutcomeSeen.Fine) ⊎ (result.done.outcome ≡ OutcomeSeen.Memory) ⊎ ((a : Actor) × (result.done.outcome ≡ OutcomeSeen.Worn a)) }
+    ensures silent { IsSilent result.done.outcome → sink.new ≡ sink.old }
+    ensures sink_faults { K.faults sink.old ≤ K.faults sink.new }
+{
+    match script_of(alloc, command.seed, command.calls) {
+        Ok(script) => answer_soak(rt, alloc, command, &script, sink, fates, gate),
+        Err(_) => ended(alloc, Outcome::Memory),
+    }
+}

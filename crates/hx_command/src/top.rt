@@ -1,0 +1,108 @@
+ghost use Rattle.std.specs.Prelude.{◌≡◌, ◌≤◌, ◌⊎◌, ℕ, [], length, slice_get, Some};
+ghost use Rattle.hx_io.specs.Causes.{Rose};
+ghost use Rattle.hx_types.specs.declared.ids.Actor.{Actor};
+ghost use Rattle.hx_types.specs.declared.totals.Totals.{Totals as TotalsSeen};
+ghost use Rattle.hx_types.specs.declared.traces.Script.{Script as ScriptSeen};
+ghost use Rattle.hx_gen.specs.Soaking.{script_drawn};
+ghost use Rattle.hx_run.specs.Ran.{HasRisen};
+ghost use Rattle.hx_words.specs.Saying.{SaysRun, SaysSoak};
+ghost use Rattle.hx_words.specs.declared.commands.Run.{Run as RunSeen};
+ghost use Rattle.hx_words.specs.declared.commands.Soak.{Soak as SoakSeen};
+ghost use Rattle.hx_answer.specs.Calling.{Ends};
+ghost use Rattle.hx_answer.specs.Outcomes.{HasNoTrace, IsSilent, status_of};
+ghost use Rattle.hx_command.specs.Telling.{Answers};
+ghost use Rattle.hx_command.specs.Threads.{EndsRun, EndsSoak, IsDecided, IsUnthreaded};
+ghost use Rattle.hx_answer.specs.declared.outcomes.Outcome.{Outcome};
+
+use crate::finished::{Finished, unthreaded};
+use crate::threaded::{run_words, soak_words};
+use hx_answer::hyperstore_alone;
+use hx_desk::Gate;
+use hx_fate::Fate;
+use hx_io::{Sink, Source};
+use hx_words::{run_of, soak_of};
+use std::alloc::Global;
+use std::sync::Wait;
+use std::thread::Threads;
+
+/// The program with threads: it takes its words, the source of its script and the sink of its answer,
+/// a fate for each of up to 16 drivers, and a gate.
+///
+/// With the words of `run` it runs the script of the source on threads, and with those of `soak` a
+/// script that it draws itself; all other words it hands on to [`hyperstore_alone`]. Fates that no
+/// driver has are dropped.
+///
+/// # Errors
+///
+/// Those of `hyperstore_alone`. `Worn` comes where an actor has made 1,048,576 entries and has one more
+/// to make.
+pub fn hyperstore<R: Threads + Wait + Sync, S: Source, K: Sink, G: Gate + Sync>(
+    rt: &R,
+    alloc: Global,
+    words: &[String],
+    source: &mut S,
+    sink: &mut K,
+    fates: Vec<Box<dyn Fate + Send>>,
+    gate: &G,
+) -> Finished
+    requires { 16 ≤ length fates.items }
+    ensures status { result.done.status ≡ status_of result.done.outcome }
+
+    // With status 0 the answer to the words was written.
+    ensures fine { result.done.outcome ≡ Outcome.Fine → Answers words.now
+        (record { before = S.left source.old; after = S.left source.new; faults_before = S.faults source.old; faults_after = S.faults source.new })
+        (record { before = K.held sink.old; after = K.held sink.new; faults_before = K.faults sink.old; faults_after = K.faults sink.new })
+        (record { trace = result.done.trace; totals = result.totals.items; ports = result.ports.items; fates = length result.fates.items }) }
+
+    // Words that start no threads end as they do alone, and hand back nothing of threads.
+    ensures alone { IsUnthreaded words.now → Ends words.now
+        (record { before = S.left source.old; after = S.left source.new; faults_before = S.faults source.old; faults_after = S.faults source.new })
+        (record { before = K.held sink.old; after = K.held sink.new; faults_before = K.faults sink.old; faults_after = K.faults sink.new })
+        result.done.outcome result.done.trace }
+    ensures empty { IsUnthreaded words.now → (result.totals.items ≡ []) × (result.fates.items ≡ []) × (result.ports.items ≡ []) }
+
+    // Under `run` the text that the source gave is that of a script. With status 0 the trace is a run of
+    // it without halts in which every call has ended, paced by retries that come only where nothing else
+    // is left but what was lost; all that the laws say of runs holds of it, and the report was written
+    // and nothing else. A worn actor hands back the run up to there.
+    ensures run { (command : RunSeen) → SaysRun words.now command → (script : ScriptSeen) × EndsRun command script
+        (record { before = S.left source.old; after = S.left source.new; faults_before = S.faults source.old; faults_after = S.faults source.new })
+        (record { before = K.held sink.old; after = K.held sink.new; faults_before = K.faults sink.old; faults_after = K.faults sink.new })
+        (record { trace = result.done.trace; totals = result.totals.items; ports = result.ports.items; fates = length result.fates.items })
+        result.done.outcome
+        × ((i : ℕ) (f : _) (g : _) (t : TotalsSeen) → slice_get fates.items i ≡ Some f → slice_get result.fates.items i ≡ Some g → slice_get result.totals.items i ≡ Some t → HasRisen script command.workers result.done.trace i t (record { chosen = choices f; lost = losses f; doubled = repeats f }) (record { chosen = choices g; lost = losses g; doubled = repeats g })) }
+    ensures decided { (command : RunSeen) → SaysRun words.now command → IsDecided
+        (record { before = S.left source.old; after = S.left source.new; faults_before = S.faults source.old; faults_after = S.faults source.new })
+        (record { before = K.held sink.old; after = K.held sink.new; faults_before = K.faults sink.old; faults_after = K.faults sink.new })
+        result.done.outcome }
+
+    // Under `soak` the bytes are the summary of the calls one after the other on one map, the same for
+    // every number of threads.
+    ensures soak { (command : SoakSeen) → SaysSoak words.now command → EndsSoak command
+        (record { before = K.held sink.old; after = K.held sink.new; faults_before = K.faults sink.old; faults_after = K.faults sink.new })
+        (record { trace = result.done.trace; totals = result.totals.items; ports = result.ports.items; fates = length result.fates.items })
+        result.done.outcome
+        × ((i : ℕ) (f : _) (g : _) (t : TotalsSeen) → slice_get fates.items i ≡ Some f → slice_get result.fates.items i ≡ Some g → slice_get result.totals.items i ≡ Some t → HasRisen (script_drawn command.seed command.calls) command.workers result.done.trace i t (record { chosen = choices f; lost = losses f; doubled = repeats f }) (record { chosen = choices g; lost = losses g; doubled = repeats g })) }
+    ensures soaked { (command : SoakSeen) → SaysSoak words.now command → ¬ Rose (K.faults sink.old) (K.faults sink.new)
+        → (result.done.outcome ≡ Outcome.Fine) ⊎ (result.done.outcome ≡ Outcome.Memory) ⊎ ((a : Actor) × (result.done.outcome ≡ Outcome.Worn a)) }
+    ensures unread { (command : SoakSeen) → SaysSoak words.now command → source.new ≡ source.old }
+
+    // Whatever the words are: a fault has its cause, nothing is written but with an answer, there is no
+    // trace but with one or where an actor is worn or a step refused, and words that are no command leave
+    // the source alone.
+    ensures read_fault { result.done.outcome ≡ Outcome.ReadFault → Rose (S.faults source.old) (S.faults source.new) }
+    ensures write_fault { result.done.outcome ≡ Outcome.WriteFault → Rose (K.faults sink.old) (K.faults sink.new) }
+    ensures silent { IsSilent result.done.outcome → sink.new ≡ sink.old }
+    ensures no_trace { HasNoTrace result.done.outcome → result.done.trace ≡ [] }
+    ensures untouched { result.done.outcome ≡ Outcome.Usage → source.new ≡ source.old }
+    ensures source_faults { S.faults source.old ≤ S.faults source.new }
+    ensures sink_faults { K.faults sink.old ≤ K.faults sink.new }
+{
+    match run_of(words) {
+        Some(command) => run_words(rt, alloc, command, source, sink, fates, gate),
+        None => match soak_of(words) {
+            Some(command) => soak_words(rt, alloc, command, sink, fates, gate),
+            None => unthreaded(alloc, hyperstore_alone(alloc, words, source, sink)),
+        },
+    }
+}

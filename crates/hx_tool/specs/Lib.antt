@@ -1,9 +1,0 @@
-pub mod Commands
-pub mod Outcomes
-pub mod Plans
-pub mod Steps
-pub mod Causes
-pub mod Calling
-pub mod Threads
-pub mod Telling
-pub mod Showing
