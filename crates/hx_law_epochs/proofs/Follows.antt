@@ -11,7 +11,7 @@ use Rattle.hx_types.specs.declared.ids.ServerId.{ServerId}
 use Rattle.hx_types.specs.Words.{IsBefore, IsIn, same_server, when_some}
 use Rattle.hx_types.specs.Configs.{any_ready, is_lost, lists, lists_joining, lists_ready, members_of}
 use Rattle.hx_model.specs.CoordinatorSteps.{CoordinatorState, Joined, config_without, is_joined, is_out, issuing, lists_without, made_ready}
-use Rattle.hx_law_lemmas.proofs.Lists.{any-in, in-append, in-filter, in-map, in_left}
+use Rattle.hx_law_lemmas.proofs.Lists.{any-in, in-append, in-filter, in-map, in_left, map-in}
 use Rattle.hx_law_lemmas.proofs.Chains.{Differ, server-same}
 use Rattle.hx_law_lemmas.proofs.Order.{before-in, fewer-before, fewer-differ, in-listed, listed-in, member-server, servers_of}
 use Rattle.hx_law_epochs.specs.Epochs.{FollowsOn, order}
@@ -58,12 +58,6 @@ pub ready-not_lost : (c : Config) (g : RegionId) (m : Member) → IsIn m (member
 ready-not_lost c g m i r = ap not (any-of (λ (x : Member). x.ready) (members_of c g) m i r)
 
 -- ---- lists with one more at the end
-
--- the image of an item
-map-in : {A B : Type 0} (f : A → B) (xs : List A) (x : A) → IsIn x xs → IsIn (f x) (map f xs)
-map-in f [] x i = absurd i
-map-in f (y ∷ xs) x (inl e) = inl (ap f e)
-map-in f (y ∷ xs) x (inr i) = inr (map-in f xs x i)
 
 -- who stands before whom with one more at the end
 before-more : {A : Type 0} (xs : List A) (z x y : A) → IsBefore x y (xs ++ z ∷ []) → IsBefore x y xs ⊎ (IsIn x xs × (y ≡ z))

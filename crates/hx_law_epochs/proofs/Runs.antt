@@ -29,7 +29,7 @@ use Rattle.hx_model.specs.CoordinatorSteps.{CoordinatorState, coordinator_step}
 use Rattle.hx_model.specs.SessionSteps.{SessionState, session_step}
 use Rattle.hx_model.specs.Runs.{IsRun, IsStep, Output, MayTake, coordinator_after, coordinator_of, has_halted, is_actor, made_of, server_after, server_of, session_after, session_of}
 use Rattle.hx_law_lemmas.specs.Words.{posts_of}
-use Rattle.hx_law_lemmas.proofs.Lists.{in-append, in-below, in-map, in_left, in_right}
+use Rattle.hx_law_lemmas.proofs.Lists.{in-append, in-below, in-map, in_left, in_right, map-in}
 use Rattle.hx_law_lemmas.proofs.FirstMembers.{all-ready}
 use Rattle.hx_law_lemmas.proofs.CallEnds.{started}
 use Rattle.hx_law_lemmas.proofs.Traces.{arrived}
@@ -74,11 +74,6 @@ pub record EpochsRun (script : Script) (t : List Entry) : Type 0 where
 below-in : (n k : ℕ) → k < n → IsIn k (below n)
 below-in zero k l = absurd (omega arith)
 below-in (suc n) k l = elim (cases_lt k n) [ inl m ↦ in_left (below n) (n ∷ []) k (below-in n k m) | inr m ↦ in_right (below n) (n ∷ []) k (inl (let e : k ≡ n = omega arith in e)) ]
-
-map-in : {A B : Type 0} (f : A → B) (xs : List A) (x : A) → IsIn x xs → IsIn (f x) (map f xs)
-map-in f [] x i = absurd i
-map-in f (y ∷ xs) x (inl e) = inl (ap f e)
-map-in f (y ∷ xs) x (inr i) = inr (map-in f xs x i)
 
 -- the servers of the first configuration are those of the space
 first-there : (space : Space) (s : ServerId) → IsServerOf space s → IsIn s (first_config space).servers

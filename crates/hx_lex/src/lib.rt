@@ -31,5 +31,6 @@ mod token;
 
 pub use errors::LexError;
 pub use laws::{tokens_are_spelled, word_is_utf8};
+pub use numbers::magnitude;
 pub use scan::tokens;
 pub use token::{Piece, Token, TokenKind, Tokens};

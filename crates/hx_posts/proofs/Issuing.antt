@@ -19,18 +19,12 @@ use Rattle.hx_types.specs.Configs.{is_lost, lists_ready, members_of}
 use Rattle.hx_types.specs.Spaces.{AllDiffer, Fits, IsConfigOf, IsListOf, IsServerOf}
 use Rattle.hx_types.specs.Posts.{IsSessionOf, IsSoundAnswer}
 use Rattle.hx_model.specs.CoordinatorSteps.{Answered, CoordinatorState, Issuing, Joined, Task, adds_by, answers_with, any_joining, appended, config_without, does, does_all, is_out, issuing, judged, leaves, lists_without, made_ready, remaining}
-use Rattle.hx_law_lemmas.proofs.Lists.{all-in, all-of, differ-append, in-append, in-filter, in-map, in-slice_get, when_some_both}
+use Rattle.hx_law_lemmas.proofs.Lists.{all-in, all-of, differ-append, in-append, in-filter, in-map, in-slice_get, map-in, when_some_both}
 use Rattle.hx_posts.proofs.Bounds.{IsSoundConfig, bounds}
 use Rattle.hx_posts.proofs.Configs.{server_number}
 use Rattle.hx_posts.proofs.SlotPosts.{any-of}
 
 -- ---- lists of members
-
--- the image of an item is in the mapped list
-map-in : {A B : Type 0} (f : A → B) (xs : List A) (x : A) → IsIn x xs → IsIn (f x) (map f xs)
-map-in f [] x i = absurd i
-map-in f (y ∷ xs) x (inl e) = inl (ap f e)
-map-in f (y ∷ xs) x (inr i) = inr (map-in f xs x i)
 
 -- numbers of a filtered list differ
 differ-filter : {A : Type 0} (f : A → ℕ) (test : A → Bool) (xs : List A) → AllDiffer (map f xs) → AllDiffer (map f (filter test xs))

@@ -3,7 +3,8 @@ use Rattle.std.proofs.Common.{◌≡◌, ℕ, Bool, true, false, not, ◌||◌, 
 use Rattle.std.specs.List.{flat_map, list_all}
 use Rattle.std.specs.Prelude.{codes}
 use Rattle.std.proofs.lemmas.Bool.{and_parts, cond-false, false≢true, not-true}
-use Rattle.hx_print.specs.Printing.{escape, is_plain}
+use Rattle.hx_print.specs.Plain.{is_plain}
+use Rattle.hx_print.specs.Printing.{escape}
 
 escaped : (b : ℕ) → is_plain b ≡ true → escape b ≡ b ∷ []
 escaped b = by (eqb b 34) (eqb b 92) (eqb b 10) (eqb b 9)

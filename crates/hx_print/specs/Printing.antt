@@ -43,10 +43,6 @@ escape b =
     else if b == 9 then codes "\\t"
     else b ∷ []
 
--- a byte that stands between quotes as it is
-abbrev pub is_plain : ℕ → Bool
-is_plain b = not (b == 34 || b == 92 || b == 10 || b == 9)
-
 -- a text in quotes
 unfoldable pub quoted : List ℕ → List ℕ
 quoted bytes = codes "\"" ++ flat_map escape bytes ++ codes "\""

@@ -2,7 +2,8 @@
 
 ghost use Rattle.std.specs.Prelude.{◌≡◌, ◌++◌, IfOk, OnOk};
 ghost use Rattle.std.specs.List.{flat_map, list_all};
-ghost use Rattle.hx_print.specs.Printing.{escape, is_plain, named_text, quoted, value_text};
+ghost use Rattle.hx_print.specs.Plain.{is_plain};
+ghost use Rattle.hx_print.specs.Printing.{escape, named_text, quoted, value_text};
 
 use crate::numbers::put_signed;
 use hx_types::{Memory, Text, Value};

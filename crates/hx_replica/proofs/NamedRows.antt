@@ -29,18 +29,12 @@ use Rattle.hx_types.specs.Words.{IsIn, post, when_some}
 use Rattle.hx_model.specs.Regions.{key_region}
 use Rattle.hx_model.specs.ServerSteps.{Replica, ServerState, ServerStep, acked, adopted, adopted_posts, asked, call_at, called, called_by, halting, replica_in_epoch, if_installed, input_step, install_at, installed_slots, listed_regions, message_step, ready_post, replica_of, replica_or_new, replica_tick, saying, seal_at, server_step, snapped, context_of, state_in, tick_step, unmoved, updated, with_config}
 use Rattle.hx_model.specs.Slots.{KeyState}
-use Rattle.hx_law_lemmas.proofs.Lists.{in-flat, in-map, in-slice_get, in_left, in_right, when_some_both}
+use Rattle.hx_law_lemmas.proofs.Lists.{in-flat, in-map, in-slice_get, in_left, in_right, map-in, when_some_both}
 use Rattle.hx_law_lemmas.proofs.Replicas.{replica-found}
 use Rattle.hx_posts.proofs.Servers.{replica_in_epoch-found, installed-found}
 use Rattle.hx_replica.proofs.NamedReplicas.{Knows, adopted-good, installed-good, ready-good, tick-good}
 use Rattle.hx_replica.proofs.NamedSlots.{AreGood, KnowsSlot, among-known, both-good, each-good, none-good, one-good, provided-good}
 use Rattle.hx_replica.proofs.NamedSteps.{ack-good, call-good, update-good}
-
--- what is made of an item stands among what is made of all
-pub map-in : {A B : Type 0} (f : A → B) (xs : List A) (x : A) → IsIn x xs → IsIn (f x) (map f xs)
-map-in f [] x i = absurd i
-map-in f (y ∷ xs) x (inl e) = inl (ap f e)
-map-in f (y ∷ xs) x (inr i) = inr (map-in f xs x i)
 
 -- a configuration names its members
 pub member-named : (config : Config) (g : RegionId) (m : Member) → IsIn m (members_of config g) → IsIn (Server m.server) (actors_of_config config)

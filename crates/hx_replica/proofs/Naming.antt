@@ -13,12 +13,12 @@ use Rattle.hx_types.specs.Posted.{NameOnly, NamesOnly, actors_of_config, actors_
 use Rattle.hx_types.specs.Words.{IsIn}
 use Rattle.hx_model.specs.ServerSteps.{Replica, ServerState, server_step}
 use Rattle.hx_model.specs.Slots.{KeyState}
-use Rattle.hx_law_lemmas.proofs.Lists.{all-of, in-flat, in_left, in_right}
+use Rattle.hx_law_lemmas.proofs.Lists.{all-of, in-flat, in_left, in_right, map-in}
 use Rattle.hx_replica.specs.Servers.{ServerValue, server_entry}
 use Rattle.hx_replica.specs.Named.{known_to, session_of, sessions_of_replica, sessions_of_slot}
 use Rattle.hx_replica.proofs.NamedReplicas.{Knows}
 use Rattle.hx_replica.proofs.NamedSlots.{IsGood, KnowsSlot}
-use Rattle.hx_replica.proofs.NamedRows.{KnowsInput, map-in, member-named, server-good}
+use Rattle.hx_replica.proofs.NamedRows.{KnowsInput, member-named, server-good}
 
 module _ (s : ServerState) (input : Input) where
   abbrev IsNamed : Actor → Type 0

@@ -31,6 +31,7 @@ use hx_history::{histories, records};
 use hx_print::{put_bytes, put_space};
 use hx_trace::Trace;
 use hx_types::{Memory, Script, Space, Totals};
+pub use objects::put_object;
 use std::alloc::Global;
 
 #[tactic(auto, unfolding(crate::specs::Reporting::head_text))]

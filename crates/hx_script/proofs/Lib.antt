@@ -3,7 +3,6 @@ pub mod Takes
 pub mod Assigning
 pub mod Asking
 pub mod MoreAxes
-pub mod Digits
 pub mod Lists
 pub mod Lines
 pub mod OfText

@@ -1,14 +1,14 @@
 //! The words for actors: `c`, or `s` or `u` with a number.
 
-ghost use Rattle.std.specs.Prelude.{◌≡◌, ◌<◌, ◌^◌, SomeIff};
+ghost use Rattle.std.specs.Prelude.{◌≡◌};
 ghost use Rattle.std.specs.List.{list_all};
 ghost use Rattle.hx_lex.specs.Letters.{is_digit};
-ghost use Rattle.hx_lex.specs.Numbers.{value};
 ghost use Rattle.hx_script.specs.Readers.{Reads, Gives};
 ghost use Rattle.hx_script.specs.Actors.{is_decimal, number_word, actor_word, actor};
 
 use crate::errors::{Reason, Stop};
 use crate::line::Line;
+use hx_lex::magnitude;
 use hx_types::{Actor, ServerId, SessionId};
 
 fn are_digits(bytes: &[u8]) -> bool
@@ -28,19 +28,6 @@ fn is_decimal(digits: &[u8]) -> bool
         return false;
     }
     b'1' <= *first || rest.len() == 0
-}
-
-/// What digits spell, where it has at most 64 bits.
-#[tactic(auto, using(crate::proofs::Digits::value_grows, crate::proofs::Digits::value_from_drop, crate::proofs::Digits::value_from_end))]
-fn magnitude(digits: &[u8]) -> Option<u64>
-    ensures { SomeIff result (value digits.now < 2 ^ 64) (value digits.now) }
-{
-    let mut sum = 0u64;
-    for b in digits {
-        let digit = u64::from(b.saturating_sub(b'0'));
-        sum = sum.checked_mul(10)?.checked_add(digit)?;
-    }
-    Some(sum)
 }
 
 /// The number that digits spell, from 1 to `most`.

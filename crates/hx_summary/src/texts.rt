@@ -1,34 +1,16 @@
 //! The lines of objects, and their hash.
 
 ghost use Rattle.std.specs.Prelude.{◌≡◌, ◌++◌, map, OnOk, IfOk};
-ghost use Rattle.hx_report.specs.Reporting.{object_text};
 ghost use Rattle.hx_summary.specs.Present.{key_object};
 ghost use Rattle.hx_summary.specs.Summing.{digest_line, hexadecimal, object_line, object_lines, objects_text};
 
 use crate::counting::put_count;
 use crate::objects::Present;
 use hx_hash::fnv;
-use hx_print::{put_bytes, put_named, put_text};
-use hx_types::{Attributes, Memory, Object, Space};
+use hx_print::{put_bytes, put_text};
+use hx_report::put_object;
+use hx_types::{Memory, Space};
 use std::alloc::Global;
-
-/// Appends each value of an object after the name of its attribute.
-#[tactic(auto, unfolding(hx_report::specs::Reporting::object_text))]
-fn put_object(out: &mut Vec<u8>, attributes: &Attributes, object: &Object) -> Result<(), Memory>
-    ensures { OnOk result (out.new.items ≡ out.old.items ++ object_text attributes.now object.now) }
-{
-    let mut declared = attributes.as_slice();
-    let mut values = object.as_slice();
-    'values: while let Some((attribute, more)) = declared.split_first() {
-        let Some((value, rest)) = values.split_first() else {
-            return Ok(());
-        };
-        put_named(out, attribute.name.as_bytes(), value)?;
-        declared = more;
-        values = rest;
-    }
-    Ok(())
-}
 
 /// Appends the line of an object.
 #[tactic(auto, unfolding(crate::specs::Summing::object_line))]
