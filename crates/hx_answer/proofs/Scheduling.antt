@@ -1,17 +1,16 @@
 -- A drained world holds the run of its script that its steps and the schedule give.
-use Rattle.std.proofs.Common.{◌≡◌, ◌⊎◌, inr, ◌≤◌, ◌<◌, length, arith, ℕ, List, [], refl, sym, subst, ◌∙◌, ap, reverse, None, map}
+use Rattle.std.proofs.Common.{◌≡◌, ◌≤◌, ◌<◌, length, arith, ℕ, List, [], sym, subst, ◌∙◌, ap, reverse, None, map}
 use Rattle.std.proofs.lemmas.List.{length-reverse}
-use Rattle.hx_types.specs.declared.ids.Actor.{Actor}
 use Rattle.hx_types.specs.declared.traces.Entry.{Entry}
 use Rattle.hx_types.specs.declared.traces.Script.{Script}
 use Rattle.hx_types.specs.declared.traces.Step.{Step}
 use Rattle.hx_model.specs.Runs.{IsRun}
 use Rattle.hx_model.specs.Schedule.{next_entry, scheduled, stepped}
-use Rattle.hx_world.specs.Worlds.{DrainFails, Drains, HasFewEntries, IsPartOf, IsWornOut, WorldState, most_entries}
+use Rattle.hx_world.specs.Worlds.{Drains, HasFewEntries, WorldState, most_entries}
 use Rattle.hx_world.specs.declared.ends.DrainError.TheVariants as an_error
 use Rattle.hx_world.specs.declared.ends.Drained.{Drained}
 use Rattle.hx_world.specs.declared.ends.Drained.TheVariants.{Quiet, Spent}
-use Rattle.hx_answer.specs.Causes.{IsWholeRun, IsWornAfterSteps, IsWornRun}
+use Rattle.hx_answer.specs.Causes.{IsWholeRun}
 use Rattle.hx_answer.specs.Steps.{AreTaken}
 
 -- the trace after all steps of the script
@@ -41,31 +40,6 @@ whole_run script before after trace n taken script_is from drains is same run fe
       taken = taken;
       scheduled = record { entries = n; trace_is = made; quiet = quiet };
       few = few;
-    }
-
--- a world that was drained from its script's steps on until an actor was worn
-pub worn_run :
-    (script : Script) (before after : WorldState) (trace : List Entry) (n : ℕ) (a : Actor)
-    → AreTaken script
-    → before.script ≡ script
-    → reverse before.trace ≡ after_steps script
-    → DrainFails before.script n (reverse before.trace) (reverse after.trace) (an_error.Worn a)
-    → IsPartOf before.script n (reverse before.trace) (reverse after.trace)
-    → trace ≡ after.trace
-    → after.script ≡ before.script
-    → IsRun after.script (reverse trace)
-    → HasFewEntries (reverse trace)
-    → IsWornRun script trace a
-worn_run script before after trace n a taken script_is from fails part is same run few =
-    let here : reverse trace ≡ reverse after.trace = ap (λ (t : List Entry). reverse t) is in
-    let made : reverse trace ≡ scheduled script (after_steps script) part.0 =
-    here ∙ part.2 ∙ ap (λ (s : Script). scheduled s (reverse before.trace) part.0) script_is ∙ ap (λ (t : List Entry). scheduled script t part.0) from in
-    let out : IsWornOut script (reverse trace) a =
-    subst (λ (t : List Entry). IsWornOut script t a) (sym here) (subst (λ (s : Script). IsWornOut s (reverse after.trace) a) script_is fails.cause) in
-    record {
-      run = subst (λ (s : Script). IsRun s (reverse trace)) (same ∙ script_is) run;
-      few = few;
-      ends = inr (record { taken = taken; entries = part.0; trace_is = made; worn_out = out });
     }
 
 -- a world never makes so many entries

@@ -24,10 +24,6 @@ abbrev pub history_from : ℕ → List Event → List Stamped
 history_from n [] = []
 history_from n (t ∷ ts) = stamped n t.entry ∷ history_from (suc n) ts
 
--- the parts, where the one of the number b has one entry more in front
-plus : ℕ → Stamped → (ℕ → List Stamped) → NumberedPart → List Stamped
-plus b s R p = cond (eqb p.number b) (s ∷ R p.number) (R p.number)
-
 plus-other : (b : ℕ) (s : Stamped) (R : ℕ → List Stamped) (ps : List NumberedPart) → times b ps ≡ 0 → flat_map (λ p. cond (eqb p.number b) (s ∷ R p.number) (R p.number)) ps ≡ flat_map (λ p. R p.number) ps
 plus-other b s R [] e = refl
 plus-other b s R (p ∷ ps) e =
@@ -53,10 +49,6 @@ plus-own b s R (p ∷ ps) e =
     (IsPermutation-sym _ _ (IsPermutation-middle (R p.number) s (flat_map (λ p. R p.number) ps)))
     (IsPermutation-append_right (R p.number) _ _ (plus-own b s R ps (omega arith)))))
     (eqb_tells p.number b)
-
-no-parts : (ps : List NumberedPart) → flat_map (λ (p : NumberedPart). part_from p.number 0 []) ps ≡ []
-no-parts [] = refl
-no-parts (p ∷ ps) = no-parts ps
 
 no-parts-from : (n : ℕ) (ps : List NumberedPart) → flat_map (λ (p : NumberedPart). part_from p.number n []) ps ≡ []
 no-parts-from n [] = refl

@@ -1,5 +1,5 @@
 -- What is known stays known.
-use Rattle.std.proofs.Common.{ℕ, refl, append-nil, ◌≡◌, ◌∙◌, ◌⊎◌, inl, inr, ⊎_elim, List, [], ◌∷◌, ◌++◌, map, length, ◌<◌, ◌≤◌, nat_lt, lt-ltb, cond, true, false, eqb, sym, ap, subst, arith}
+use Rattle.std.proofs.Common.{ℕ, refl, append-nil, ◌≡◌, ◌∙◌, ◌⊎◌, inl, inr, ⊎_elim, List, [], ◌∷◌, ◌++◌, length, ◌<◌, ◌≤◌, nat_lt, lt-ltb, cond, true, false, eqb, sym, ap, subst, arith}
 use Rattle.std.proofs.Math.Logic.{∥∥₁_map}
 use Rattle.std.proofs.lemmas.Bool.{le-ltb}
 use Rattle.std.proofs.lemmas.Bool.Decides.{leb_tells}
@@ -10,7 +10,7 @@ use Rattle.hx_clock.specs.declared.parts.Stamped.{Stamped}
 use Rattle.hx_clock.specs.declared.view.NumberedPart.{NumberedPart}
 use Rattle.hx_clock.specs.declared.view.View.{View}
 use Rattle.hx_clock.specs.Parts.{Posted}
-use Rattle.hx_clock.specs.Views.{acted, appended, handed_to, joined, known_part, longer, told, Has, IsAmong, Knows, Owns}
+use Rattle.hx_clock.specs.Views.{handed_to, joined, known_part, longer, told, Has, IsAmong, Knows, Owns}
 use Rattle.hx_clock.proofs.Lists.{in_left, in_right}
 
 among_left : (ps qs : List NumberedPart) (x : Stamped) → IsAmong ps x → IsAmong (ps ++ qs) x
@@ -46,10 +46,6 @@ pub joined_right : (v w m : View) → m ≡ joined v w → (id : PostId) (p : Po
 joined_right v w m e id p h =
     subst (λ (u : View). Knows u id p) (sym e)
     (knows_more w (joined v w) (λ x k. ⊎_elim (λ a. inl (among_right v.carried w.carried x a)) (λ b. inr (among_right v.known w.known x b)) k) id p h)
-
--- the part after an act
-pub owns_acted : (v m : View) (x : Stamped) → m ≡ acted x v → (k : ℕ) (part : List Stamped) → Owns v k part → Owns m k (part ++ x ∷ [])
-owns_acted v m x e k part h = ap (λ (u : View). u.carried) e ∙ ap (map (appended x)) h
 
 -- the same part after a pass that carries nothing
 pub owns_joined : (v w m : View) → m ≡ joined v w → w.carried ≡ [] → (k : ℕ) (part : List Stamped) → Owns v k part → Owns m k part

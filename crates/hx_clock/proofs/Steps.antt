@@ -90,9 +90,6 @@ word_next n c history e most within worn =
     let small : n + 1 < 2 ^ 64 = omega arith in
     mod-eq_of_lt small ∙ omega arith
 
-abbrev Num : View → ℕ → ℕ
-Num v k = times k v.carried
-
 -- another view doesn't carry the number
 apart : (views : List View) (c : ℕ) (id j : ℕ) (v u : View) (k : ℕ) → total (λ v. times k v.carried) views ≡ one (nat_lt k c) → get_elem? views id ≡ some v → get_elem? views j ≡ some u → j ≢ id → 1 ≤ times k v.carried
     → (p : NumberedPart) → IsIn p u.carried → p.number ≢ k

@@ -122,11 +122,6 @@ some-enough (p ∷ posts) (n ∷ notes) e = refl
 pub idle-enough : (script : Script) (own : List Entry) (a : Actor) → is_idle_actor script own a ≡ true → does_something Tick (made_of script own a Tick) ≡ true
 idle-enough script own a e = some-enough (made_of script own a Tick).posts (made_of script own a Tick).notes (begins script own a e)
 
-pub idle-runs : (script : Script) (own : List Entry) (a : Actor) → is_idle_actor script own a ≡ true → has_halted script own a ≡ false
-idle-runs script own Coordinator e = refl
-idle-runs script own (Server s) e = absurd (true≢false (sym e))
-idle-runs script own (Session u) e = refl
-
 -- what the plan of a tick makes
 pub plan-enough : (script : Script) (d : Desk) (p : Plan) → IsReady script d Tick p
     → does_something Tick (record { posts = (entry_in p).outputs; notes = (entry_in p).notes }) ≡ does_something Tick (made_of script (entries_before d.part.items) d.actor Tick)

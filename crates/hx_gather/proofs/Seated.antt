@@ -12,7 +12,7 @@ use Rattle.hx_clock.specs.declared.view.View.{View}
 use Rattle.hx_clock.specs.Parts.{IsCausal, HasStampsBelow}
 use Rattle.hx_clock.specs.Seats.{Seated}
 use Rattle.hx_clock.specs.Views as a_view
-use Rattle.hx_clock.specs.Views.{numbered, one, times, total, IsWhole, Owns}
+use Rattle.hx_clock.specs.Views.{numbered, one, times, IsWhole, Owns}
 use Rattle.hx_clock.proofs.Histories.{one-same}
 use Rattle.hx_clock.proofs.Lists.{total-append}
 use Rattle.hx_law_threads.specs.Merged.{AreWholeParts}
@@ -27,9 +27,6 @@ nil (x ∷ xs) e = absurd (omega arith)
 pub drained : {X Z : Type 0} (xs : List X) (s t : IntoIter X Z) → Yields into_iter_steps s xs t → into_iter_len t ≡ 0 → into_iter_items s ≡ xs
 drained [] s t y e = ap into_iter_items y ∙ nil (into_iter_items t) (let a = t.rest.ok.0 in omega arith)
 drained (x ∷ xs) s t y e = y.1.0 ∙ ap (λ l. x ∷ l) (drained xs y.0 t y.2 e)
-
-carried_by : SeatedPart → List NumberedPart
-carried_by p = p.seat.view.carried
 
 -- what the seats carry are the parts
 carried_parts : (clock : TableId) (seated : List SeatedPart) → AllByRecursion (IsSeated clock) seated

@@ -18,13 +18,6 @@ map_filter f p (x ∷ xs) = map_filter_by f p (p (f x)) x (filter (λ x. p (f x)
     map_filter_by f p true x xs ys same = ap (λ ys. f x ∷ ys) same
     map_filter_by f p false x xs ys same = same
 
-reversed_one : {A : Type 0} (b : Bool) (x : A) → reverse (cond b (x ∷ []) []) ≡ cond b (x ∷ []) []
-reversed_one true x = refl
-reversed_one false x = refl
-
-filter_one : {A : Type 0} (p : A → Bool) (x : A) → filter p (x ∷ []) ≡ cond (p x) (x ∷ []) []
-filter_one p x = refl
-
 cons_by : {A : Type 0} (b : Bool) (x : A) (xs : List A) → reverse (cond b (x ∷ xs) xs) ≡ reverse xs ++ cond b (x ∷ []) []
 cons_by true x xs = reverse_cons x xs
 cons_by false x xs = sym (append-nil (reverse xs))

@@ -1,7 +1,7 @@
 -- The history told one write further.
-use Rattle.std.proofs.Common.{◌≡◌, ℕ, ◌+◌, ◌<◌, ◌≤◌, List, [], ◌∷◌, ◌++◌, Some, None, reverse, length, get_or, take, refl, sym, ap, ◌∙◌}
-use Rattle.std.proofs.lemmas.List.{take_more, take_all}
-use Rattle.std.proofs.lemmas.Option.{slice_get-get_or, slice_get_past}
+use Rattle.std.proofs.Common.{◌≡◌, ℕ, ◌+◌, ◌<◌, List, [], ◌∷◌, ◌++◌, Some, reverse, length, get_or, take, refl, sym, ap, ◌∙◌}
+use Rattle.std.proofs.lemmas.List.{take_more}
+use Rattle.std.proofs.lemmas.Option.{slice_get-get_or}
 use Rattle.std.specs.Option.{option_map}
 use Rattle.std.specs.Borrow.{Bor}
 use Rattle.hx_types.specs.declared.traces.Script.{Script}
@@ -12,9 +12,6 @@ use Rattle.hx_history.proofs.Newest.{newest_push}
 
 version_in-within : (xs : List (Bor Update)) (i : ℕ) (d : Bor Update) → i < length xs → version_in xs i ≡ Some (get_or xs i d).now.version.0
 version_in-within xs i d within = ap (option_map (λ (u : Bor Update). u.now.version.0)) (slice_get-get_or xs i d within)
-
-version_in-past : (xs : List (Bor Update)) (i : ℕ) → length xs ≤ i → version_in xs i ≡ None
-version_in-past xs i past = ap (option_map (λ (u : Bor Update). u.now.version.0)) (slice_get_past xs i past)
 
 -- one write further
 pub told_more : (script : Script) (reads : List ReadEnd) (xs : List (Bor Update)) (i : ℕ) (x : Bor Update) → i < length xs → x ≡ get_or xs i x
@@ -27,8 +24,3 @@ told_more script reads xs i x within read =
     version_in-within xs i x within ∙ ap (λ (u : Bor Update). Some u.now.version.0) (sym read) in
     let more : take (i + 1) xs ≡ take i xs ++ x ∷ [] = take_more xs i x within ∙ ap (λ (u : Bor Update). take i xs ++ u ∷ []) (sym read) in
     rw (more, newest_push, last) refl
-
--- no write is left
-pub told_all : (script : Script) (reads : List ReadEnd) (xs : List (Bor Update)) (i : ℕ) → length xs ≤ i
-    → told script reads (version_in xs i) (reverse (updates_at (take i xs))) ≡ told script reads None (reverse (updates_at xs))
-told_all script reads xs i past = rw (version_in-past xs i past, take_all i xs past) refl

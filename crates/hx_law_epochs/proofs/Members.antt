@@ -1,13 +1,13 @@
 -- Members of a region one after another: the one before and the one after name each other.
-use Rattle.std.proofs.Common.{◌≡◌, inl, inr, Bool, true, false, not, ◌&&◌, ◌||◌, List, [], ◌∷◌, Option, Some, None, refl, sym, ap, ◌∙◌, subst, cond}
+use Rattle.std.proofs.Common.{◌≡◌, inl, inr, Bool, true, false, not, ◌||◌, List, [], ◌∷◌, Option, Some, None, refl, sym, ap, ◌∙◌, subst}
 use Rattle.std.specs.Option.{option_map}
-use Rattle.std.proofs.lemmas.Bool.{and_parts, cond_both, cond-true, cond-false, eq-eqb, false≢true}
+use Rattle.std.proofs.lemmas.Bool.{cond_both, cond-true, cond-false, eq-eqb, false≢true}
 use Rattle.hx_types.specs.declared.configs.Config.{Config}
 use Rattle.hx_types.specs.declared.configs.Member.{Member}
 use Rattle.hx_types.specs.declared.ids.RegionId.{RegionId}
 use Rattle.hx_types.specs.declared.ids.ServerId.{ServerId}
 use Rattle.hx_types.specs.Words.{IsIn, first_of_list, same_server, when_some}
-use Rattle.hx_types.specs.Configs.{any_ready, head_of, is_lost, joiner_for, joiner_in, members_of}
+use Rattle.hx_types.specs.Configs.{any_ready, head_of, is_lost, members_of}
 use Rattle.hx_model.specs.Neighbours.{last_member, member_after, member_before}
 use Rattle.hx_law_lemmas.proofs.Lists.{in-map}
 use Rattle.hx_law_lemmas.proofs.Chains.{Differ, server-other, server-same}
@@ -78,32 +78,6 @@ head-before c g s e = by (members_of c g) e
     by [] e = refl
     by (m ∷ rest) e = let q : m.server ≡ s = cc in cond-true (same_server m.server s) None (member_before (Some m.server) s rest) (eq-eqb m.server.0 s.0 (ap (λ (z : ServerId). z.0) q))
 
--- a joiner is the next member after the last ready one
-pub record IsJoiner (ms : List Member) (s j : ServerId) : Type 0 where
-  pub sender : Member
-  pub sends : IsIn sender ms × (sender.server ≡ s) × (sender.ready ≡ true)
-  pub joiner : Member
-  pub joins : IsIn joiner ms × (joiner.server ≡ j) × (joiner.ready ≡ false)
-  pub next : member_after s ms ≡ Some j
-
-joiner-among : (s j : ServerId) (ms : List Member) → Differ ms → joiner_in s ms ≡ Some j → IsJoiner ms s j
-joiner-among s j [] d = λ e. absurd (cc)
-joiner-among s j (m ∷ rest) d =
-    cond_both (any_ready rest) (joiner_in s rest) (cond (same_server m.server s && m.ready) (option_map (λ (x : Member). x.server) (first_of_list rest)) None) (λ o. o ≡ Some j → IsJoiner (m ∷ rest) s j)
-    (λ t e. later (joiner-among s j rest d.1 e))
-    (λ t. cond_both (same_server m.server s && m.ready) (option_map (λ (x : Member). x.server) (first_of_list rest)) None (λ o. o ≡ Some j → IsJoiner (m ∷ rest) s j)
-    (λ u e. first rest refl t (and_parts (same_server m.server s) m.ready u) e)
-    (λ u e. absurd (cc)))
-  where
-    later : IsJoiner rest s j → IsJoiner (m ∷ rest) s j
-    later k = record {
-      sender = k.sender;
-      sends = (inr k.sends.0, k.sends.1, k.sends.2);
-      joiner = k.joiner;
-      joins = (inr k.joins.0, k.joins.1, k.joins.2);
-      next = cond-false (same_server m.server s) (option_map (λ (x : Member). x.server) (first_of_list rest)) (member_after s rest) (server-other m.server s (λ q. d.0 k.sender k.sends.0 (k.sends.1 ∙ sym q))) ∙ k.next;
-    }
-
     first : (ms : List Member) → rest ≡ ms → any_ready rest ≡ false → (same_server m.server s ≡ true) × (m.ready ≡ true) → option_map (λ (x : Member). x.server) (first_of_list rest) ≡ Some j → IsJoiner (m ∷ rest) s j
     first [] e t u q = absurd (let z : None ≡ Some j = sym (ap (λ (l : List Member). option_map (λ (x : Member). x.server) (first_of_list l)) e) ∙ q in cc)
     first (x ∷ ms) e t u q =
@@ -119,7 +93,3 @@ joiner-among s j (m ∷ rest) d =
         unready : (b : Bool) → (b || any_ready ms) ≡ false → b ≡ false
         unready true e = absurd (false≢true (sym e))
         unready false e = refl
-
--- whom a server sends its replica of a region
-pub joiner-is : (c : Config) (g : RegionId) (s j : ServerId) → Differ (members_of c g) → joiner_for c g s ≡ Some j → IsJoiner (members_of c g) s j
-joiner-is c g s j d e = joiner-among s j (members_of c g) d e

@@ -1,5 +1,5 @@
 -- Every run keeps what holds of epochs: by each entry of the coordinator, of a server and of a session.
-use Rattle.std.proofs.Common.{◌≡◌, ℕ, zero, suc, ◌+◌, ◌-◌, ◌<◌, ◌≤◌, ◌⊎◌, inl, inr, Bool, true, false, List, [], ◌∷◌, ◌++◌, map, Option, Some, None, refl, sym, ap, ◌∙◌, subst, arith, cond, eqb, ltb, leb}
+use Rattle.std.proofs.Common.{◌≡◌, ℕ, zero, suc, ◌+◌, ◌-◌, ◌<◌, ◌≤◌, ◌⊎◌, inl, inr, Bool, true, false, List, [], ◌∷◌, ◌++◌, Option, Some, None, refl, sym, ap, ◌∙◌, subst, arith, cond, eqb, ltb, leb}
 use Rattle.std.proofs.lemmas.Bool.{and_from, and_parts, cond_both, cond-false, cond-true, eq-eqb, eqb-true, le-leb, leb-true, lt-ltb, ltb-true, ne_eqb, cases_lt}
 use Rattle.hx_types.specs.declared.configs.Config.{Config}
 use Rattle.hx_types.specs.declared.configs.Member.{Member}
@@ -127,10 +127,6 @@ start-run script valid = record {
     before-first (y ∷ ms) m x (inr b) = inr (before-first ms m x b)
 
 -- ---- an entry
-
--- what the notes of an entry make of the configurations
-abbrev pub ConfigBefore : Script → List Entry → Epoch → List Note → Option Config
-ConfigBefore script older epoch notes = first_some (config_noted epoch notes) (config_of script epoch older)
 
 module _ (script : Script) (valid : IsScript script) (older : List Entry) (kept : EpochsRun script older) where
   -- the servers before

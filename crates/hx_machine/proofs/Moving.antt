@@ -34,11 +34,6 @@ use Rattle.hx_machine.specs.declared.plans.Plan.TheVariants as a_plan
 use Rattle.hx_machine.specs.Machines.{CanTake, IsMachine, IsPlanOn, IsStepOf}
 use Rattle.hx_machine.proofs.Taking.{fits, sound_after}
 
--- the entry is the actor's step
-pub coordinator_makes : (script : Script) (past : List Stamped) (input : Input) (c : CoordinatorState) → c ≡ coordinator_of script (entries_in past)
-    → coordinator.coordinator_entry c input ≡ entry_of Coordinator input (made_of script (entries_in past) Coordinator input)
-coordinator_makes script past input c at = λ i. coordinator.coordinator_entry (at i) input
-
 pub server_makes : (script : Script) (s : ServerId) (past : List Stamped) (input : Input) (v : server.ServerValue) → IsMachine script (Server s) (entries_in past) (a_machine.Server v) → CanTake script (Server s) past input
     → server.server_entry v.space v.state input ≡ entry_of (Server s) input (made_of script (entries_in past) (Server s) input)
 server_makes script s past input v at can =

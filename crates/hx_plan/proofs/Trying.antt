@@ -4,7 +4,6 @@ use Rattle.std.specs.List.{sum_by}
 use Rattle.std.proofs.lemmas.Bool.{cases_eq, cases_lt, cases_order}
 use Rattle.std.proofs.lemmas.Bool.Decides.{nat_tests}
 use Rattle.std.proofs.lemmas.List.{get_or-map, get_or-set_other, get_or-set_same, get_or_append_left, get_or_push, length-map, length-set, length_push}
-use Rattle.std.proofs.lemmas.List.Sums.{sum_by-set}
 use Rattle.hx_types.specs.declared.configs.Config.{Config}
 use Rattle.hx_types.specs.declared.ids.RegionId.{RegionId}
 use Rattle.hx_types.specs.declared.outcomes.Planned.TheVariants as a_plan
@@ -161,13 +160,6 @@ plan_lost space config terms counts read h same none =
 
 abbrev pub left_of : List (Option ℕ) → ℕ
 left_of counts = sum_by (λ (o : Option ℕ). cond (is_some o) 1 0) counts
-
-pub fewer_left : (counts : List (Option ℕ)) (s m : ℕ) → s < length counts → get_or counts s None ≡ Some m → left_of (set counts s None) < left_of counts
-fewer_left counts s m l e =
-    let one = λ (o : Option ℕ). cond (is_some o) 1 0 in
-    let r = sum_by-set one counts s None None l in
-    let has : one (get_or counts s None) ≡ 1 = ap one e in
-    omega (arith, r, has)
 
 -- ---- at the start
 

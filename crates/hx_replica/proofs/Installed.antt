@@ -1,8 +1,8 @@
 -- What a server makes that adopts a configuration.
-use Rattle.std.proofs.Common.{◌≡◌, ◌<◌, ◌≤◌, Bool, true, false, List, [], ◌∷◌, ◌++◌, map, Vec, refl, ap, sym, ◌∙◌, subst}
+use Rattle.std.proofs.Common.{◌≡◌, ◌<◌, Bool, true, false, List, [], ◌∷◌, ◌++◌, map, Vec, refl, ap, sym, ◌∙◌, subst}
 use Rattle.std.specs.List.{flat_map}
 use Rattle.std.specs.declared.alloc.Global.{Global}
-use Rattle.std.proofs.lemmas.Bool.{cond-true, cond-false, lt-ltb, le-ltb}
+use Rattle.std.proofs.lemmas.Bool.{cond-true, lt-ltb}
 use Rattle.hx_types.specs.declared.configs.Config.{Config}
 use Rattle.hx_types.specs.declared.messages.Post.{Post}
 use Rattle.hx_types.specs.declared.ids.RegionId.{RegionId}
@@ -24,7 +24,7 @@ use Rattle.hx_replica.specs.Replicas.{new_replica}
 use Rattle.hx_replica.specs.Plans.{IsAdoptionOn, IsChange, IsStepOutput}
 use Rattle.hx_replica.specs.Servers.{ServerValue}
 use Rattle.hx_replica.specs.Ticking.{standing}
-use Rattle.hx_replica.proofs.Planning.{nothing_made, step_made, unmoved_made}
+use Rattle.hx_replica.proofs.Planning.{step_made}
 use Rattle.hx_replica.proofs.Sending.{snap_same}
 
 posts_same : (space : Space) (s : ServerState) (r : ReplicaState) → adopted_posts space (standing s.config s.id) r ≡ adopted_posts space s r
@@ -83,11 +83,6 @@ adoption_made v config copy replicas posts made newer bare p new same e =
     }
     )
     (e ∙ ap (λ (c : Config). adopting posts c replicas) same)
-
--- an older one is nothing
-pub older_made : (v : ServerValue) (config : Config) (made : ServerOutput) → config.epoch.0 ≤ v.state.config.epoch.0 → folded_server v.state ≡ v.state → made ≡ unmoved_made → IsStepOutput v (install_at v.space v.state config) made
-older_made v config made older bare e =
-    nothing_made v (install_at v.space v.state config) made bare (cond-false _ (adopted v.space (with_config v.state config)) (unmoved v.state) (le-ltb v.state.config.epoch.0 config.epoch.0 older)) e
 
 -- the change of a plan that adopts a configuration
 pub adoption : (v : ServerValue) (input : Input) (change : Change) (config : Config) (replicas : Vec Replica Global) → change ≡ a_change.Adopt config replicas → IsChange v input change → IsAdoptionOn v input config replicas.items

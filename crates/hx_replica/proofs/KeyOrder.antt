@@ -20,9 +20,6 @@ use Rattle.hx_replica.proofs.Walking.{lower_differs}
 pub record IsGone (key : List ℕ) (ks : List (List ℕ)) (i : ℕ) : Type 0 where
   pub so_far : with_key key ks ≡ take i ks ++ with_key key (drop i ks)
 
-pub at_front : (key : List ℕ) (ks : List (List ℕ)) → IsGone key ks 0
-at_front key ks = record { so_far = refl }
-
 pub drop_at : {A : Type 0} (xs : List A) (i : ℕ) (x : A) → slice_get xs i ≡ Some x → drop i xs ≡ x ∷ drop (i + 1) xs
 drop_at xs i x e = by xs i e ∙ ap (λ n. x ∷ drop n xs) (sym (add-one i))
   where
@@ -64,15 +61,6 @@ module _ (key : List ℕ) (ks : List (List ℕ)) (i : ℕ) (x : List ℕ) (so : 
 -- two texts that aren't equal
 pub differs : (a b : List ℕ) → (a ≡ b → ⊥) → same_text a b ≡ false
 differs a b n = false_from_ne_true (same_text a b) (λ s. n (eq_of_same_text a b s))
-
--- it comes last
-pub goes_last : (key : List ℕ) (ks : List (List ℕ)) (i : ℕ) → IsGone key ks i → length ks ≡ i → ks ++ key ∷ [] ≡ with_key key ks
-goes_last key ks i so e =
-    sym (so.so_far ∙ ap (λ n. take n ks ++ with_key key (drop n ks)) (sym e) ∙ by ks)
-  where
-    by : (xs : List (List ℕ)) → take (length xs) xs ++ with_key key (drop (length xs) xs) ≡ xs ++ key ∷ []
-    by [] = refl
-    by (x ∷ xs) = ap (λ (l : List (List ℕ)). x ∷ l) (by xs)
 
 -- the text at a number, and texts with one more
 pub texts_at : (bs : List (Bor (List ℕ))) (i : ℕ) (b : Bor (List ℕ)) → i < length bs → b ≡ get_or bs i b → slice_get (texts bs) i ≡ Some b.now

@@ -116,10 +116,6 @@ pub marks_pending : (tail_versions : List Version) (s : KeyState) → pending_of
 marks_pending [] s = refl
 marks_pending (e ∷ tail_versions) s = marks_pending tail_versions (moved (Acknowledge e.0) s)
 
-marks_posts : (context : ModelContext) (tail_versions : List Version) → flat_map (move_posts context) (acknowledging tail_versions) ≡ []
-marks_posts context [] = refl
-marks_posts context (e ∷ tail_versions) = marks_posts context tail_versions
-
 others_stay : (v w : ℕ) (acked : List ℕ) → w == v ≡ false → list_any (λ x. x == v) (filter (λ x. not (x == w)) acked) ≡ list_any (λ x. x == v) acked
 others_stay v w [] apart = refl
 others_stay v w (x ∷ acked) apart = by (x == w) refl (others_stay v w acked apart)

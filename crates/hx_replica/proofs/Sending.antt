@@ -1,23 +1,16 @@
 -- What a tick posts: of lent updates what is posted of the updates.
 use Rattle.std.proofs.Common.{◌≡◌, false, List, [], ◌∷◌, ◌++◌, Option, None, Some, refl, ap, sym, ◌∙◌}
-use Rattle.std.specs.Borrow.{Bor}
 use Rattle.std.specs.List.{flat_map}
 use Rattle.std.proofs.lemmas.Bool.{cond-false}
 use Rattle.hx_types.specs.declared.messages.Post.{Post}
 use Rattle.hx_types.specs.declared.ids.ServerId.{ServerId}
 use Rattle.hx_types.specs.declared.spaces.Space.{Space}
-use Rattle.hx_types.specs.declared.updates.Update.{Update}
 use Rattle.hx_types.specs.Configs.{joiner_for}
 use Rattle.hx_types.specs.Words.{provided}
 use Rattle.hx_model.specs.ServerSteps.{Replica as ReplicaState, ServerState, is_active, pending_posts, ready_post, replica_tick, snap_to, context_of, tick_step}
 use Rattle.hx_replica.specs.declared.replicas.Replica.{Replica}
-use Rattle.hx_replica.specs.Outputs.{seen}
 use Rattle.hx_replica.specs.Replicas.{view_of, views_of}
 use Rattle.hx_replica.specs.Ticking.{standing}
-
-pub of_updates : (f : Update → List Post) (bs : List (Bor Update)) → flat_map (λ (b : Bor Update). f b.now) bs ≡ flat_map f (seen bs)
-of_updates f [] = refl
-of_updates f (b ∷ rest) = ap (λ (l : List Post). f b.now ++ l) (of_updates f rest)
 
 pub snap_same : (s : ServerState) (r : ReplicaState) (o : Option ServerId) → snap_to (standing s.config s.id) r o ≡ snap_to s r o
 snap_same s r None = refl

@@ -9,7 +9,7 @@ use Rattle.hx_types.specs.declared.ids.RegionId.{RegionId}
 use Rattle.hx_types.specs.declared.updates.Update.{Update}
 use Rattle.hx_types.specs.Words.{when_some}
 use Rattle.hx_model.specs.Slots.{Take, follows, taken, turns}
-use Rattle.hx_replica.specs.Outputs.{IsHere, IsNew, seen}
+use Rattle.hx_replica.specs.Outputs.{IsNew, seen}
 
 pub seen_append : (xs ys : List (Bor Update)) → seen (xs ++ ys) ≡ seen xs ++ seen ys
 seen_append [] ys = refl
@@ -47,9 +47,6 @@ no_more g floor zero top early all us so e = by so.taken_are
 no_more g floor (suc left) top early all us so e =
     sym (append-nil (seen us)) ∙ sym (ap (λ o. seen us ++ taken (when_some o [] (λ (u : Update). Take u ∷ turns g left u.version.0 early))) e) ∙ so.taken_are
 
-pub all_turned : (g : RegionId) (floor top : ℕ) (early all : List Update) (us : List (Bor Update)) → IsTaking g floor 0 top early all us → seen us ≡ all
-all_turned g floor top early all us so = sym (append-nil (seen us)) ∙ so.taken_are
-
 -- the turns that are left, of one more
 pub one_left : (g : RegionId) (floor n i top : ℕ) (early all : List Update) (us : List (Bor Update)) → i < n → IsTaking g floor (n - i) top early all us → IsTaking g floor (suc (n - (i + 1))) top early all us
 one_left g floor n i top early all us l so =
@@ -81,7 +78,3 @@ at_item (y ∷ ys) (suc i) x l e = at_item ys i x (omega (arith, l)) e
 
 pub all_at : {A : Type 0} (P : A → Type 0) (xs : List A) (i : ℕ) (x : A) → i < length xs → x ≡ get_or xs i x → All P xs → P x
 all_at P xs i x l e h = subst P (sym e) (h i x l)
-
--- what is new is here
-pub new_here : (g : RegionId) (floor : ℕ) (bs : List (Bor Update)) → All (IsNew g floor) bs → All (IsHere g) bs
-new_here g floor bs h = λ k d l. let n = h k d l in record { placed = n.placed; few = n.few }

@@ -1,20 +1,19 @@
 -- A port that takes in the drivers' ports of its box.
-use Rattle.std.proofs.Common.{◌≡◌, ◌≢◌, ℕ, zero, suc, ◌+◌, ◌<◌, ◌≤◌, ◌⊎◌, ⊎_elim, inl, inr, List, [], ◌∷◌, ◌++◌, map, length, eqb, slice_index_or, slice_set, Option, Some, None, refl, ap, sym, subst, ◌∙◌, arith, append_assoc, append-nil, length-append}
+use Rattle.std.proofs.Common.{◌≡◌, ℕ, zero, suc, ◌+◌, ◌<◌, ◌≤◌, ◌⊎◌, ⊎_elim, inl, inr, List, [], ◌∷◌, ◌++◌, length, slice_index_or, slice_set, Option, Some, refl, ap, sym, subst, ◌∙◌, arith, append_assoc, length-append}
 use Rattle.std.specs.List.{AllByRecursion}
 use mathlib.Core.List.{IsPrefix}
 use Rattle.hx_types.specs.declared.traces.Script.{Script}
 use Rattle.hx_types.specs.Words.{IsIn}
-use Rattle.hx_clock.specs.Views.{one, total}
+use Rattle.hx_clock.specs.Views.{one}
 use Rattle.hx_clock.proofs.Histories.{one-same}
 use Rattle.hx_clock.proofs.Lists.{each_all, in_left, in_right}
 use Rattle.hx_law_threads.proofs.Lists.{in_append}
 use Rattle.hx_mail.specs.declared.views.BoxNames.{BoxNames}
-use Rattle.hx_mail.specs.declared.views.Mailed.{Mailed}
 use Rattle.hx_mail.specs.declared.views.PortLists.{PortLists}
 use Rattle.hx_mail.specs.declared.views.PortView.{PortView}
 use Rattle.hx_mail.specs.declared.views.Sent.{Sent}
-use Rattle.hx_mail.specs.Boxes.{Boxed, Ported, IsPortOf}
-use Rattle.hx_mail.specs.Ports.{joined_port, lists_of, port, put_by, times, CarriesAll, CarriesName, IsInOrder, TookAlone}
+use Rattle.hx_mail.specs.Boxes.{Boxed, Ported}
+use Rattle.hx_mail.specs.Ports.{lists_of, port, put_by, times, CarriesAll, IsInOrder, TookAlone}
 use Rattle.hx_outbox.specs.declared.outboxes.Outbox.{Outbox}
 use Rattle.hx_outbox.specs.Outboxes.{outs_of, IsOutbox, IsOutPort}
 use Rattle.hx_outbox.specs.Places.{place_of}
@@ -23,23 +22,7 @@ use Rattle.hx_outbox.proofs.Outs.{both-at, both-long}
 use Rattle.hx_run.specs.declared.joining.Taker.{Taker}
 use Rattle.hx_desk.specs.Inboxes.{ins_of}
 use Rattle.hx_law_drivers.specs.Joined.{outs_at}
-use Rattle.hx_run.proofs.Zipped.{no-eq}
-use Rattle.hx_run.specs.Joined.{joined_lists, place_at, AreInPlaces, AreJoinedFrom, HaveIndexes, IsJoined, IsKeptTaker, IsRestOf, TookInOrder}
-
--- the first port's view after a join
-pub join-view : (w n : ℕ) (names : Option BoxNames) (ins : List Sent) (outs : List Outbox) (o : Outbox) (us : List Mailed) (j : ℕ) (p q : PortView) → p ≡ port 0 names (lists_of 0 [] ins ∷ joined_lists n outs) (Some w)
-    → q ≡ port (j + 1) names (lists_of (j + 1) us [] ∷ []) None → outs_at n o.ports.items ≡ us → o.index ≡ j → joined_port p q ≡ port 0 names (lists_of 0 [] ins ∷ joined_lists n (o ∷ outs)) (Some w)
-join-view w n names ins outs o us j p q a b e f =
-    ap (λ v. joined_port v q) a ∙ ap (joined_port (port 0 names (lists_of 0 [] ins ∷ joined_lists n outs) (Some w))) b
-    ∙ ap (λ k. port 0 names (lists_of 0 [] ins ∷ (joined_lists n outs ++ lists_of (k + 1) us [] ∷ [])) (Some w)) (sym f)
-    ∙ ap (λ l. port 0 names (lists_of 0 [] ins ∷ (joined_lists n outs ++ lists_of (o.index + 1) l [] ∷ [])) (Some w)) (sym e)
-
--- a driver's port doesn't carry the first name
-pub no-first : (j : ℕ) (names : Option BoxNames) (us : List Mailed) (v : PortView) → v ≡ port (j + 1) names (lists_of (j + 1) us [] ∷ []) None → CarriesName 0 v → ⊥
-no-first j names us v e h =
-    let c : CarriesName 0 (port (j + 1) names (lists_of (j + 1) us [] ∷ []) None) = subst (CarriesName 0) e h in
-    let n : one (eqb 0 (j + 1)) ≡ 0 = ap one (no-eq 0 (j + 1) (λ e. omega (arith, e))) in
-    omega (arith, c, n)
+use Rattle.hx_run.specs.Joined.{joined_lists, place_at, AreInPlaces, AreJoinedFrom, HaveIndexes, IsJoined, IsKeptTaker, TookInOrder}
 
 list-in : (n : ℕ) (outs : List Outbox) (o : Outbox) → IsIn o outs → IsIn (lists_of (o.index + 1) (outs_at n o.ports.items) []) (joined_lists n outs)
 list-in n [] o i = absurd i

@@ -1,21 +1,20 @@
 -- A slot with more room.
-use Rattle.std.proofs.Common.{◌≡◌, ℕ, suc, ◌+◌, ◌*◌, ◌≤◌, Bool, List, [], ◌∷◌, Vec, length, drop, refl, ap, sym, ◌∙◌, subst, arith, cond}
+use Rattle.std.proofs.Common.{◌≡◌, ℕ, ◌+◌, ◌≤◌, Bool, List, [], ◌∷◌, Vec, length, drop, refl, ap, sym, ◌∙◌, subst, arith, cond}
 use Rattle.std.specs.List.{AllByRecursion}
 use Rattle.std.specs.declared.alloc.Global.{Global}
 use Rattle.std.proofs.lemmas.Bool.{cond_both}
 use Rattle.hx_types.specs.declared.ids.Version.{Version}
-use Rattle.hx_types.specs.declared.ids.RegionId.{RegionId}
 use Rattle.hx_types.specs.Words.{provided}
 use Rattle.hx_slot.specs.declared.updates.PlacedUpdate.{PlacedUpdate}
 use Rattle.hx_slot.specs.declared.updates.AcceptedUpdate.{AcceptedUpdate}
 use Rattle.hx_slot.specs.declared.slots.Slot.TheInside.{Inside}
 use Rattle.hx_slot.specs.declared.bases.Base.{Base}
-use Rattle.hx_slot.specs.Updates.{IsHeld, IsPlaced, newest_first, places_in}
+use Rattle.hx_slot.specs.Updates.{IsHeld, newest_first}
 use Rattle.hx_slot.specs.Acks.{AreAcked, count_unacked}
 use Rattle.hx_slot.specs.Bases.{IsCopied, IsWidened, kept_in}
 use Rattle.hx_slot.specs.Invariant.{HasRoom, IsLine, IsSlot, updates_of, versions_of, whole}
 use Rattle.hx_slot.specs.Rooms.{IsGrown}
-use Rattle.hx_slot.specs.States.{HasFewPlaces, IsOrderly}
+use Rattle.hx_slot.specs.States.{IsOrderly}
 
 -- no more updates are unacknowledged than there are
 pub count-length : (ts : List AcceptedUpdate) → count_unacked ts ≤ length ts
@@ -24,20 +23,6 @@ count-length (t ∷ rest) =
     let b = count-length rest in
     let n : count_unacked (t ∷ rest) ≡ cond t.acknowledged 0 1 + count_unacked rest = refl in
     cond_both t.acknowledged 0 1 (λ k. count_unacked (t ∷ rest) ≡ k + count_unacked rest → count_unacked (t ∷ rest) ≤ length (t ∷ rest)) (λ e q. omega (arith, b, q)) (λ e q. omega (arith, b, q)) n
-
--- an update has at most 17 places
-pub places-few : (ts : List AcceptedUpdate) → AllByRecursion (λ (t : AcceptedUpdate). HasFewPlaces t.update) ts → places_in ts ≤ 17 * length ts
-places-few [] h = omega arith
-places-few (t ∷ rest) h =
-    let b = places-few rest h.1 in
-    let l = h.0 in
-    let n : places_in (t ∷ rest) ≡ length t.update.places + places_in rest = refl in
-    let m : length (t ∷ rest) ≡ suc (length rest) = refl in
-    omega (arith, b, l, n, m)
-
-pub few-places : (g : RegionId) (ts : List AcceptedUpdate) → AllByRecursion (λ (t : AcceptedUpdate). IsPlaced g t.update t.place) ts → AllByRecursion (λ (t : AcceptedUpdate). HasFewPlaces t.update) ts
-few-places g [] h = tt
-few-places g (t ∷ rest) h = (h.0.few, few-places g rest h.1)
 
 -- the same state is in order
 pub same-kept : (key : List ℕ) (old new : Base) → IsCopied old new → kept_in key new ≡ kept_in key old

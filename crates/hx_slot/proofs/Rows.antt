@@ -15,11 +15,6 @@ last_version-last v (x ∷ (y ∷ ys)) t e =
     let b : suc (length ys) - 1 ≡ length ys = omega arith in
     last_version-last x.update.version.0 (y ∷ ys) t (ap (slice_get (y ∷ ys)) b ∙ sym (ap (slice_get (x ∷ (y ∷ ys))) a) ∙ e)
 
--- one update more
-pub last_version_push : (v : ℕ) (ts : List AcceptedUpdate) (t : AcceptedUpdate) → last_version v (ts ++ t ∷ []) ≡ t.update.version.0
-last_version_push v [] t = refl
-last_version_push v (x ∷ ts) t = last_version_push x.update.version.0 ts t
-
 pub row_over_push : (row : Option Row) (ts : List AcceptedUpdate) (t : AcceptedUpdate) → row_over row (ts ++ t ∷ []) ≡ row_by t (row_over row ts)
 row_over_push row [] t = refl
 row_over_push row (x ∷ ts) t = row_over_push (row_by x row) ts t

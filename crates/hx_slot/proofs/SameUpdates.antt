@@ -1,5 +1,5 @@
 -- Lists of the same updates at the same places.
-use Rattle.std.proofs.Common.{◌≡◌, ℕ, zero, suc, ◌+◌, ◌<◌, Bool, List, [], ◌∷◌, length, take, drop, set, get_or, refl, ap, sym, ◌∙◌, subst, arith}
+use Rattle.std.proofs.Common.{◌≡◌, ℕ, zero, suc, ◌+◌, ◌<◌, Bool, List, [], ◌∷◌, length, take, set, get_or, refl, ap, sym, ◌∙◌, subst, arith}
 use Rattle.std.specs.List.{AllByRecursion}
 use Rattle.hx_types.specs.declared.ids.RegionId.{RegionId}
 use Rattle.hx_types.specs.declared.updates.Place.{Place}
@@ -31,13 +31,6 @@ same-length [] [] h = refl
 same-length [] (y ∷ ys) h = absurd h
 same-length (x ∷ xs) [] h = absurd h
 same-length (x ∷ xs) (y ∷ ys) h = ap suc (same-length xs ys h.2)
-
-pub same-drop : (n : ℕ) (xs ys : List AcceptedUpdate) → AreSameUpdates xs ys → AreSameUpdates (drop n xs) (drop n ys)
-same-drop zero xs ys h = h
-same-drop (suc n) [] [] h = tt
-same-drop (suc n) [] (y ∷ ys) h = absurd h
-same-drop (suc n) (x ∷ xs) [] h = absurd h
-same-drop (suc n) (x ∷ xs) (y ∷ ys) h = same-drop n xs ys h.2
 
 pub same-take : (n : ℕ) (xs ys : List AcceptedUpdate) → AreSameUpdates xs ys → AreSameUpdates (take n xs) (take n ys)
 same-take zero xs ys h = tt

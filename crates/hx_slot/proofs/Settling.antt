@@ -82,10 +82,6 @@ would-count a h v = ap (λ (us : List Update). length (commits (with_ack v (vers
 pub pending-version : (a : Inside) → IsSlot a → (v : ℕ) → list_any (is_of_version v) (pending_in a) ≡ is_pending v (whole a).state
 pending-version a h v = sym (pending-any v (pending_in a)) ∙ ap (list_any (λ (u : Update). eqb u.version.0 v)) (pending-seen a h)
 
--- the place of a pending update in the line
-pub pending-place : (a : Inside) → IsSlot a → (i : ℕ) (t : AcceptedUpdate) → i < length (pending_in a) → t ≡ get_or a.accepted.items (a.committed + i) t → t ≡ get_or (pending_in a) i t
-pending-place a h i t l e = e ∙ sym (get_or-drop a.committed a.accepted.items i t)
-
 -- room for one acknowledgement more
 pub ack-room : (a : Inside) → IsSlot a → (i : ℕ) (t : AcceptedUpdate) (acked : Vec Version Global) → i < length (pending_in a) → t ≡ get_or (pending_in a) i t
     → acked.items ≡ filter (λ (v : Version). not (eqb v.0 t.update.version.0)) a.acked.items

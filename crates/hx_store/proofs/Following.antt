@@ -154,11 +154,6 @@ set-marked marks i b l = ap (λ (o : Option Bool). when_some o false (λ (m : Bo
 pub set-unmarked : (marks : List Bool) (i k : ℕ) (b : Bool) → (k ≡ i → ⊥) → is_marked (slice_set marks i b) k ≡ is_marked marks k
 set-unmarked marks i k b n = ap (λ (o : Option Bool). when_some o false (λ (m : Bool). m)) (set-elsewhere marks i k b n)
 
-pub set-again : (marks : List Bool) (i : ℕ) (b : Bool) → i < length marks → is_marked marks i ≡ b → marks ≡ slice_set marks i b
-set-again [] i b l e = refl
-set-again (m ∷ marks) zero b l e = ap (λ (c : Bool). c ∷ marks) e
-set-again (m ∷ marks) (suc i) b l e = ap (λ (ms : List Bool). m ∷ ms) (set-again marks i b (omega (arith, l)) e)
-
 one-most : (b : Bool) → one_if b ≤ 1
 one-most true = omega arith
 one-most false = omega arith

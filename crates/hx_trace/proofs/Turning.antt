@@ -1,5 +1,5 @@
 -- Parts that are adopted: a head for each turn of their owners.
-use Rattle.std.proofs.Common.{◌≡◌, ℕ, zero, suc, ◌+◌, ◌<◌, ◌≤◌, List, [], ◌∷◌, ◌++◌, length, map, take, drop, get_or, set, replicate, Some, refl, sym, ap, ◌∙◌, subst, arith, append-nil}
+use Rattle.std.proofs.Common.{◌≡◌, ℕ, zero, suc, ◌+◌, ◌<◌, ◌≤◌, List, [], ◌∷◌, ◌++◌, length, map, take, drop, get_or, set, replicate, Some, refl, sym, ap, ◌∙◌, subst, arith}
 use Rattle.std.proofs.lemmas.List.{append_assoc, drop_all, drop_more, length-replicate, length-set, map-append, set-get_or}
 use Rattle.std.proofs.Math.Seq.{take-append_seam}
 use Rattle.std.specs.List.{AllByRecursion}
@@ -143,9 +143,3 @@ adopting_no parts shown owners i heads places lent new n o h lt is eparts eplace
     let is_new : new ≡ places = w.1 ∙ eplaces in
     let back = written places new n (ap length is_new) en in
     subst (IsAdopting parts owners (i + 1) heads) (sym (back ∙ is_new)) (adopting_none parts owners i heads places o h lt is none)
-
--- once all had their turns
-pub adopting_all : (parts : List (List Stamped)) (owners : List ℕ) (i : ℕ) (heads : List Head) (places : List ℕ) → IsAdopting parts owners i heads places → length owners ≤ i
-    → map (entry_by [] [] [] parts) heads ≡ in_turns parts owners
-adopting_all parts owners i heads places h end =
-    sym (append-nil (map (entry_by [] [] [] parts) heads)) ∙ ap (λ os. map (entry_by [] [] [] parts) heads ++ in_turns (left_after parts places) os) (sym (drop_all i owners end)) ∙ h.entries

@@ -1,13 +1,12 @@
 -- The world before the first entry.
-use Rattle.std.proofs.Common.{◌≡◌, ℕ, ◌+◌, ◌<◌, ◌≤◌, inl, inr, List, [], ◌∷◌, length, Option, Some, sym, ap, ◌∙◌, subst, arith, add-one, get_or}
-use Rattle.std.specs.Prelude.{slice_get, sum_by}
+use Rattle.std.proofs.Common.{◌≡◌, ℕ, ◌+◌, ◌<◌, List, [], length, Option, Some, sym, ap, ◌∙◌, subst, arith, add-one, get_or}
+use Rattle.std.specs.Prelude.{slice_get}
 use Rattle.std.specs.List.{All}
-use Rattle.std.proofs.lemmas.List.Sums.{sum_by-cons}
 use Rattle.hx_types.specs.declared.calls.Op.{Op}
 use Rattle.hx_types.specs.declared.traces.Script.{Script}
 use Rattle.hx_types.specs.Fitting.{IsScript, calls_of, numbered}
 use Rattle.hx_types.specs.Spaces.{Fits}
-use Rattle.hx_types.specs.Words.{IsIn, when_some}
+use Rattle.hx_types.specs.Words.{when_some}
 use Rattle.hx_posts.specs.Posts.{EpochsStaySmall, PostsStaySound, VersionsStaySmall}
 use Rattle.hx_law_lemmas.proofs.Lists.{all-in, in-slice_get}
 use Rattle.hx_folds.proofs.Runs.{lean-of, server-of}
@@ -28,16 +27,6 @@ calls_at script place calls e =
 
 pub calls_fit : (script : Script) → IsScript script → (place : ℕ) (calls : List Op) → slice_get script.sessions place ≡ Some calls → All (Fits script.space) calls
 calls_fit script valid place calls e = all-in (λ (cs : List Op). All (Fits script.space) cs) script.sessions calls valid.calls (in-slice_get script.sessions place calls e)
-
-part_of_sum : (f : List Op → ℕ) (xs : List (List Op)) (x : List Op) → IsIn x xs → f x ≤ sum_by f xs
-part_of_sum f [] x i = absurd i
-part_of_sum f (y ∷ rest) x (inl e) = let all = sum_by-cons f y rest in let same : f x ≡ f y = ap f e in omega (arith, all, same)
-part_of_sum f (y ∷ rest) x (inr i) = let all = sum_by-cons f y rest in let part = part_of_sum f rest x i in omega (arith, all, part)
-
--- no session has more calls than a script may have
-pub calls_few : (script : Script) → IsScript script → (place : ℕ) (calls : List Op) → slice_get script.sessions place ≡ Some calls → length calls ≤ 16384
-calls_few script valid place calls e =
-    let part = part_of_sum (λ (cs : List Op). length cs) script.sessions calls (in-slice_get script.sessions place calls e) in omega (arith, part, valid.few_calls)
 
 -- the next session has started
 pub session_starts : (script : Script) (all : List (List Op)) (place : ℕ) (calls own : List Op) (s : CountedSession) → all ≡ script.sessions → place < length all → calls ≡ get_or all place calls → own ≡ calls

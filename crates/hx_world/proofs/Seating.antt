@@ -25,10 +25,6 @@ get-push [] x (suc i) y e = cc
 get-push (z ∷ xs) x zero y e = inl e
 get-push (z ∷ xs) x (suc i) y e = elim (get-push xs x i y e) [ inl h ↦ inl h | inr h ↦ inr (ap suc h.0, h.1) ]
 
--- no item is at no place
-pub at_none : {A : Type 0} (P : ℕ → A → Type 0) (xs : List A) → xs ≡ [] → AreAt 0 P xs
-at_none P xs e = rw e (record { count = refl; each = λ i x h. cc })
-
 -- one more item at the next place
 pub at_push : {A : Type 0} (n : ℕ) (P : ℕ → A → Type 0) (xs ys : List A) (x : A) → AreAt n P xs → ys ≡ xs ++ x ∷ [] → P n x → AreAt (n + 1) P ys
 at_push n P xs ys x h e p =
