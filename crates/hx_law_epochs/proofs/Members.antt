@@ -1,5 +1,5 @@
 -- Members of a region one after another: the one before and the one after name each other.
-use Rattle.std.proofs.Common.{◌≡◌, inl, inr, Bool, true, false, not, ◌||◌, List, [], ◌∷◌, Option, Some, None, refl, sym, ap, ◌∙◌, subst}
+use Rattle.std.proofs.Common.{◌≡◌, inl, inr, Bool, true, false, not, List, [], ◌∷◌, Option, Some, None, refl, sym, ap, ◌∙◌}
 use Rattle.std.specs.Option.{option_map}
 use Rattle.std.proofs.lemmas.Bool.{cond_both, cond-true, cond-false, eq-eqb, false≢true}
 use Rattle.hx_types.specs.declared.configs.Config.{Config}
@@ -77,19 +77,3 @@ head-before c g s e = by (members_of c g) e
     by : (ms : List Member) → when_some (first_of_list ms) None (λ (m : Member). Some m.server) ≡ Some s → member_before None s ms ≡ None
     by [] e = refl
     by (m ∷ rest) e = let q : m.server ≡ s = cc in cond-true (same_server m.server s) None (member_before (Some m.server) s rest) (eq-eqb m.server.0 s.0 (ap (λ (z : ServerId). z.0) q))
-
-    first : (ms : List Member) → rest ≡ ms → any_ready rest ≡ false → (same_server m.server s ≡ true) × (m.ready ≡ true) → option_map (λ (x : Member). x.server) (first_of_list rest) ≡ Some j → IsJoiner (m ∷ rest) s j
-    first [] e t u q = absurd (let z : None ≡ Some j = sym (ap (λ (l : List Member). option_map (λ (x : Member). x.server) (first_of_list l)) e) ∙ q in cc)
-    first (x ∷ ms) e t u q =
-        let z : x.server ≡ j = (let y : Some x.server ≡ Some j = sym (ap (λ (l : List Member). option_map (λ (w : Member). w.server) (first_of_list l)) e) ∙ q in cc) in
-        record {
-          sender = m;
-          sends = (inl refl, server-same m.server s u.0, u.1);
-          joiner = x;
-          joins = (inr (subst (λ (l : List Member). IsIn x l) (sym e) (inl refl)), z, unready x.ready (sym (ap any_ready e) ∙ t));
-          next = cond-true (same_server m.server s) (option_map (λ (x : Member). x.server) (first_of_list rest)) (member_after s rest) u.0 ∙ q;
-        }
-      where
-        unready : (b : Bool) → (b || any_ready ms) ≡ false → b ≡ false
-        unready true e = absurd (false≢true (sym e))
-        unready false e = refl
