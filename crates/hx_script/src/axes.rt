@@ -7,7 +7,7 @@ ghost use Rattle.hx_script.specs.Axes.{has_axis, free_axis, parts, axis, next_ax
 use crate::errors::{Reason, Stop};
 use crate::line::{Line, Until};
 use crate::words::{declared_number, named};
-use hx_types::{Axes, Axis, Space};
+use hx_types::{Axes, Axis, MOST_AXES, MOST_PARTS, MOST_REGIONS, Space};
 use std::alloc::Global;
 
 /// The axes of a subspace as far as they were read, and how many regions they make.
@@ -36,7 +36,7 @@ fn free_axis(space: &Space, axes: &Axes, line: &mut Line<'_>) -> Result<u32, Sto
     if has_axis(axes, attribute) {
         return Err(Stop::Fault(Reason::Twice));
     }
-    if axes.len() >= 4 {
+    if axes.len() >= MOST_AXES {
         return Err(Stop::Fault(Reason::Limit));
     }
     Ok(attribute)
@@ -48,9 +48,9 @@ fn parts(regions: u32, size: u32, line: &mut Line<'_>) -> Result<u32, Stop>
     ensures reads { Reads (λ n. n) result line.new (parts regions size line.old) }
     ensures within { IfOk result (λ n. regions + size * n ≤ 4096) }
 {
-    let parts = line.number_in(1, 256)?;
+    let parts = line.number_in(1, MOST_PARTS)?;
     let all = u64::from(regions) + u64::from(size) * u64::from(parts);
-    if all > 4096 {
+    if all > u64::from(MOST_REGIONS) {
         return Err(Stop::Fault(Reason::Limit));
     }
     Ok(parts)

@@ -13,7 +13,9 @@ use crate::ops::{call, step};
 use crate::words::{name, new_name};
 use hx_lex::{LexError, tokens};
 use hx_types::{
-    Attribute, Attributes, Calls, Kind, Memory, Op, Script, Sessions, Space, Steps, Subspaces, Text,
+    Attribute, Attributes, Calls, Kind, MOST_ATTRIBUTES, MOST_CALLS, MOST_FAILURES, MOST_PARTS,
+    MOST_SERVERS, MOST_SESSIONS, MOST_STEPS, MOST_SUBSPACES, Memory, Op, Script, Sessions, Space,
+    Steps, Subspaces, Text,
 };
 use std::alloc::Global;
 
@@ -110,7 +112,7 @@ impl Draft {
         ensures { Reads (λ _. self.new) result line.new (key_line self.old line.old) }
     {
         let name = name(line)?;
-        let parts = line.number_in(1, 256)?;
+        let parts = line.number_in(1, MOST_PARTS)?;
         line.end()?;
         self.space.key_name = Text::from_str(alloc, name)?;
         self.space.key_parts = parts;
@@ -123,7 +125,7 @@ impl Draft {
     fn string_line(&mut self, alloc: Global, line: &mut Line<'_>) -> Result<(), Stop>
         ensures { Reads (λ _. self.new) result line.new (attribute_line self.old string_attribute line.old) }
     {
-        if self.space.attributes.len() >= 16 {
+        if self.space.attributes.len() >= MOST_ATTRIBUTES {
             return Err(Stop::Fault(Reason::Limit));
         }
         let attribute = string_attribute(alloc, &self.space, line)?;
@@ -135,7 +137,7 @@ impl Draft {
     fn int_line(&mut self, alloc: Global, line: &mut Line<'_>) -> Result<(), Stop>
         ensures { Reads (λ _. self.new) result line.new (attribute_line self.old int_attribute line.old) }
     {
-        if self.space.attributes.len() >= 16 {
+        if self.space.attributes.len() >= MOST_ATTRIBUTES {
             return Err(Stop::Fault(Reason::Limit));
         }
         let attribute = int_attribute(alloc, &self.space, line)?;
@@ -148,7 +150,7 @@ impl Draft {
         requires attributes { length self.old.space.attributes ≤ 16 }
         ensures { Reads (λ _. self.new) result line.new (subspace_line self.old line.old) }
     {
-        if self.space.subspaces.len() >= 8 {
+        if self.space.subspaces.len() >= MOST_SUBSPACES {
             return Err(Stop::Fault(Reason::Limit));
         }
         let axes_draft = subspace(alloc, &self.space, self.regions, line)?;
@@ -162,7 +164,7 @@ impl Draft {
     fn servers_line(&mut self, line: &mut Line<'_>) -> Result<(), Stop>
         ensures { Reads (λ _. self.new) result line.new (servers_line self.old line.old) }
     {
-        let servers = line.number_in(1, 16)?;
+        let servers = line.number_in(1, MOST_SERVERS)?;
         line.end()?;
         self.space.servers = servers;
         self.section = Section::Tolerance;
@@ -173,7 +175,7 @@ impl Draft {
     fn tolerate_line(&mut self, line: &mut Line<'_>) -> Result<(), Stop>
         ensures { Reads (λ _. self.new) result line.new (tolerate_line self.old line.old) }
     {
-        let most = self.space.servers.saturating_sub(1).min(4);
+        let most = self.space.servers.saturating_sub(1).min(MOST_FAILURES);
         let tolerate = line.number_in(0, most)?;
         line.end()?;
         self.space.tolerate = tolerate;
@@ -186,7 +188,7 @@ impl Draft {
         ensures { Reads (λ _. self.new) result line.new (session_line self.old line.old) }
     {
         let count = self.sessions.len();
-        if count >= 16 {
+        if count >= MOST_SESSIONS {
             return Err(Stop::Fault(Reason::Limit));
         }
         let next = count as u32 + 1;
@@ -212,7 +214,7 @@ impl Draft {
         requires attributes { length self.old.space.attributes ≤ 16 }
         ensures { Reads (λ _. self.new) result line.new (call_line self.old word line.old) }
     {
-        if self.calls >= 16384 {
+        if self.calls as usize >= MOST_CALLS {
             return Err(Stop::Fault(Reason::Limit));
         }
         let op = call(alloc, &self.space, self.regions, word, line)?;
@@ -227,7 +229,7 @@ impl Draft {
         requires sessions { length self.old.sessions ≤ 16 }
         ensures { Reads (λ _. self.new) result line.new (step_line number self.old word line.old) }
     {
-        if self.steps.len() >= 65536 {
+        if self.steps.len() >= MOST_STEPS {
             return Err(Stop::Fault(Reason::Limit));
         }
         let sessions = self.sessions.len() as u32;

@@ -8,7 +8,7 @@ ghost use Rattle.hx_script.specs.Values.{short_text, value, has_assign, free_att
 use crate::errors::{Reason, Stop};
 use crate::line::{Line, Part, Until};
 use crate::words::{declared_number, kind_at, known_number, named};
-use hx_types::{Assign, Assigns, Exact, Kind, Space, Term, Terms, Text, Value};
+use hx_types::{Assign, Assigns, Exact, Kind, LONGEST_TEXT, Space, Term, Terms, Text, Value};
 use std::alloc::Global;
 
 /// A text of at most 1,024 bytes.
@@ -17,7 +17,7 @@ pub(crate) fn short_text(alloc: Global, line: &mut Line<'_>) -> Result<Text, Sto
     ensures { Reads (λ t. t) result line.new (short_text line.old) }
 {
     let text = line.text()?;
-    if text.len() > 1024 {
+    if text.len() > LONGEST_TEXT {
         return Err(Stop::Fault(Reason::Limit));
     }
     Ok(text.copy(alloc)?)
@@ -35,7 +35,7 @@ fn value(alloc: Global, kind: Kind, line: &mut Line<'_>) -> Result<Value, Stop>
         },
         Some(Part::Text(text)) => match kind {
             Kind::Int { .. } => Err(Stop::Fault(Reason::TypeOf)),
-            Kind::Text if text.len() > 1024 => Err(Stop::Fault(Reason::Limit)),
+            Kind::Text if text.len() > LONGEST_TEXT => Err(Stop::Fault(Reason::Limit)),
             Kind::Text => Ok(Value::Text(text.copy(alloc)?)),
         },
         _ => Err(Stop::Fault(Reason::Order)),

@@ -3,10 +3,7 @@ ghost use Rattle.hx_world.specs.declared.ends.StepError.TheVariants.{Memory};
 ghost use Rattle.hx_world.specs.Turns.{IsAdmitted, IsBarred, entry_does_something};
 
 use crate::ends::StepError;
-use hx_types::{Entry, Input};
-
-/// How many entries an actor may make.
-const MOST_ENTRIES: u32 = 1_048_576;
+use hx_types::{Entry, Input, MOST_ENTRIES};
 
 /// Whether an actor that has made so many entries may make this one: a tick has to make something,
 /// and no actor makes more than 1,048,576 entries. It takes no memory.
