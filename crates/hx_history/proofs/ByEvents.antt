@@ -1,7 +1,7 @@
 -- The history of a key is told by the events of the key alone.
 use Rattle.hx_model.specs.Lines.{upto}
-use Rattle.std.proofs.Common.{◌≡◌, ℕ, ◌-◌, Bool, true, false, not, ◌&&◌, cond, List, [], ◌∷◌, ◌++◌, Option, Some, None, map, reverse, refl, sym, ap, subst, ◌∙◌, append_assoc}
-use Rattle.std.proofs.lemmas.List.{reverse-append, append-nil, map-append, reverse-reverse}
+use Rattle.std.proofs.Common.{◌≡◌, ℕ, ◌-◌, Bool, true, false, not, ◌&&◌, cond, List, [], ◌∷◌, ◌++◌, Option, Some, None, map, reverse, refl, sym, ap, subst, ◌∙◌, append_assoc, ◌+◌, ◌<◌, length, get_or, take}
+use Rattle.std.proofs.lemmas.List.{reverse-append, append-nil, map-append, reverse-reverse, take_more}
 use Rattle.std.proofs.lemmas.List.Concat.{flat_map-append}
 use Rattle.std.proofs.lemmas.List.Elements.{filter-append}
 use Rattle.std.proofs.lemmas.List.Sums.{fold-append}
@@ -55,6 +55,15 @@ line_by_notes script key actor line (a_note.Assigned u ∷ rest) =
     line_takes_write (same_text u.key key) line u (filter (is_at key) (events_in script actor rest))
     ∙ line_by_notes script key actor (line_note key line (a_note.Assigned u)) rest
 line_by_notes script key actor line (a_note.Issued config ∷ rest) = line_by_notes script key actor line rest
+
+-- the events one entry further
+pub events_more : (script : Script) (trace : List Entry) (i : ℕ) (x : Entry) → i < length trace → x ≡ get_or trace i x
+    → events_of script (take i trace) ++ events_in script x.actor x.notes ≡ events_of script (take (i + 1) trace)
+events_more script trace i x within read =
+    let piece : Entry → List KeyEvent = λ y. events_in script y.actor y.notes in
+    ap (λ es. flat_map piece (take i trace) ++ es) (sym (append-nil (piece x)))
+    ∙ sym (flat_map-append piece (take i trace) (x ∷ []))
+    ∙ ap (flat_map piece) (ap (λ y. take i trace ++ y ∷ []) read ∙ sym (take_more trace i x within))
 
 -- the events of a key, one entry further
 at_more : (script : Script) (key : List ℕ) (x : Entry) (older : List Entry)

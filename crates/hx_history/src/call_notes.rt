@@ -31,7 +31,7 @@ pub struct CallNotes<'a> {
 }
 
 /// What the notes say of each call of a session, by number.
-type SessionNotes<'a> = Vec<CallNotes<'a>>;
+pub type SessionNotes<'a> = Vec<CallNotes<'a>>;
 
 /// What nothing says yet of each call of a session.
 fn empty_row<'a>(alloc: Global, calls: &Calls) -> Result<SessionNotes<'a>, Memory>
@@ -46,7 +46,7 @@ fn empty_row<'a>(alloc: Global, calls: &Calls) -> Result<SessionNotes<'a>, Memor
 }
 
 /// A row for each session.
-fn empty_table<'a>(alloc: Global, script: &Script) -> Result<Vec<SessionNotes<'a>>, Memory>
+pub fn empty_table<'a>(alloc: Global, script: &Script) -> Result<Vec<SessionNotes<'a>>, Memory>
     ensures { IfOk result (λ table. map (λ row. row.items) table.items ≡ map (λ calls. replicate (length calls) no_notes) script.now.sessions) }
 {
     let mut table = Vec::with_capacity(alloc, script.sessions.len())?;
@@ -111,7 +111,7 @@ fn take_notes<'a>(row: &mut SessionNotes<'a>, session: SessionId, entry: u64, no
 }
 
 /// Puts down what an entry says.
-fn take_entry<'a>(table: &mut Vec<SessionNotes<'a>>, place: u64, entry: EntryRef<'a>)
+pub fn take_entry<'a>(table: &mut Vec<SessionNotes<'a>>, place: u64, entry: EntryRef<'a>)
     ensures spans { (c : Caller) → span_in (map (λ row. row.items) table.new.items) c ≡ option_map (after_entry c place (entry_seen entry.entry)) (span_in (map (λ row. row.items) table.old.items) c) }
     ensures same_shape { shape (map (λ row. row.items) table.new.items) ≡ shape (map (λ row. row.items) table.old.items) }
 {

@@ -82,7 +82,7 @@ fn event_of<'a>(script: &'a Script, actor: Actor, note: &'a Note) -> Option<Even
 }
 
 /// Adds what the notes of an entry say.
-fn push_events<'a>(
+pub fn push_events<'a>(
     events: &mut Vec<Event<'a>>,
     script: &'a Script,
     actor: Actor,

@@ -5,7 +5,8 @@ ghost use Rattle.std.specs.Ordering.{nat_cmp};
 ghost use Rattle.std.specs.Option.{option_map_or};
 ghost use Rattle.std.specs.Str.{bytes_eq};
 ghost use Rattle.hx_model.specs.Histories.{history_of};
-ghost use Rattle.hx_history.specs.Events.{event_view, history_by, is_at, key_of};
+ghost use Rattle.hx_types.specs.declared.traces.Entry.{Entry};
+ghost use Rattle.hx_history.specs.Events.{event_view, events_of, history_by, is_at, key_of};
 ghost use Rattle.hx_history.specs.Listed.{AreHistories, listed_of};
 
 use crate::events::{Event, events};
@@ -84,15 +85,27 @@ fn push_history(
     Ok(())
 }
 
+/// The histories of all keys of a trace's events that have one with items.
+pub fn histories_from(
+    alloc: Global,
+    script: &Script,
+    events: &[Event<'_>],
+) -> Result<Histories, Memory>
+    ensures { IfOk result (λ listed. (trace : List Entry) → map event_view events.now ≡ events_of script.now trace → AreHistories script.now (reverse trace) listed) }
+{
+    let groups = groups(alloc, events)?;
+    let mut listed = Histories::new(alloc);
+    for (key, events) in groups.iter() {
+        push_history(alloc, &mut listed, script, key, events)?;
+    }
+    Ok(listed)
+}
+
 /// The histories of all keys that have one with items.
 pub fn histories(alloc: Global, script: &Script, trace: &Trace) -> Result<Histories, Memory>
     ensures { IfOk result (λ listed. AreHistories script.now (reverse trace.now) listed) }
 {
     let all = events(alloc, script, trace)?;
-    let groups = groups(alloc, &all)?;
-    let mut listed = Histories::new(alloc);
-    for (key, events) in groups.iter() {
-        push_history(alloc, &mut listed, script, key, events)?;
-    }
+    let listed = histories_from(alloc, script, &all)?;
     Ok(listed)
 }

@@ -11,7 +11,9 @@ mod lines;
 mod placing;
 mod recorded;
 mod searched;
+mod walking;
 
 pub use key_histories::{Histories, KeyHistory, histories, history};
 pub use recorded::records;
 pub use searched::searches;
+pub use walking::{RecordsAndHistories, records_and_histories};

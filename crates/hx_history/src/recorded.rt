@@ -4,7 +4,7 @@ ghost use Rattle.std.specs.Option.{option_map};
 ghost use Rattle.hx_model.specs.Histories.{records_of};
 ghost use Rattle.hx_history.specs.Calls.{end_view, record_by, records_in};
 
-use crate::call_notes::{Begin, CallNotes, End, table};
+use crate::call_notes::{Begin, CallNotes, End, SessionNotes, table};
 use hx_trace::Trace;
 use hx_types::{Exact, Memory, Record, Records, Script, Version};
 use std::alloc::Global;
@@ -47,15 +47,23 @@ fn push_records(alloc: Global, records: &mut Records, notes: &[CallNotes<'_>]) -
     Ok(())
 }
 
+/// The records of the calls of a table.
+pub fn records_from(alloc: Global, table: &[SessionNotes<'_>]) -> Result<Records, Memory>
+    ensures { IfOk result (λ records. records ≡ flat_map (λ row. flat_map records_in row.items) table.now) }
+{
+    let mut records = Records::new(alloc);
+    for row in table {
+        push_records(alloc, &mut records, row)?;
+    }
+    Ok(records)
+}
+
 /// When each begun call of a script began and ended, by session and number, with the version that
 /// its end names and its answer. A call that is answered Doubt has no end.
 pub fn records(alloc: Global, script: &Script, trace: &Trace) -> Result<Records, Memory>
     ensures { IfOk result (λ records. records ≡ records_of script.now (reverse trace.now)) }
 {
     let table = table(alloc, script, trace)?;
-    let mut records = Records::new(alloc);
-    for row in &table {
-        push_records(alloc, &mut records, row)?;
-    }
+    let records = records_from(alloc, &table)?;
     Ok(records)
 }

@@ -6,11 +6,9 @@
 #![tactic(auto)]
 
 ghost use Rattle.std.specs.Prelude.{◌≡◌, ◌++◌, codes, reverse, IfOk, OnOk};
-ghost use Rattle.std.specs.List.{flat_map};
 ghost use Rattle.hx_types.specs.Spaces.{IsSpace};
-ghost use Rattle.hx_model.specs.Histories.{records_of};
 ghost use Rattle.hx_report.specs.Driving.{drivers_text};
-ghost use Rattle.hx_report.specs.Reporting.{IsReport, head_text, record_lines};
+ghost use Rattle.hx_report.specs.Reporting.{IsReport, head_text};
 ghost use Rattle.hx_report.specs.Tracing.{trace_text};
 
 mod answers;
@@ -27,7 +25,7 @@ use crate::drivers::put_drivers;
 use crate::epochs::put_epochs;
 use crate::items::put_histories;
 use crate::tracing::put_trace;
-use hx_history::{histories, records};
+use hx_history::records_and_histories;
 use hx_print::{put_bytes, put_space};
 use hx_trace::Trace;
 use hx_types::{Memory, Script, Space, Totals};
@@ -57,14 +55,6 @@ fn put_rest(
     put_bytes(out, b"end\n")
 }
 
-/// The lines of each begun call with its answer.
-fn put_calls(alloc: Global, out: &mut Vec<u8>, script: &Script, trace: &Trace) -> Result<(), Memory>
-    ensures { OnOk result
-        (out.new.items ≡ out.old.items ++ flat_map (record_lines script.now) (records_of script.now (reverse trace.now))) }
-{
-    put_records(out, script, &records(alloc, script, trace)?)
-}
-
 /// The report of a trace of the script: the lines of the space, of each begun call with its answer,
 /// of each key's history, of each epoch, exactly with `with_trace` of each entry and post, and of each
 /// driver that took part.
@@ -84,11 +74,11 @@ pub fn report(
     ensures { IfOk result
         (λ bytes. IsReport script.now (reverse trace.now) totals.now bytes.items with_trace) }
 {
-    let histories = histories(alloc, script, trace)?;
+    let both = records_and_histories(alloc, script, trace)?;
     let mut out = Vec::new(alloc);
     put_head(&mut out, &script.space)?;
-    put_calls(alloc, &mut out, script, trace)?;
-    put_histories(&mut out, &script.space, &histories)?;
+    put_records(&mut out, script, &both.records)?;
+    put_histories(&mut out, &script.space, &both.histories)?;
     put_epochs(alloc, &mut out, script, trace)?;
     put_rest(&mut out, trace, totals, with_trace)?;
     Ok(out)

@@ -17,7 +17,7 @@ mod texts;
 use crate::counting::put_counts;
 use crate::objects::present_objects;
 use crate::texts::put_objects;
-use hx_history::{Histories, histories, records};
+use hx_history::{Histories, records_and_histories};
 use hx_print::put_bytes;
 use hx_trace::Trace;
 use hx_types::{Memory, Records, Script, Space};
@@ -56,7 +56,6 @@ fn text(
 pub fn summary(alloc: Global, script: &Script, trace: &Trace) -> Result<Vec<u8>, Memory>
     ensures { IfOk result (λ bytes. IsSummary script.now (reverse trace.now) bytes.items) }
 {
-    let records = records(alloc, script, trace)?;
-    let histories = histories(alloc, script, trace)?;
-    text(alloc, &script.space, &records, &histories)
+    let both = records_and_histories(alloc, script, trace)?;
+    text(alloc, &script.space, &both.records, &both.histories)
 }

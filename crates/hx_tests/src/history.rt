@@ -215,12 +215,21 @@ fn is_search_listed<R: Abort + AllocGlobal>(rt: &R, script: &Script, trace: &Tra
     is_listed
 }
 
+/// Whether one walk over the trace lists the calls and the histories of both keys.
+fn are_listed_together<R: Abort + AllocGlobal>(rt: &R, script: &Script, trace: &Trace) -> bool {
+    let both = records_and_histories(rt.alloc(), script, trace).expect(rt, "memory");
+    let are_listed = are_recorded(&both.records) && are_of_both(&both.histories);
+    drop(both);
+    are_listed
+}
+
 #[test]
 fn calls_and_searches_are_listed(rt: HostRuntime) {
     let script = script(&rt);
     let trace = trace(&rt);
     assert!(rt; are_calls_listed(&rt, &script, &trace));
     assert!(rt; is_search_listed(&rt, &script, &trace));
+    assert!(rt; are_listed_together(&rt, &script, &trace));
     drop(trace);
     drop(script);
 }

@@ -1,5 +1,4 @@
-use Rattle.std.proofs.Common.{◌++◌, map, reverse, ap, sym, ◌∙◌}
-use Rattle.std.proofs.lemmas.List.{append-nil, drop_all}
+use Rattle.std.proofs.Common.{map, reverse, ap, sym, ◌∙◌}
 use Rattle.std.proofs.lemmas.List.Folds.{flat_map-map}
 use Rattle.std.specs.List.{flat_map}
 use Rattle.hx_history.specs.Calls.{records_in}
@@ -8,10 +7,8 @@ use Rattle.hx_history.proofs.recorded.records.Goals as goal
 
 pub returns : goal.returns
 returns c =
-    sym (append-nil c.loop-row.records)
-    ∙ ap (λ rows. c.loop-row.records ++ flat_map (λ row. flat_map records_in row.items) rows) (sym (drop_all c.loop-row.row-index c.deref-row-items.result.now c.loop-row-test.false))
-    ∙ c.loop-row.invariant
-    ∙ ap (flat_map (λ row. flat_map records_in row.items)) c.deref-row-items.ensures.value
+    c.in_ok-records.ensures
+    ∙ ap (flat_map (λ row. flat_map records_in row.items)) c.deref.ensures.value
     ∙ sym (flat_map-map (flat_map records_in) (λ row. row.items) c.in_ok-table.table.items)
     ∙ records_are c.args.script.now (reverse c.args.trace.now) (map (λ row. row.items) c.in_ok-table.table.items)
     c.in_ok-table.ensures.spans c.in_ok-table.ensures.as_script

@@ -1,6 +1,6 @@
 use Rattle.std.proofs.Common.{◌≡◌, ◌++◌}
 use Rattle.hx_history.proofs.Listing.{histories_of}
-use Rattle.hx_history.proofs.key_histories.histories.Given as goal
+use Rattle.hx_history.proofs.key_histories.histories_from.Given as goal
 
 abbrev pub invariant-loop-key : goal.invariant-loop-key
 invariant-loop-key l =

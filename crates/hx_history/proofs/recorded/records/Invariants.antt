@@ -1,9 +1,0 @@
-use Rattle.std.proofs.Common.{◌≡◌, ◌++◌, drop}
-use Rattle.std.specs.List.{flat_map}
-use Rattle.hx_history.specs.Calls.{records_in}
-use Rattle.hx_history.proofs.recorded.records.Given as goal
-
-abbrev pub invariant-loop-row : goal.invariant-loop-row
-invariant-loop-row l =
-    l.records ++ flat_map (λ row. flat_map records_in row.items) (drop l.row-index l.row-items)
-    ≡ flat_map (λ row. flat_map records_in row.items) l.row-items

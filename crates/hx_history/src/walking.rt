@@ -1,0 +1,63 @@
+ghost use Rattle.std.specs.Prelude.{◌≡◌, map, reverse, IfOk};
+ghost use Rattle.std.specs.Option.{option_map};
+ghost use Rattle.hx_types.specs.declared.calls.Caller.{Caller};
+ghost use Rattle.hx_types.specs.Fitting.{call_of};
+ghost use Rattle.hx_model.specs.Histories.{records_of};
+ghost use Rattle.hx_history.specs.Calls.{notes_of, shape, span_in};
+ghost use Rattle.hx_history.specs.Events.{event_view, events_of};
+ghost use Rattle.hx_history.specs.Listed.{AreHistories};
+
+use crate::call_notes::{SessionNotes, empty_table, take_entry};
+use crate::events::{Event, push_events};
+use crate::key_histories::{Histories, histories_from};
+use crate::recorded::records_from;
+use hx_trace::Trace;
+use hx_types::{Memory, Records, Script};
+use std::alloc::Global;
+
+/// What the notes of a trace say: of each call, and of keys in order.
+#[derive(Drop)]
+pub struct Gathered<'a> {
+    pub table: Vec<SessionNotes<'a>>,
+    pub events: Vec<Event<'a>>,
+}
+
+/// The records of calls, and the histories of keys.
+#[derive(Drop)]
+pub struct RecordsAndHistories {
+    pub records: Records,
+    pub histories: Histories,
+}
+
+/// What all notes of a trace say.
+fn gather<'a>(alloc: Global, script: &'a Script, trace: &'a Trace) -> Result<Gathered<'a>, Memory>
+    ensures spans { IfOk result (λ gathered. (c : Caller) → span_in (map (λ row. row.items) gathered.table.items) c ≡ option_map (λ op. notes_of c (reverse trace.now)) (call_of script.now c)) }
+    ensures as_script { IfOk result (λ gathered. shape (map (λ row. row.items) gathered.table.items) ≡ shape script.now.sessions) }
+    ensures events { IfOk result (λ gathered. map event_view gathered.events.items ≡ events_of script.now trace.now) }
+{
+    let mut table = empty_table(alloc, script)?;
+    let mut events = Vec::new(alloc);
+    for place in 0..trace.len() {
+        if let Some(entry) = trace.get(place) {
+            take_entry(&mut table, place as u64 + 1, entry);
+            push_events(&mut events, script, entry.actor, entry.notes)?;
+        }
+    }
+    Ok(Gathered { table, events })
+}
+
+/// The records of [`records`](crate::records) and the histories of [`histories`](crate::histories), after one
+/// walk over the trace: it is long, and most of its entries have no notes.
+pub fn records_and_histories(
+    alloc: Global,
+    script: &Script,
+    trace: &Trace,
+) -> Result<RecordsAndHistories, Memory>
+    ensures records { IfOk result (λ both. both.records ≡ records_of script.now (reverse trace.now)) }
+    ensures histories { IfOk result (λ both. AreHistories script.now (reverse trace.now) both.histories) }
+{
+    let gathered = gather(alloc, script, trace)?;
+    let records = records_from(alloc, &gathered.table)?;
+    let histories = histories_from(alloc, script, &gathered.events)?;
+    Ok(RecordsAndHistories { records, histories })
+}
