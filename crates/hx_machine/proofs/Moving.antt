@@ -1,5 +1,5 @@
 -- What an actor makes of an input after its entries, and what it is then.
-use Rattle.std.proofs.Common.{◌≡◌, true, List, ◌∷◌, refl, sym, ap, ◌∙◌, subst}
+use Rattle.std.proofs.Common.{◌≡◌, Box, Global, true, List, ◌∷◌, refl, sym, ap, ◌∙◌, subst}
 use Rattle.std.proofs.lemmas.Bool.{cond-true, eq-eqb}
 use Rattle.hx_types.specs.declared.ids.Actor.{Actor}
 use Rattle.hx_types.specs.declared.ids.ServerId.{ServerId}
@@ -106,10 +106,10 @@ session_moves script u past x v after at can is space moves =
 
 -- the machine of the actor after its plan's entry
 module _ (script : Script) (a : Actor) (past : List Stamped) (m m' : Machine) (p : Plan) (x : Entry) (at : IsMachine script a (entries_in past) m) (can : CanTake script a past x.input) (on : IsPlanOn m p) where
-  pub coordinator_applies : (c after : CoordinatorState) (plan : CoordinatorPlan) → m ≡ a_machine.Coordinator c → p ≡ a_plan.Coordinator plan → m' ≡ a_machine.Coordinator after → x ≡ plan.entry
-      → after ≡ (coordinator_step c plan.entry.input).state → IsMachine script a (x ∷ entries_in past) m'
+  pub coordinator_applies : (c after : CoordinatorState) (plan : Box CoordinatorPlan Global) → m ≡ a_machine.Coordinator c → p ≡ a_plan.Coordinator plan → m' ≡ a_machine.Coordinator after
+      → x ≡ plan.value.entry → after ≡ (coordinator_step c plan.value.entry.input).state → IsMachine script a (x ∷ entries_in past) m'
   coordinator_applies c after plan e f g is moves =
-      let here : coordinator_plan.IsPlanOn c plan = subst (IsPlanOn (a_machine.Coordinator c)) f (subst (λ n. IsPlanOn n p) e on) in
+      let here : coordinator_plan.IsPlanOn c plan.value = subst (IsPlanOn (a_machine.Coordinator c)) f (subst (λ n. IsPlanOn n p) e on) in
       let back = sym is in
       subst (IsMachine script a (x ∷ entries_in past)) (sym g)
       (

@@ -41,7 +41,7 @@ pub record CanTake (script : Script) (a : Actor) (past : List Stamped) (input : 
   pub input_to : IsFedBy script stamp a input
 
 abbrev pub entry_in : Plan → Entry
-entry_in (a_plan.Coordinator plan) = plan.entry
+entry_in (a_plan.Coordinator plan) = plan.value.entry
 entry_in (a_plan.Server plan) = plan.entry
 entry_in (a_plan.Session plan) = plan.entry
 
@@ -51,7 +51,7 @@ IsStepOf script a past input x = x ≡ entry_of a input (made_of script past a i
 
 -- the plan is one of this actor's role, on its state
 abbrev pub IsPlanOn : Machine → Plan → Type 0
-IsPlanOn (a_machine.Coordinator c) (a_plan.Coordinator plan) = coordinator.IsPlanOn c plan
+IsPlanOn (a_machine.Coordinator c) (a_plan.Coordinator plan) = coordinator.IsPlanOn c plan.value
 IsPlanOn (a_machine.Server v) (a_plan.Server plan) = server.IsPlanOn v plan
 IsPlanOn (a_machine.Session v) (a_plan.Session plan) = session.IsPlanOn v plan
 IsPlanOn machine plan = ⊥

@@ -7,6 +7,9 @@ ghost use Rattle.hx_model.specs.Runs.{has_halted, is_actor};
 ghost use Rattle.hx_clock.specs.declared.parts.Stamped.{Stamped};
 ghost use Rattle.hx_law_own.specs.Feeding.{entries_in};
 ghost use Rattle.hx_law_threads.specs.Cuts.{is_idle_actor};
+ghost use Rattle.hx_coord.specs.Changes.{IsPlanOn as IsCoordinatorPlan};
+ghost use Rattle.hx_coord.specs.Coordinators.{CanTake as CoordinatorCanTake};
+ghost use Rattle.hx_model.specs.CoordinatorSteps.{coordinator_step};
 ghost use Rattle.hx_machine.specs.Machines.{CanTake, IsMachine, IsPlanOn, IsStepOf, entry_in, has_ended};
 
 use crate::plans::Plan;
@@ -58,18 +61,24 @@ impl Machine {
         ensures state { (script : ScriptSeen) (a : ActorSeen) (past : List EntrySeen) → IsMachine script a past self.old → IsMachine script a past self.new }
     {
         match self {
-            Machine::Coordinator(coordinator) => match coordinator.prepare(alloc, input) {
-                Ok(plan) => Ok(Plan::Coordinator(plan)),
-                Err(error) => Err(error),
-            },
-            Machine::Server(server) => match server.prepare(alloc, input) {
-                Ok(plan) => Ok(Plan::Server(plan)),
-                Err(error) => Err(error),
-            },
-            Machine::Session(session) => match session.prepare(alloc, input) {
-                Ok(plan) => Ok(Plan::Session(plan)),
-                Err(error) => Err(error),
-            },
+            Machine::Coordinator(coordinator) => {
+                let Ok(plan) = prepare_boxed(coordinator, alloc, input) else {
+                    return Err(Memory);
+                };
+                Ok(Plan::Coordinator(plan))
+            }
+            Machine::Server(server) => {
+                let Ok(plan) = server.prepare(alloc, input) else {
+                    return Err(Memory);
+                };
+                Ok(Plan::Server(plan))
+            }
+            Machine::Session(session) => {
+                let Ok(plan) = session.prepare(alloc, input) else {
+                    return Err(Memory);
+                };
+                Ok(Plan::Session(plan))
+            }
         }
     }
 
@@ -80,7 +89,10 @@ impl Machine {
         ensures state { (script : ScriptSeen) (a : ActorSeen) (past : List Stamped) → IsMachine script a (entries_in past) self.old → CanTake script a past result.input → IsMachine script a (result ∷ entries_in past) self.new }
     {
         match (self, plan) {
-            (Machine::Coordinator(coordinator), Plan::Coordinator(plan)) => coordinator.apply(plan),
+            (Machine::Coordinator(coordinator), Plan::Coordinator(plan)) => apply_boxed(
+                coordinator,
+                plan,
+            ),
             (Machine::Server(server), Plan::Server(plan)) => server.apply(plan),
             (Machine::Session(session), Plan::Session(plan)) => session.apply(plan),
             _ => unreachable!(),
@@ -116,4 +128,35 @@ impl Machine {
             _ => true,
         }
     }
+}
+
+/// Computes a step of the coordinator. Its plan is large and rare, so it is boxed, in a function of its own: a plan
+/// of any other actor stays small.
+#[cold]
+#[inline(never)]
+fn prepare_boxed(
+    coordinator: &mut Coordinator,
+    alloc: Global,
+    input: Input,
+) -> Result<Box<hx_coord::Plan>, Memory>
+    requires { CoordinatorCanTake coordinator.old input }
+    ensures plan { IfOk result (λ plan. IsCoordinatorPlan coordinator.new plan.value) }
+    ensures input { IfOk result (λ plan. plan.value.entry.input ≡ input) }
+    ensures state { coordinator.new ≡ coordinator.old }
+{
+    let Ok(plan) = coordinator.prepare(alloc, input) else {
+        return Err(Memory);
+    };
+    Ok(Box::new(alloc, plan)?)
+}
+
+/// Makes a prepared step of the coordinator, and gives its entry.
+#[cold]
+#[inline(never)]
+fn apply_boxed(coordinator: &mut Coordinator, plan: Box<hx_coord::Plan>) -> Entry
+    requires { IsCoordinatorPlan coordinator.old plan.value }
+    ensures entry { result ≡ plan.value.entry }
+    ensures state { coordinator.new ≡ (coordinator_step coordinator.old plan.value.entry.input).state }
+{
+    coordinator.apply(Box::into_inner(plan))
 }

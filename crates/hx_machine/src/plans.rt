@@ -6,7 +6,8 @@ use hx_types::Entry;
 /// A step that is ready to be made, of an actor of any role.
 #[derive(Drop)]
 pub enum Plan {
-    Coordinator(hx_coord::Plan),
+    /// Boxed, since it is larger than the others and rare.
+    Coordinator(Box<hx_coord::Plan>),
     Server(hx_replica::Plan),
     Session(hx_session::Plan),
 }

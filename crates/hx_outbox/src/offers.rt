@@ -65,6 +65,41 @@ fn first_of(copies: Copies) -> Post
     first
 }
 
+/// Puts a post twice. It is rare, so it has a function of its own: no other post pays for its envelopes.
+#[cold]
+#[inline(never)]
+fn put_twice<R: Wait>(
+    rt: &R,
+    script: &Script,
+    clock: &Clock,
+    boxes: &[Mailbox<'_>],
+    out: &mut Outbox,
+    kept: &mut VecDeque<Envelope>,
+    seat: &mut Seat,
+    id: PostId,
+    copies: Copies,
+)
+    requires seat { seat.old.clock ≡ clock.now }
+    requires made { (x : Stamped) × Carries seat.old.view x × Posted x id copies.first }
+    requires boxes { AreBoxes script.now clock.now boxes.now }
+    requires out { IsOutbox boxes.now out.old }
+    requires sound { IsSoundPost script.now.space (length script.now.sessions) id.entry copies.first }
+    requires room { deque_len kept.old + 2 ≤ deque_capacity kept.old }
+    requires few { out_weight (λ m. 1) out.old.ports.items + kept_weight (λ m. 1) kept.old.items < 2 ^ 62 }
+    ensures seat { seat.new ≡ seat.old }
+    ensures out { IsOutbox boxes.now out.new × (out.new.index ≡ out.old.index) }
+    ensures more { MorePut out.old.ports.items out.new.ports.items }
+    ensures weight { (h : Mailed → ℕ) → out_weight h out.new.ports.items + kept_weight h kept.new.items ≡ out_weight h out.old.ports.items + kept_weight h kept.old.items + 2 * h (mailed id copies.first) }
+    ensures good { AreGood script.now clock.now kept.old.items → AreGood script.now clock.now kept.new.items }
+    ensures capacity { (deque_capacity kept.new ≡ deque_capacity kept.old) × (deque_len kept.new ≤ deque_len kept.old + 2) }
+{
+    let Copies { first, second } = copies;
+    let envelope = seal(clock, seat, id, first);
+    put_or_keep(rt, script, clock, boxes, out, kept, envelope);
+    let again = seal(clock, seat, id, second);
+    put_or_keep(rt, script, clock, boxes, out, kept, again);
+}
+
 /// Puts a post as often as the choice says.
 fn put_times<R: Wait>(
     rt: &R,
@@ -98,13 +133,7 @@ fn put_times<R: Wait>(
             let envelope = seal(clock, seat, id, first_of(copies));
             put_or_keep(rt, script, clock, boxes, out, kept, envelope);
         }
-        Choice::Twice => {
-            let Copies { first, second } = copies;
-            let envelope = seal(clock, seat, id, first);
-            put_or_keep(rt, script, clock, boxes, out, kept, envelope);
-            let again = seal(clock, seat, id, second);
-            put_or_keep(rt, script, clock, boxes, out, kept, again);
-        }
+        Choice::Twice => put_twice(rt, script, clock, boxes, out, kept, seat, id, copies),
     }
 }
 
