@@ -73,7 +73,7 @@ fn add_twice(alloc: Global, copies: &mut Vec<Copies>, post: &Post) -> Result<(),
 fn double(alloc: Global, posts: &[Post]) -> Result<Vec<Copies>, Memory>
     ensures { IfOk result (λ copies. firsts_of copies.items ≡ posts.now) }
 {
-    let mut copies = Vec::new(alloc);
+    let mut copies = Vec::with_capacity(alloc, posts.len())?;
     for post in posts {
         add_twice(alloc, &mut copies, post)?;
     }
