@@ -7,8 +7,8 @@ use hx_chain::*;
 use hx_region::RegionMap;
 use hx_slot::Slot;
 use hx_types::{
-    Config, Epoch, Hop, Member, Members, Object, Places, RegionId, RegionLists, ServerId,
-    ServerList, Text, Update,
+    Config, Epoch, Hop, Member, Members, Object, RegionId, RegionLists, ServerId, ServerList, Text,
+    Update,
 };
 use std::alloc::Global;
 use std::process::Abort;
@@ -60,6 +60,9 @@ fn first_update(rt: &impl Abort, alloc: Global) -> Update
     update(rt, alloc, "a", 1, (1, 1), None, places_of_1(rt, alloc))
 }
 
+/// Each server and its place, in the order of the update's chain.
+const WAY: [(u32, u32); 6] = [(1, 0), (2, 0), (1, 1), (2, 1), (3, 2), (4, 2)];
+
 fn is_at(hop: Hop, wanted: (u32, u32)) -> bool {
     matches!(hop, Hop::At { server, place } if server.0 == wanted.0 && place == wanted.1)
 }
@@ -75,58 +78,44 @@ fn follows(config: &Config, update: &Update, from: (u32, u32), to: (u32, u32)) -
 fn goes_from_member_to_member_and_place_to_place(rt: HostRuntime) {
     let config = config(&rt, rt.alloc(), &[1, 2, 3, 4]);
     let update = first_update(&rt, rt.alloc());
-    let way = [(1, 0), (2, 0), (1, 1), (2, 1), (3, 2), (4, 2)];
-    for (from, to) in way.iter().zip(way.iter().skip(1)) {
-        assert!(rt; follows(&config, &update, *from, *to));
+    let mut goes = true;
+    for (from, to) in WAY.iter().zip(WAY.iter().skip(1)) {
+        goes = goes && follows(&config, &update, *from, *to);
     }
-    assert!(rt; matches!(prev(&config, &update, 0, ServerId(1)), Hop::End));
-    assert!(rt; matches!(next(&config, &update, 2, ServerId(4)), Hop::End));
+    let first = prev(&config, &update, 0, ServerId(1));
+    let last = next(&config, &update, 2, ServerId(4));
+    drop(update);
+    drop(config);
+    assert!(rt; goes);
+    assert!(rt; matches!((first, last), (Hop::End, Hop::End)));
 }
 
 #[test]
 fn is_blocked_by_a_lost_region(rt: HostRuntime) {
     let update = first_update(&rt, rt.alloc());
     let low = config(&rt, rt.alloc(), &[1, 2]);
-    assert!(rt;
-        matches!(
-            next(&low, &update, 1, ServerId(2)),
-            Hop::Blocked(RegionId(6))
-        )
-    );
     let high = config(&rt, rt.alloc(), &[3, 4]);
-    assert!(rt;
-        matches!(
-            prev(&high, &update, 2, ServerId(3)),
-            Hop::Blocked(RegionId(4))
-        )
-    );
+    let after = next(&low, &update, 1, ServerId(2));
+    let before = prev(&high, &update, 2, ServerId(3));
+    drop(high);
+    drop(low);
+    drop(update);
+    assert!(rt; matches!(after, Hop::Blocked(RegionId(6))));
+    assert!(rt; matches!(before, Hop::Blocked(RegionId(4))));
 }
 
 #[test]
 fn finds_the_place_in_a_region(rt: HostRuntime) {
     let update = first_update(&rt, rt.alloc());
-    assert_eq!(rt; place_number(&update, RegionId(6)), Some(2));
-    assert_eq!(rt; place_number(&update, RegionId(5)), None);
+    let found = place_number(&update, RegionId(6));
+    let none = place_number(&update, RegionId(5));
+    drop(update);
+    assert_eq!(rt; (found, none), (Some(2), None));
 }
 
-fn books_map(rt: &impl Abort, alloc: Global) -> RegionMap {
-    let space = books(rt, alloc);
-    let Ok(map) = RegionMap::new(alloc, &space) else {
-        panic!(rt; "no memory");
-    };
-    map
-}
-
-/// Whether the places are these: region, `after` and `keeps` of each.
-fn are(places: &Places, wanted: &[(u32, u64, bool)]) -> bool {
-    let places = places.as_slice();
-    let same = places.iter().zip(wanted).all(|(place, wanted)| {
-        place.region.0 == wanted.0 && place.after.0 == wanted.1 && place.keeps == wanted.2
-    });
-    places.len() == wanted.len() && same
-}
-
-/// Whether the first update of a key that changes from one object to another goes through these.
+/// Whether the first update of a key that changes from one object to another goes through these
+/// places: region, `after` and `keeps` of each.
+#[tactic(auto, using(crate::proofs::Books::space_is))]
 fn goes_through(
     rt: &impl Abort,
     alloc: Global,
@@ -134,28 +123,38 @@ fn goes_through(
     new: Option<&Object>,
     wanted: &[(u32, u64, bool)],
 ) -> bool {
-    let map = books_map(rt, alloc);
+    let space = books(rt, alloc);
+    let map = RegionMap::new(alloc, &space);
+    drop(space);
+    let map = map.expect(rt, "no memory");
     let key = text(rt, alloc, "a");
     let slot = Slot::new(alloc, RegionId(0), Text::new(alloc), true);
-    let Ok(places) = places(alloc, &map, &key, old, new, true, &slot) else {
-        panic!(rt; "no memory");
-    };
-    are(&places, wanted)
-}
-
-#[test]
-fn goes_through_the_regions_of_a_new_object(rt: HostRuntime) {
-    let new = object(&rt, rt.alloc(), "b", 1999);
-    let wanted = [(0, 0, true), (4, 0, true), (6, 0, true)];
-    assert!(rt; goes_through(&rt, rt.alloc(), None, Some(&new), &wanted));
-    let new = object(&rt, rt.alloc(), "", 1900);
-    assert!(rt; goes_through(&rt, rt.alloc(), None, Some(&new), &wanted));
+    let places = places(alloc, &map, &key, old, new, true, &slot);
+    drop(slot);
+    drop(key);
+    drop(map);
+    let places = places.expect(rt, "no memory");
+    for (place, wanted) in places.as_slice().iter().zip(wanted) {
+        if (place.region.0, place.after.0, place.keeps) != *wanted {
+            return false;
+        }
+    }
+    places.len() == wanted.len()
 }
 
 #[test]
 fn goes_through_the_old_region_first(rt: HostRuntime) {
+    let least = object(&rt, rt.alloc(), "", 1900);
     let old = object(&rt, rt.alloc(), "b", 1999);
     let new = object(&rt, rt.alloc(), "d", 1999);
-    let wanted = [(0, 0, true), (4, 0, false), (5, 0, true), (6, 0, true)];
-    assert!(rt; goes_through(&rt, rt.alloc(), Some(&old), Some(&new), &wanted));
+    let made = [(0, 0, true), (4, 0, true), (6, 0, true)];
+    let moved = [(0, 0, true), (4, 0, false), (5, 0, true), (6, 0, true)];
+    let is_made = goes_through(&rt, rt.alloc(), None, Some(&old), &made)
+        && goes_through(&rt, rt.alloc(), None, Some(&least), &made);
+    let is_moved = goes_through(&rt, rt.alloc(), Some(&old), Some(&new), &moved);
+    drop(new);
+    drop(old);
+    drop(least);
+    assert!(rt; is_made);
+    assert!(rt; is_moved);
 }

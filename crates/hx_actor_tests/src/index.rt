@@ -39,16 +39,14 @@ fn a_row_is_found_by_its_number(rt: HostRuntime) {
     let mut index = indexed(&rt, alloc, 1);
     index.add(&rows, 0);
     let mut view = View::new(&rows, 0);
-    let Ok(found) = index.find(alloc, &mut view, &between(&rt, alloc, 2, 500, 600)) else {
-        panic!(rt; "no memory");
-    };
-    assert_eq!(rt; found.as_slice(), [0].as_slice());
-    assert_eq!(rt; view.looks(), 3);
-    let Ok(found) = index.find(alloc, &mut view, &between(&rt, alloc, 2, 501, 600)) else {
-        panic!(rt; "no memory");
-    };
-    assert!(rt; found.is_empty());
-    assert_eq!(rt; view.looks(), 5);
+    let found = index.find(alloc, &mut view, &between(&rt, alloc, 2, 500, 600));
+    let looks = view.looks();
+    let none = index.find(alloc, &mut view, &between(&rt, alloc, 2, 501, 600));
+    let all_looks = view.looks();
+    drop(index);
+    assert!(rt; matches!(&found, Ok(found) if matches!(found.as_slice(), [0])));
+    assert!(rt; matches!(&none, Ok(none) if none.is_empty()));
+    assert_eq!(rt; (looks, all_looks), (3, 5));
 }
 
 #[test]
@@ -69,9 +67,9 @@ fn a_row_goes_to_its_new_place(rt: HostRuntime) {
         lo: 900,
         hi: 999,
     };
-    assert!(rt; index.run(&mut view, &numbers) == (1, 2));
-    let Ok(found) = index.find(alloc, &mut view, &between(&rt, alloc, 2, 500, 800)) else {
-        panic!(rt; "no memory");
-    };
-    assert_eq!(rt; found.as_slice(), [1].as_slice());
+    let run = index.run(&mut view, &numbers);
+    let found = index.find(alloc, &mut view, &between(&rt, alloc, 2, 500, 800));
+    drop(index);
+    assert_eq!(rt; run, (1, 2));
+    assert!(rt; matches!(&found, Ok(found) if matches!(found.as_slice(), [1])));
 }

@@ -71,9 +71,7 @@ fn started(rt: &impl Abort, alloc: Global) -> Result<Server, Memory>
 fn step(rt: &impl Abort, alloc: Global, server: &mut Server, input: Input) -> (usize, usize, bool)
     requires { CanTake server.old.space server.old.state input }
 {
-    let Ok(plan) = server.prepare(alloc, input) else {
-        panic!(rt; "no memory");
-    };
+    let plan = server.prepare(alloc, input).expect(rt, "no memory");
     let entry = server.apply(plan);
     (entry.outputs.len(), entry.notes.len(), server.halted())
 }
@@ -88,38 +86,29 @@ fn made_of(rt: &impl Abort, alloc: Global, input: Input) -> (usize, usize, bool)
     step(rt, alloc, &mut server, input)
 }
 
-/// The put is assigned a version, and answered at once, since its chain is one replica long.
+/// A put of the epoch is assigned a version, and answered at once, since its chain is one replica
+/// long; one of another epoch is not. A ready member answers a search. Nothing is pending, so nothing
+/// is sent again. A halt and a seal are told.
 #[test]
-fn put_of_the_epoch_is_answered(rt: HostRuntime) {
+fn a_server_takes_each_input(rt: HostRuntime) {
     let now = put(&rt, rt.alloc(), 1);
-    assert_eq!(rt; made_of(&rt, rt.alloc(), now), (1, 1, false));
-}
-
-#[test]
-fn put_of_another_epoch_is_not(rt: HostRuntime) {
+    let put_now = made_of(&rt, rt.alloc(), now);
     let later = put(&rt, rt.alloc(), 2);
-    assert_eq!(rt; made_of(&rt, rt.alloc(), later), (0, 0, false));
-}
-
-#[test]
-fn a_ready_member_answers_a_search(rt: HostRuntime) {
+    let put_later = made_of(&rt, rt.alloc(), later);
     let search = ask(rt.alloc());
-    assert_eq!(rt; made_of(&rt, rt.alloc(), search), (1, 0, false));
-}
-
-/// Nothing is pending at the start.
-#[test]
-fn nothing_is_sent_again(rt: HostRuntime) {
-    assert_eq!(rt; made_of(&rt, rt.alloc(), Input::Tick), (0, 0, false));
-}
-
-#[test]
-fn a_halt_is_told(rt: HostRuntime) {
-    assert_eq!(rt; made_of(&rt, rt.alloc(), Input::Halt), (1, 0, true));
-}
-
-#[test]
-fn a_seal_is_told(rt: HostRuntime) {
+    let searched = made_of(&rt, rt.alloc(), search);
+    let turn = made_of(&rt, rt.alloc(), Input::Tick);
+    let halted = made_of(&rt, rt.alloc(), Input::Halt);
     let seal = from_coordinator(Message::Seal { epoch: Epoch(1) });
-    assert_eq!(rt; made_of(&rt, rt.alloc(), seal), (1, 0, false));
+    let sealed = made_of(&rt, rt.alloc(), seal);
+    for (name, made, wanted) in [
+        ("a put", put_now, (1, 1, false)),
+        ("a put of another epoch", put_later, (0, 0, false)),
+        ("a search", searched, (1, 0, false)),
+        ("a turn", turn, (0, 0, false)),
+        ("a halt", halted, (1, 0, true)),
+        ("a seal", sealed, (1, 0, false)),
+    ] {
+        assert!(rt; made == wanted, "{name}");
+    }
 }

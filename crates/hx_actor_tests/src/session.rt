@@ -1,43 +1,27 @@
 ghost use Rattle.std.specs.Prelude.{◌≡◌};
-ghost use Rattle.hx_actor_tests.specs.Books.{books, puts};
+ghost use Rattle.hx_actor_tests.specs.Books.{books};
 
-use crate::spaces::{books, text};
+use crate::spaces::{books, list, text};
 use hx_session::Session;
-use hx_types::{Assigns, Calls, Input, Op, SessionId, Space};
+use hx_types::{Assigns, Input, Op, SessionId, Space};
 use std::alloc::Global;
 use std::process::Abort;
 
-/// A put of an object of defaults.
-fn calls(rt: &impl Abort, alloc: Global) -> Calls
-    ensures { result ≡ puts }
+/// Session 1 of the space of books, which puts an object of defaults.
+fn started(rt: &impl Abort, alloc: Global, space: &Space) -> Session
+    requires { space.now ≡ books }
 {
     let put = Op::Put {
         key: text(rt, alloc, "a"),
         sets: Assigns::new(alloc),
     };
-    let mut calls = Calls::new(alloc);
-    let Ok(()) = calls.push(put) else {
-        panic!(rt; "no memory");
-    };
-    calls
-}
-
-/// Session 1 of the space of books.
-fn started(rt: &impl Abort, alloc: Global, space: &Space) -> Session
-    requires { space.now ≡ books }
-{
-    let puts = calls(rt, alloc);
-    let Ok(session) = Session::start(alloc, space, SessionId(1), puts) else {
-        panic!(rt; "no memory");
-    };
-    session
+    let puts = list(rt, alloc, [put]);
+    Session::start(alloc, space, SessionId(1), puts).expect(rt, "no memory")
 }
 
 /// How many posts and notes a session makes on its turn.
 fn turn(rt: &impl Abort, alloc: Global, session: &mut Session) -> (usize, usize) {
-    let Ok(plan) = session.prepare(alloc, Input::Tick) else {
-        panic!(rt; "no memory");
-    };
+    let plan = session.prepare(alloc, Input::Tick).expect(rt, "no memory");
     let entry = session.apply(plan);
     (entry.outputs.len(), entry.notes.len())
 }
@@ -46,5 +30,8 @@ fn turn(rt: &impl Abort, alloc: Global, session: &mut Session) -> (usize, usize)
 fn a_put_begins_and_is_posted(rt: HostRuntime) {
     let space = books(&rt, rt.alloc());
     let mut session = started(&rt, rt.alloc(), &space);
-    assert_eq!(rt; turn(&rt, rt.alloc(), &mut session), (1, 1));
+    let made = turn(&rt, rt.alloc(), &mut session);
+    drop(session);
+    drop(space);
+    assert_eq!(rt; made, (1, 1));
 }

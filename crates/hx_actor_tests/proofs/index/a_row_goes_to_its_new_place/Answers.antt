@@ -21,14 +21,14 @@ replace-requires-clause-index g c =
     subst (λ (rows : ℕ → Option Row). IsIndexOf rows c.add-2.new.self)
     ((λ k. rows_at (Some (first k) ∷ Some (second k) ∷ [])) ∙ sym (first-changes (Some c.row-old.result) (Some c.row-other.result) (Some c.row.result))) c.add-2.ensures.index
 
-pub run-requires-clause-attribute : goal.run-requires-clause-attribute
-run-requires-clause-attribute g c =
+pub run-run-requires-clause-attribute : goal.run-run-requires-clause-attribute
+run-run-requires-clause-attribute g c =
     let a = c.replace.ensures.attributes in
     let b = without-length 1 c.add.new.self c.add-2.new.self c.add-2.ensures.others in
     let d = without-length 0 c.indexed-index.result c.add.new.self c.add.ensures.others in
     let f : length c.indexed-index.result.orders ≡ 3 = ap length c.indexed-index.ensures.orders in
     omega (arith, a, b, d, f)
 
-pub find-requires : goal.find-requires
-find-requires g c =
-    subst (λ (rows : ℕ → Option Row). IsIndexOf rows c.replace.new.self) (sym (c.run.ensures.rows ∙ ap (λ (v : ViewState). rows_at v.rows) c.new-view.ensures)) c.replace.ensures.index
+pub find-found-requires : goal.find-found-requires
+find-found-requires g c =
+    subst (λ (rows : ℕ → Option Row). IsIndexOf rows c.replace.new.self) (sym (c.run-run.ensures.rows ∙ ap (λ (v : ViewState). rows_at v.rows) c.new-view.ensures)) c.replace.ensures.index
