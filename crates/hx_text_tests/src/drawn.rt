@@ -6,44 +6,31 @@ fn has_calls(script: &Script, session: u32, count: usize) -> bool {
     script.calls(SessionId(session)).len() == count
 }
 
-/// Whether a call is a del of the key.
-fn is_del(script: &Script, session: u32, number: u32, wanted: &str) -> bool {
+/// Whether the first call of a session is a del of the key, or else a conditional put to it.
+fn begins(script: &Script, session: u32, is_del: bool, wanted: &str) -> bool {
     let session = SessionId(session);
-    match script.call(Caller { session, number }) {
-        Some(Op::Del { key }) => key.as_str() == wanted,
+    match script.call(Caller { session, number: 1 }) {
+        Some(Op::Del { key }) => is_del && key.as_str() == wanted,
+        Some(Op::Cput { key, .. }) => !is_del && key.as_str() == wanted,
         _ => false,
     }
 }
 
-/// Whether a call is a conditional put to the key.
-fn is_cput(script: &Script, session: u32, number: u32, wanted: &str) -> bool {
-    let session = SessionId(session);
-    match script.call(Caller { session, number }) {
-        Some(Op::Cput { key, .. }) => key.as_str() == wanted,
-        _ => false,
-    }
-}
-
+/// Seed 0 begins with a del, calls are dealt out in turn, and as many are drawn as a script has.
 #[test]
-fn seed_0_begins_with_a_del(rt: HostRuntime) {
+fn calls_are_drawn_and_dealt_out(rt: HostRuntime) {
     let script = script_of(rt.alloc(), 0, 1).expect(&rt, "memory");
-    assert!(rt; is_del(&script, 1, 1, "s1k47"));
-    assert!(rt; has_calls(&script, 1, 1) && has_calls(&script, 2, 0));
+    let is_first = begins(&script, 1, true, "s1k47");
+    let is_alone = has_calls(&script, 1, 1) && has_calls(&script, 2, 0);
     drop(script);
-}
-
-#[test]
-fn calls_are_dealt_out_in_turn(rt: HostRuntime) {
+    assert!(rt; is_first && is_alone);
     let script = script_of(rt.alloc(), 7, 9).expect(&rt, "memory");
-    assert!(rt; is_del(&script, 1, 1, "s1k23"));
-    assert!(rt; is_cput(&script, 2, 1, "s2k28"));
-    assert!(rt; has_calls(&script, 1, 3) && has_calls(&script, 2, 2));
+    let are_first = begins(&script, 1, true, "s1k23") && begins(&script, 2, false, "s2k28");
+    let are_dealt = has_calls(&script, 1, 3) && has_calls(&script, 2, 2);
     drop(script);
-}
-
-#[test]
-fn as_many_calls_are_drawn_as_a_script_has(rt: HostRuntime) {
+    assert!(rt; are_first && are_dealt);
     let script = script_of(rt.alloc(), 7, 16_384).expect(&rt, "memory");
-    assert!(rt; has_calls(&script, 1, 4_096) && has_calls(&script, 4, 4_096));
+    let are_all = has_calls(&script, 1, 4_096) && has_calls(&script, 4, 4_096);
     drop(script);
+    assert!(rt; are_all);
 }

@@ -1,5 +1,4 @@
 use hx_io::*;
-use std::alloc::Global;
 use std::process::Abort;
 
 /// What is read of the bytes up to the limit, from a source that gives them in pieces of 3 without
@@ -17,53 +16,33 @@ fn read_up_to<R: Abort + AllocGlobal>(
     read
 }
 
-/// Whether these bytes were read.
-fn is_read(read: Result<Vec<u8>, ReadError>, wanted: &[u8]) -> bool {
-    match read {
-        Ok(bytes) => bytes.as_slice() == wanted,
-        Err(_) => false,
-    }
-}
-
 #[test]
 fn reads_up_to_the_limit(rt: HostRuntime) {
     let text = b"fourteen bytes".as_slice();
-    assert!(rt; is_read(read_up_to(&rt, text, 14), text));
+    let read = read_up_to(&rt, text, 14);
+    assert!(rt; matches!(&read, Ok(bytes) if bytes.as_slice() == text));
     let longer = read_up_to(&rt, text, 13).err();
     assert!(rt; matches!(longer, Some(ReadError::TooLarge)));
 }
 
-/// A sink that fails at its second write.
-fn sink<R: Abort + AllocGlobal>(rt: &R) -> MemorySink {
-    let fails = [2].to_vec(rt.alloc()).expect(rt, "memory");
-    MemorySink::new(rt.alloc(), 4096, 16, fails).expect(rt, "memory")
-}
-
 #[test]
 fn a_sink_fails_at_its_second_write(rt: HostRuntime) {
-    let mut sink = sink(&rt);
+    let fails = [2].to_vec(rt.alloc()).expect(&rt, "memory");
+    let mut sink = MemorySink::new(rt.alloc(), 4096, 16, fails).expect(&rt, "memory");
     let written = write_all(&mut sink, b"report 1\nspace books\nkey title\n");
-    assert!(rt; written == Err(WriteFault));
-    assert!(rt; sink.bytes() == b"report 1\nspace b".as_slice());
+    let is_given = sink.bytes() == b"report 1\nspace b".as_slice();
     drop(sink);
-}
-
-/// Whether the text is read from a reader of std.
-fn is_taken_from_std(alloc: Global, text: &[u8]) -> bool {
-    let mut source = StdSource::new(text);
-    is_read(read_all(alloc, &mut source, 100), text)
-}
-
-/// Whether the text is written to a writer of std.
-fn is_given_to_std(alloc: Global, text: &[u8]) -> bool {
-    let mut held = Vec::new(alloc);
-    let written = write_all(&mut StdSink::new(&mut held), text);
-    written == Ok(()) && held.as_slice() == text
+    assert!(rt; written == Err(WriteFault));
+    assert!(rt; is_given);
 }
 
 #[test]
 fn readers_and_writers_of_std_are_taken(rt: HostRuntime) {
     let text = b"a reader's text".as_slice();
-    assert!(rt; is_taken_from_std(rt.alloc(), text));
-    assert!(rt; is_given_to_std(rt.alloc(), text));
+    let mut source = StdSource::new(text);
+    let read = read_all(rt.alloc(), &mut source, 100);
+    let mut held = Vec::new(rt.alloc());
+    let written = write_all(&mut StdSink::new(&mut held), text);
+    assert!(rt; matches!(&read, Ok(bytes) if bytes.as_slice() == text));
+    assert!(rt; written == Ok(()) && held.as_slice() == text);
 }

@@ -1,8 +1,10 @@
 //! What the tests are made of. A want of memory ends a test.
-ghost use Rattle.std.specs.Prelude.{◌≡◌};
+ghost use Rattle.std.specs.Prelude.{◌≡◌, IfOk};
+ghost use Rattle.hx_types.specs.Spaces.{IsSpace};
 
-use hx_trace::Trace;
-use hx_types::{Entry, Memory, Sequence, SharedList, Text};
+use hx_script::{ScriptError, read, scripts_are_valid};
+use hx_types::{Memory, Script, Sequence, SharedList, Text};
+use std::alloc::Global;
 use std::process::Abort;
 
 pub fn text<R: Abort + AllocGlobal>(rt: &R, text: &str) -> Text
@@ -28,19 +30,24 @@ pub fn shared_list<R: Abort + AllocGlobal, T: Drop, const N: usize>(
 ) -> SharedList<T>
     ensures { result ≡ items }
 {
-    let Ok(items) = Vec::from_array(rt.alloc(), items) else {
-        panic!(rt; "memory");
-    };
+    let items = list(rt, items).into_vec();
     SharedList::from_vec(rt.alloc(), items).expect(rt, "memory")
 }
 
-/// The trace of these entries.
-pub fn trace_of<R: Abort + AllocGlobal, const N: usize>(rt: &R, entries: [Entry; N]) -> Trace {
-    let mut trace = Trace::new(rt.alloc());
-    for entry in list(rt, entries).into_vec() {
-        trace.push(entry).expect(rt, "memory");
-    }
-    trace
+/// The script of a text.
+fn read_script(alloc: Global, text: &str) -> Result<Script, ScriptError>
+    ensures { IfOk result (λ script. IsSpace script.space) }
+{
+    scripts_are_valid();
+    let script = read(alloc, text.as_bytes())?;
+    Ok(script)
+}
+
+/// The script of a text. What a test can't get ends it.
+pub fn script_of<R: Abort + AllocGlobal>(rt: &R, text: &str) -> Script
+    ensures { IsSpace result.space }
+{
+    read_script(rt.alloc(), text).expect(rt, "a script")
 }
 
 /// Whether the lines were printed, byte for byte.

@@ -1,7 +1,6 @@
 use crate::parts::is_printed;
 use hx_print::print;
 use hx_script::read;
-use hx_types::Script;
 use std::alloc::Global;
 
 /// A script with each kind of line, in no plain layout.
@@ -59,27 +58,47 @@ const PLAIN: &str = "hx 1\n\
     tick u2\n\
     halt s4\n";
 
-/// Whether the last step stands on this line.
-fn ends_on(script: &Script, wanted: u64) -> bool {
-    match script.steps.as_slice().last() {
-        Some((line, _)) => *line == wanted,
-        None => false,
-    }
-}
+/// A script of books, with calls of each kind.
+const SESSIONS: &str = "hx 1\n\
+    space books\n\
+    key name 2\n\
+    string genre\n\
+    int year 1900 2099\n\
+    subspace genre 4\n\
+    subspace year 2\n\
+    servers 4\n\
+    tolerate 1\n\
+    session 1\n\
+    put \"a\" genre=\"b\\n\" year=1999\n\
+    get \"a\"\n\
+    session 2\n\
+    cput \"a\" if genre=\"b\" set year=2000\n\
+    del \"a\"\n\
+    search name=\"a\" year=1990..2010\n\
+    stop 3\n\
+    add 4 7\n\
+    steps\n\
+    tick u2\n\
+    deliver 1.0\n\
+    halt s4\n";
 
-/// Whether the text is read as a script whose last step stands on this line, and which is printed
+/// Whether the text is read as a script whose steps stand on these lines, and which is printed
 /// plainly.
-fn is_read(alloc: Global, text: &str, last: u64) -> bool {
+fn is_read(alloc: Global, text: &str, lines: &[u64], plain: &str) -> bool {
     let Ok(script) = read(alloc, text.as_bytes()) else {
         return false;
     };
-    let is_right = ends_on(&script, last) && is_printed(print(alloc, &script), PLAIN);
+    let mut steps = script.steps.as_slice().iter().zip(lines);
+    let are_there = steps.all(|((line, _), wanted)| line == wanted);
+    let are_all = script.steps.len() == lines.len();
+    let printed = print(alloc, &script);
     drop(script);
-    is_right
+    are_there && are_all && is_printed(printed, plain)
 }
 
 #[test]
 fn reads_what_it_prints(rt: HostRuntime) {
-    assert!(rt; is_read(rt.alloc(), WRITTEN, 27));
-    assert!(rt; is_read(rt.alloc(), PLAIN, 24));
+    assert!(rt; is_read(rt.alloc(), WRITTEN, &[23, 25, 26, 27], PLAIN));
+    assert!(rt; is_read(rt.alloc(), PLAIN, &[21, 22, 23, 24], PLAIN));
+    assert!(rt; is_read(rt.alloc(), SESSIONS, &[20, 21, 22], SESSIONS));
 }

@@ -1,171 +1,109 @@
-ghost use Rattle.hx_types.specs.Spaces.{IsSpace};
-
-use crate::parts::{is_printed, list, shared_list, text, trace_of};
+use crate::parts::{is_printed, list, script_of, shared_list, text};
 use hx_report::*;
 use hx_trace::Trace;
 use hx_types::{
-    Actor, Answer, Assign, Attribute, Caller, Entry, Epoch, Input, Kind, Message, Note, Object, Op,
-    Places, Post, PostId, Posts, Script, ServerId, SessionId, Sessions, Shared, Space, Steps,
-    Subspaces, Totals, Update, Value, Version,
+    Actor, Answer, Assign, Caller, Entry, Epoch, Input, Message, Note, Op, Places, Post, PostId,
+    Posts, ServerId, SessionId, Shared, Totals, Update, Value, Version,
 };
 use std::process::Abort;
 
-#[tactic(auto, using(crate::proofs::OneServer::one_is_space))]
-fn one<R: Abort + AllocGlobal>(rt: &R) -> Space
-    ensures { IsSpace result }
-{
-    let name = text(rt, "one");
-    let key_name = text(rt, "k");
-    let declared = Attribute {
-        name: text(rt, "v"),
-        kind: Kind::Text,
-    };
-    Space {
-        name,
-        key_name,
-        key_parts: 1,
-        attributes: list(rt, [declared]),
-        subspaces: Subspaces::new(rt.alloc()),
-        servers: 1,
-        tolerate: 0,
-    }
-}
+/// One session with a put.
+const SCRIPT: &str =
+    "hx 1\nspace one\nkey k 1\nstring v\nservers 1\ntolerate 0\nsession 1\nput \"a\" v=\"x\"\n";
 
-fn value_x<R: Abort + AllocGlobal>(rt: &R) -> Value {
-    Value::Text(text(rt, "x"))
-}
+const SESSION: Actor = Actor::Session(SessionId(1));
 
-fn object_x<R: Abort + AllocGlobal>(rt: &R) -> Object {
-    shared_list(rt, [value_x(rt)])
-}
+const SERVER: Actor = Actor::Server(ServerId(1));
 
-fn put_x<R: Abort + AllocGlobal>(rt: &R) -> Op {
+/// The session's call: `put "a" v="x"`.
+fn asked<R: Abort + AllocGlobal>(rt: &R) -> Message {
     let attribute = 1;
-    let value = value_x(rt);
+    let value = Value::Text(text(rt, "x"));
     let sets = shared_list(rt, [Assign { attribute, value }]);
     let key = text(rt, "a");
-    Op::Put { key, sets }
-}
-
-/// One session with a put.
-fn session<R: Abort + AllocGlobal>(rt: &R) -> Sessions {
-    let calls = list(rt, [put_x(rt)]);
-    list(rt, [calls])
-}
-
-fn script<R: Abort + AllocGlobal>(rt: &R) -> Script
-    ensures { IsSpace result.space }
-{
-    let space = one(rt);
-    Script {
-        space,
-        sessions: session(rt),
-        steps: Steps::new(rt.alloc()),
+    Message::Call {
+        epoch: Epoch(1),
+        number: 1,
+        op: Shared::new(rt.alloc(), Op::Put { key, sets }).expect(rt, "memory"),
     }
 }
 
-fn first_update<R: Abort + AllocGlobal>(rt: &R) -> Shared<Update> {
-    let caller = Caller {
-        session: SessionId(1),
+fn replied() -> Message {
+    Message::Reply {
         number: 1,
-    };
+        version: Version(1),
+        answer: Answer::Done,
+    }
+}
+
+/// The server assigns the update of the put.
+fn assigned<R: Abort + AllocGlobal>(rt: &R) -> Note {
+    let object = shared_list(rt, [Value::Text(text(rt, "x"))]);
     let update = Update {
         key: text(rt, "a"),
         version: Version(1),
-        caller,
+        caller: Caller {
+            session: SessionId(1),
+            number: 1,
+        },
         answer: Answer::Done,
         changes: true,
-        object: Some(object_x(rt)),
+        object: Some(object),
         places: Places::new(rt.alloc()),
     };
-    Shared::new(rt.alloc(), update).expect(rt, "memory")
+    let update = Shared::new(rt.alloc(), update).expect(rt, "memory");
+    Note::Assigned { update }
 }
 
-fn ended(number: u32, answer: Answer) -> Note {
-    Note::Ended {
-        number,
-        version: Version(1),
-        answer,
-    }
-}
-
-fn first_session() -> Actor {
-    Actor::Session(SessionId(1))
-}
-
-fn first_server() -> Actor {
-    Actor::Server(ServerId(1))
-}
-
-fn asked<R: Abort + AllocGlobal>(rt: &R) -> Post {
-    let op = Shared::new(rt.alloc(), put_x(rt)).expect(rt, "memory");
-    let message = Message::Call {
-        epoch: Epoch(1),
-        number: 1,
-        op,
+/// The session begins its call, the server assigns the update and replies, and the call ends.
+fn entries<R: Abort + AllocGlobal>(rt: &R) -> [Entry; 3] {
+    let asking = Post {
+        from: SESSION,
+        to: SERVER,
+        message: asked(rt),
     };
-    Post {
-        from: first_session(),
-        to: first_server(),
-        message,
-    }
-}
-
-fn replied() -> Post {
-    Post {
-        from: first_server(),
-        to: first_session(),
-        message: Message::Reply {
-            number: 1,
-            version: Version(1),
-            answer: Answer::Done,
-        },
-    }
-}
-
-/// The first post of an entry as it is delivered.
-fn delivered(entry: u64, post: Post) -> Input {
-    Input::Deliver {
-        id: PostId { entry, place: 0 },
-        from: post.from,
-        message: post.message,
-    }
-}
-
-/// The session begins its call.
-fn first_entry<R: Abort + AllocGlobal>(rt: &R) -> Entry {
-    Entry {
-        actor: first_session(),
+    let replying = Post {
+        from: SERVER,
+        to: SESSION,
+        message: replied(),
+    };
+    let begins = Entry {
+        actor: SESSION,
         input: Input::Tick,
-        outputs: list(rt, [asked(rt)]),
+        outputs: list(rt, [asking]),
         notes: list(rt, [Note::Began { number: 1 }]),
-    }
-}
-
-/// The server assigns the update, and replies.
-fn second_entry<R: Abort + AllocGlobal>(rt: &R) -> Entry {
-    let update = first_update(rt);
-    Entry {
-        actor: first_server(),
-        input: delivered(1, asked(rt)),
-        outputs: list(rt, [replied()]),
-        notes: list(rt, [Note::Assigned { update }]),
-    }
-}
-
-/// The call ends.
-fn third_entry<R: Abort + AllocGlobal>(rt: &R) -> Entry {
-    Entry {
-        actor: first_session(),
-        input: delivered(2, replied()),
+    };
+    let id = PostId { entry: 1, place: 0 };
+    let replies = Entry {
+        actor: SERVER,
+        input: Input::Deliver {
+            id,
+            from: SESSION,
+            message: asked(rt),
+        },
+        outputs: list(rt, [replying]),
+        notes: list(rt, [assigned(rt)]),
+    };
+    let id = PostId { entry: 2, place: 0 };
+    let (number, version, answer) = (1, Version(1), Answer::Done);
+    let ends = Entry {
+        actor: SESSION,
+        input: Input::Deliver {
+            id,
+            from: SERVER,
+            message: replied(),
+        },
         outputs: Posts::new(rt.alloc()),
-        notes: list(rt, [ended(1, Answer::Done)]),
-    }
-}
-
-/// The whole trace of the put.
-fn three_entries<R: Abort + AllocGlobal>(rt: &R) -> Trace {
-    trace_of(rt, [first_entry(rt), second_entry(rt), third_entry(rt)])
+        notes: list(
+            rt,
+            [Note::Ended {
+                number,
+                version,
+                answer,
+            }],
+        ),
+    };
+    [begins, replies, ends]
 }
 
 const LINES: &str = "report 1\n\
@@ -188,7 +126,11 @@ const LINES: &str = "report 1\n\
 
 #[test]
 fn reports_a_put_with_its_trace(rt: HostRuntime) {
-    let (script, trace) = (script(&rt), three_entries(&rt));
+    let script = script_of(&rt, SCRIPT);
+    let mut trace = Trace::new(rt.alloc());
+    for entry in list(&rt, entries(&rt)).into_vec() {
+        trace.push(entry).expect(&rt, "memory");
+    }
     let totals = Totals {
         posts: 2,
         deliver: 2,

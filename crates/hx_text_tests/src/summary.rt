@@ -1,117 +1,28 @@
-use crate::parts::{is_printed, list, shared_list, text, trace_of};
+use crate::parts::{is_printed, list, script_of, shared_list, text};
 use hx_summary::summary;
 use hx_trace::Trace;
 use hx_types::{
-    Actor, Answer, Assigns, Attribute, Attributes, Caller, Calls, Entry, Epoch, Input, Kind,
-    Memory, Note, Object, Op, Places, Posts, RegionId, Rows, Script, ServerId, SessionId, Shared,
-    Space, Steps, Subspaces, Terms, Update, Value, Version,
+    Actor, Answer, Caller, Entry, Epoch, Input, Note, Object, Places, Posts, RegionId, Rows,
+    ServerId, SessionId, Shared, Update, Value, Version,
 };
 use std::process::Abort;
 
-fn attributes<R: Abort + AllocGlobal>(rt: &R) -> Attributes {
-    let color = Attribute {
-        name: text(rt, "color"),
-        kind: Kind::Text,
-    };
-    let size = Attribute {
-        name: text(rt, "size"),
-        kind: Kind::Int { lo: 0, hi: 999 },
-    };
-    list(rt, [color, size])
-}
-
-fn space<R: Abort + AllocGlobal>(rt: &R) -> Space {
-    Space {
-        name: text(rt, "soak"),
-        key_name: text(rt, "k"),
-        key_parts: 4,
-        attributes: attributes(rt),
-        subspaces: Subspaces::new(rt.alloc()),
-        servers: 4,
-        tolerate: 1,
-    }
-}
-
-/// The script of one session with these calls.
-fn script<R: Abort + AllocGlobal>(rt: &R, calls: Calls) -> Script {
-    let sessions = list(rt, [calls]);
-    Script {
-        space: space(rt),
-        sessions,
-        steps: Steps::new(rt.alloc()),
-    }
-}
-
-/// An entry with one note.
-fn entry<R: Abort + AllocGlobal>(rt: &R, actor: Actor, note: Note) -> Entry {
-    Entry {
-        actor,
-        input: Input::Tick,
-        outputs: Posts::new(rt.alloc()),
-        notes: list(rt, [note]),
-    }
-}
-
-/// The call begins.
-fn begin<R: Abort + AllocGlobal>(rt: &R, trace: &mut Trace, number: u32) {
-    let actor = Actor::Session(SessionId(1));
-    let began = entry(rt, actor, Note::Began { number });
-    trace.push(began).expect(rt, "memory");
-}
-
-/// The call begins and ends.
-fn end<R: Abort + AllocGlobal>(rt: &R, trace: &mut Trace, number: u32, answer: Answer) {
-    begin(rt, trace, number);
-    let actor = Actor::Session(SessionId(1));
-    let version = Version(1);
-    let note = Note::Ended {
-        number,
-        version,
-        answer,
-    };
-    trace.push(entry(rt, actor, note)).expect(rt, "memory");
-}
-
-fn update<R: Abort + AllocGlobal>(
-    rt: &R,
-    number: u32,
-    key: &str,
-    version: u64,
-    object: Option<Object>,
-) -> Update {
-    let session = SessionId(1);
-    Update {
-        key: text(rt, key),
-        version: Version(version),
-        caller: Caller { session, number },
-        answer: Answer::Done,
-        changes: true,
-        object,
-        places: Places::new(rt.alloc()),
-    }
-}
-
-/// A del of what is not there.
-fn absent<R: Abort + AllocGlobal>(rt: &R) -> Update {
-    let caller = Caller {
-        session: SessionId(1),
-        number: 1,
-    };
-    Update {
-        key: text(rt, "s1k47"),
-        version: Version(1),
-        caller,
-        answer: Answer::NotFound,
-        changes: false,
-        object: None,
-        places: Places::new(rt.alloc()),
-    }
-}
-
-/// A server assigns the write of a call.
-fn assigned<R: Abort + AllocGlobal>(rt: &R, update: Update) -> Entry {
-    let update = Shared::new(rt.alloc(), update).expect(rt, "memory");
-    entry(rt, Actor::Server(ServerId(1)), Note::Assigned { update })
+/// An entry with one note, of session 1 or, where a write is assigned, of server 1.
+#[derive(Clone, Copy)]
+enum Line {
+    Begin(u32),
+    Done(u32),
+    NotFound(u32),
+    /// With the object of this text and number.
+    Found(u32, &'static str, i64),
+    Rows(u32),
+    Refused(u32),
+    Doubt(u32),
+    /// The number of the call, its key, the version, and the object's text and number.
+    Put(u32, &'static str, u64, &'static str, i64),
+    Del(u32, &'static str, u64),
+    /// A del of what is not there.
+    Nothing(u32, &'static str),
 }
 
 fn object<R: Abort + AllocGlobal>(rt: &R, color: &str, size: i64) -> Object {
@@ -119,49 +30,88 @@ fn object<R: Abort + AllocGlobal>(rt: &R, color: &str, size: i64) -> Object {
     shared_list(rt, [color, Value::Int(size)])
 }
 
-/// A server assigns the put of an object.
-fn put_assigned<R: Abort + AllocGlobal>(
+fn assigned<R: Abort + AllocGlobal>(
     rt: &R,
     number: u32,
     key: &str,
     version: u64,
-    object: Object,
-) -> Entry {
-    assigned(rt, update(rt, number, key, version, Some(object)))
+    answer: Answer,
+    object: Option<Object>,
+) -> Note {
+    let session = SessionId(1);
+    let update = Update {
+        key: text(rt, key),
+        version: Version(version),
+        caller: Caller { session, number },
+        changes: matches!(answer, Answer::Done),
+        answer,
+        object,
+        places: Places::new(rt.alloc()),
+    };
+    let update = Shared::new(rt.alloc(), update).expect(rt, "memory");
+    Note::Assigned { update }
 }
 
-fn put<R: Abort + AllocGlobal>(rt: &R, key: &str) -> Op {
-    let key = text(rt, key);
-    let sets = Assigns::new(rt.alloc());
-    Op::Put { key, sets }
+fn note<R: Abort + AllocGlobal>(rt: &R, line: Line) -> Note {
+    let version = Version(1);
+    let (region, epoch) = (RegionId(0), Epoch(1));
+    let (number, answer) = match line {
+        Line::Begin(number) => return Note::Began { number },
+        Line::Put(number, key, version, color, size) => {
+            let object = object(rt, color, size);
+            return assigned(rt, number, key, version, Answer::Done, Some(object));
+        }
+        Line::Del(number, key, version) => {
+            return assigned(rt, number, key, version, Answer::Done, None);
+        }
+        Line::Nothing(number, key) => {
+            return assigned(rt, number, key, 1, Answer::NotFound, None);
+        }
+        Line::Done(number) => (number, Answer::Done),
+        Line::NotFound(number) => (number, Answer::NotFound),
+        Line::Found(number, color, size) => (number, Answer::Found(object(rt, color, size))),
+        Line::Rows(number) => (number, Answer::Rows(Rows::new(rt.alloc()))),
+        Line::Refused(number) => (number, Answer::Refused { region, epoch }),
+        Line::Doubt(number) => (number, Answer::Doubt { region, epoch }),
+    };
+    Note::Ended {
+        number,
+        version,
+        answer,
+    }
 }
 
-fn get<R: Abort + AllocGlobal>(rt: &R, key: &str) -> Op {
-    let key = text(rt, key);
-    Op::Get { key }
+fn trace<R: Abort + AllocGlobal>(rt: &R, lines: &[Line]) -> Trace {
+    let mut trace = Trace::new(rt.alloc());
+    for line in lines {
+        let actor = match line {
+            Line::Put(..) | Line::Del(..) | Line::Nothing(..) => Actor::Server(ServerId(1)),
+            _ => Actor::Session(SessionId(1)),
+        };
+        let entry = Entry {
+            actor,
+            input: Input::Tick,
+            outputs: Posts::new(rt.alloc()),
+            notes: list(rt, [note(rt, *line)]),
+        };
+        trace.push(entry).expect(rt, "memory");
+    }
+    trace
 }
 
-fn del<R: Abort + AllocGlobal>(rt: &R, key: &str) -> Op {
-    let key = text(rt, key);
-    Op::Del { key }
-}
-
-fn search<R: Abort + AllocGlobal>(rt: &R) -> Op {
-    let terms = Terms::new(rt.alloc());
-    Op::Search { terms }
-}
-
-/// The summary of the trace of the session with these calls.
-fn summed_up<R: Abort + AllocGlobal>(
-    rt: &R,
-    calls: Calls,
-    trace: Trace,
-) -> Result<Vec<u8>, Memory> {
-    let script = script(rt, calls);
+/// Whether the trace of these lines, of a session with these calls, is summed up so.
+fn is_summed_up<R: Abort + AllocGlobal>(rt: &R, calls: &str, lines: &[Line], wanted: &str) -> bool {
+    let text = format!(in rt.alloc();
+        "hx 1\nspace soak\nkey k 4\nstring color\nint size 0 999\nservers 4\ntolerate 1\nsession 1\n{calls}"
+    );
+    let text = text.expect(rt, "memory");
+    let script = script_of(rt, text.as_str());
+    drop(text);
+    let trace = trace(rt, lines);
     let bytes = summary(rt.alloc(), &script, &trace);
-    drop(script);
     drop(trace);
-    bytes
+    drop(script);
+    is_printed(bytes, wanted)
 }
 
 const ABSENT: &str = "soak 1\n\
@@ -177,57 +127,42 @@ const ABSENT: &str = "soak 1\n\
 
 #[test]
 fn sums_up_a_del_of_what_is_not_there(rt: HostRuntime) {
-    let calls = list(&rt, [del(&rt, "s1k47")]);
-    let mut trace = trace_of(&rt, [assigned(&rt, absent(&rt))]);
-    end(&rt, &mut trace, 1, Answer::NotFound);
-    assert!(rt; is_printed(summed_up(&rt, calls, trace), ABSENT));
+    let lines = [Line::Nothing(1, "s1k47"), Line::Begin(1), Line::NotFound(1)];
+    assert!(rt; is_summed_up(&rt, "del \"s1k47\"", &lines, ABSENT));
 }
 
-/// Two puts of `b`, one of `a` and one of `d`, a get of `b`, a del of `d`, two searches, and a get
-/// and a put that never end: these by their number from 1.
-fn call<R: Abort + AllocGlobal>(rt: &R, number: u32) -> Op {
-    match number {
-        1 | 2 => put(rt, "b"),
-        3 => put(rt, "a"),
-        4 => put(rt, "d"),
-        5 => get(rt, "b"),
-        6 => del(rt, "d"),
-        7 | 8 => search(rt),
-        9 => get(rt, "a"),
-        _ => put(rt, "e"),
-    }
-}
+/// The last get and the last put never end.
+const CALLS: &str =
+    "put \"b\"\nput \"b\"\nput \"a\"\nput \"d\"\nget \"b\"\ndel \"d\"\nsearch\nsearch\nget \"a\"\nput \"e\"\n";
 
-fn ten_calls<R: Abort + AllocGlobal>(rt: &R) -> Calls {
-    let mut calls = Calls::new(rt.alloc());
-    for number in 1..11 {
-        calls.push(call(rt, number)).expect(rt, "memory");
-    }
-    calls
-}
-
-/// What is written: in the end there are `a` and `b`.
-fn written<R: Abort + AllocGlobal>(rt: &R) -> Trace {
-    let old = put_assigned(rt, 1, "b", 1, object(rt, "c0", 1));
-    let new = put_assigned(rt, 2, "b", 2, object(rt, "", 44));
-    let first = put_assigned(rt, 3, "a", 1, object(rt, "c1", 7));
-    let last = put_assigned(rt, 4, "d", 1, object(rt, "c2", 9));
-    let gone = assigned(rt, update(rt, 6, "d", 2, None));
-    trace_of(rt, [old, new, first, last, gone])
-}
-
-/// How the calls end; the second search is refused, the second get is open, and the last put in doubt.
-fn answered<R: Abort + AllocGlobal>(rt: &R, trace: &mut Trace) {
-    for number in [1, 2, 3, 4, 6] {
-        end(rt, trace, number, Answer::Done);
-    }
-    end(rt, trace, 5, Answer::Found(object(rt, "c0", 1)));
-    end(rt, trace, 7, Answer::Rows(Rows::new(rt.alloc())));
-    let (region, epoch) = (RegionId(0), Epoch(1));
-    end(rt, trace, 8, Answer::Refused { region, epoch });
-    begin(rt, trace, 9);
-    end(rt, trace, 10, Answer::Doubt { region, epoch });
-}
+/// In the end there are `a` and `b`. The second search is refused, the second get is open, and the
+/// last put in doubt.
+const LINES: [Line; 24] = [
+    Line::Put(1, "b", 1, "c0", 1),
+    Line::Put(2, "b", 2, "", 44),
+    Line::Put(3, "a", 1, "c1", 7),
+    Line::Put(4, "d", 1, "c2", 9),
+    Line::Del(6, "d", 2),
+    Line::Begin(1),
+    Line::Done(1),
+    Line::Begin(2),
+    Line::Done(2),
+    Line::Begin(3),
+    Line::Done(3),
+    Line::Begin(4),
+    Line::Done(4),
+    Line::Begin(6),
+    Line::Done(6),
+    Line::Begin(5),
+    Line::Found(5, "c0", 1),
+    Line::Begin(7),
+    Line::Rows(7),
+    Line::Begin(8),
+    Line::Refused(8),
+    Line::Begin(9),
+    Line::Begin(10),
+    Line::Doubt(10),
+];
 
 const COUNTED: &str = "soak 1\n\
     calls 8\n\
@@ -242,7 +177,5 @@ const COUNTED: &str = "soak 1\n\
 
 #[test]
 fn counts_ended_calls_and_present_objects(rt: HostRuntime) {
-    let mut trace = written(&rt);
-    answered(&rt, &mut trace);
-    assert!(rt; is_printed(summed_up(&rt, ten_calls(&rt), trace), COUNTED));
+    assert!(rt; is_summed_up(&rt, CALLS, &LINES, COUNTED));
 }
