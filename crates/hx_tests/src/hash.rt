@@ -12,18 +12,25 @@ fn hashes_the_published_vectors(rt: HostRuntime) {
 #[test]
 fn cuts_the_widest_range(rt: HostRuntime) {
     let (least, greatest) = (i64::MIN, i64::MAX);
-    assert!(rt; int_cell(greatest, least, greatest, 256) == 255);
-    assert!(rt; int_cell(0, least, greatest, 256) == 128);
-    assert!(rt; int_cell(least, least, greatest, 256) == 0);
-    assert!(rt; int_cell(greatest, least, least, 256) == 0);
-    assert!(rt; int_cell(2200, 1900, 2099, 2) == 1);
-    assert!(rt; int_cell(greatest, least, greatest, 1) == 0);
+    let cells = [
+        int_cell(greatest, least, greatest, 256),
+        int_cell(0, least, greatest, 256),
+        int_cell(least, least, greatest, 256),
+        int_cell(greatest, least, least, 256),
+        int_cell(2200, 1900, 2099, 2),
+        int_cell(greatest, least, greatest, 1),
+    ];
+    assert!(rt; cells.as_slice() == [255, 128, 0, 0, 1, 0].as_slice());
 }
 
 #[test]
 fn spreads_texts(rt: HostRuntime) {
-    assert!(rt; text_cell(b"d", 4) == 3);
-    assert!(rt; text_cell(b"", 4) == 2);
     let value = Value::Text(text(&rt, "b"));
-    assert!(rt; cell(Kind::Text, &value, 4) == 2);
+    let cells = [
+        text_cell(b"d", 4),
+        text_cell(b"", 4),
+        cell(Kind::Text, &value, 4),
+    ];
+    drop(value);
+    assert!(rt; cells.as_slice() == [3, 2, 2].as_slice());
 }

@@ -2,9 +2,8 @@ use crate::parts::{list, text};
 use hx_history::*;
 use hx_trace::Trace;
 use hx_types::{
-    Actor, Answer, Assigns, Caller, Calls, Entry, Input, Item, Items, Note, Object, Op, Places,
-    Records, Rows, Script, Searches, Sequence, ServerId, SessionId, Shared, Space, Terms, Text,
-    Update, Version,
+    Actor, Answer, Assigns, Caller, Entry, Input, Note, Object, Op, Places, Records, Rows, Script,
+    Sequence, ServerId, SessionId, Shared, Space, Terms, Text, Update, Version,
 };
 use std::process::Abort;
 
@@ -24,25 +23,17 @@ fn put<R: Abort + AllocGlobal>(rt: &R, key: &str) -> Op {
     Op::Put { key, sets }
 }
 
-fn get<R: Abort + AllocGlobal>(rt: &R, key: &str) -> Op {
-    let key = text(rt, key);
-    Op::Get { key }
-}
-
-fn search<R: Abort + AllocGlobal>(rt: &R) -> Op {
-    let terms = Terms::new(rt.alloc());
-    Op::Search { terms }
-}
-
-/// A put of two keys, a get of the second and a search.
-fn calls<R: Abort + AllocGlobal>(rt: &R) -> Calls {
-    list(rt, [put(rt, "b"), put(rt, "ab"), get(rt, "ab"), search(rt)])
-}
-
-/// A space that no call looks at.
-fn space<R: Abort + AllocGlobal>(rt: &R) -> Space {
+/// A put of two keys, a get of the second and a search, in a space that no call looks at.
+fn script<R: Abort + AllocGlobal>(rt: &R) -> Script {
     let alloc = rt.alloc();
-    Space {
+    let get = Op::Get {
+        key: text(rt, "ab"),
+    };
+    let search = Op::Search {
+        terms: Terms::new(alloc),
+    };
+    let calls = list(rt, [put(rt, "b"), put(rt, "ab"), get, search]);
+    let space = Space {
         name: Text::new(alloc),
         key_name: Text::new(alloc),
         key_parts: 1,
@@ -50,21 +41,17 @@ fn space<R: Abort + AllocGlobal>(rt: &R) -> Space {
         subspaces: Sequence::new(alloc),
         servers: 3,
         tolerate: 2,
-    }
-}
-
-fn script<R: Abort + AllocGlobal>(rt: &R) -> Script {
-    let sessions = list(rt, [calls(rt)]);
+    };
     Script {
-        space: space(rt),
-        sessions,
-        steps: Sequence::new(rt.alloc()),
+        space,
+        sessions: list(rt, [calls]),
+        steps: Sequence::new(alloc),
     }
 }
 
-fn update<R: Abort + AllocGlobal>(rt: &R, key: &str, number: u32) -> Update {
+fn assigned<R: Abort + AllocGlobal>(rt: &R, key: &str, number: u32) -> Note {
     let session = SessionId(1);
-    Update {
+    let update = Update {
         key: text(rt, key),
         version: Version(1),
         caller: Caller { session, number },
@@ -72,43 +59,24 @@ fn update<R: Abort + AllocGlobal>(rt: &R, key: &str, number: u32) -> Update {
         changes: true,
         object: Some(Object::new(rt.alloc())),
         places: Places::new(rt.alloc()),
-    }
-}
-
-fn assigned<R: Abort + AllocGlobal>(rt: &R, key: &str, number: u32) -> Note {
-    let update = Shared::new(rt.alloc(), update(rt, key, number)).expect(rt, "memory");
+    };
+    let update = Shared::new(rt.alloc(), update).expect(rt, "memory");
     Note::Assigned { update }
 }
 
-fn ended(number: u32, answer: Answer) -> Note {
+fn note<R: Abort + AllocGlobal>(rt: &R, line: Line) -> Note {
+    let (number, answer) = match line {
+        Line::Begin(number) => return Note::Began { number },
+        Line::Assign(key, number) => return assigned(rt, key, number),
+        Line::Done(number) => (number, Answer::Done),
+        Line::Found(number) => (number, Answer::Found(Object::new(rt.alloc()))),
+        Line::Rows(number) => (number, Answer::Rows(Rows::new(rt.alloc()))),
+    };
     let version = Version(1);
     Note::Ended {
         number,
         version,
         answer,
-    }
-}
-
-fn note<R: Abort + AllocGlobal>(rt: &R, line: Line) -> Note {
-    match line {
-        Line::Begin(number) => Note::Began { number },
-        Line::Done(number) => ended(number, Answer::Done),
-        Line::Found(number) => ended(number, Answer::Found(Object::new(rt.alloc()))),
-        Line::Rows(number) => ended(number, Answer::Rows(Rows::new(rt.alloc()))),
-        Line::Assign(key, number) => assigned(rt, key, number),
-    }
-}
-
-fn entry<R: Abort + AllocGlobal>(rt: &R, line: Line) -> Entry {
-    let actor = match line {
-        Line::Assign(..) => Actor::Server(ServerId(1)),
-        _ => Actor::Session(SessionId(1)),
-    };
-    Entry {
-        actor,
-        input: Input::Tick,
-        outputs: Sequence::new(rt.alloc()),
-        notes: list(rt, [note(rt, line)]),
     }
 }
 
@@ -128,58 +96,27 @@ const LINES: [Line; 9] = [
 fn trace<R: Abort + AllocGlobal>(rt: &R) -> Trace {
     let mut trace = Trace::new(rt.alloc());
     for line in LINES {
-        trace.push(entry(rt, line)).expect(rt, "memory");
+        let actor = match line {
+            Line::Assign(..) => Actor::Server(ServerId(1)),
+            _ => Actor::Session(SessionId(1)),
+        };
+        let entry = Entry {
+            actor,
+            input: Input::Tick,
+            outputs: Sequence::new(rt.alloc()),
+            notes: list(rt, [note(rt, line)]),
+        };
+        trace.push(entry).expect(rt, "memory");
     }
     trace
 }
 
-/// Whether the item has this version and this number of its caller.
-fn is_of(item: &Item, version: u64, number: u32) -> bool {
-    item.version.0 == version && item.caller.number == number
-}
-
-/// Whether the items are those of the second put and of the get.
-fn are_of_ab(items: &Items) -> bool {
-    match items.as_slice() {
-        [put, get] => is_of(put, 1, 2) && is_of(get, 1, 3),
-        _ => false,
-    }
-}
-
-/// Whether the histories are those of both keys.
+/// Whether there are histories of two keys, in byte order of these.
 fn are_of_both(listed: &Histories) -> bool {
     match listed.as_slice() {
         [first, second] => first.key.as_str() == "ab" && second.key.as_str() == "b",
         _ => false,
     }
-}
-
-/// Whether the history of the second key is listed.
-fn is_ab_listed<R: Abort + AllocGlobal>(rt: &R, script: &Script, trace: &Trace) -> bool {
-    let key = text(rt, "ab");
-    let items = history(rt.alloc(), script, trace, &key).expect(rt, "memory");
-    let is_listed = are_of_ab(&items);
-    drop(items);
-    drop(key);
-    is_listed
-}
-
-/// Whether the histories of both keys are listed.
-fn are_both_listed<R: Abort + AllocGlobal>(rt: &R, script: &Script, trace: &Trace) -> bool {
-    let listed = histories(rt.alloc(), script, trace).expect(rt, "memory");
-    let are_listed = are_of_both(&listed);
-    drop(listed);
-    are_listed
-}
-
-#[test]
-fn histories_of_keys_are_listed(rt: HostRuntime) {
-    let script = script(&rt);
-    let trace = trace(&rt);
-    assert!(rt; is_ab_listed(&rt, &script, &trace));
-    assert!(rt; are_both_listed(&rt, &script, &trace));
-    drop(trace);
-    drop(script);
 }
 
 /// Whether there are four records, the first of which is open and the third of which has ended.
@@ -192,44 +129,64 @@ fn are_recorded(records: &Records) -> bool {
     }
 }
 
-fn is_searched(searches: &Searches) -> bool {
-    match searches.as_slice() {
-        [search] => search.begin == 8 && search.end == 9,
+/// The items of the second key are those of its put and of the get.
+#[test]
+fn histories_of_keys_are_listed(rt: HostRuntime) {
+    let script = script(&rt);
+    let trace = trace(&rt);
+    let key = text(&rt, "ab");
+    let items = history(rt.alloc(), &script, &trace, &key);
+    let listed = histories(rt.alloc(), &script, &trace);
+    drop(key);
+    drop(trace);
+    drop(script);
+    let items = items.expect(&rt, "memory");
+    let are_of_ab = match items.as_slice() {
+        [put, get] => {
+            (put.version.0 == 1 && put.caller.number == 2)
+                && (get.version.0 == 1 && get.caller.number == 3)
+        }
         _ => false,
-    }
-}
-
-/// Whether the calls are listed.
-fn are_calls_listed<R: Abort + AllocGlobal>(rt: &R, script: &Script, trace: &Trace) -> bool {
-    let records = records(rt.alloc(), script, trace).expect(rt, "memory");
-    let are_listed = are_recorded(&records);
-    drop(records);
-    are_listed
-}
-
-/// Whether the search is listed.
-fn is_search_listed<R: Abort + AllocGlobal>(rt: &R, script: &Script, trace: &Trace) -> bool {
-    let searches = searches(rt.alloc(), script, trace).expect(rt, "memory");
-    let is_listed = is_searched(&searches);
-    drop(searches);
-    is_listed
-}
-
-/// Whether one walk over the trace lists the calls and the histories of both keys.
-fn are_listed_together<R: Abort + AllocGlobal>(rt: &R, script: &Script, trace: &Trace) -> bool {
-    let both = records_and_histories(rt.alloc(), script, trace).expect(rt, "memory");
-    let are_listed = are_recorded(&both.records) && are_of_both(&both.histories);
-    drop(both);
-    are_listed
+    };
+    drop(items);
+    let listed = listed.expect(&rt, "memory");
+    let are_of_both = are_of_both(&listed);
+    drop(listed);
+    assert!(rt; are_of_ab);
+    assert!(rt; are_of_both);
 }
 
 #[test]
 fn calls_and_searches_are_listed(rt: HostRuntime) {
     let script = script(&rt);
     let trace = trace(&rt);
-    assert!(rt; are_calls_listed(&rt, &script, &trace));
-    assert!(rt; is_search_listed(&rt, &script, &trace));
-    assert!(rt; are_listed_together(&rt, &script, &trace));
+    let records = records(rt.alloc(), &script, &trace);
+    let searches = searches(rt.alloc(), &script, &trace);
     drop(trace);
     drop(script);
+    let records = records.expect(&rt, "memory");
+    let are_recorded = are_recorded(&records);
+    drop(records);
+    let searches = searches.expect(&rt, "memory");
+    let is_searched = match searches.as_slice() {
+        [search] => search.begin == 8 && search.end == 9,
+        _ => false,
+    };
+    drop(searches);
+    assert!(rt; are_recorded);
+    assert!(rt; is_searched);
+}
+
+/// One walk over the trace lists the calls and the histories of both keys.
+#[test]
+fn calls_and_histories_are_listed_together(rt: HostRuntime) {
+    let script = script(&rt);
+    let trace = trace(&rt);
+    let both = records_and_histories(rt.alloc(), &script, &trace);
+    drop(trace);
+    drop(script);
+    let both = both.expect(&rt, "memory");
+    let are_listed = are_recorded(&both.records) && are_of_both(&both.histories);
+    drop(both);
+    assert!(rt; are_listed);
 }

@@ -27,8 +27,6 @@ pub fn shared_list<R: Abort + AllocGlobal, T: Drop, const N: usize>(
 ) -> SharedList<T>
     ensures { result ≡ items }
 {
-    let Ok(items) = Vec::from_array(rt.alloc(), items) else {
-        panic!(rt; "memory");
-    };
+    let items = list(rt, items).into_vec();
     SharedList::from_vec(rt.alloc(), items).expect(rt, "memory")
 }

@@ -11,34 +11,6 @@ use hx_types::{
 };
 use std::process::Abort;
 
-fn attributes<R: Abort + AllocGlobal>(rt: &R) -> Attributes
-    ensures { result ≡ record { name = 103 ∷ []; kind = a_kind.Text } ∷ record { name = 121 ∷ []; kind = a_kind.Int (pos 1900) (pos 2099) } ∷ [] }
-{
-    let genre = Attribute {
-        name: text(rt, "g"),
-        kind: Kind::Text,
-    };
-    let year = Attribute {
-        name: text(rt, "y"),
-        kind: Kind::Int { lo: 1900, hi: 2099 },
-    };
-    list(rt, [genre, year])
-}
-
-fn subspaces<R: Abort + AllocGlobal>(rt: &R) -> Subspaces
-    ensures { result ≡ (record { attribute = 1; parts = 4 } ∷ []) ∷ (record { attribute = 2; parts = 2 } ∷ []) ∷ [] }
-{
-    let genre = Axis {
-        attribute: 1,
-        parts: 4,
-    };
-    let year = Axis {
-        attribute: 2,
-        parts: 2,
-    };
-    list(rt, [list(rt, [genre]), list(rt, [year])])
-}
-
 /// Books with a genre and a year: regions 0 and 1 by the key, 2 to 5 by the genre, 6 and 7 by the
 /// year.
 fn books(name: Text, key_name: Text, attributes: Attributes, subspaces: Subspaces) -> Space
@@ -60,12 +32,28 @@ fn books(name: Text, key_name: Text, attributes: Attributes, subspaces: Subspace
 }
 
 fn books_map<R: Abort + AllocGlobal>(rt: &R) -> RegionMap {
-    let name = text(rt, "b");
-    let key_name = text(rt, "n");
-    let space = books(name, key_name, attributes(rt), subspaces(rt));
-    let map = RegionMap::new(rt.alloc(), &space).expect(rt, "memory");
+    let genre = Attribute {
+        name: text(rt, "g"),
+        kind: Kind::Text,
+    };
+    let year = Attribute {
+        name: text(rt, "y"),
+        kind: Kind::Int { lo: 1900, hi: 2099 },
+    };
+    let by_genre = Axis {
+        attribute: 1,
+        parts: 4,
+    };
+    let by_year = Axis {
+        attribute: 2,
+        parts: 2,
+    };
+    let attributes = list(rt, [genre, year]);
+    let subspaces = list(rt, [list(rt, [by_genre]), list(rt, [by_year])]);
+    let space = books(text(rt, "b"), text(rt, "n"), attributes, subspaces);
+    let map = RegionMap::new(rt.alloc(), &space);
     drop(space);
-    map
+    map.expect(rt, "memory")
 }
 
 /// The servers of a region that are left of the two that it stood on, counted round from its
@@ -93,96 +81,90 @@ fn servers<R: Abort + AllocGlobal>(rt: &R, left: &[u32]) -> ServerList {
     made
 }
 
-fn regions<R: Abort + AllocGlobal>(rt: &R, left: &[u32]) -> RegionLists {
-    let mut made = RegionLists::new(rt.alloc());
-    for region in 0..8 {
-        made.push(members(rt, region, left)).expect(rt, "memory");
-    }
-    made
-}
-
 fn config<R: Abort + AllocGlobal>(rt: &R, left: &[u32]) -> Config {
+    let mut regions = RegionLists::new(rt.alloc());
+    for region in 0..8 {
+        regions.push(members(rt, region, left)).expect(rt, "memory");
+    }
     Config {
         epoch: Epoch(1),
         servers: servers(rt, left),
-        regions: regions(rt, left),
+        regions,
     }
 }
 
-fn text_is<R: Abort + AllocGlobal>(rt: &R, attribute: u32, word: &str) -> Terms {
-    let value = Value::Text(text(rt, word));
-    shared_list(rt, [Term::Equal { attribute, value }])
+/// What a search asks for.
+#[derive(Clone, Copy)]
+enum Asked {
+    All,
+    Word(u32, &'static str),
+    Year(i64),
+    Years(i64, i64),
 }
 
-fn year_is<R: Abort + AllocGlobal>(rt: &R, year: i64) -> Terms {
+/// The plan of such a search with these servers left.
+fn planned<R: Abort + AllocGlobal>(rt: &R, left: &[u32], asked: Asked) -> Planned {
     let attribute = 2;
-    let value = Value::Int(year);
-    shared_list(rt, [Term::Equal { attribute, value }])
-}
-
-fn years<R: Abort + AllocGlobal>(rt: &R, lo: i64, hi: i64) -> Terms {
-    let attribute = 2;
-    shared_list(rt, [Term::Range { attribute, lo, hi }])
-}
-
-/// The plan of these terms with these servers left.
-fn planned<R: Abort + AllocGlobal>(rt: &R, left: &[u32], terms: Terms) -> Planned {
+    let terms = match asked {
+        Asked::All => Terms::new(rt.alloc()),
+        Asked::Word(attribute, word) => {
+            let value = Value::Text(text(rt, word));
+            shared_list(rt, [Term::Equal { attribute, value }])
+        }
+        Asked::Year(year) => {
+            let value = Value::Int(year);
+            shared_list(rt, [Term::Equal { attribute, value }])
+        }
+        Asked::Years(lo, hi) => shared_list(rt, [Term::Range { attribute, lo, hi }]),
+    };
     let map = books_map(rt);
     let config = config(rt, left);
-    let planned = plan(rt.alloc(), &map, &config, &terms).expect(rt, "memory");
+    let planned = plan(rt.alloc(), &map, &config, &terms);
     drop(config);
     drop(map);
     drop(terms);
-    planned
+    planned.expect(rt, "memory")
 }
 
 /// Whether the plan asks these regions of this subspace.
-fn is_of(planned: &Planned, s: u32, wanted: &[u32]) -> bool {
-    match planned {
-        Planned::Regions { subspace, regions } => {
-            let regions = regions.as_slice();
-            let same = regions
-                .iter()
-                .zip(wanted)
-                .all(|(region, wanted)| region.0 == *wanted);
-            *subspace == s && regions.len() == wanted.len() && same
+fn is_of(planned: &Planned, wanted_subspace: u32, wanted: &[u32]) -> bool {
+    let Planned::Regions { subspace, regions } = planned else {
+        return false;
+    };
+    for (region, wanted) in regions.as_slice().iter().zip(wanted) {
+        if region.0 != *wanted {
+            return false;
         }
-        Planned::Lost(_) => false,
     }
+    *subspace == wanted_subspace && regions.len() == wanted.len()
 }
 
-/// Whether the plan of these terms, with these servers left, is that of the regions.
-fn asks<R: Abort + AllocGlobal>(
-    rt: &R,
-    left: &[u32],
-    terms: Terms,
-    s: u32,
-    wanted: &[u32],
-) -> bool {
-    let planned = planned(rt, left, terms);
-    let is_wanted = is_of(&planned, s, wanted);
-    drop(planned);
-    is_wanted
-}
+/// The servers that are left, what is asked for, and the subspace and the regions of the plan.
+type Row = (&'static [u32], Asked, u32, &'static [u32]);
 
-#[test]
-fn asks_the_fewest_regions(rt: HostRuntime) {
-    let all = [1, 2, 3, 4];
-    assert!(rt; asks(&rt, &all, years(&rt, 1990, 2010), 2, &[6, 7]));
-    assert!(rt; asks(&rt, &all, year_is(&rt, 2099), 2, &[7]));
-    assert!(rt; asks(&rt, &all, text_is(&rt, 1, "b"), 1, &[4]));
-    assert!(rt; asks(&rt, &all, text_is(&rt, 0, "b"), 0, &[1]));
-    assert!(rt; asks(&rt, &all, Terms::new(rt.alloc()), 2, &[6, 7]));
-}
+/// The fewest regions are asked, and lost ones are passed over.
+const PLANS: [Row; 7] = [
+    (&[1, 2, 3, 4], Asked::Years(1990, 2010), 2, &[6, 7]),
+    (&[1, 2, 3, 4], Asked::Year(2099), 2, &[7]),
+    (&[1, 2, 3, 4], Asked::Word(1, "b"), 1, &[4]),
+    (&[1, 2, 3, 4], Asked::Word(0, "b"), 0, &[1]),
+    (&[1, 2, 3, 4], Asked::All, 2, &[6, 7]),
+    (&[1, 2], Asked::Year(1999), 0, &[0, 1]),
+    (&[4], Asked::Word(1, "b"), 2, &[6, 7]),
+];
 
 #[test]
-fn passes_over_lost_regions(rt: HostRuntime) {
-    assert!(rt; asks(&rt, &[1, 2], year_is(&rt, 1999), 0, &[0, 1]));
-    assert!(rt; asks(&rt, &[4], text_is(&rt, 1, "b"), 2, &[6, 7]));
+fn asks_the_fewest_regions_that_are_left(rt: HostRuntime) {
+    for (place, (left, asked, subspace, regions)) in PLANS.iter().enumerate() {
+        let planned = planned(&rt, left, *asked);
+        let is_wanted = is_of(&planned, *subspace, regions);
+        drop(planned);
+        assert!(rt; is_wanted, "at {place}");
+    }
 }
 
 #[test]
 fn names_the_lowest_lost_region(rt: HostRuntime) {
-    let planned = planned(&rt, &[1], Terms::new(rt.alloc()));
+    let planned = planned(&rt, &[1], Asked::All);
     assert!(rt; matches!(planned, Planned::Lost(RegionId(1))));
 }

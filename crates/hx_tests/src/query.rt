@@ -1,49 +1,38 @@
 use crate::parts::{shared_list, text};
 use hx_query::matches;
-use hx_types::{Object, Term, Terms, Value};
+use hx_types::{Term, Terms, Value};
 use std::process::Abort;
-
-fn book<R: Abort + AllocGlobal>(rt: &R) -> Object {
-    let genre = Value::Text(text(rt, "b"));
-    shared_list(rt, [genre, Value::Int(1999)])
-}
-
-fn is<R: Abort + AllocGlobal>(rt: &R, attribute: u32, word: &str) -> Term {
-    let value = Value::Text(text(rt, word));
-    Term::Equal { attribute, value }
-}
-
-fn years(lo: i64, hi: i64) -> Term {
-    let attribute = 2;
-    Term::Range { attribute, lo, hi }
-}
 
 /// Terms that the book meets.
 fn met<R: Abort + AllocGlobal>(rt: &R) -> Terms {
-    shared_list(rt, [is(rt, 0, "a"), is(rt, 1, "b"), years(1999, 2010)])
+    let key = Term::Equal {
+        attribute: 0,
+        value: Value::Text(text(rt, "a")),
+    };
+    let genre = Term::Equal {
+        attribute: 1,
+        value: Value::Text(text(rt, "b")),
+    };
+    let (attribute, lo, hi) = (2, 1999, 2010);
+    shared_list(rt, [key, genre, Term::Range { attribute, lo, hi }])
 }
 
-/// The same, and one that it doesn't meet.
-fn not_met<R: Abort + AllocGlobal>(rt: &R) -> Terms {
-    let mut terms = met(rt);
-    terms.push(years(1990, 1998)).expect(rt, "memory");
-    terms
-}
-
-/// Whether the book of key "a" is found by the terms.
-fn is_found<R: Abort + AllocGlobal>(rt: &R, terms: Terms) -> bool {
-    let key = text(rt, "a");
-    let book = book(rt);
-    let is_found = matches(&terms, &key, &book);
-    drop(book);
-    drop(key);
-    drop(terms);
-    is_found
-}
-
+/// The book of key "a" is found by no terms and by those that it meets, and not where there is one
+/// more that it doesn't meet.
 #[test]
 fn a_book_is_found(rt: HostRuntime) {
-    assert!(rt; is_found(&rt, Terms::new(rt.alloc())));
-    assert!(rt; is_found(&rt, met(&rt)));
-    assert!(rt; !is_found(&rt, not_met(&rt)));
+    let key = text(&rt, "a");
+    let genre = Value::Text(text(&rt, "b"));
+    let book = shared_list(&rt, [genre, Value::Int(1999)]);
+    let is_found = matches(&Terms::new(rt.alloc()), &key, &book);
+    let mut terms = met(&rt);
+    let is_met = matches(&terms, &key, &book);
+    let (attribute, lo, hi) = (2, 1990, 1998);
+    let is_added = terms.push(Term::Range { attribute, lo, hi }).is_ok();
+    let is_still_met = matches(&terms, &key, &book);
+    drop(terms);
+    drop(book);
+    drop(key);
+    assert!(rt; is_found && is_met);
+    assert!(rt; is_added && !is_still_met);
 }

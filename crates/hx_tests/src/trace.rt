@@ -4,7 +4,7 @@ ghost use Rattle.hx_types.specs.declared.messages.Message.TheVariants as a_messa
 ghost use Rattle.hx_types.specs.declared.traces.Input.TheVariants as an_input;
 
 use crate::parts::list;
-use hx_trace::{EntryRef, InputRef, Stamped, Trace};
+use hx_trace::{InputRef, Stamped, Trace};
 use hx_types::{
     Actor, Entry, Epoch, Input, Message, Note, Notes, Post, PostId, Posts, ServerId, SessionId,
     Stamp,
@@ -60,6 +60,21 @@ fn taking<R: Abort + AllocGlobal>(rt: &R, epoch: u64) -> Entry {
     }
 }
 
+/// Whether the posts of these names, by entry and place, are polls of these epochs, or aren't there.
+fn are_sent(trace: &Trace, wanted: &[(u64, u32, Option<u64>)]) -> bool {
+    for (entry, place, epoch) in wanted {
+        let (entry, place) = (*entry, *place);
+        let sent = match trace.sent(PostId { entry, place }) {
+            Some(post) => Some(epoch_of(&post.message)),
+            None => None,
+        };
+        if sent != *epoch {
+            return false;
+        }
+    }
+    true
+}
+
 /// The epoch of a poll.
 fn epoch_of(message: &Message) -> u64 {
     match message {
@@ -68,53 +83,57 @@ fn epoch_of(message: &Message) -> u64 {
     }
 }
 
-/// The name and the epoch of the poll that an entry delivers.
-fn delivered(entry: EntryRef<'_>) -> Option<(u64, u32, u64)> {
-    match entry.input {
-        InputRef::Deliver { id, message, .. } => Some((id.entry, id.place, epoch_of(message))),
-        _ => None,
+/// Whether the entries from the first on deliver polls of these names and epochs, or no post.
+fn are_delivered(trace: &Trace, wanted: &[Option<(u64, u32, u64)>]) -> bool {
+    for (place, wanted) in wanted.iter().enumerate() {
+        let input = match trace.get(place) {
+            Some(entry) => Some(entry.input),
+            None => None,
+        };
+        let delivered = match input {
+            Some(InputRef::Deliver { id, message, .. }) => {
+                Some((id.entry, id.place, epoch_of(message)))
+            }
+            _ => None,
+        };
+        if delivered != *wanted {
+            return false;
+        }
     }
+    true
 }
 
-/// What the entry at a place delivers.
-fn delivered_at(trace: &Trace, place: usize) -> Option<(u64, u32, u64)> {
-    delivered(trace.get(place)?)
-}
-
-/// The epoch of the post of a name.
-fn sent(trace: &Trace, entry: u64, place: u32) -> Option<u64> {
-    let post = trace.sent(PostId { entry, place })?;
-    Some(epoch_of(&post.message))
-}
-
-/// How many posts and notes all entries have.
-fn counts(trace: &Trace) -> (usize, usize) {
+/// How many entries there are, and how many posts and notes all have.
+fn counts(trace: &Trace) -> (usize, usize, usize) {
     let mut posts: usize = 0;
     let mut notes: usize = 0;
     for entry in trace.iter() {
         posts = posts.saturating_add(entry.outputs.len());
         notes = notes.saturating_add(entry.notes.len());
     }
-    (posts, notes)
+    (trace.len(), posts, notes)
 }
 
 #[test]
 fn a_trace_gives_what_was_put(rt: HostRuntime) {
     let mut trace = Trace::with_capacity(rt.alloc(), 2).expect(&rt, "memory");
-    assert!(&rt; trace.is_empty());
+    let is_empty = trace.is_empty();
     trace.push(asking(&rt)).expect(&rt, "memory");
     // The message of a delivery that is put so is kept, whether or not it is that of the post.
     trace.push(taking(&rt, 9)).expect(&rt, "memory");
-    assert_eq!(&rt; trace.len(), 2);
-    assert_eq!(&rt; counts(&trace), (2, 1));
-    assert_eq!(&rt; sent(&trace, 1, 0), Some(7));
-    assert_eq!(&rt; sent(&trace, 1, 1), Some(8));
-    assert_eq!(&rt; sent(&trace, 1, 2), None);
-    assert_eq!(&rt; sent(&trace, 0, 0), None);
-    assert_eq!(&rt; sent(&trace, 3, 0), None);
-    assert_eq!(&rt; delivered_at(&trace, 0), None);
-    assert_eq!(&rt; delivered_at(&trace, 1), Some((1, 1, 9)));
-    assert_eq!(&rt; delivered_at(&trace, 2), None);
+    let sent = [
+        (1, 0, Some(7)),
+        (1, 1, Some(8)),
+        (1, 2, None),
+        (0, 0, None),
+        (3, 0, None),
+    ];
+    let are_sent = are_sent(&trace, &sent);
+    let are_delivered = are_delivered(&trace, &[None, Some((1, 1, 9)), None]);
+    let counts = counts(&trace);
+    drop(trace);
+    assert_eq!(&rt; counts, (2, 2, 1));
+    assert!(&rt; is_empty && are_sent && are_delivered);
 }
 
 /// The delivery of the second of these posts, with a post and a note.
@@ -144,13 +163,12 @@ fn a_trace_grows_in_place(rt: HostRuntime) {
     growing.append(asking(&rt));
     growing.reserve(1, 1).expect(&rt, "memory");
     growing.append(hearing(&rt));
-    assert_eq!(&rt; trace.len(), 2);
-    assert_eq!(&rt; counts(&trace), (3, 2));
-    assert_eq!(&rt; sent(&trace, 1, 0), Some(7));
-    assert_eq!(&rt; sent(&trace, 1, 1), Some(8));
-    assert_eq!(&rt; sent(&trace, 2, 0), Some(3));
-    assert_eq!(&rt; delivered_at(&trace, 0), None);
-    assert_eq!(&rt; delivered_at(&trace, 1), Some((1, 1, 8)));
+    let are_sent = are_sent(&trace, &[(1, 0, Some(7)), (1, 1, Some(8)), (2, 0, Some(3))]);
+    let are_delivered = are_delivered(&trace, &[None, Some((1, 1, 8))]);
+    let counts = counts(&trace);
+    drop(trace);
+    assert_eq!(&rt; counts, (2, 3, 2));
+    assert!(&rt; are_sent && are_delivered);
 }
 
 #[test]
@@ -162,14 +180,18 @@ fn whole_entries_are_read_back(rt: HostRuntime) {
     let growing = trace.growing();
     growing.reserve(1, 1).expect(&rt, "memory");
     growing.append(hearing(&rt));
-    assert_eq!(&rt; trace.len(), 3);
-    assert_eq!(&rt; counts(&trace), (4, 3));
-    assert_eq!(&rt; sent(&trace, 1, 1), Some(8));
-    assert_eq!(&rt; sent(&trace, 2, 0), Some(3));
-    assert_eq!(&rt; sent(&trace, 3, 0), Some(3));
-    assert_eq!(&rt; sent(&trace, 3, 1), None);
-    assert_eq!(&rt; delivered_at(&trace, 1), Some((1, 1, 8)));
-    assert_eq!(&rt; delivered_at(&trace, 2), Some((1, 1, 8)));
+    let sent = [
+        (1, 1, Some(8)),
+        (2, 0, Some(3)),
+        (3, 0, Some(3)),
+        (3, 1, None),
+    ];
+    let are_sent = are_sent(&trace, &sent);
+    let are_delivered = are_delivered(&trace, &[None, Some((1, 1, 8)), Some((1, 1, 8))]);
+    let counts = counts(&trace);
+    drop(trace);
+    assert_eq!(&rt; counts, (3, 4, 3));
+    assert!(&rt; are_sent && are_delivered);
 }
 
 /// An entry of a part. Its stamp counts for nothing here.
@@ -191,12 +213,16 @@ fn parts_give_their_entries_in_turns(rt: HostRuntime) {
     let made = Trace::of_parts(rt.alloc(), parts, &[0, 1, 2, 0, 0]);
     let mut trace = made.expect(&rt, "memory");
     trace.push(asking(&rt)).expect(&rt, "memory");
-    assert_eq!(&rt; trace.len(), 4);
-    assert_eq!(&rt; counts(&trace), (5, 3));
-    assert_eq!(&rt; sent(&trace, 1, 1), Some(8));
-    assert_eq!(&rt; sent(&trace, 2, 0), None);
-    assert_eq!(&rt; sent(&trace, 3, 0), Some(3));
-    assert_eq!(&rt; sent(&trace, 4, 0), Some(7));
-    assert_eq!(&rt; delivered_at(&trace, 1), Some((1, 1, 9)));
-    assert_eq!(&rt; delivered_at(&trace, 2), Some((1, 1, 8)));
+    let sent = [
+        (1, 1, Some(8)),
+        (2, 0, None),
+        (3, 0, Some(3)),
+        (4, 0, Some(7)),
+    ];
+    let are_sent = are_sent(&trace, &sent);
+    let are_delivered = are_delivered(&trace, &[None, Some((1, 1, 9)), Some((1, 1, 8))]);
+    let counts = counts(&trace);
+    drop(trace);
+    assert_eq!(&rt; counts, (4, 5, 3));
+    assert!(&rt; are_sent && are_delivered);
 }

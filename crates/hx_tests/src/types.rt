@@ -6,9 +6,8 @@ use std::process::Abort;
 /// What a message carries is behind pointers, so it is small whatever it carries.
 #[test]
 fn messages_are_small(rt: HostRuntime) {
-    assert!(rt; size_of::<Message>() <= 48);
-    assert!(rt; size_of::<Post>() <= 64);
-    assert!(rt; size_of::<Entry>() <= 136);
+    let sizes = (size_of::<Message>(), size_of::<Post>(), size_of::<Entry>());
+    assert!(rt; sizes.0 <= 48 && sizes.1 <= 64 && sizes.2 <= 136);
 }
 
 #[test]
@@ -31,33 +30,30 @@ fn copies_stay_as_they_were(rt: HostRuntime) {
     list.set(0, ServerId(3)).expect(&rt, "memory");
     list.set(1, ServerId(4)).expect(&rt, "memory");
     list.push(ServerId(5)).expect(&rt, "memory");
-    assert!(rt; list.as_slice() == [ServerId(3), ServerId(4), ServerId(5)].as_slice());
-    assert!(rt; copy.as_slice() == [ServerId(1), ServerId(2)].as_slice());
+    let is_set = list.as_slice() == [ServerId(3), ServerId(4), ServerId(5)].as_slice();
+    let is_as_before = copy.as_slice() == [ServerId(1), ServerId(2)].as_slice();
     drop(copy);
     drop(list);
-}
-
-/// The text of a string.
-fn text_of_string<R: Abort + AllocGlobal>(rt: &R, text: &str) -> Text {
-    let string = String::from_str(rt.alloc(), text).expect(rt, "memory");
-    Text::from_string(string).expect(rt, "memory")
+    assert!(rt; is_set && is_as_before);
 }
 
 #[test]
 fn texts_are_shared(rt: HostRuntime) {
     let alloc = rt.alloc();
-    let made = text_of_string(&rt, "a\nb");
+    let string = String::from_str(alloc, "a\nb").expect(&rt, "memory");
+    let made = Text::from_string(string).expect(&rt, "memory");
     let shared = Shared::new(alloc, made).expect(&rt, "memory");
     let copy = shared.copy(alloc).expect(&rt, "memory");
     let same = text(&rt, "a\nb");
-    assert!(rt; copy.as_str() == "a\nb");
-    assert!(rt; *copy == same);
+    let is_read = copy.as_str() == "a\nb";
+    let is_same = *copy == same;
     drop(same);
     drop(copy);
     drop(shared);
+    assert!(rt; is_read && is_same);
 }
 
-fn attributes<R: Abort + AllocGlobal>(rt: &R) -> Attributes {
+fn space<R: Abort + AllocGlobal>(rt: &R) -> Space {
     let genre = Attribute {
         name: text(rt, "g"),
         kind: Kind::Text,
@@ -66,64 +62,45 @@ fn attributes<R: Abort + AllocGlobal>(rt: &R) -> Attributes {
         name: text(rt, "y"),
         kind: Kind::Int { lo: 1900, hi: 2099 },
     };
-    list(rt, [genre, year])
-}
-
-fn space<R: Abort + AllocGlobal>(rt: &R) -> Space {
     Space {
         name: text(rt, "s"),
         key_name: text(rt, "k"),
         key_parts: 1,
-        attributes: attributes(rt),
+        attributes: list(rt, [genre, year]),
         subspaces: Subspaces::new(rt.alloc()),
         servers: 1,
         tolerate: 0,
     }
 }
 
-/// Sets the genre.
-fn put<R: Abort + AllocGlobal>(rt: &R) -> Op {
-    let attribute = 1;
-    let value = Value::Text(text(rt, "b"));
-    let sets = shared_list(rt, [Assign { attribute, value }]);
-    let key = text(rt, "a");
-    Op::Put { key, sets }
-}
-
-fn get<R: Abort + AllocGlobal>(rt: &R) -> Op {
-    let key = text(rt, "a");
-    Op::Get { key }
-}
-
-fn is_done(effect: &Effect) -> bool {
-    effect.changes && matches!(effect.answer, Answer::Done)
-}
-
-fn is_found(effect: &Effect, text: &str, number: i64) -> bool {
-    match &effect.answer {
-        Answer::Found(object) => {
-            matches!(object.as_slice(), [Value::Text(g), Value::Int(y)] if g.as_str() == text && *y == number)
-        }
-        _ => false,
-    }
-}
-
 /// The effect of the operation on the object.
 fn effect_on<R: Abort + AllocGlobal>(rt: &R, object: Option<&Object>, op: Op) -> Effect {
     let space = space(rt);
-    let effect = effect(rt.alloc(), &space, object, &op).expect(rt, "memory");
+    let effect = effect(rt.alloc(), &space, object, &op);
     drop(space);
     drop(op);
-    effect
+    effect.expect(rt, "memory")
 }
 
 /// A put of a text to an object that isn't there, and a get of what it made.
 #[test]
 fn operations_have_effects(rt: HostRuntime) {
-    let put = effect_on(&rt, None, put(&rt));
-    assert!(rt; is_done(&put));
-    let got = effect_on(&rt, put.object.as_ref(), get(&rt));
-    assert!(rt; is_found(&got, "b", 1900));
-    drop(got);
+    let attribute = 1;
+    let value = Value::Text(text(&rt, "b"));
+    let sets = shared_list(&rt, [Assign { attribute, value }]);
+    let key = text(&rt, "a");
+    let put = effect_on(&rt, None, Op::Put { key, sets });
+    let is_done = put.changes && matches!(put.answer, Answer::Done);
+    let key = text(&rt, "a");
+    let got = effect_on(&rt, put.object.as_ref(), Op::Get { key });
     drop(put);
+    let is_found = match &got.answer {
+        Answer::Found(object) => {
+            matches!(object.as_slice(), [Value::Text(g), Value::Int(y)] if g.as_str() == "b" && *y == 1900)
+        }
+        _ => false,
+    };
+    drop(got);
+    assert!(rt; is_done);
+    assert!(rt; is_found);
 }
