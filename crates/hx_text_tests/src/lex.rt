@@ -1,37 +1,30 @@
 use hx_lex::*;
 
+/// Whether the token stands from the one place to the other.
+fn stands(token: &Token, start: usize, end: usize) -> bool {
+    token.start == start && token.end == end
+}
+
+/// Whether it is the put of the line below.
+fn is_put(tokens: &[Token]) -> bool {
+    let [put, key, name, equals, seven] = tokens else {
+        return false;
+    };
+    matches!(put.kind, TokenKind::Word)
+        && stands(put, 0, 3)
+        && matches!(&key.kind, TokenKind::Text(text) if text.as_str() == "a\"b")
+        && stands(key, 4, 10)
+        && matches!(name.kind, TokenKind::Word)
+        && matches!(equals.kind, TokenKind::Sign)
+        && matches!(seven.kind, TokenKind::Number(number) if number == -7)
+        && stands(seven, 13, 15)
+}
+
 #[test]
 fn reads_a_call(rt: HostRuntime) {
     let line = b"put \"a\\\"b\" n=-7 # note";
     let tokens = tokens(rt.alloc(), line).expect(&rt, "tokens");
-    let is_put = match tokens.as_slice() {
-        [
-            Token {
-                kind: TokenKind::Word,
-                start: 0,
-                end: 3,
-            },
-            Token {
-                kind: TokenKind::Text(key),
-                start: 4,
-                end: 10,
-            },
-            Token {
-                kind: TokenKind::Word,
-                ..
-            },
-            Token {
-                kind: TokenKind::Sign,
-                ..
-            },
-            Token {
-                kind: TokenKind::Number(-7),
-                start: 13,
-                end: 15,
-            },
-        ] => { key.as_str() == "a\"b" }
-        _ => false,
-    };
+    let is_put = is_put(tokens.as_slice());
     drop(tokens);
     assert!(rt; is_put);
 }
