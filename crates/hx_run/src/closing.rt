@@ -17,6 +17,7 @@ use hx_mail::{Mailbox, Port};
 use hx_outbox::Outbox;
 use hx_types::{Memory, Script, Totals};
 use std::alloc::Global;
+use std::mem::ManuallyDrop;
 use std::sync::Wait;
 
 /// What is left of drivers: the parts of their actors, their totals and fates in order, and the first
@@ -42,7 +43,8 @@ fn parted(desk: Desk) -> (SeatedPart, Taker)
         kept,
         heard,
     } = desk;
-    drop(machine);
+    // Its memory is left to the system: to give it back piece by piece takes longer than to end.
+    let _left = ManuallyDrop::new(machine);
     drop(kept);
     drop(heard);
     let part = Part::from_vec(part);

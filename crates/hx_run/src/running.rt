@@ -75,7 +75,8 @@ fn worn_by(fault: Option<Fault>) -> Result<Option<Actor>, Memory>
 
 /// Runs the actors of a script on so many threads (1 to 16) over mailboxes of so many places. Actor i,
 /// in the order coordinator, servers, sessions, belongs to driver i modulo the number of drivers. Driver
-/// i has the i-th fate that is handed in; those that no driver has are dropped.
+/// i has the i-th fate that is handed in; those that no driver has are dropped. What the actors hold at the end is not
+/// given back: it is left to the system, which takes less time where the process ends soon after, as it does here.
 ///
 /// # Errors
 ///
