@@ -12,9 +12,8 @@ use std::alloc::Global;
 use std::sync::Wait;
 use std::thread::Threads;
 
-/// How many envelopes a mailbox holds: more than are under way to an actor at once in most runs, and few enough for all
-/// boxes to stay in a cache.
-const CAPACITY: usize = 128;
+/// How many envelopes a mailbox holds.
+const CAPACITY: usize = 1024;
 
 /// On how many threads a script is run, and how often its posts are lost and repeated: one in so many,
 /// 0 for never.
