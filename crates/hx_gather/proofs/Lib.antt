@@ -1,5 +1,5 @@
 pub mod Sources
 pub mod Seated
 pub mod Gathers
-pub mod Owning
+pub mod Taking
 pub mod Arranged

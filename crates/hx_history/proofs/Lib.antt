@@ -9,3 +9,4 @@ pub mod Gathered
 pub mod RecordRows
 pub mod SearchRows
 pub mod Places
+pub mod Unnoted

@@ -29,7 +29,7 @@ pub struct RecordsAndHistories {
     pub histories: Histories,
 }
 
-/// What all notes of a trace say.
+/// What all notes of a trace say. Entries without notes are passed over.
 fn gather<'a>(alloc: Global, script: &'a Script, trace: &'a Trace) -> Result<Gathered<'a>, Memory>
     ensures spans { IfOk result (λ gathered. (c : Caller) → span_in (map (λ row. row.items) gathered.table.items) c ≡ option_map (λ op. notes_of c (reverse trace.now)) (call_of script.now c)) }
     ensures as_script { IfOk result (λ gathered. shape (map (λ row. row.items) gathered.table.items) ≡ shape script.now.sessions) }
@@ -38,7 +38,7 @@ fn gather<'a>(alloc: Global, script: &'a Script, trace: &'a Trace) -> Result<Gat
     let mut table = empty_table(alloc, script)?;
     let mut events = Vec::new(alloc);
     for place in 0..trace.len() {
-        if let Some(entry) = trace.get(place) {
+        if let Some(entry) = trace.noted(place) {
             take_entry(&mut table, place as u64 + 1, entry);
             push_events(&mut events, script, entry.actor, entry.notes)?;
         }

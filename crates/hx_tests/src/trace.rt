@@ -4,7 +4,7 @@ ghost use Rattle.hx_types.specs.declared.messages.Message.TheVariants as a_messa
 ghost use Rattle.hx_types.specs.declared.traces.Input.TheVariants as an_input;
 
 use crate::parts::list;
-use hx_trace::{InputRef, Stamped, Trace};
+use hx_trace::{InputRef, Stamped, Trace, Turn};
 use hx_types::{
     Actor, Entry, Epoch, Input, Message, Note, Notes, Post, PostId, Posts, ServerId, SessionId,
     Stamp,
@@ -44,7 +44,9 @@ fn asking<R: Abort + AllocGlobal>(rt: &R) -> Entry
 }
 
 /// The delivery of the second of these posts, as the entry's message has it.
-fn taking<R: Abort + AllocGlobal>(rt: &R, epoch: u64) -> Entry {
+fn taking<R: Abort + AllocGlobal>(rt: &R, epoch: u64) -> Entry
+    ensures notes { result.notes ≡ [] }
+{
     let message = Message::Poll {
         epoch: Epoch(epoch),
     };
@@ -204,15 +206,37 @@ fn stamped(entry: Entry) -> Stamped
     }
 }
 
+/// The turn of an entry of a part.
+fn turn(part: u16, at: u32, has_notes: bool) -> Turn
+    ensures { result ≡ record { part = part; at = at; has_notes = has_notes } }
+{
+    Turn {
+        part,
+        at,
+        has_notes,
+    }
+}
+
+/// Whether the entries at the first places have notes, and no other has.
+fn are_noted(trace: &Trace, wanted: &[bool]) -> bool {
+    for (place, wanted) in wanted.iter().enumerate() {
+        if trace.noted(place).is_some() != *wanted {
+            return false;
+        }
+    }
+    trace.noted(wanted.len()).is_none()
+}
+
 #[test]
 fn parts_give_their_entries_in_turns(rt: HostRuntime) {
     let first = list(&rt, [stamped(asking(&rt)), stamped(hearing(&rt))]);
     let second = list(&rt, [stamped(taking(&rt, 9))]);
     let parts = list(&rt, [first, second]);
-    // There is no part at 2, and the first has no third entry.
-    let made = Trace::of_parts(rt.alloc(), parts, &[0, 1, 2, 0, 0]);
-    let mut trace = made.expect(&rt, "memory");
+    let turns = [turn(0, 0, true), turn(1, 0, false), turn(0, 1, true)];
+    let turns = Vec::from_array(rt.alloc(), turns).expect(&rt, "memory");
+    let mut trace = Trace::of_parts(rt.alloc(), parts, turns);
     trace.push(asking(&rt)).expect(&rt, "memory");
+    let are_noted = are_noted(&trace, &[true, false, true, true]);
     let sent = [
         (1, 1, Some(8)),
         (2, 0, None),
@@ -224,5 +248,5 @@ fn parts_give_their_entries_in_turns(rt: HostRuntime) {
     let counts = counts(&trace);
     drop(trace);
     assert_eq!(&rt; counts, (4, 5, 3));
-    assert!(&rt; are_sent && are_delivered);
+    assert!(&rt; are_sent && are_delivered && are_noted);
 }

@@ -1,5 +1,5 @@
 -- Entries of heads stay where the lists grow.
-use Rattle.std.proofs.lemmas.List.{map-append}
+use Rattle.std.proofs.lemmas.List.{append_assoc, map-append}
 use Rattle.std.proofs.Common.{◌≡◌, ℕ, ◌+◌, ◌≤◌, List, [], ◌∷◌, ◌++◌, length, map, Option, None, refl, sym, ap, ◌∙◌, arith, append-nil, length-append}
 use Rattle.std.specs.List.{AllByRecursion}
 use Rattle.hx_types.specs.declared.ids.Actor.{Actor}
@@ -8,33 +8,29 @@ use Rattle.hx_types.specs.declared.messages.Post.{Post}
 use Rattle.hx_types.specs.declared.traces.Entry.{Entry}
 use Rattle.hx_types.specs.declared.traces.Note.{Note}
 use Rattle.hx_types.specs.Words.{when_some}
-use Rattle.hx_clock.specs.declared.parts.Stamped.{Stamped}
 use Rattle.hx_trace.specs.declared.heads.Head.{Head}
 use Rattle.hx_trace.specs.declared.heads.Taken.{Taken}
-use Rattle.hx_trace.specs.declared.heads.Taken.TheVariants.{Tick, Halt, Sent, Whole, Adopted}
+use Rattle.hx_trace.specs.declared.heads.Taken.TheVariants.{Tick, Halt, Sent, Whole}
 use Rattle.hx_trace.specs.Lists.{IsHeadIn, IsTakenIn, delivery, entry_by, filed_by, input_by, whole_by}
 use Rattle.hx_trace.proofs.Spans.{get_before, get_end, range_before, range_end}
 
-whole_grows : (p : ℕ) (wholes ws : List Entry) (parts : List (List Stamped)) (t : Taken) → IsTakenIn p (length wholes) t → whole_by (wholes ++ ws) parts t ≡ whole_by wholes parts t
-whole_grows p wholes ws parts Tick h = refl
-whole_grows p wholes ws parts Halt h = refl
-whole_grows p wholes ws parts (Sent entry place at) h = refl
-whole_grows p wholes ws parts (Whole at) h = get_before wholes ws at h
-whole_grows p wholes ws parts (Adopted part at) h = refl
+whole_grows : (p : ℕ) (wholes ws : List Entry) (t : Taken) → IsTakenIn p (length wholes) t → whole_by (wholes ++ ws) t ≡ whole_by wholes t
+whole_grows p wholes ws Tick h = refl
+whole_grows p wholes ws Halt h = refl
+whole_grows p wholes ws (Sent entry place at) h = refl
+whole_grows p wholes ws (Whole at) h = get_before wholes ws at h
 
 input_grows : (posts ps : List Post) (i : ℕ) (t : Taken) → IsTakenIn (length posts) i t → input_by (posts ++ ps) t ≡ input_by posts t
 input_grows posts ps i Tick h = refl
 input_grows posts ps i Halt h = refl
 input_grows posts ps i (Sent entry place at) h = ap (delivery (record { entry = entry; place = place })) (get_before posts ps at h)
 input_grows posts ps i (Whole at) h = refl
-input_grows posts ps i (Adopted part at) h = refl
 
 taken_grows : (p p2 i i2 : ℕ) (t : Taken) → p ≤ p2 → i ≤ i2 → IsTakenIn p i t → IsTakenIn p2 i2 t
 taken_grows p p2 i i2 Tick hp hi h = h
 taken_grows p p2 i i2 Halt hp hi h = h
 taken_grows p p2 i i2 (Sent entry place at) hp hi h = omega (arith, hp, h)
 taken_grows p p2 i i2 (Whole at) hp hi h = omega (arith, hi, h)
-taken_grows p p2 i i2 (Adopted part at) hp hi h = h
 
 head_grows : (p p2 n n2 i i2 : ℕ) (h : Head) → p ≤ p2 → n ≤ n2 → i ≤ i2 → IsHeadIn p n i h → IsHeadIn p2 n2 i2 h
 head_grows p p2 n n2 i i2 h hp hn hi w =
@@ -49,29 +45,29 @@ filed_grows : (posts ps : List Post) (notes ns : List Note) (i : ℕ) (h : Head)
 filed_grows posts ps notes ns i h w =
     rw (input_grows posts ps i h.taken w.taken, range_before posts ps h.posts.start h.posts.count w.posts_end, range_before notes ns h.notes.start h.notes.count w.notes_end) refl
 
-entry_grows : (posts ps : List Post) (notes ns : List Note) (wholes ws : List Entry) (parts : List (List Stamped)) (h : Head)
-    → IsHeadIn (length posts) (length notes) (length wholes) h → entry_by (posts ++ ps) (notes ++ ns) (wholes ++ ws) parts h ≡ entry_by posts notes wholes parts h
-entry_grows posts ps notes ns wholes ws parts h w =
-    ap (λ (o : Option Entry). when_some o (filed_by (posts ++ ps) (notes ++ ns) h) (λ whole. whole)) (whole_grows (length posts) wholes ws parts h.taken w.taken)
-    ∙ ap (λ (f : Entry). when_some (whole_by wholes parts h.taken) f (λ whole. whole)) (filed_grows posts ps notes ns (length wholes) h w)
+entry_grows : (posts ps : List Post) (notes ns : List Note) (wholes ws : List Entry) (h : Head)
+    → IsHeadIn (length posts) (length notes) (length wholes) h → entry_by (posts ++ ps) (notes ++ ns) (wholes ++ ws) h ≡ entry_by posts notes wholes h
+entry_grows posts ps notes ns wholes ws h w =
+    ap (λ (o : Option Entry). when_some o (filed_by (posts ++ ps) (notes ++ ns) h) (λ whole. whole)) (whole_grows (length posts) wholes ws h.taken w.taken)
+    ∙ ap (λ (f : Entry). when_some (whole_by wholes h.taken) f (λ whole. whole)) (filed_grows posts ps notes ns (length wholes) h w)
 
 -- the entries of heads that lie in the lists are the same in longer ones
-pub entries_grow : (posts ps : List Post) (notes ns : List Note) (wholes ws : List Entry) (parts : List (List Stamped)) (hs : List Head)
-    → AllByRecursion (IsHeadIn (length posts) (length notes) (length wholes)) hs → map (entry_by (posts ++ ps) (notes ++ ns) (wholes ++ ws) parts) hs ≡ map (entry_by posts notes wholes parts) hs
-entries_grow posts ps notes ns wholes ws parts [] w = refl
-entries_grow posts ps notes ns wholes ws parts (h ∷ hs) w =
-    rw (entry_grows posts ps notes ns wholes ws parts h w.0, entries_grow posts ps notes ns wholes ws parts hs w.1) refl
+pub entries_grow : (posts ps : List Post) (notes ns : List Note) (wholes ws : List Entry) (hs : List Head)
+    → AllByRecursion (IsHeadIn (length posts) (length notes) (length wholes)) hs → map (entry_by (posts ++ ps) (notes ++ ns) (wholes ++ ws)) hs ≡ map (entry_by posts notes wholes) hs
+entries_grow posts ps notes ns wholes ws [] w = refl
+entries_grow posts ps notes ns wholes ws (h ∷ hs) w =
+    rw (entry_grows posts ps notes ns wholes ws h w.0, entries_grow posts ps notes ns wholes ws hs w.1) refl
 
 -- the same for lists that are known to be longer
-pub entries_in_longer : (posts ps p2 : List Post) (notes ns n2 : List Note) (wholes ws w2 : List Entry) (parts : List (List Stamped)) (hs : List Head) → p2 ≡ posts ++ ps → n2 ≡ notes ++ ns → w2 ≡ wholes ++ ws
-    → AllByRecursion (IsHeadIn (length posts) (length notes) (length wholes)) hs → map (entry_by p2 n2 w2 parts) hs ≡ map (entry_by posts notes wholes parts) hs
-entries_in_longer posts ps p2 notes ns n2 wholes ws w2 parts hs ep en ei w = rw (ep, en, ei) (entries_grow posts ps notes ns wholes ws parts hs w)
+pub entries_in_longer : (posts ps p2 : List Post) (notes ns n2 : List Note) (wholes ws w2 : List Entry) (hs : List Head) → p2 ≡ posts ++ ps → n2 ≡ notes ++ ns → w2 ≡ wholes ++ ws
+    → AllByRecursion (IsHeadIn (length posts) (length notes) (length wholes)) hs → map (entry_by p2 n2 w2) hs ≡ map (entry_by posts notes wholes) hs
+entries_in_longer posts ps p2 notes ns n2 wholes ws w2 hs ep en ei w = rw (ep, en, ei) (entries_grow posts ps notes ns wholes ws hs w)
 
 -- where an entry's posts and notes are put at the end
-pub entries_file : (posts ps : List Post) (notes ns : List Note) (wholes : List Entry) (parts : List (List Stamped)) (hs : List Head)
-    → AllByRecursion (IsHeadIn (length posts) (length notes) (length wholes)) hs → map (entry_by (posts ++ ps) (notes ++ ns) wholes parts) hs ≡ map (entry_by posts notes wholes parts) hs
-entries_file posts ps notes ns wholes parts hs w =
-    entries_in_longer posts ps (posts ++ ps) notes ns (notes ++ ns) wholes [] wholes parts hs refl refl (sym (append-nil wholes)) w
+pub entries_file : (posts ps : List Post) (notes ns : List Note) (wholes : List Entry) (hs : List Head)
+    → AllByRecursion (IsHeadIn (length posts) (length notes) (length wholes)) hs → map (entry_by (posts ++ ps) (notes ++ ns) wholes) hs ≡ map (entry_by posts notes wholes) hs
+entries_file posts ps notes ns wholes hs w =
+    entries_in_longer posts ps (posts ++ ps) notes ns (notes ++ ns) wholes [] wholes hs refl refl (sym (append-nil wholes)) w
 
 pub each_last : {A : Type 0} (P : A → Type 0) (xs : List A) (x : A) → AllByRecursion P xs → P x → AllByRecursion P (xs ++ x ∷ [])
 each_last P [] x h w = (w, tt)
@@ -100,12 +96,12 @@ heads_filed a t posts ps notes ns wholes hs w k =
     )
 
 -- and its entry stands last
-pub entries_filed : (a : Actor) (t : Taken) (posts ps : List Post) (notes ns : List Note) (wholes : List Entry) (parts : List (List Stamped)) (hs : List Head)
-    → AllByRecursion (IsHeadIn (length posts) (length notes) (length wholes)) hs → IsTakenIn (length posts) (length wholes) t → whole_by wholes parts t ≡ None
-    → map (entry_by (posts ++ ps) (notes ++ ns) wholes parts) (hs ++ filed a t posts ps notes ns ∷ [])
-    ≡ map (entry_by posts notes wholes parts) hs ++ record { actor = a; input = input_by posts t; outputs = ps; notes = ns } ∷ []
-entries_filed a t posts ps notes ns wholes parts hs w k none =
-    rw (map-append, entries_file posts ps notes ns wholes parts hs w, none, input_grows posts ps (length wholes) t k, range_end posts ps, range_end notes ns) refl
+pub entries_filed : (a : Actor) (t : Taken) (posts ps : List Post) (notes ns : List Note) (wholes : List Entry) (hs : List Head)
+    → AllByRecursion (IsHeadIn (length posts) (length notes) (length wholes)) hs → IsTakenIn (length posts) (length wholes) t → whole_by wholes t ≡ None
+    → map (entry_by (posts ++ ps) (notes ++ ns) wholes) (hs ++ filed a t posts ps notes ns ∷ [])
+    ≡ map (entry_by posts notes wholes) hs ++ record { actor = a; input = input_by posts t; outputs = ps; notes = ns } ∷ []
+entries_filed a t posts ps notes ns wholes hs w k none =
+    rw (map-append, entries_file posts ps notes ns wholes hs w, none, input_grows posts ps (length wholes) t k, range_end posts ps, range_end notes ns) refl
 
 -- the head of an entry that is kept whole
 abbrev pub whole_head : Taken → Head
@@ -121,10 +117,14 @@ heads_kept posts notes wholes e hs w =
     (record { taken = omega (arith, n); posts_end = omega arith; notes_end = omega arith })
 
 -- and it stands last
-pub entries_kept : (posts : List Post) (notes : List Note) (wholes : List Entry) (parts : List (List Stamped)) (e : Entry) (hs : List Head)
+pub entries_kept : (posts : List Post) (notes : List Note) (wholes : List Entry) (e : Entry) (hs : List Head)
     → AllByRecursion (IsHeadIn (length posts) (length notes) (length wholes)) hs
-    → map (entry_by posts notes (wholes ++ e ∷ []) parts) (hs ++ whole_head (Whole (length wholes)) ∷ []) ≡ map (entry_by posts notes wholes parts) hs ++ e ∷ []
-entries_kept posts notes wholes parts e hs w =
-    let grown : map (entry_by posts notes (wholes ++ e ∷ []) parts) hs ≡ map (entry_by posts notes wholes parts) hs =
-    entries_in_longer posts [] posts notes [] notes wholes (e ∷ []) (wholes ++ e ∷ []) parts hs (sym (append-nil posts)) (sym (append-nil notes)) refl w in
+    → map (entry_by posts notes (wholes ++ e ∷ [])) (hs ++ whole_head (Whole (length wholes)) ∷ []) ≡ map (entry_by posts notes wholes) hs ++ e ∷ []
+entries_kept posts notes wholes e hs w =
+    let grown : map (entry_by posts notes (wholes ++ e ∷ [])) hs ≡ map (entry_by posts notes wholes) hs =
+    entries_in_longer posts [] posts notes [] notes wholes (e ∷ []) (wholes ++ e ∷ []) hs (sym (append-nil posts)) (sym (append-nil notes)) refl w in
     rw (map-append, grown, get_end wholes e) refl
+
+-- an entry that stands last among some stands last where others come first
+pub last_after : (first some all : List Entry) (e : Entry) → all ≡ some ++ e ∷ [] → first ++ all ≡ (first ++ some) ++ e ∷ []
+last_after first some all e h = ap (λ es. first ++ es) h ∙ sym (append_assoc first some (e ∷ []))

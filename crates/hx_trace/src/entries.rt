@@ -1,9 +1,10 @@
-ghost use Rattle.std.specs.Prelude.{◌≡◌, map};
+ghost use Rattle.std.specs.Prelude.{◌≡◌, ◌++◌, map};
 ghost use Rattle.std.specs.Iterator.{YieldsFirstBy, item_count};
 ghost use Rattle.hx_trace.specs.Entries.{entry_seen};
 
 use crate::heads::Head;
-use crate::lists::{Lists, entry_of};
+use crate::lists::{Lists, entry_of, entry_of_turn};
+use crate::turns::Turn;
 use hx_types::{Actor, Message, Note, Post, PostId};
 use std::marker::Model;
 
@@ -34,6 +35,7 @@ pub struct EntryRef<'a> {
 /// The entries of a trace in order.
 #[derive(Drop)]
 pub struct Entries<'a> {
+    pub(crate) turns: &'a [Turn],
     pub(crate) heads: &'a [Head],
     pub(crate) lists: &'a Lists,
 }
@@ -41,13 +43,13 @@ pub struct Entries<'a> {
 impl<'a> Model for Entries<'a> {
     ghost use Rattle.std.specs.Prelude.{List};
     ghost use Rattle.hx_types.specs.declared.traces.Entry.{Entry};
-    ghost use Rattle.hx_trace.specs.Lists.{AreHeadsIn, entries_by};
+    ghost use Rattle.hx_trace.specs.Lists.{AreIn, entries_of};
 
     ghost Value = { List Entry };
 
-    ghost view = { λ e. entries_by e.lists.now e.heads.now };
+    ghost view = { λ e. entries_of e.lists.now e.turns.now e.heads.now };
 
-    ghost invariant = { λ e. AreHeadsIn e.lists.now e.heads.now };
+    ghost invariant = { λ e. AreIn e.lists.now e.turns.now e.heads.now };
 }
 
 impl<'a> Iterator for Entries<'a> {
@@ -59,6 +61,10 @@ impl<'a> Iterator for Entries<'a> {
 
     #[inline(always)]
     fn next(&mut self) -> Option<EntryRef<'a>> {
+        if let Some((turn, rest)) = self.turns.split_first() {
+            self.turns = rest;
+            return Some(entry_of_turn(self.lists, *turn));
+        }
         let (head, rest) = self.heads.split_first()?;
         self.heads = rest;
         Some(entry_of(self.lists, head))

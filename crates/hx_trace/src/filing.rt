@@ -3,7 +3,7 @@ ghost use Rattle.hx_types.specs.declared.ids.Actor.TheVariants as an_actor;
 ghost use Rattle.hx_trace.specs.Lists.{AreWhole, HasRoom, HasWholeRoom, IsSame, IsTakenIn, entries_in, input_by, whole_by};
 
 use crate::heads::{Head, Span, Taken};
-use crate::lists::Lists;
+use crate::lists::{Lists, count};
 use hx_types::{Actor, Entry, Memory, Note, Post};
 
 /// Whether a list of so many items with so many more has at most 4,294,967,295: their places are numbers of 32 bits.
@@ -31,13 +31,27 @@ pub fn make_room<T: Drop>(list: &mut Vec<T>, more: usize) -> Result<(), Memory>
     Ok(())
 }
 
+/// Makes room for the head of one entry more. Lists of 4,294,967,295 entries have none.
+#[inline]
+fn reserve_head(lists: &mut Lists) -> Result<(), Memory>
+    ensures same { IsSame lists.old lists.new }
+    ensures room { OnOk result (length lists.new.heads.items < vec_capacity lists.new.heads) }
+    ensures few { OnOk result (length lists.new.turns.items + length lists.new.heads.items + 1 < 2 ^ 32) }
+{
+    if !is_few(count(lists), 1) {
+        return Err(Memory);
+    }
+    lists.heads.reserve(1)?;
+    Ok(())
+}
+
 /// Makes room for an entry more with so many posts and notes, and for it as a whole.
 #[inline]
 pub fn reserve(lists: &mut Lists, posts: usize, notes: usize) -> Result<(), Memory>
     ensures same { IsSame lists.old lists.new }
     ensures room { OnOk result (HasRoom lists.new posts notes) }
 {
-    make_room(&mut lists.heads, 1)?;
+    reserve_head(lists)?;
     make_room(&mut lists.posts, posts)?;
     make_room(&mut lists.notes, notes)?;
     make_room(&mut lists.wholes, 1)
@@ -48,7 +62,7 @@ pub fn reserve_whole(lists: &mut Lists) -> Result<(), Memory>
     ensures same { IsSame lists.old lists.new }
     ensures room { OnOk result (HasWholeRoom lists.new) }
 {
-    make_room(&mut lists.heads, 1)?;
+    reserve_head(lists)?;
     make_room(&mut lists.wholes, 1)
 }
 
@@ -82,7 +96,7 @@ pub fn file(lists: &mut Lists, actor: Actor, taken: Taken, outputs: Vec<Post>, n
     requires whole { AreWhole lists.old }
     requires room { HasRoom lists.old (length outputs.items) (length notes.items) }
     requires taken { IsTakenIn (length lists.old.posts.items) (length lists.old.wholes.items) taken }
-    requires filed { whole_by lists.old.wholes.items lists.old.parts.items taken ≡ None }
+    requires filed { whole_by lists.old.wholes.items taken ≡ None }
     ensures whole { AreWhole lists.new }
     ensures entries { entries_in lists.new ≡ entries_in lists.old
         ++ record { actor = actor; input = input_by lists.old.posts.items taken; outputs = outputs.items; notes = notes.items } ∷ [] }
@@ -98,7 +112,7 @@ pub fn file(lists: &mut Lists, actor: Actor, taken: Taken, outputs: Vec<Post>, n
     lists.heads.push_reserved(head);
 }
 
-/// The head of an entry that is kept whole, or lies in a part. It names the entry, and doesn't read it.
+/// The head of an entry that is kept whole.
 #[inline]
 pub fn whole_head(taken: Taken) -> Head
     ensures { result ≡ record { actor = an_actor.Coordinator; taken = taken; posts = record { start = 0; count = 0 }; notes = record { start = 0; count = 0 } } }

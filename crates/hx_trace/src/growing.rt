@@ -1,15 +1,16 @@
-ghost use Rattle.std.specs.Prelude.{◌≡◌, ◌<◌, ◌≤◌, ◌^◌, ◌++◌, [], ◌∷◌, length, reverse, Some, None, IfOk, IfSome, OnErr, OnOk};
+ghost use Rattle.std.specs.Prelude.{◌≡◌, ◌<◌, ◌≤◌, ◌^◌, ◌+◌, ◌++◌, [], ◌∷◌, length, map, reverse, Some, None, IfOk, IfSome, OnErr, OnOk};
+ghost use Rattle.std.specs.List.{AllByRecursion};
 ghost use Rattle.hx_types.specs.Words.{post};
 ghost use Rattle.hx_types.specs.declared.traces.Input.TheVariants as an_input;
 ghost use Rattle.hx_model.specs.Runs.{MayTake, post_named};
 ghost use Rattle.hx_trace.specs.Lists.{AreWhole, IsFiledAs, entries_in};
 ghost use Rattle.hx_trace.specs.Rooms.{IsRoomFor};
-ghost use Rattle.hx_trace.specs.Turns.{in_turns};
+ghost use Rattle.hx_trace.specs.Turns.{IsTurnOf, turned};
 
-use crate::adopting::adopt;
 use crate::filing::{file, keep, reserve, reserve_whole};
 use crate::heads::{Room, Taken};
-use crate::lists::{Lists, empty, head_at};
+use crate::lists::{Lists, adopted, count, empty, head_at};
+use crate::turns::Turn;
 use hx_clock::Parts;
 use hx_types::{Actor, Entry, Input, Memory, Message, PostId};
 use std::alloc::Global;
@@ -38,7 +39,7 @@ impl Model for GrowingTrace {
 /// where the post is one of an entry that is kept whole, which has no such place.
 fn taken_of(lists: &Lists, actor: Actor, input: &Input) -> Option<Taken>
     requires whole { AreWhole lists.now }
-    requires few_heads { length lists.now.heads.items < 2 ^ 32 }
+    requires few_entries { length lists.now.turns.items + length lists.now.heads.items < 2 ^ 32 }
     requires few_posts { length lists.now.posts.items < 2 ^ 32 }
     requires may { MayTake (reverse (entries_in lists.now)) actor input.now }
     ensures { IfSome result (IsFiledAs lists.now input.now) }
@@ -53,16 +54,17 @@ fn taken_of(lists: &Lists, actor: Actor, input: &Input) -> Option<Taken>
 /// A post of the trace, with the place where it lies, or `None` where its entry is kept whole.
 fn sent_at(lists: &Lists, to: Actor, id: PostId, from: Actor, message: &Message) -> Option<Taken>
     requires whole { AreWhole lists.now }
-    requires few_heads { length lists.now.heads.items < 2 ^ 32 }
+    requires few_entries { length lists.now.turns.items + length lists.now.heads.items < 2 ^ 32 }
     requires few_posts { length lists.now.posts.items < 2 ^ 32 }
     requires sent { post_named id (reverse (entries_in lists.now)) ≡ Some (post from to message.now) }
     ensures { IfSome result (IsFiledAs lists.now (an_input.Deliver id from message.now)) }
 {
-    let Some(head) = head_at(lists, id.entry as usize - 1) else {
+    let place = (id.entry as usize - 1).checked_sub(lists.turns.len())?;
+    let Some(head) = head_at(lists, place) else {
         unreachable!()
     };
     match head.taken {
-        Taken::Whole { .. } | Taken::Adopted { .. } => None,
+        Taken::Whole { .. } => None,
         _ => Some(Taken::Sent {
             entry: id.entry as u32,
             place: id.place,
@@ -83,16 +85,15 @@ impl GrowingTrace {
         }
     }
 
-    /// The entries of parts in turns: for each owner the next entry of that part. It takes memory for the heads.
-    pub(crate) fn of_parts(
-        alloc: Global,
-        parts: Parts,
-        owners: &[u32],
-    ) -> Result<GrowingTrace, Memory>
-        ensures { IfOk result (λ made. made.entries ≡ in_turns parts owners.now) }
+    /// The entries of parts, one at each turn. It takes no memory.
+    pub(crate) fn of_parts(alloc: Global, parts: Parts, turns: Vec<Turn>) -> GrowingTrace
+        requires { AllByRecursion (IsTurnOf parts) turns.items }
+        ensures { result.entries ≡ map (turned parts) turns.items }
     {
-        let lists = adopt(alloc, parts, owners)?;
-        Ok(GrowingTrace { lists, room: None })
+        GrowingTrace {
+            lists: adopted(alloc, parts, turns),
+            room: None,
+        }
     }
 
     /// How many entries there are.
@@ -100,7 +101,7 @@ impl GrowingTrace {
     pub fn len(&self) -> usize
         ensures { result ≡ length self.now.entries }
     {
-        self.lists.heads.len()
+        count(&self.lists)
     }
 
     /// Takes memory for the heads of so many entries more.

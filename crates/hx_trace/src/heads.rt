@@ -16,11 +16,9 @@ pub enum Taken {
     Sent { entry: u32, place: u32, at: u32 },
     /// An entry that is kept whole; `at` is its place among these. All that the head says besides counts for nothing.
     Whole { at: u32 },
-    /// An entry of a part that was adopted; `at` is its place in that part. All that the head says besides counts for nothing.
-    Adopted { part: u32, at: u32 },
 }
 
-/// An entry without its posts and notes.
+/// An entry that was put at the end, without its posts and notes.
 #[derive(Clone, Copy)]
 pub struct Head {
     pub actor: Actor,

@@ -3,23 +3,24 @@
 //! Contracts see a [`Trace`] as the list of its entries. In memory it is a short head for each entry and
 //! the posts and the notes of all entries, one after another. An entry that delivers a post of the trace names
 //! that post, and doesn't hold its message once more. An entry that is pushed is kept whole, as it is. The parts
-//! that a trace is made of are adopted: their entries stay where they lie, and a head says where. That form is
-//! this project's choice: memory that is touched for the first time is the dearest part of a run.
+//! that a trace is made of are adopted: their entries stay where they lie, and a turn of eight bytes says where.
+//! That form is this project's choice: memory that is touched for the first time is the dearest part of a run.
 //!
 //! No contract says that there is memory, so a function that always answered
 //! [`Memory`](hx_types::Memory) would be proved. The tests in `hx_tests` make traces and read them.
 #![tactic(auto)]
 
-mod adopting;
 mod entries;
 mod filing;
 mod growing;
 mod heads;
 mod lists;
 mod traces;
+mod turns;
 
 pub use entries::{Entries, EntryRef, InputRef};
 pub use growing::GrowingTrace;
 pub use heads::Room;
 pub use hx_clock::{Part, Parts, Stamped};
 pub use traces::Trace;
+pub use turns::Turn;

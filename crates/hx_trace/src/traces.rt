@@ -1,14 +1,16 @@
-ghost use Rattle.std.specs.Prelude.{◌≡◌, ◌≤◌, ◌++◌, [], ◌∷◌, List, length, reverse, slice_get, IfOk, IsTrue, ◌↔◌, OnErr, OnOk};
+ghost use Rattle.std.specs.Prelude.{◌≡◌, ◌≤◌, ◌++◌, [], ◌∷◌, List, length, map, reverse, slice_get, IfOk, IsTrue, ◌↔◌, OnErr, OnOk};
+ghost use Rattle.std.specs.List.{AllByRecursion};
 ghost use Rattle.std.specs.Option.{option_copied, option_map};
 ghost use Rattle.hx_model.specs.Runs.{post_named};
 ghost use Rattle.std.specs.Borrow.{sem};
-ghost use Rattle.hx_trace.specs.Entries.{entry_seen};
+ghost use Rattle.hx_trace.specs.Entries.{entry_seen, if_noted};
 ghost use Rattle.hx_trace.specs.Lending.{LendsGrowing};
-ghost use Rattle.hx_trace.specs.Turns.{in_turns};
+ghost use Rattle.hx_trace.specs.Turns.{IsTurnOf, turned};
 
 use crate::entries::{Entries, EntryRef};
 use crate::growing::GrowingTrace;
-use crate::lists::{entry_of, head_at, post_at};
+use crate::lists::{entry_at, has_notes_at, post_at};
+use crate::turns::Turn;
 use hx_clock::Parts;
 use hx_types::{Entry, Memory, Post, PostId};
 use std::alloc::Global;
@@ -48,17 +50,15 @@ impl Trace {
         Ok(Trace { growing })
     }
 
-    /// The entries of parts in turns: for each owner the next entry of the part at that place, from 0. An owner
-    /// whose part has no entry left, or isn't there, has no turn. The entries stay where they lie in the parts, and
-    /// their stamps count for nothing.
-    ///
-    /// It takes memory for the heads alone, and while it runs for a number for each part. Where there isn't as much,
-    /// or there are 4,294,967,296 owners, the parts are dropped.
-    pub fn of_parts(alloc: Global, parts: Parts, owners: &[u32]) -> Result<Trace, Memory>
-        ensures { IfOk result (λ made. made ≡ in_turns parts owners.now) }
+    /// The entries of parts, one at each turn. They stay where they lie in the parts, and their stamps count for
+    /// nothing. Each turn names an entry of its part, and tells whether it has notes. It takes no memory.
+    pub fn of_parts(alloc: Global, parts: Parts, turns: Vec<Turn>) -> Trace
+        requires { AllByRecursion (IsTurnOf parts) turns.items }
+        ensures { result ≡ map (turned parts) turns.items }
     {
-        let growing = GrowingTrace::of_parts(alloc, parts, owners)?;
-        Ok(Trace { growing })
+        Trace {
+            growing: GrowingTrace::of_parts(alloc, parts, turns),
+        }
     }
 
     /// How many entries there are.
@@ -72,7 +72,7 @@ impl Trace {
     pub fn is_empty(&self) -> bool
         ensures { IsTrue result ↔ (self.now ≡ []) }
     {
-        self.growing.lists().heads.is_empty()
+        self.growing.len() == 0
     }
 
     /// The entry at a place from 0, or `None` past the end.
@@ -80,9 +80,21 @@ impl Trace {
     pub fn get(&self, place: usize) -> Option<EntryRef<'_>>
         ensures { option_map entry_seen result ≡ slice_get self.now place }
     {
+        entry_at(self.growing.lists(), place)
+    }
+
+    /// The entry at a place from 0 if it has notes, and `None` where it has none and past the end. Of an entry
+    /// that was adopted and has none nothing is read, so that a walk over the notes of a trace is short.
+    #[inline(always)]
+    pub fn noted(&self, place: usize) -> Option<EntryRef<'_>>
+        ensures { option_map entry_seen result ≡ if_noted (slice_get self.now place) }
+    {
         let lists = self.growing.lists();
-        let head = head_at(lists, place)?;
-        Some(entry_of(lists, head))
+        if has_notes_at(lists, place) {
+            entry_at(lists, place)
+        } else {
+            None
+        }
     }
 
     /// The post of a name, if it was sent.
@@ -90,9 +102,8 @@ impl Trace {
         ensures { option_copied result ≡ post_named id (reverse self.now) }
     {
         let place = id.entry.checked_sub(1)?;
-        let lists = self.growing.lists();
-        let head = head_at(lists, place as usize)?;
-        post_at(lists, head, id.place)
+        let entry = entry_at(self.growing.lists(), place as usize)?;
+        post_at(entry.outputs, id.place)
     }
 
     /// The entries in order.
@@ -102,6 +113,7 @@ impl Trace {
     {
         let lists = self.growing.lists();
         Entries {
+            turns: lists.turns.as_slice(),
             heads: lists.heads.as_slice(),
             lists,
         }

@@ -1,11 +1,13 @@
 use Rattle.std.proofs.Common.{subst}
-use Rattle.hx_gather.specs.Owners.{AreOwners}
-use Rattle.hx_gather.proofs.Arranged.{arranged}
+use Rattle.hx_gather.specs.Turns.{AreTurns}
+use Rattle.hx_gather.proofs.Arranged.{are_turns, arranged}
 use Rattle.hx_gather.proofs.arranging.arrange.Goals as goal
 
+pub of_parts-requires : goal.of_parts-requires
+of_parts-requires c =
+    are_turns c.args.parts c.in_ok-turns.turns.items (subst (AreTurns c.in_ok-turns.turns.items) c.as_slice.ensures c.in_ok-turns.ensures.turns)
+
 pub returns : goal.returns
-returns c =
-    let owners = c.in_ok-owners.owners.items in
-    record {
-      merged = arranged c.args.parts owners c.as_slice-2.result.now c.of_parts.result c.requires.whole (subst (AreOwners owners) c.as_slice.ensures c.in_ok-owners.ensures.owners) c.as_slice-2.ensures.value c.of_parts.ensures;
-    }
+returns c = record {
+  merged = arranged c.args.parts c.in_ok-turns.turns.items c.of_parts.result (subst (AreTurns c.in_ok-turns.turns.items) c.as_slice.ensures c.in_ok-turns.ensures.turns) c.of_parts.ensures;
+}

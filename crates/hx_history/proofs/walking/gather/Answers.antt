@@ -1,15 +1,17 @@
-use Rattle.std.proofs.Common.{◌≡◌, ◌+◌, ◌++◌, ◌<◌, Global, List, Vec, Some, map, length, get_or, sym, ap, ◌∙◌, arith}
+use Rattle.std.proofs.Common.{◌≡◌, ◌+◌, ◌++◌, ◌<◌, Global, List, Vec, Some, map, length, get_or, take, sym, ap, ◌∙◌, arith, append-nil}
 use Rattle.std.proofs.lemmas.Option.{get_or_from_slice_get}
 use Rattle.std.specs.Option.{option_map}
 use Rattle.std.specs.Prelude.{slice_get}
 use Rattle.hx_types.specs.declared.traces.Entry.{Entry}
+use Rattle.hx_types.specs.declared.traces.Note.{Note}
 use Rattle.hx_types.specs.Fitting.{call_of}
 use Rattle.hx_trace.specs.Entries.{entry_seen}
 use Rattle.hx_history.specs.declared.call_notes.CallNotes.{CallNotes}
 use Rattle.hx_history.specs.declared.events.Event.{Event}
 use Rattle.hx_history.specs.Calls.{after_entry, shape, span_in}
-use Rattle.hx_history.specs.Events.{KeyEvent, event_view, events_in}
-use Rattle.hx_history.proofs.Rows.{not_past, spans_at_start, shape_at_start, spans_more}
+use Rattle.hx_history.specs.Events.{KeyEvent, event_view, events_in, events_of}
+use Rattle.hx_history.proofs.Rows.{spans_at_start, shape_at_start, spans_more}
+use Rattle.hx_history.proofs.Unnoted.{noted_here, unsaid, without_notes}
 use Rattle.hx_history.proofs.ByEvents.{events_more}
 use Rattle.hx_history.proofs.walking.gather.Goals as goal
 use Rattle.hx_history.proofs.walking.gather.Goals.{in-Some+in_ok-push_events, in_default}
@@ -25,10 +27,10 @@ loop-place-init c =
 pub loop-place-preserved : goal.loop-place-preserved
 loop-place-preserved c =
     let within : c.loop-place.place < length c.args.trace.now = omega (arith, c.loop-place-test.true, c.len-place-end.ensures) in
-    elim c.match-get.branch [
+    elim c.match-noted.branch [
       | in-Some+in_ok-push_events w ↦
           let x : Entry = entry_seen w.in-Some.entry in
-          let found : Some x ≡ slice_get c.args.trace.now c.loop-place.place = ap (option_map entry_seen) (sym w.in-Some.is) ∙ c.get.ensures in
+          let found : Some x ≡ slice_get c.args.trace.now c.loop-place.place = noted_here (slice_get c.args.trace.now c.loop-place.place) x (ap (option_map entry_seen) (sym w.in-Some.is) ∙ c.noted.ensures) in
           let read : x ≡ get_or c.args.trace.now c.loop-place.place x = sym (get_or_from_slice_get c.args.trace.now c.loop-place.place x x (sym found)) in
           record {
             spans = λ caller. ap (λ (t : Vec (Vec CallNotes Global) Global). span_in (map (λ row. row.items) t.items) caller) w.table-is
@@ -42,5 +44,20 @@ loop-place-preserved c =
                 ∙ ap (λ (es : List KeyEvent). es ++ events_in c.args.script.now x.actor x.notes) c.loop-place.invariant.events
                 ∙ events_more c.args.script.now c.args.trace.now c.loop-place.place x within read;
           }
-      | in_default w ↦ absurd (not_past c.args.trace.now c.loop-place.place within (ap (option_map entry_seen) (sym w.in_default.is) ∙ c.get.ensures))
+      | in_default w ↦
+          let here = without_notes c.args.trace.now c.loop-place.place within (ap (option_map entry_seen) (sym w.in_default.is) ∙ c.noted.ensures) in
+          let x : Entry = here.0 in
+          let read : x ≡ get_or c.args.trace.now c.loop-place.place x = sym (get_or_from_slice_get c.args.trace.now c.loop-place.place x x here.1) in
+          record {
+            spans = λ caller. ap (λ (t : Vec (Vec CallNotes Global) Global). span_in (map (λ row. row.items) t.items) caller) w.table-is
+                ∙ c.loop-place.invariant.spans caller
+                ∙ unsaid caller (c.loop-place.place + 1) x here.2 _
+                ∙ spans_more c.args.trace.now c.loop-place.place x within read caller (call_of c.args.script.now caller);
+            as_script = ap (λ (t : Vec (Vec CallNotes Global) Global). shape (map (λ row. row.items) t.items)) w.table-is ∙ c.loop-place.invariant.as_script;
+            events = ap (λ (es : Vec Event Global). map event_view es.items) w.events-is
+                ∙ c.loop-place.invariant.events
+                ∙ sym (append-nil (events_of c.args.script.now (take c.loop-place.place c.args.trace.now)))
+                ∙ ap (λ (ns : List Note). events_of c.args.script.now (take c.loop-place.place c.args.trace.now) ++ events_in c.args.script.now x.actor ns) (sym here.2)
+                ∙ events_more c.args.script.now c.args.trace.now c.loop-place.place x within read;
+          }
     ]
