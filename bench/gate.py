@@ -4,7 +4,7 @@
 Every second the processor time of each check below the command is read off /proc, so that what a check
 takes in its last second is missing; the last line has all that the command took, as the system counted it.
 For each crate it prints the seconds of its proof, of the proof of its tests, and of its must-fail edits with
-the proof that they begin with. A crate that an earlier run on the machine passed costs nothing: remove what the
+the proof that they begin with, and then the dearest edits. A crate that an earlier run on the machine passed costs nothing: remove what the
 toolchain kept, or give `rt ci --anew`, to measure from nothing. Run it with nothing else running.
 """
 
@@ -48,13 +48,32 @@ def is_below(found, pid, top):
 
 
 def kind_of(words):
-    """Returns the crate of a check and what it checks, or nothing of another process."""
+    """Returns the crate of a check, what it checks, and the number of its edit, if it tries one; or nothing of another process."""
     crate = re.search(r"--crate-name (\w+)", words)
     if not crate:
         return None
     if "--test" in words:
-        return crate[1], "tests"
-    return crate[1], "proof" if " build " in words else "edits"
+        return crate[1], "tests", None
+    number = re.search(r"--incremental \S*rt-edits-\S*/(\d+)(?: |$)", words)
+    return crate[1], "proof" if " build " in words else "edits", int(number[1]) if number else None
+
+
+def edit_named(crate, number):
+    """Returns the name of a crate's edit: they are tried in the order of their names."""
+    names = sorted(name for name in os.listdir(f"crates/{crate}/must-fail") if name.endswith(".edit"))
+    return names[number].removesuffix(".edit") if number < len(names) else str(number)
+
+
+def print_edits(known, spent, most=30):
+    """Prints the edits that took the longest."""
+    tried = collections.Counter()
+    for check, seconds in spent.items():
+        crate, _, number = known[check]
+        if number is not None:
+            tried[crate, number] += seconds
+    print(f"the dearest of {len(tried)} edits")
+    for (crate, number), seconds in tried.most_common(most):
+        print(f"{crate:<20}{seconds:>8.0f}  {edit_named(crate, number)}")
 
 
 def sample(top, known, spent):
@@ -77,13 +96,14 @@ def main(words):
             time.sleep(1)
     table = collections.defaultdict(collections.Counter)
     for check, seconds in spent.items():
-        crate, kind = known[check]
+        crate, kind, _ = known[check]
         table[crate][kind] += seconds
     print(f"{'crate':<20}{'proof':>8}{'tests':>8}{'edits':>8}")
     for crate, of in sorted(table.items(), key=lambda it: -sum(it[1].values())):
         print(f"{crate:<20}{of['proof']:>8.0f}{of['tests']:>8.0f}{of['edits']:>8.0f}")
     sums = [sum(of[kind] for of in table.values()) / 60 for kind in ("proof", "tests", "edits")]
     print(f"{'minutes':<20}" + "".join(f"{it:>8.1f}" for it in sums))
+    print_edits(known, spent)
     took = resource.getrusage(resource.RUSAGE_CHILDREN)
     print(f"in all {(took.ru_utime + took.ru_stime) / 60:.1f} processor minutes")
     return command.returncode
