@@ -84,8 +84,10 @@ fn put_notes(alloc: Global, out: &mut Vec<u8>, notes: &[Note]) -> Result<(), Mem
 fn put_issued(alloc: Global, out: &mut Vec<u8>, trace: &Trace) -> Result<(), Memory>
     ensures { OnOk result (out.new.items ≡ out.old.items ++ flat_map entry_lines trace.now) }
 {
-    for entry in trace.iter() {
-        put_notes(alloc, out, entry.notes)?;
+    for place in 0..trace.len() {
+        if let Some(entry) = trace.noted(place) {
+            put_notes(alloc, out, entry.notes)?;
+        }
     }
     Ok(())
 }

@@ -2,3 +2,4 @@ pub mod Spans
 pub mod Longer
 pub mod Naming
 pub mod Numbering
+pub mod Noted

@@ -44,6 +44,12 @@ get_after (x ∷ xs) ys (suc i) h =
 pub post_at : (t : List Entry) (id : PostId) → 0 < id.entry → post_named id (reverse t) ≡ when_some (slice_get t (id.entry - 1)) None (λ (x : Entry). slice_get x.outputs id.place)
 post_at t id some = ap (λ (o : Option Entry). when_some o None (λ (x : Entry). slice_get x.outputs id.place)) (entry_is t id.entry some)
 
+-- the same, where the posts of the entry are told
+pub post_in : (o : Option Entry) (posts : Option (List Post)) (place : ℕ) → posts ≡ option_map (λ (x : Entry). x.outputs) o
+    → when_some posts None (λ (ps : List Post). slice_get ps place) ≡ when_some o None (λ (x : Entry). slice_get x.outputs place)
+post_in None posts place h = ap (λ ps. when_some ps None (λ (l : List Post). slice_get l place)) h
+post_in (Some e) posts place h = ap (λ ps. when_some ps None (λ (l : List Post). slice_get l place)) h
+
 -- no entry has the number 0
 pub unnumbered : (t : List Entry) (id : PostId) → (1 ≤ id.entry → ⊥) → post_named id (reverse t) ≡ None
 unnumbered t id none =

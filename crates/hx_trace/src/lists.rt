@@ -189,6 +189,36 @@ pub fn entry_at(lists: &Lists, place: usize) -> Option<EntryRef<'_>>
     }
 }
 
+/// The posts of a head.
+#[inline(always)]
+fn posts_of<'a>(lists: &'a Lists, head: &Head) -> &'a [Post]
+    requires { IsHeadIn (length lists.now.posts.items) (length lists.now.notes.items) (length lists.now.wholes.items) head.now }
+    ensures { result.now ≡ (entry_by lists.now.posts.items lists.now.notes.items lists.now.wholes.items head.now).outputs }
+{
+    match whole_of(lists, head.taken) {
+        Some(whole) => whole.outputs.as_slice(),
+        None => items_of(lists.posts.as_slice(), head.posts),
+    }
+}
+
+/// The posts of the entry at a place from 0, or `None` past the end. Nothing else of the entry is read.
+#[inline(always)]
+pub fn posts_at(lists: &Lists, place: usize) -> Option<&[Post]>
+    requires { AreWhole lists.now }
+    ensures { option_copied result ≡ option_map (λ e. e.outputs) (slice_get (entries_in lists.now) place) }
+{
+    match place.checked_sub(lists.turns.len()) {
+        None => {
+            let entry = turned_entry(lists.parts.as_slice(), lists.turns[place]);
+            Some(entry.outputs.as_slice())
+        }
+        Some(place) => {
+            let head = head_at(lists, place)?;
+            Some(posts_of(lists, head))
+        }
+    }
+}
+
 /// The post at a place of those of an entry, or `None` past the last.
 #[inline(always)]
 pub fn post_at(posts: &[Post], place: u32) -> Option<&Post>

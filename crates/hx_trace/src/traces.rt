@@ -9,7 +9,7 @@ ghost use Rattle.hx_trace.specs.Turns.{IsTurnOf, turned};
 
 use crate::entries::{Entries, EntryRef};
 use crate::growing::GrowingTrace;
-use crate::lists::{entry_at, has_notes_at, post_at};
+use crate::lists::{entry_at, has_notes_at, post_at, posts_at};
 use crate::turns::Turn;
 use hx_clock::Parts;
 use hx_types::{Entry, Memory, Post, PostId};
@@ -102,8 +102,8 @@ impl Trace {
         ensures { option_copied result ≡ post_named id (reverse self.now) }
     {
         let place = id.entry.checked_sub(1)?;
-        let entry = entry_at(self.growing.lists(), place as usize)?;
-        post_at(entry.outputs, id.place)
+        let posts = posts_at(self.growing.lists(), place as usize)?;
+        post_at(posts, id.place)
     }
 
     /// The entries in order.

@@ -1,7 +1,5 @@
-use Rattle.std.proofs.Common.{◌≡◌, ◌+◌, ◌++◌, ◌<◌, Global, List, Vec, Some, map, length, get_or, take, sym, ap, ◌∙◌, arith, append-nil}
-use Rattle.std.proofs.lemmas.Option.{get_or_from_slice_get}
+use Rattle.std.proofs.Common.{◌≡◌, ◌+◌, ◌++◌, ◌<◌, Global, List, Vec, map, length, get_or, take, sym, ap, ◌∙◌, arith, append-nil}
 use Rattle.std.specs.Option.{option_map}
-use Rattle.std.specs.Prelude.{slice_get}
 use Rattle.hx_types.specs.declared.traces.Entry.{Entry}
 use Rattle.hx_types.specs.declared.traces.Note.{Note}
 use Rattle.hx_types.specs.Fitting.{call_of}
@@ -11,7 +9,8 @@ use Rattle.hx_history.specs.declared.events.Event.{Event}
 use Rattle.hx_history.specs.Calls.{after_entry, shape, span_in}
 use Rattle.hx_history.specs.Events.{KeyEvent, event_view, events_in, events_of}
 use Rattle.hx_history.proofs.Rows.{spans_at_start, shape_at_start, spans_more}
-use Rattle.hx_history.proofs.Unnoted.{noted_here, unsaid, without_notes}
+use Rattle.hx_history.proofs.Unnoted.{unsaid}
+use Rattle.hx_trace.proofs.Noted.{noted_at, unnoted_at}
 use Rattle.hx_history.proofs.ByEvents.{events_more}
 use Rattle.hx_history.proofs.walking.gather.Goals as goal
 use Rattle.hx_history.proofs.walking.gather.Goals.{in-Some+in_ok-push_events, in_default}
@@ -30,8 +29,7 @@ loop-place-preserved c =
     elim c.match-noted.branch [
       | in-Some+in_ok-push_events w ↦
           let x : Entry = entry_seen w.in-Some.entry in
-          let found : Some x ≡ slice_get c.args.trace.now c.loop-place.place = noted_here (slice_get c.args.trace.now c.loop-place.place) x (ap (option_map entry_seen) (sym w.in-Some.is) ∙ c.noted.ensures) in
-          let read : x ≡ get_or c.args.trace.now c.loop-place.place x = sym (get_or_from_slice_get c.args.trace.now c.loop-place.place x x (sym found)) in
+          let read : x ≡ get_or c.args.trace.now c.loop-place.place x = noted_at c.args.trace.now c.loop-place.place x (ap (option_map entry_seen) (sym w.in-Some.is) ∙ c.noted.ensures) in
           record {
             spans = λ caller. ap (λ (t : Vec (Vec CallNotes Global) Global). span_in (map (λ row. row.items) t.items) caller) w.table-is
                 ∙ w.take_entry.ensures.spans caller
@@ -45,9 +43,9 @@ loop-place-preserved c =
                 ∙ events_more c.args.script.now c.args.trace.now c.loop-place.place x within read;
           }
       | in_default w ↦
-          let here = without_notes c.args.trace.now c.loop-place.place within (ap (option_map entry_seen) (sym w.in_default.is) ∙ c.noted.ensures) in
+          let here = unnoted_at c.args.trace.now c.loop-place.place within (ap (option_map entry_seen) (sym w.in_default.is) ∙ c.noted.ensures) in
           let x : Entry = here.0 in
-          let read : x ≡ get_or c.args.trace.now c.loop-place.place x = sym (get_or_from_slice_get c.args.trace.now c.loop-place.place x x here.1) in
+          let read : x ≡ get_or c.args.trace.now c.loop-place.place x = here.1 in
           record {
             spans = λ caller. ap (λ (t : Vec (Vec CallNotes Global) Global). span_in (map (λ row. row.items) t.items) caller) w.table-is
                 ∙ c.loop-place.invariant.spans caller

@@ -1,7 +1,7 @@
-use Rattle.std.proofs.Common.{◌≡◌, ◌++◌}
+use Rattle.std.proofs.Common.{◌≡◌, ◌++◌, take}
 use Rattle.std.specs.List.{flat_map}
 use Rattle.hx_report.specs.Reporting.{entry_lines}
 use Rattle.hx_report.proofs.epochs.put_issued.Given as goal
 
-abbrev pub invariant-loop-entry : goal.invariant-loop-entry
-invariant-loop-entry l = l.out.items ++ flat_map entry_lines l.entry-iterator ≡ l.fn.out.items ++ flat_map entry_lines l.trace
+abbrev pub invariant-loop-place : goal.invariant-loop-place
+invariant-loop-place l = l.out.items ≡ l.fn.out.items ++ flat_map entry_lines (take l.place l.trace)
