@@ -25,7 +25,7 @@ use Rattle.hx_clock.specs.declared.parts.Stamped.{Stamped}
 use Rattle.std.specs.List.{AllByRecursion}
 use Rattle.hx_clock.specs.Parts.{all_of, stamps_of, IsCausal}
 use Rattle.hx_law_threads.specs.Merged.{IsMerged}
-use Rattle.hx_gather.proofs.Owning.{length-stamps}
+use Rattle.hx_gather.proofs.Taking.{length-stamps}
 
 -- a vector's iterator gives its items
 vec_gives : {X Z : Type 0} (xs : List X) (s : IntoIter X Z) → into_iter_items s ≡ xs → AlwaysYields into_iter_steps (λ x. x) s xs
