@@ -20,6 +20,9 @@ use std::alloc::Global;
 use std::sync::Wait;
 use std::thread::Threads;
 
+/// How many envelopes a mailbox holds.
+const CAPACITY: usize = 1024;
+
 /// Runs the script on threads, and writes the report.
 pub fn answer_run<R: Threads + Wait + Sync, K: Sink, G: Gate + Sync>(
     rt: &R,
@@ -40,6 +43,7 @@ pub fn answer_run<R: Threads + Wait + Sync, K: Sink, G: Gate + Sync>(
 {
     let threading = Threading {
         workers: command.workers,
+        capacity: CAPACITY,
         lose: command.lose,
         repeat: command.repeat,
     };

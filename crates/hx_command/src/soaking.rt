@@ -22,6 +22,10 @@ use std::alloc::Global;
 use std::sync::Wait;
 use std::thread::Threads;
 
+/// How many envelopes a mailbox holds: far more than are ever under way to one of the nine actors of a
+/// drawn script, and few enough to stay in a cache. The number is this project's choice.
+const CAPACITY: usize = 64;
+
 /// Runs the script on threads, and writes the summary.
 pub fn answer_soak<R: Threads + Wait + Sync, K: Sink, G: Gate + Sync>(
     rt: &R,
@@ -44,6 +48,7 @@ pub fn answer_soak<R: Threads + Wait + Sync, K: Sink, G: Gate + Sync>(
 {
     let threading = Threading {
         workers: command.workers,
+        capacity: CAPACITY,
         lose: 0,
         repeat: 0,
     };

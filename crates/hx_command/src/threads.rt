@@ -12,14 +12,13 @@ use std::alloc::Global;
 use std::sync::Wait;
 use std::thread::Threads;
 
-/// How many envelopes a mailbox holds.
-const CAPACITY: usize = 1024;
-
 /// On how many threads a script is run, and how often its posts are lost and repeated: one in so many,
 /// 0 for never.
 #[derive(Clone, Copy)]
 pub struct Threading {
     pub workers: u32,
+    /// How many envelopes a mailbox holds.
+    pub capacity: usize,
     pub lose: u32,
     pub repeat: u32,
 }
@@ -64,6 +63,7 @@ pub fn run_threads<R: Threads + Wait + Sync, G: Gate + Sync>(
 ) -> Result<Ran, Memory>
     requires script { IsScript script.now }
     requires workers { (1 ≤ threading.workers) × (threading.workers ≤ 16) × (threading.workers ≤ length fates.items) }
+    requires capacity { 1 ≤ threading.capacity }
     ensures ran { IfOk result (λ ran. IsThreaded script.now threading.workers (record { trace = ran.trace; totals = ran.totals.items; ports = ran.ports.items; fates = length ran.fates.items }) ran.worn) }
     ensures risen { IfOk result (λ ran. (i : ℕ) (f : _) (g : _) (t : TotalsSeen) → slice_get fates.items i ≡ Some f → slice_get ran.fates.items i ≡ Some g → slice_get ran.totals.items i ≡ Some t → HasRisen script.now threading.workers ran.trace i t (record { chosen = choices f; lost = losses f; doubled = repeats f }) (record { chosen = choices g; lost = losses g; doubled = repeats g })) }
 {
@@ -77,6 +77,11 @@ pub fn run_threads<R: Threads + Wait + Sync, G: Gate + Sync>(
         threading.lose,
         threading.repeat,
     );
-    let ran = run(rt, alloc, script, threading.workers, CAPACITY, fates, gate)?;
+    let Threading {
+        workers,
+        capacity,
+        ..
+    } = threading;
+    let ran = run(rt, alloc, script, workers, capacity, fates, gate)?;
     Ok(ran)
 }
