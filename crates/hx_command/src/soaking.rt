@@ -22,8 +22,8 @@ use std::alloc::Global;
 use std::sync::Wait;
 use std::thread::Threads;
 
-/// How many envelopes a mailbox holds: far more than are ever under way to one of the nine actors of a
-/// drawn script, and few enough to stay in a cache. The number is this project's choice.
+/// How many envelopes a mailbox holds: few enough to stay in a cache. Where one is full, its sender
+/// keeps what it has for it. The number is this project's choice.
 const CAPACITY: usize = 64;
 
 /// Runs the script on threads, and writes the summary.
