@@ -17,10 +17,19 @@ use std::marker::Model;
 
 /// The coordinator, which issues the numbered configurations of a space, as HyperDex's does.
 /// Contracts see it as its state in the definitions.
-#[derive(Drop)]
 pub struct Coordinator {
     config: Shared<Config>,
     agenda: Agenda,
+}
+
+/// The parts are let go here alone: who drops a coordinator has nothing to prove of them.
+impl Drop for Coordinator {
+    fn drop(self) {
+        let Coordinator {
+            config: _,
+            agenda: _,
+        } = self;
+    }
 }
 
 impl Model for Coordinator {

@@ -17,13 +17,25 @@ use std::sync::Wait;
 
 /// A box for the posts to one actor. Contracts see it as a name, which no other box has, its
 /// capacity and its [`BoxNames`](crate::BoxNames).
-#[derive(Drop)]
 pub struct Mailbox<'a> {
     queue: RuledArrayQueue<Letter, PortView, OneOrder>,
     clock: &'a Clock,
     owner: Actor,
     space: &'a Space,
     sessions: u32,
+}
+
+/// The parts are let go here alone: who drops a mailbox has nothing to prove of them.
+impl Drop for Mailbox<'_> {
+    fn drop(self) {
+        let Mailbox {
+            queue: _,
+            clock: _,
+            owner: _,
+            space: _,
+            sessions: _,
+        } = self;
+    }
 }
 
 impl<'a> Model for Mailbox<'a> {

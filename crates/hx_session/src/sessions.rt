@@ -29,7 +29,6 @@ use std::marker::Model;
 /// A session: a client that makes its calls one after the other. It finds the servers that it
 /// calls by itself, as HyperDex's clients do. Contracts see its space, and its state as the
 /// definitions fold it.
-#[derive(Drop)]
 pub struct Session {
     id: SessionId,
     space: Space,
@@ -38,6 +37,21 @@ pub struct Session {
     config: Shared<Config>,
     progress: Progress,
     parts: Parts,
+}
+
+/// The parts are let go here alone: who drops a session has nothing to prove of them.
+impl Drop for Session {
+    fn drop(self) {
+        let Session {
+            id: _,
+            space: _,
+            map: _,
+            calls: _,
+            config: _,
+            progress: _,
+            parts: _,
+        } = self;
+    }
 }
 
 impl Model for Session {

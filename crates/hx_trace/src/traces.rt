@@ -17,9 +17,15 @@ use std::alloc::Global;
 use std::marker::Model;
 
 /// The steps of all actors in order; entry n is the n-th from 1. Contracts see it as the list of its entries.
-#[derive(Drop)]
 pub struct Trace {
     growing: GrowingTrace,
+}
+
+/// The parts are let go here alone: who drops a trace has nothing to prove of them.
+impl Drop for Trace {
+    fn drop(self) {
+        let Trace { growing: _ } = self;
+    }
 }
 
 impl Model for Trace {
