@@ -6,12 +6,17 @@ takes in its last second is missing; the last line has all that the command took
 For each crate it prints the seconds of its proof, of the proof of its tests, and of its must-fail edits with
 the proof that they begin with, and then the dearest edits. A crate that an earlier run on the machine passed costs nothing: remove what the
 toolchain kept, or give `rt ci --anew`, to measure from nothing. Run it with nothing else running.
+
+Processor seconds are longer on a machine that others slow down. So every ten seconds it also takes the time of a fixed loop, and prints
+how these swung: the same gate costs the more the longer the loop took.
 """
 
 import collections
+import itertools
 import os
 import re
 import resource
+import statistics
 import subprocess
 import sys
 import time
@@ -54,8 +59,16 @@ def kind_of(words):
         return None
     if "--test" in words:
         return crate[1], "tests", None
-    number = re.search(r"--incremental \S*rt-edits-\S*/(\d+)(?: |$)", words)
-    return crate[1], "proof" if " build " in words else "edits", int(number[1]) if number else None
+    edit = re.search(r"--incremental \S*rt-edits-\S*/(\w+)(?: |$)", words)
+    number = int(edit[1]) if edit and edit[1].isdigit() else None
+    return crate[1], "edits" if edit else "proof", number
+
+
+def check_above(found, pid):
+    """Returns the process of the check that a process of the prover is part of: some start others."""
+    while found[pid][0] in found and found[found[pid][0]][1].startswith("rattle"):
+        pid = found[pid][0]
+    return pid
 
 
 def edit_named(crate, number):
@@ -83,16 +96,29 @@ def sample(top, known, spent):
         if name.startswith("rattle") and is_below(found, pid, top):
             check = pid, start
             if check not in known:
-                known[check] = kind_of(read(f"/proc/{pid}/cmdline").replace("\0", " "))
+                words = read(f"/proc/{check_above(found, pid)}/cmdline")
+                known[check] = kind_of(words.replace("\0", " "))
             if known[check]:
                 spent[check] = seconds
 
 
+def loop():
+    """Returns the processor milliseconds of a fixed loop."""
+    start, total = time.process_time(), 0
+    for number in range(1_000_000):
+        total += number
+    return (time.process_time() - start) * 1000
+
+
 def main(words):
-    known, spent = {}, {}
+    known, spent, loops = {}, {}, []
     with subprocess.Popen(words or ["bash", ".ci/run"]) as command:
-        while command.poll() is None:
+        for second in itertools.count():
+            if command.poll() is not None:
+                break
             sample(command.pid, known, spent)
+            if second % 10 == 0:
+                loops.append(loop())
             time.sleep(1)
     table = collections.defaultdict(collections.Counter)
     for check, seconds in spent.items():
@@ -104,6 +130,7 @@ def main(words):
     sums = [sum(of[kind] for of in table.values()) / 60 for kind in ("proof", "tests", "edits")]
     print(f"{'minutes':<20}" + "".join(f"{it:>8.1f}" for it in sums))
     print_edits(known, spent)
+    print(f"a fixed loop took {min(loops):.0f} to {max(loops):.0f} ms, {statistics.median(loops):.0f} as a rule")
     took = resource.getrusage(resource.RUSAGE_CHILDREN)
     print(f"in all {(took.ru_utime + took.ru_stime) / 60:.1f} processor minutes")
     return command.returncode

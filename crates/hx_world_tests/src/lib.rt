@@ -1,7 +1,8 @@
-//! Tests of the world on one thread.
+//! Tests of the world on one thread: its runs whole and in pieces, and the steps that it refuses. That a replay
+//! writes what it should is seen by the cases that the gate gives to the program.
 #![tactic(auto)]
 
 #[cfg(test)]
-mod parts;
+mod scripts;
 #[cfg(test)]
 mod world;

@@ -1,168 +1,14 @@
 ghost use Rattle.std.specs.Prelude.{◌≡◌, length};
 ghost use Rattle.hx_types.specs.Fitting.{IsScript};
-ghost use Rattle.hx_world_tests.specs.Examples.{axis_of, books, genre_is, one, one_call, put_a, script_in, search_b, three_calls, year_is};
 
-use crate::parts::{list, shared_list, text};
+use crate::scripts::{FOUR_SERVERS, MOVED, ONE_SERVER, SEARCHED, script_of};
 use hx_trace::Trace;
 use hx_types::{
-    Actor, Answer, Assign, Assigns, Attribute, Attributes, Axes, Axis, Calls, Kind, Note, Object,
-    Op, PostId, Row, Script, ServerId, SessionId, Space, Step, Steps, Subspaces, Term, Update,
-    Value,
+    Actor, Answer, Note, Object, PostId, Row, Script, ServerId, SessionId, Step, Update, Value,
 };
 use hx_world::*;
 use std::alloc::Global;
 use std::process::Abort;
-
-fn attributes<R: Abort + AllocGlobal>(rt: &R) -> Attributes
-    ensures { result ≡ books.attributes }
-{
-    let genre = Attribute {
-        name: text(rt, "genre"),
-        kind: Kind::Text,
-    };
-    let year = Attribute {
-        name: text(rt, "year"),
-        kind: Kind::Int { lo: 1900, hi: 2099 },
-    };
-    list(rt, [genre, year])
-}
-
-fn axis<R: Abort + AllocGlobal>(rt: &R, attribute: u32, parts: u32) -> Axes
-    ensures { result ≡ axis_of attribute parts }
-{
-    list(rt, [Axis { attribute, parts }])
-}
-
-fn subspaces<R: Abort + AllocGlobal>(rt: &R) -> Subspaces
-    ensures { result ≡ books.subspaces }
-{
-    list(rt, [axis(rt, 1, 4), axis(rt, 2, 2)])
-}
-
-fn space<R: Abort + AllocGlobal>(rt: &R) -> Space
-    ensures { result ≡ books }
-{
-    Space {
-        name: text(rt, "books"),
-        key_name: text(rt, "name"),
-        key_parts: 2,
-        attributes: attributes(rt),
-        subspaces: subspaces(rt),
-        servers: 4,
-        tolerate: 1,
-    }
-}
-
-fn genre<R: Abort + AllocGlobal>(rt: &R, genre: &str) -> Assign
-    ensures { result ≡ genre_is genre.now }
-{
-    Assign {
-        attribute: 1,
-        value: Value::Text(text(rt, genre)),
-    }
-}
-
-fn year(year: i64) -> Assign
-    ensures { result ≡ year_is year }
-{
-    Assign {
-        attribute: 2,
-        value: Value::Int(year),
-    }
-}
-
-fn put<R: Abort + AllocGlobal>(rt: &R, sets: Assigns) -> Op
-    ensures { result ≡ put_a sets }
-{
-    let key = text(rt, "a");
-    Op::Put { key, sets }
-}
-
-fn three_calls<R: Abort + AllocGlobal>(rt: &R) -> Calls
-    ensures { result ≡ three_calls }
-{
-    let first = put(rt, shared_list(rt, [genre(rt, "b"), year(1999)]));
-    let get = Op::Get { key: text(rt, "a") };
-    let second = put(rt, shared_list(rt, [genre(rt, "d")]));
-    list(rt, [first, get, second])
-}
-
-fn one_call<R: Abort + AllocGlobal>(rt: &R) -> Calls
-    ensures { result ≡ one_call }
-{
-    list(rt, [put(rt, Assigns::new(rt.alloc()))])
-}
-
-/// One session with these calls, in this space.
-fn script<R: Abort + AllocGlobal>(rt: &R, space: Space, calls: Calls) -> Script
-    ensures { result ≡ script_in space calls }
-{
-    Script {
-        space,
-        sessions: list(rt, [calls]),
-        steps: Steps::new(rt.alloc()),
-    }
-}
-
-#[tactic(auto, using(crate::proofs::Books::three_valid))]
-fn three_calls_script<R: Abort + AllocGlobal>(rt: &R) -> Script
-    ensures { IsScript result }
-{
-    script(rt, space(rt), three_calls(rt))
-}
-
-#[tactic(auto, using(crate::proofs::Books::book_valid))]
-fn one_call_script<R: Abort + AllocGlobal>(rt: &R) -> Script
-    ensures valid { IsScript result }
-    ensures sessions { length result.sessions ≡ 1 }
-    ensures servers { result.space.servers ≡ 4 }
-{
-    script(rt, space(rt), one_call(rt))
-}
-
-fn search<R: Abort + AllocGlobal>(rt: &R) -> Op
-    ensures { result ≡ search_b }
-{
-    let attribute = 1;
-    let value = Value::Text(text(rt, "b"));
-    let terms = shared_list(rt, [Term::Equal { attribute, value }]);
-    Op::Search { terms }
-}
-
-#[tactic(auto, using(crate::proofs::Books::search_valid))]
-fn search_script<R: Abort + AllocGlobal>(rt: &R) -> Script
-    ensures { IsScript result }
-{
-    let put = put(rt, shared_list(rt, [genre(rt, "b")]));
-    let calls = list(rt, [put, search(rt)]);
-    script(rt, space(rt), calls)
-}
-
-fn small_space<R: Abort + AllocGlobal>(rt: &R) -> Space
-    ensures { result ≡ one }
-{
-    let declared = Attribute {
-        name: text(rt, "v"),
-        kind: Kind::Text,
-    };
-    Space {
-        name: text(rt, "one"),
-        key_name: text(rt, "k"),
-        key_parts: 1,
-        attributes: list(rt, [declared]),
-        subspaces: Subspaces::new(rt.alloc()),
-        servers: 1,
-        tolerate: 0,
-    }
-}
-
-#[tactic(auto, using(crate::proofs::Books::small_valid))]
-fn small_script<R: Abort + AllocGlobal>(rt: &R) -> Script
-    ensures runs { IsScript result }
-    ensures sessions { length result.sessions ≡ 1 }
-{
-    script(rt, small_space(rt), one_call(rt))
-}
 
 /// Drains so many entries and then the rest.
 fn drain<R: Abort + AllocGlobal>(rt: &R, world: &mut World, first: u64) {
@@ -266,7 +112,7 @@ const SECOND: [(u32, u64, bool); 4] = [(0, 1, true), (4, 1, false), (5, 0, true)
 
 #[test]
 fn a_put_is_chained_got_and_put_again(rt: HostRuntime) {
-    let script = three_calls_script(&rt);
+    let script = script_of(&rt, MOVED, 4);
     let trace = drained(&rt, &script, 13);
     assert!(rt; are_of(&trace, &ACTORS));
     assert!(rt; goes_through(assigned(&trace, 1), 1, &FIRST));
@@ -277,7 +123,7 @@ fn a_put_is_chained_got_and_put_again(rt: HostRuntime) {
 
 #[test]
 fn calls_end_with_their_answers(rt: HostRuntime) {
-    let script = three_calls_script(&rt);
+    let script = script_of(&rt, MOVED, 4);
     let trace = drained(&rt, &script, 20);
     assert!(rt; is_done(&trace, 12, 1, 1));
     assert!(rt; is_found(&trace, 15));
@@ -309,7 +155,7 @@ fn is_search(trace: &Trace, place: usize) -> bool {
 
 #[test]
 fn a_search_finds_its_row(rt: HostRuntime) {
-    let script = search_script(&rt);
+    let script = script_of(&rt, SEARCHED, 4);
     let trace = drained(&rt, &script, 13);
     assert!(rt; trace.len() == 16);
     assert!(rt; is_search(&trace, 15));
@@ -349,7 +195,7 @@ fn delivered_twice<R: Abort + AllocGlobal>(rt: &R, script: &Script) -> Trace
 
 #[test]
 fn a_call_delivered_twice_is_answered_twice(rt: HostRuntime) {
-    let script = small_script(&rt);
+    let script = script_of(&rt, ONE_SERVER, 1);
     let trace = delivered_twice(&rt, &script);
     assert!(rt; are_of(&trace, &[0, 1, 1, 0, 0]));
     assert!(rt; is_done(&trace, 3, 1, 1));
@@ -369,7 +215,7 @@ fn assert_refused<R: Abort + AllocGlobal>(rt: &R, world: &mut World) {
 
 #[test]
 fn steps_that_cannot_be_taken_are_refused(rt: HostRuntime) {
-    let script = small_script(&rt);
+    let script = script_of(&rt, ONE_SERVER, 1);
     let mut world = World::start(rt.alloc(), &script).expect(&rt, "memory");
     assert_refused(&rt, &mut world);
     drop(world);
@@ -417,7 +263,7 @@ fn assert_halted<R: Abort + AllocGlobal>(rt: &R, world: &mut World)
 
 #[test]
 fn a_halted_server_takes_no_step(rt: HostRuntime) {
-    let script = one_call_script(&rt);
+    let script = script_of(&rt, FOUR_SERVERS, 4);
     let mut world = halted_leader(&rt, &script);
     assert_halted(&rt, &mut world);
     drop(world);
@@ -437,7 +283,7 @@ fn replaced_leader<R: Abort + AllocGlobal>(rt: &R, script: &Script) -> Trace
 
 #[test]
 fn a_halted_leader_is_replaced(rt: HostRuntime) {
-    let script = one_call_script(&rt);
+    let script = script_of(&rt, FOUR_SERVERS, 4);
     let trace = replaced_leader(&rt, &script);
     assert!(rt; is_done(&trace, trace.len().saturating_sub(1), 1, 1));
     drop(trace);
