@@ -9,9 +9,14 @@ use std::sync::Arc;
 
 /// A value that has several owners and never changes. A copy is another owner, so that it takes
 /// the room of a pointer whatever the value's size. Contracts see it as the value.
-#[derive(Drop)]
 pub struct Shared<T> {
     held: Arc<T, Global>,
+}
+
+impl<T: Drop> Drop for Shared<T> {
+    fn drop(self) {
+        let Shared { held: _ } = self;
+    }
 }
 
 impl<T> Model for Shared<T> {

@@ -16,10 +16,15 @@ use std::sync::Arc;
 
 /// A list of values in order, which copies share until one of them changes. Contracts see it as
 /// that list.
-#[derive(Drop)]
 pub struct SharedList<T> {
     alloc: Global,
     items: Option<Arc<Vec<T>, Global>>,
+}
+
+impl<T: Drop> Drop for SharedList<T> {
+    fn drop(self) {
+        let SharedList { alloc: _, items: _ } = self;
+    }
 }
 
 impl<T> Model for SharedList<T> {
