@@ -117,7 +117,8 @@ fn gives_what_is_committed(rt: HostRuntime) {
     let ends = (slot.floor().0, slot.top().0);
     let last = heard(&slot, 2, 7);
     let is_second = match slot.object() {
-        Some((Version(2), object)) => matches!(object.as_slice(), [Value::Int(2)]),
+        Some((Version(2), object)) =>
+            matches!(object.as_slice(), [Value::Int(number)] if *number == 2),
         _ => false,
     };
     drop(slot);

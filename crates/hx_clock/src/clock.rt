@@ -17,10 +17,15 @@ use std::marker::{Brand, Model};
 
 /// The clock of all actors: how many stamps were drawn, and how many actors enrolled. Contracts see
 /// it as its name, which no other clock has.
-#[derive(Drop)]
 pub struct Clock {
     // Word 0 counts the stamps, word 1 the actors.
     table: Table<(), View, (), OneHistory, Global>,
+}
+
+impl Drop for Clock {
+    fn drop(self) {
+        let Clock { table: _ } = self;
+    }
 }
 
 impl Model for Clock {

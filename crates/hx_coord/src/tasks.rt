@@ -5,10 +5,15 @@ use std::alloc::AllocError;
 use std::marker::Model;
 
 /// An administrative call that is to be done: a stop or an add.
-#[derive(Drop)]
 pub struct Task {
     pub caller: Caller,
     pub op: Op,
+}
+
+impl Drop for Task {
+    fn drop(self) {
+        let Task { caller: _, op: _ } = self;
+    }
 }
 
 impl Model for Task {
@@ -20,11 +25,20 @@ impl Model for Task {
 }
 
 /// The newest number of a session, and what its call was answered, if it was.
-#[derive(Drop)]
 pub struct Newest {
     pub session: SessionId,
     pub number: u32,
     pub answer: Option<Answer>,
+}
+
+impl Drop for Newest {
+    fn drop(self) {
+        let Newest {
+            session: _,
+            number: _,
+            answer: _,
+        } = self;
+    }
 }
 
 impl Model for Newest {
@@ -36,10 +50,18 @@ impl Model for Newest {
 }
 
 /// A joiner that became ready in a region.
-#[derive(Drop)]
 pub struct Joined {
     pub server: ServerId,
     pub region: RegionId,
+}
+
+impl Drop for Joined {
+    fn drop(self) {
+        let Joined {
+            server: _,
+            region: _,
+        } = self;
+    }
 }
 
 impl Model for Joined {

@@ -51,10 +51,7 @@ pub(crate) fn receive<R: Wait>(
     hear(&mut desk.heard, port);
     let Envelope { id, post, pass } = envelope;
     clock.learn(&mut desk.seat, pass);
-    let Post {
-        from,
-        to: _,
-        message,
-    } = post;
+    let from = post.from;
+    let message = post.into_message();
     Some(Input::Deliver { id, from, message })
 }

@@ -17,10 +17,15 @@ use std::alloc::Global;
 use std::collections::BTreeMap;
 
 /// The history of a key: its items, the oldest first.
-#[derive(Drop)]
 pub struct KeyHistory {
     pub key: Text,
     pub items: Items,
+}
+
+impl Drop for KeyHistory {
+    fn drop(self) {
+        let KeyHistory { key: _, items: _ } = self;
+    }
 }
 
 /// Histories in byte order of keys.

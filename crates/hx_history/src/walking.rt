@@ -16,17 +16,33 @@ use hx_types::{Memory, Records, Script};
 use std::alloc::Global;
 
 /// What the notes of a trace say: of each call, and of keys in order.
-#[derive(Drop)]
 pub struct Gathered<'a> {
     pub table: Vec<SessionNotes<'a>>,
     pub events: Vec<Event<'a>>,
 }
 
+impl Drop for Gathered<'_> {
+    fn drop(self) {
+        let Gathered {
+            table: _,
+            events: _,
+        } = self;
+    }
+}
+
 /// The records of calls, and the histories of keys.
-#[derive(Drop)]
 pub struct RecordsAndHistories {
     pub records: Records,
     pub histories: Histories,
+}
+
+impl Drop for RecordsAndHistories {
+    fn drop(self) {
+        let RecordsAndHistories {
+            records: _,
+            histories: _,
+        } = self;
+    }
 }
 
 /// What all notes of a trace say. Entries without notes are passed over.

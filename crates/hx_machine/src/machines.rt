@@ -20,11 +20,20 @@ use hx_types::{Actor, Entry, Exact, Input, Memory, Script};
 use std::alloc::Global;
 
 /// An actor of any role with its state.
-#[derive(Drop)]
 pub enum Machine {
     Coordinator(Coordinator),
     Server(Server),
     Session(Session),
+}
+
+impl Drop for Machine {
+    fn drop(self) {
+        match self {
+            Self::Coordinator(_) => {}
+            Self::Server(_) => {}
+            Self::Session(_) => {}
+        }
+    }
 }
 
 impl Machine {

@@ -14,11 +14,20 @@ use std::sync::Wait;
 
 /// The ports of a driver, one at each box, and how many envelopes were put under each. The ports of
 /// driver j, from 0, have the name j + 1.
-#[derive(Drop)]
 pub struct Outbox {
     pub index: u32,
     pub ports: Vec<Port>,
     pub sent: Vec<u64>,
+}
+
+impl Drop for Outbox {
+    fn drop(self) {
+        let Outbox {
+            index: _,
+            ports: _,
+            sent: _,
+        } = self;
+    }
 }
 
 /// The place of an actor's box among those of all actors, from 0: the coordinator's is the first, and

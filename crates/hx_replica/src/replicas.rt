@@ -15,11 +15,20 @@ use hx_types::{Config, Memory, RegionId, ServerId, Shared, Space, first_config};
 use std::alloc::Global;
 
 /// A server's part of a region: whether it has all that was there before it joined, and its slots.
-#[derive(Drop)]
 pub struct Replica {
     pub region: RegionId,
     pub installed: bool,
     pub store: Store,
+}
+
+impl Drop for Replica {
+    fn drop(self) {
+        let Replica {
+            region: _,
+            installed: _,
+            store: _,
+        } = self;
+    }
 }
 
 /// The configuration of epoch 1.

@@ -34,7 +34,6 @@ pub enum Section {
 }
 
 /// What was read, with how many regions the space has and how many calls there are.
-#[derive(Drop)]
 pub struct Draft {
     pub section: Section,
     pub space: Space,
@@ -42,6 +41,19 @@ pub struct Draft {
     pub sessions: Sessions,
     pub calls: u32,
     pub steps: Steps,
+}
+
+impl Drop for Draft {
+    fn drop(self) {
+        let Draft {
+            section: _,
+            space: _,
+            regions: _,
+            sessions: _,
+            calls: _,
+            steps: _,
+        } = self;
+    }
 }
 
 #[tactic(auto, unfolding(crate::specs::Grammar::string_attribute))]
@@ -346,10 +358,12 @@ impl Draft {
             });
         }
         let Draft {
+            section: _,
             space,
+            regions: _,
             sessions,
+            calls: _,
             steps,
-            ..
         } = self;
         Ok(Script {
             space,

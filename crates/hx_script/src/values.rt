@@ -163,9 +163,9 @@ fn range(attribute: u32, lo: i64, line: &mut Line<'_>) -> Result<Term, Stop>
 fn rest_of_term(attribute: u32, value: Value, line: &mut Line<'_>) -> Result<Term, Stop>
     ensures { Reads (λ t. t) result line.new (rest_of_term attribute value line.old) }
 {
-    match value {
-        Value::Int(lo) if line.is_at_dots() => range(attribute, lo, line),
-        value => Ok(Term::Equal { attribute, value }),
+    match &value {
+        Value::Int(lo) if line.is_at_dots() => range(attribute, *lo, line),
+        _ => Ok(Term::Equal { attribute, value }),
     }
 }
 

@@ -7,10 +7,15 @@ use hx_types::{RegionId, Rows, Sequence};
 use std::alloc::Global;
 
 /// The rows of a region that a search asked: none until it has answered.
-#[derive(Drop)]
 pub struct Part {
     pub region: RegionId,
     pub rows: Option<Rows>,
+}
+
+impl Drop for Part {
+    fn drop(self) {
+        let Part { region: _, rows: _ } = self;
+    }
 }
 
 /// The parts of a search, in ascending order of regions.

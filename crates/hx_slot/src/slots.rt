@@ -37,7 +37,6 @@ use std::alloc::Global;
 use std::marker::Model;
 
 /// The state of one key at one replica of a region.
-#[derive(Drop)]
 pub struct Slot {
     region: RegionId,
     /// For how many offers there is room.
@@ -57,6 +56,23 @@ pub struct Slot {
     acked: Vec<Version>,
     /// The updates that came before their turn, in the order of their coming.
     early: Vec<PlacedUpdate>,
+}
+
+impl Drop for Slot {
+    fn drop(self) {
+        let Slot {
+            region: _,
+            spare: _,
+            keeps_marks: _,
+            key: _,
+            base: _,
+            accepted: _,
+            committed: _,
+            floor: _,
+            acked: _,
+            early: _,
+        } = self;
+    }
 }
 
 impl Model for Slot {
@@ -210,25 +226,36 @@ impl Slot {
 
     /// The committed state, or `None` where nothing is committed; all else of the slot is dropped. It
     /// takes no memory. Where a count of owners is full the slot comes back, as it was.
-    pub fn into_kept(self) -> Result<Option<Kept>, Slot>
+    pub fn into_kept(mut self) -> Result<Option<Kept>, Slot>
         ensures kept { IfOk result (λ kept. kept ≡ committed_state self.region self.state) }
         ensures orderly { IfOk result (λ kept. IfSome kept IsOrderly) }
         ensures back { IfErr result (λ slot. slot ≡ self) }
     {
-        let mut slot = self;
-        slot.fold();
-        if slot.committed > 0 {
-            return Err(slot);
+        self.fold();
+        if self.committed > 0 {
+            return Err(self);
         }
-        if slot.floor.0 == 0 {
+        if self.floor.0 == 0 {
             return Ok(None);
         }
+        let Slot {
+            region: _,
+            spare: _,
+            keeps_marks: _,
+            key,
+            base,
+            accepted: _,
+            committed: _,
+            floor,
+            acked: _,
+            early: _,
+        } = self;
         Ok(Some(Kept {
-            key: slot.key,
-            floor: slot.floor,
-            object: slot.base.object,
-            marks: Marks::from_vec(slot.base.marks),
-            touches: Touches::from_vec(slot.base.touches),
+            key,
+            floor,
+            object: base.object,
+            marks: Marks::from_vec(base.marks),
+            touches: Touches::from_vec(base.touches),
         }))
     }
 

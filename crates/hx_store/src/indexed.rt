@@ -17,7 +17,6 @@ use std::mem;
 
 /// An index of the committed objects of slots, which is brought up to date when a search asks: it
 /// keeps the row by which it has each slot, and which slots may have another object since.
-#[derive(Drop)]
 pub struct Indexed {
     index: Index,
     /// The row by which the index has the slot at each place.
@@ -26,6 +25,17 @@ pub struct Indexed {
     stale: Vec<u32>,
     /// Whether each place stands there.
     is_stale: Vec<bool>,
+}
+
+impl Drop for Indexed {
+    fn drop(self) {
+        let Indexed {
+            index: _,
+            rows: _,
+            stale: _,
+            is_stale: _,
+        } = self;
+    }
 }
 
 impl Model for Indexed {

@@ -24,7 +24,6 @@ use std::marker::Model;
 
 /// The slot of each key, by its place: the number of the key in the order of coming. An index of
 /// the kept objects is brought up to date when a search asks.
-#[derive(Drop)]
 pub struct Slots {
     /// Whether the slot of each key is part of the store.
     keys: IndexMap<Text, bool>,
@@ -34,6 +33,17 @@ pub struct Slots {
     prefixes: Vec<u64>,
     slots: Vec<Slot>,
     indexed: Indexed,
+}
+
+impl Drop for Slots {
+    fn drop(self) {
+        let Slots {
+            keys: _,
+            prefixes: _,
+            slots: _,
+            indexed: _,
+        } = self;
+    }
 }
 
 impl Model for Slots {

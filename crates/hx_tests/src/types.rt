@@ -90,7 +90,7 @@ fn operations_have_effects(rt: HostRuntime) {
     let sets = shared_list(&rt, [Assign { attribute, value }]);
     let key = text(&rt, "a");
     let put = effect_on(&rt, None, Op::Put { key, sets });
-    let is_done = put.changes && matches!(put.answer, Answer::Done);
+    let is_done = put.changes && matches!(&put.answer, Answer::Done);
     let key = text(&rt, "a");
     let got = effect_on(&rt, put.object.as_ref(), Op::Get { key });
     drop(put);

@@ -43,7 +43,7 @@ fn assigned<R: Abort + AllocGlobal>(
         key: text(rt, key),
         version: Version(version),
         caller: Caller { session, number },
-        changes: matches!(answer, Answer::Done),
+        changes: matches!(&answer, Answer::Done),
         answer,
         object,
         places: Places::new(rt.alloc()),

@@ -18,10 +18,15 @@ use std::marker::Model;
 
 /// The entries of a trace, which grow at their end. Contracts see them, and how many posts and notes the next
 /// entry may have, if there is room for it. Each entry that is put at the end uses the room up.
-#[derive(Drop)]
 pub struct GrowingTrace {
     lists: Lists,
     room: Option<Room>,
+}
+
+impl Drop for GrowingTrace {
+    fn drop(self) {
+        let GrowingTrace { lists: _, room: _ } = self;
+    }
 }
 
 impl Model for GrowingTrace {
@@ -143,13 +148,17 @@ impl GrowingTrace {
     {
         self.room = None;
         match taken_of(&self.lists, entry.actor, &entry.input) {
-            Some(taken) => file(
-                &mut self.lists,
-                entry.actor,
-                taken,
-                entry.outputs.into_vec(),
-                entry.notes.into_vec(),
-            ),
+            Some(taken) => {
+                let actor = entry.actor;
+                let (outputs, notes) = entry.into_outputs_and_notes();
+                file(
+                    &mut self.lists,
+                    actor,
+                    taken,
+                    outputs.into_vec(),
+                    notes.into_vec(),
+                )
+            }
             None => keep(&mut self.lists, entry),
         }
     }

@@ -16,7 +16,6 @@ use std::alloc::Global;
 /// The lists in which a trace lies. First come the entries of adopted parts, which lie where they lay before: each
 /// has its turn, and its stamp counts for nothing. Then come those that were put at the end: each has a head, and the
 /// posts and notes of all lie one after another. Of these, entries that are kept whole lie apart.
-#[derive(Drop)]
 pub struct Lists {
     pub turns: Vec<Turn>,
     pub parts: Vec<Part>,
@@ -24,6 +23,19 @@ pub struct Lists {
     pub posts: Vec<Post>,
     pub notes: Vec<Note>,
     pub wholes: Vec<Entry>,
+}
+
+impl Drop for Lists {
+    fn drop(self) {
+        let Lists {
+            turns: _,
+            parts: _,
+            heads: _,
+            posts: _,
+            notes: _,
+            wholes: _,
+        } = self;
+    }
 }
 
 /// The lists of the entries of parts, one at each turn. It takes no memory.

@@ -13,11 +13,20 @@ use hx_types::{Actor, Input, ServerId, SessionId};
 use std::alloc::Global;
 
 /// All actors; of the servers and of the sessions those of number 1 first.
-#[derive(Drop)]
 pub struct Actors {
     pub coordinator: CountedCoordinator,
     pub servers: Vec<CountedServer>,
     pub sessions: Vec<CountedSession>,
+}
+
+impl Drop for Actors {
+    fn drop(self) {
+        let Actors {
+            coordinator: _,
+            servers: _,
+            sessions: _,
+        } = self;
+    }
 }
 
 /// Whether an actor has halted. Only servers do.

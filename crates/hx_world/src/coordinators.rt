@@ -15,10 +15,18 @@ use hx_types::Input;
 use std::alloc::Global;
 
 /// The coordinator, and how many entries it has made.
-#[derive(Drop)]
 pub struct CountedCoordinator {
     pub coordinator: Coordinator,
     pub entries: u32,
+}
+
+impl Drop for CountedCoordinator {
+    fn drop(self) {
+        let CountedCoordinator {
+            coordinator: _,
+            entries: _,
+        } = self;
+    }
 }
 
 /// The coordinator takes an input, if the entry that it makes of it may be made. All memory is

@@ -15,10 +15,18 @@ use hx_types::Input;
 use std::alloc::Global;
 
 /// A server, and how many entries it has made.
-#[derive(Drop)]
 pub struct CountedServer {
     pub server: Server,
     pub entries: u32,
+}
+
+impl Drop for CountedServer {
+    fn drop(self) {
+        let CountedServer {
+            server: _,
+            entries: _,
+        } = self;
+    }
 }
 
 /// The server takes an input, if the entry that it makes of it may be made. All memory is taken

@@ -15,10 +15,18 @@ use hx_types::Input;
 use std::alloc::Global;
 
 /// A session, and how many entries it has made.
-#[derive(Drop)]
 pub struct CountedSession {
     pub session: Session,
     pub entries: u32,
+}
+
+impl Drop for CountedSession {
+    fn drop(self) {
+        let CountedSession {
+            session: _,
+            entries: _,
+        } = self;
+    }
 }
 
 /// The session takes an input, if the entry that it makes of it may be made. All memory is taken

@@ -20,9 +20,14 @@ use std::mem::ManuallyDrop;
 ///
 /// The actors are those of HyperDex and of chain replication; that they stand on one thread and
 /// take their inputs by a fixed schedule is this project's choice.
-#[derive(Drop)]
 pub struct World<'a> {
     cluster: Cluster<'a>,
+}
+
+impl Drop for World<'_> {
+    fn drop(self) {
+        let World { cluster: _ } = self;
+    }
 }
 
 impl<'a> Model for World<'a> {
@@ -70,7 +75,7 @@ impl<'a> World<'a> {
         ensures run { IsRun self.entry.script (reverse result) }
         ensures few { HasFewEntries (reverse result) }
     {
-        let cluster = self.cluster;
+        let World { cluster } = self;
         let log = cluster.log;
         log.trace
     }
@@ -83,7 +88,7 @@ impl<'a> World<'a> {
         ensures run { IsRun self.entry.script (reverse result) }
         ensures few { HasFewEntries (reverse result) }
     {
-        let cluster = self.cluster;
+        let World { cluster } = self;
         let _left = ManuallyDrop::new(cluster.actors);
         let log = cluster.log;
         log.trace
