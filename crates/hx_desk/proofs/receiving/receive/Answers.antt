@@ -1,6 +1,7 @@
-use Rattle.std.proofs.Common.{◌≡◌, ◌∙◌, sym, subst, refl, length, slice_index_or}
+use Rattle.std.proofs.Common.{◌≡◌, ◌∙◌, ap, sym, subst, refl, length, slice_index_or}
 use mathlib.Core.List.{IsPrefix}
 use Rattle.hx_types.specs.Posts.{IsSoundPost}
+use Rattle.hx_types.specs.Words.{post}
 use Rattle.hx_clock.specs.Views.{Knows}
 use Rattle.hx_mail.specs.declared.views.PortView.{PortView}
 use Rattle.hx_mail.specs.Ports.{mailed_of, sent_of}
@@ -25,7 +26,7 @@ returns-clause-desk g c w rest h =
       fed = h.fed;
       inbox = taken-port w c.args.boxes.now (place_of c.args.script.now.space c.args.desk.now.actor) c.index-boxes-place.result c.args.desk.now.inbox c.take.new.port (sent_of l) low here c.in_ok-port.ensures.port c.in_ok-port.ensures.taken h.inbox;
       heard = (c.hear.ensures.length ∙ h.heard.0, subst (IsHeardFrom 0 c.hear.new.heard.items) (sym ins) (c.hear.ensures.heard (ins_of c.args.desk.now.inbox) (mailed_of l.envelope) h.heard.1));
-      told = told-next _ rest _ _ (sent_of l) l.envelope.id l.envelope.post _ h.told ins refl (post-to c.args.script.now c.args.clock.now c.args.desk.now.actor _ l.envelope names c.in_ok-port.ensures.addressed);
+      told = told-next _ rest _ _ (sent_of l) l.envelope.id l.envelope.post _ h.told ins refl (ap (post l.envelope.post.from c.args.desk.now.actor) c.into_message-message.ensures ∙ post-to c.args.script.now c.args.clock.now c.args.desk.now.actor _ l.envelope names c.in_ok-port.ensures.addressed);
       kept = h.kept;
       few = h.few;
     }
@@ -36,7 +37,7 @@ returns-clause-given g c =
     let h = c.requires.desk.2 in
     let here = subst (λ k. c.index-boxes-place.result ≡ slice_index_or c.args.boxes.now k c.index-boxes-place.result) c.place_of-place.ensures c.index-boxes-place.is in
     let names = c.requires.boxes.each c.args.desk.now.actor (exists-of c.args.script.now c.args.desk.now.actor h.exists) c.index-boxes-place.result here in
-    let to = sym (post-to c.args.script.now c.args.clock.now c.args.desk.now.actor _ l.envelope names c.in_ok-port.ensures.addressed) in (
+    let to = sym (ap (post l.envelope.post.from c.args.desk.now.actor) c.into_message-message.ensures ∙ post-to c.args.script.now c.args.clock.now c.args.desk.now.actor _ l.envelope names c.in_ok-port.ensures.addressed) in (
       (
         subst (Knows c.learn.new.seat.view l.envelope.id) to (c.learn.ensures.learned _ _ l.envelope.known),
         subst (IsSoundPost c.args.script.now.space (length c.args.script.now.sessions) l.envelope.id.entry) to (sound-to c.args.script.now c.args.clock.now c.args.desk.now.actor _ l.envelope names c.in_ok-port.ensures.addressed),
