@@ -8,15 +8,24 @@ use std::alloc::Global;
 
 /// Whether a coordinator waits for servers to be sealed before it issues the next configuration.
 /// That an epoch is sealed first is this project's choice.
-#[derive(Clone, Drop)]
+#[derive(Clone)]
 pub enum Phase {
     Steady,
     /// These servers are waited for, in ascending order.
     Sealing(ServerList),
 }
 
+impl Drop for Phase {
+    fn drop(self) {
+        match self {
+            Self::Steady => {}
+            Self::Sealing(_) => {}
+        }
+    }
+}
+
 /// All that a coordinator keeps beside its configuration.
-#[derive(Clone, Drop)]
+#[derive(Clone)]
 pub struct Agenda {
     /// How many sessions there are.
     pub sessions: u32,
@@ -26,6 +35,19 @@ pub struct Agenda {
     pub newest: NewestList,
     pub phase: Phase,
     pub joined: JoinedList,
+}
+
+impl Drop for Agenda {
+    fn drop(self) {
+        let Agenda {
+            sessions: _,
+            gone: _,
+            todo: _,
+            newest: _,
+            phase: _,
+            joined: _,
+        } = self;
+    }
 }
 
 impl Agenda {
@@ -41,6 +63,21 @@ impl Agenda {
             phase: Phase::Steady,
             joined: JoinedList::new(alloc),
         }
+    }
+
+    /// The newest number of each session, and nothing else of it.
+    pub fn into_newest(self) -> NewestList
+        ensures { result ≡ self.newest }
+    {
+        let Agenda {
+            sessions: _,
+            gone: _,
+            todo: _,
+            newest,
+            phase: _,
+            joined: _,
+        } = self;
+        newest
     }
 }
 

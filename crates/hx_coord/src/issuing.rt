@@ -21,10 +21,18 @@ use std::alloc::Global;
 use std::marker::Model;
 
 /// A call that is answered by the configuration that is issued.
-#[derive(Drop)]
 pub struct Answered {
     pub caller: Caller,
     pub answer: Answer,
+}
+
+impl Drop for Answered {
+    fn drop(self) {
+        let Answered {
+            caller: _,
+            answer: _,
+        } = self;
+    }
 }
 
 impl Model for Answered {
@@ -196,10 +204,11 @@ fn agenda_after(
 ) -> Result<Agenda, Memory>
     ensures { IfOk result (λ after. after ≡ agenda_after agenda answered.now left) }
 {
-    let mut newest = agenda.newest;
+    let sessions = agenda.sessions;
+    let mut newest = agenda.into_newest();
     answer_all(alloc, &mut newest, answered)?;
     Ok(Agenda {
-        sessions: agenda.sessions,
+        sessions,
         gone: ServerList::new(alloc),
         todo: left,
         newest,

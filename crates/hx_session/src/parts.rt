@@ -22,7 +22,6 @@ impl Drop for Part {
 pub type Parts = Sequence<Part>;
 
 /// How a step changes the parts of a search.
-#[derive(Drop)]
 pub enum PartsChange {
     Stay,
     /// There are these parts instead.
@@ -31,24 +30,37 @@ pub enum PartsChange {
     Put { place: usize, part: Part },
 }
 
-/// The same change where there were no parts before. It takes no memory.
-pub fn afresh(alloc: Global, change: PartsChange) -> PartsChange
-    ensures { result ≡ afresh change }
-{
-    match change {
-        PartsChange::Replace(parts) => PartsChange::Replace(parts),
-        PartsChange::Stay | PartsChange::Put { .. } => PartsChange::Replace(Parts::new(alloc)),
+impl Drop for PartsChange {
+    fn drop(self) {
+        match self {
+            Self::Stay => {}
+            Self::Replace(_) => {}
+            Self::Put { place: _, part: _ } => {}
+        }
     }
 }
 
-/// Makes a change of the parts. It takes no memory.
-pub fn put_parts(parts: &mut Parts, change: PartsChange)
-    ensures { map part_seen parts.new ≡ parts_after (map part_seen parts.old) change }
-{
-    match change {
-        PartsChange::Stay => {}
-        PartsChange::Replace(others) => *parts = others,
-        PartsChange::Put { place, part } => put_part(parts, place, part),
+impl PartsChange {
+    /// The same change where there were no parts before. It takes no memory.
+    pub fn afresh(self, alloc: Global) -> PartsChange
+        ensures { result ≡ afresh self }
+    {
+        match self {
+            PartsChange::Replace(parts) => PartsChange::Replace(parts),
+            PartsChange::Stay => PartsChange::Replace(Parts::new(alloc)),
+            PartsChange::Put { place: _, part: _ } => PartsChange::Replace(Parts::new(alloc)),
+        }
+    }
+
+    /// Makes the change of the parts. It takes no memory.
+    pub fn apply(self, parts: &mut Parts)
+        ensures { map part_seen parts.new ≡ parts_after (map part_seen parts.old) self }
+    {
+        match self {
+            PartsChange::Stay => {}
+            PartsChange::Replace(others) => *parts = others,
+            PartsChange::Put { place, part } => put_part(parts, place, part),
+        }
     }
 }
 

@@ -1,7 +1,7 @@
-ghost use Rattle.std.specs.Prelude.{◌≡◌, ◌∷◌, IfOk, unwrap_or};
-ghost use Rattle.hx_session.specs.Changes.{adopting_as, begun_as, ended_as, kept_as, polled_as, unmoved_at};
+ghost use Rattle.std.specs.Prelude.{◌≡◌, ◌∷◌, map, IfOk, unwrap_or};
+ghost use Rattle.hx_session.specs.Changes.{adopting_as, afresh, begun_as, ended_as, kept_as, part_seen, parts_after, polled_as, unmoved_at};
 
-use crate::parts::{Part, Parts, PartsChange, afresh};
+use crate::parts::{Part, Parts, PartsChange};
 use hx_types::{
     Actor, Answer, Config, Entry, Epoch, Exact, Memory, Message, Note, Notes, Post, Posts,
     SessionId, Shared, Version,
@@ -18,13 +18,54 @@ pub struct Progress {
 }
 
 /// What a step changes of its session.
-#[derive(Drop)]
 pub struct Change {
     /// The configuration that is adopted, if one is.
     pub config: Option<Shared<Config>>,
     /// How far the session is then.
     pub progress: Progress,
     pub parts: PartsChange,
+}
+
+impl Drop for Change {
+    fn drop(self) {
+        let Change {
+            config: _,
+            progress: _,
+            parts: _,
+        } = self;
+    }
+}
+
+impl Change {
+    /// The same change where there were no parts before. It takes no memory.
+    fn afresh(self, alloc: Global) -> Change
+        ensures { result ≡ record { config = self.config; progress = self.progress; parts = afresh self.parts } }
+    {
+        let Change {
+            config,
+            progress,
+            parts,
+        } = self;
+        Change {
+            config,
+            progress,
+            parts: parts.afresh(alloc),
+        }
+    }
+
+    /// Makes the change of a session's configuration and parts. It takes no memory.
+    pub fn apply(self, config: &mut Shared<Config>, parts: &mut Parts)
+        ensures config { config.new ≡ unwrap_or self.config config.old }
+        ensures parts { map part_seen parts.new ≡ parts_after (map part_seen parts.old) self.parts }
+    {
+        let Change {
+            config: adopted,
+            progress: _,
+            parts: change,
+        } = self;
+        adopt(config, adopted);
+        change.apply(parts);
+    }
 }
 
 /// What a step posts, notes and changes.
@@ -104,11 +145,7 @@ pub fn begun(alloc: Global, number: u32, made: StepOutput) -> Result<StepOutput,
     Ok(StepOutput {
         posts: made.posts,
         notes,
-        change: Change {
-            config: made.change.config,
-            progress: made.change.progress,
-            parts: afresh(alloc, made.change.parts),
-        },
+        change: made.change.afresh(alloc),
     })
 }
 
@@ -136,7 +173,7 @@ pub fn polled(id: SessionId, epoch: Epoch, made: StepOutput) -> Result<StepOutpu
 }
 
 /// A configuration takes the place of another, where there is one. It takes no memory.
-pub fn adopt(config: &mut Shared<Config>, adopted: Option<Shared<Config>>)
+fn adopt(config: &mut Shared<Config>, adopted: Option<Shared<Config>>)
     ensures { config.new ≡ unwrap_or adopted config.old }
 {
     if let Some(adopted) = adopted {

@@ -13,9 +13,9 @@ ghost use Rattle.hx_session.specs.Kinds.{kind_test};
 
 use crate::kinds::{CallKind, is_of};
 use crate::merging::merged;
-use crate::parts::{Part, Parts, all_found, lacking, put_parts};
+use crate::parts::{Part, Parts, all_found, lacking};
 use crate::prepared::{
-    Change, Plan, Progress, StepOutput, adopt, adopting, begun, ended, kept, plan_nothing, polled,
+    Plan, Progress, StepOutput, adopting, begun, ended, kept, plan_nothing, polled,
 };
 use crate::sending::{Sender, send};
 use hx_region::RegionMap;
@@ -165,14 +165,8 @@ impl Session {
         ensures state { self.new.state ≡ (session_step self.old.space self.old.state plan.entry.input).state }
     {
         let Plan { entry, change } = plan;
-        let Change {
-            config,
-            progress,
-            parts,
-        } = change;
-        adopt(&mut self.config, config);
-        self.progress = progress;
-        put_parts(&mut self.parts, parts);
+        self.progress = change.progress;
+        change.apply(&mut self.config, &mut self.parts);
         entry
     }
 
