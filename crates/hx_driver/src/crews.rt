@@ -1,13 +1,40 @@
+ghost use Rattle.std.specs.Prelude.{◌≡◌};
+
 use hx_desk::{Desk, Fault};
 use hx_outbox::Outbox;
 use hx_types::Totals;
 
 /// The actors of a driver, with its ports, the totals of what it posted, and the first fault that a
 /// turn or a retry met.
-#[derive(Drop)]
 pub struct Crew {
     pub desks: Vec<Desk>,
     pub out: Outbox,
     pub totals: Totals,
     pub fault: Option<Fault>,
+}
+
+impl Drop for Crew {
+    fn drop(self) {
+        let Crew {
+            desks: _,
+            out: _,
+            totals: _,
+            fault: _,
+        } = self;
+    }
+}
+
+impl Crew {
+    /// The actors, their driver's ports, and the totals of what it posted.
+    pub fn into_parts(self) -> (Vec<Desk>, Outbox, Totals)
+        ensures { (result.0 ≡ self.desks) × (result.1 ≡ self.out) × (result.2 ≡ self.totals) }
+    {
+        let Crew {
+            desks,
+            out,
+            totals,
+            fault: _,
+        } = self;
+        (desks, out, totals)
+    }
 }

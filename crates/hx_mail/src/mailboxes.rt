@@ -162,11 +162,7 @@ impl<'a> Mailbox<'a> {
         ensures once { IsOnce port.new.view }
     {
         let _ = rt;
-        let Port {
-            name: _,
-            splits: _,
-            pass,
-        } = other;
+        let pass = other.into_pass();
         self.queue.absorb::<TakeIn>(&mut port.pass, pass);
         self.queue.learn_as::<Order>(&mut port.pass);
     }

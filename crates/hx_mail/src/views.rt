@@ -8,10 +8,22 @@ pub struct Mailed {
     pub post: Post,
 }
 
+impl Drop for Mailed {
+    fn drop(self) {
+        let Mailed { id: _, post: _ } = self;
+    }
+}
+
 /// A post, and the name of the port under which it was put.
 pub struct Sent {
     pub port: u32,
     pub mailed: Mailed,
+}
+
+impl Drop for Sent {
+    fn drop(self) {
+        let Sent { port: _, mailed: _ } = self;
+    }
 }
 
 /// What was put and what was taken under a port's name, oldest first.
@@ -21,6 +33,16 @@ pub struct PortLists {
     pub taken: Sequence<Sent>,
 }
 
+impl Drop for PortLists {
+    fn drop(self) {
+        let PortLists {
+            name: _,
+            put: _,
+            taken: _,
+        } = self;
+    }
+}
+
 /// Of which clock a box is, whose it is, and for which space and number of sessions its posts are
 /// sound.
 pub struct BoxNames {
@@ -28,6 +50,17 @@ pub struct BoxNames {
     pub owner: Actor,
     pub space: Space,
     pub sessions: u32,
+}
+
+impl Drop for BoxNames {
+    fn drop(self) {
+        let BoxNames {
+            clock: _,
+            owner: _,
+            space: _,
+            sessions: _,
+        } = self;
+    }
 }
 
 /// What a port knows.
@@ -40,4 +73,15 @@ pub struct PortView {
     pub lists: Sequence<PortLists>,
     /// How many ports were split off, in the first port of a box.
     pub splits: Option<u32>,
+}
+
+impl Drop for PortView {
+    fn drop(self) {
+        let PortView {
+            own: _,
+            of_box: _,
+            lists: _,
+            splits: _,
+        } = self;
+    }
 }

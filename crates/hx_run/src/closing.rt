@@ -17,7 +17,6 @@ use hx_mail::{Mailbox, Port};
 use hx_outbox::Outbox;
 use hx_types::{Memory, Script, Totals};
 use std::alloc::Global;
-use std::mem::ManuallyDrop;
 use std::sync::Wait;
 
 /// What is left of drivers: the parts of their actors, their totals and fates in order, and the first
@@ -34,19 +33,7 @@ pub struct Left {
 fn parted(desk: Desk) -> (SeatedPart, Taker)
     ensures { (result.0 ≡ seated_of desk) × (result.1 ≡ taker_of desk) }
 {
-    let Desk {
-        actor,
-        part,
-        seat,
-        inbox,
-        machine,
-        kept,
-        heard,
-    } = desk;
-    // Its memory is left to the system: to give it back piece by piece takes longer than to end.
-    let _left = ManuallyDrop::new(machine);
-    drop(kept);
-    drop(heard);
+    let (actor, part, seat, inbox) = desk.leave();
     let part = Part::from_vec(part);
     (SeatedPart { actor, part, seat }, Taker { actor, inbox })
 }
@@ -94,12 +81,7 @@ fn take_crew(
     ensures outs { OnOk result (outs.new.items ≡ outs.old.items ++ crew.out ∷ []) }
     ensures totals { OnOk result (totals.new.items ≡ totals.old.items ++ crew.totals ∷ []) }
 {
-    let Crew {
-        desks,
-        out,
-        totals: sum,
-        ..
-    } = crew;
+    let (desks, out, sum) = crew.into_parts();
     take_desks(actors, takers, desks)?;
     outs.push(out)?;
     totals.push(sum)?;
