@@ -147,8 +147,9 @@ fn step_on<R: Wait, G: Gate>(
     }
 }
 
-/// The same, unless the actor is worn.
-fn enter_unless_worn<R: Wait, G: Gate>(
+/// Makes an entry of an input that the actor can be given, and that makes something, unless the actor
+/// is worn or memory is wanting. After a fault the actor is as it was.
+pub(crate) fn enter<R: Wait, G: Gate>(
     rt: &R,
     alloc: Global,
     script: &Script,
@@ -180,36 +181,4 @@ fn enter_unless_worn<R: Wait, G: Gate>(
             rt, alloc, script, clock, boxes, gate, desk, out, fate, totals, input,
         )
     }
-}
-
-/// Makes an entry of an input that the actor can be given, and that makes something, unless the actor
-/// is worn or memory is wanting. After a fault the actor is as it was.
-pub(crate) fn enter<R: Wait, G: Gate>(
-    rt: &R,
-    alloc: Global,
-    script: &Script,
-    clock: &Clock,
-    boxes: &[Mailbox<'_>],
-    gate: &G,
-    desk: &mut Desk,
-    out: &mut Outbox,
-    fate: &mut Box<dyn Fate + Send>,
-    totals: &mut Totals,
-    input: Input,
-) -> Result<(), Fault>
-    requires script { IsScript script.now }
-    requires boxes { AreBoxes script.now clock.now boxes.now }
-    requires desk { (w : ℕ) × IsDesk script.now clock.now boxes.now w (told_by desk.old.actor input) desk.old }
-    requires running { has_halted script.now (entries_before desk.old.part.items) desk.old.actor ≡ false }
-    requires given { CanBeGiven script.now desk.old input }
-    requires enough { does_something input (made_of script.now (entries_before desk.old.part.items) desk.old.actor input) ≡ true }
-    requires out { IsOutbox boxes.now out.old }
-    requires room { HasRoom out.old desk.old totals.old }
-    ensures desk { MatchResult result (λ _. (w : ℕ) → IsDesk script.now clock.now boxes.now w (told_by desk.old.actor input) desk.old → IsDesk script.now clock.now boxes.now w [] desk.new) (λ _. (w : ℕ) (rest : List Mailed) → IsDesk script.now clock.now boxes.now w rest desk.old → IsDesk script.now clock.now boxes.now w rest desk.new) }
-    ensures turn { MatchResult result (λ _. (x : Stamped) × IsMadeOf script.now desk.old input x × IsTurn boxes.now desk.old desk.new out.old out.new totals.old totals.new (record { chosen = choices fate.old; lost = losses fate.old; doubled = repeats fate.old }) (record { chosen = choices fate.new; lost = losses fate.new; doubled = repeats fate.new }) (x ∷ [])) (λ _. IsTurn boxes.now desk.old desk.new out.old out.new totals.old totals.new (record { chosen = choices fate.old; lost = losses fate.old; doubled = repeats fate.old }) (record { chosen = choices fate.new; lost = losses fate.new; doubled = repeats fate.new }) []) }
-    ensures fault { MatchResult result (λ _. ⊤) (λ fault. IsFaultOf script.now desk.new fault) }
-{
-    enter_unless_worn(
-        rt, alloc, script, clock, boxes, gate, desk, out, fate, totals, input,
-    )
 }

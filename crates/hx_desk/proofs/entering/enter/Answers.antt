@@ -3,7 +3,7 @@ use Rattle.hx_desk.specs.Turns.{IsFaultOf}
 use Rattle.hx_desk.proofs.Results.{match-map}
 use Rattle.hx_desk.proofs.Turned.{turn-self}
 use Rattle.hx_desk.proofs.Worn.{more-to-make}
-use Rattle.hx_desk.proofs.entering.enter_unless_worn.Goals as goal
+use Rattle.hx_desk.proofs.entering.enter.Goals as goal
 
 pub returns-then-is_worn-clause-turn : goal.returns-then-is_worn-clause-turn
 returns-then-is_worn-clause-turn g c = turn-self c.args.boxes.now c.args.desk.now c.args.out.now c.args.totals.now _ c.requires.out c.requires.room.total
