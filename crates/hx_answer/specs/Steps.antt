@@ -1,13 +1,20 @@
 -- The steps of a script, taken in order up to the first that can't be taken.
-use Rattle.std.specs.Prelude.{◌≡◌, ℕ, List, [], ◌∷◌, reverse, ⊤, Option, None, Some}
+use Rattle.std.specs.Prelude.{◌≡◌, ℕ, List, [], ◌∷◌, reverse, ⊤, Option, None, Some, Result, Ok, Err}
 use Rattle.std.specs.Option.{option_map}
 use Rattle.std.specs.List.{All}
 use Rattle.hx_world.specs.Worlds.{IsStepOf}
+use Rattle.hx_world.specs.declared.ends.DrainError.{DrainError}
+use Rattle.hx_world.specs.declared.ends.DrainError.TheVariants as a_drain_error
+use Rattle.hx_world.specs.declared.ends.StepError.{StepError}
+use Rattle.hx_world.specs.declared.ends.StepError.TheVariants as an_error
+use Rattle.hx_types.specs.declared.errors.Memory.{Memory}
 use Rattle.hx_types.specs.declared.ids.Actor.{Actor}
 use Rattle.hx_types.specs.declared.traces.Entry.{Entry}
 use Rattle.hx_types.specs.declared.traces.Script.{Script}
 use Rattle.hx_types.specs.declared.traces.Step.{Step}
 use Rattle.hx_types.specs.Words.{when_some}
+use Rattle.hx_answer.specs.declared.outcomes.Ended.{Ended}
+use Rattle.hx_answer.specs.declared.outcomes.Ended.TheVariants as an_end
 use Rattle.hx_answer.specs.declared.steps.Stopped.{Stopped}
 use Rattle.hx_answer.specs.declared.steps.Stopped.TheVariants as a_stop
 use Rattle.hx_model.specs.Schedule.{StepFault, Unsent, Halted, NotServer, Idle, Worn, entry_by, fault_of, step_input, with_entry}
@@ -55,6 +62,26 @@ pub record IsRefusedAt (script : Script) (line : ℕ) (trace : List Entry) : Typ
 pub record IsWornAtStep (script : Script) (trace : List Entry) (a : Actor) : Type 0 where
   pub line : ℕ
   pub stops : stop_of script [] script.steps ≡ Some (record { line = line; fault = Worn a; trace = reverse trace })
+
+-- why the steps stop where the one on this line failed so
+abbrev pub stopped_by : StepError → ℕ → Stopped
+stopped_by an_error.Memory line = a_stop.Memory
+stopped_by an_error.Unsent line = a_stop.Refused line
+stopped_by an_error.Halted line = a_stop.Refused line
+stopped_by an_error.NotServer line = a_stop.Refused line
+stopped_by an_error.Idle line = a_stop.Refused line
+stopped_by (an_error.Worn a) line = a_stop.Worn a
+
+-- why the schedule after the steps stops where a drain failed so
+abbrev pub stopped_drain : DrainError → Stopped
+stopped_drain a_drain_error.Memory = a_stop.Memory
+stopped_drain (a_drain_error.Worn a) = a_stop.Worn a
+
+-- what a replay comes to that was stopped so after this trace
+abbrev pub ended_by : Stopped → List Entry → Result Ended Memory
+ended_by a_stop.Memory trace = Err (record {})
+ended_by (a_stop.Refused line) trace = Ok (an_end.Refused line trace)
+ended_by (a_stop.Worn a) trace = Ok (an_end.Worn a trace)
 
 -- why one step wasn't taken
 abbrev pub StopsAt : Script → List Entry → ℕ → Step → Stopped → Type 0

@@ -3,14 +3,14 @@ ghost use Rattle.hx_types.specs.declared.traces.Step.{Step};
 ghost use Rattle.hx_model.specs.Schedule.{stepped};
 ghost use Rattle.hx_types.specs.Fitting.{IsScript};
 ghost use Rattle.hx_answer.specs.Causes.{ReplayEnds, IsWholeReplay, IsWholeRun};
-ghost use Rattle.hx_answer.specs.Steps.{AreTaken, HasSteps};
+ghost use Rattle.hx_answer.specs.Steps.{AreTaken, HasSteps, ended_by};
 
 use crate::outcomes::{Ended, Written};
 use crate::steps::{Stopped, take_steps};
 use hx_report::report;
 use hx_trace::Trace;
 use hx_types::{Memory, Script};
-use hx_world::{DrainError, Drained, World};
+use hx_world::{Drained, World};
 use std::alloc::Global;
 
 /// Takes the script's steps and goes on by the schedule.
@@ -22,15 +22,18 @@ pub fn replay(alloc: Global, script: &Script, with_trace: bool) -> Result<Ended,
     let mut world = World::start(alloc, script)?;
     match take_steps(alloc, script, &mut world) {
         Ok(()) => finish(alloc, script, with_trace, world),
-        Err(Stopped::Memory) => Err(Memory),
-        Err(Stopped::Refused(line)) => Ok(Ended::Refused {
-            line,
-            trace: world.leave(),
-        }),
-        Err(Stopped::Worn(actor)) => Ok(Ended::Worn {
-            actor,
-            trace: world.leave(),
-        }),
+        Err(stopped) => ended_by(stopped, world.leave()),
+    }
+}
+
+/// What a replay comes to that was stopped so after this trace.
+fn ended_by(stopped: Stopped, trace: Trace) -> Result<Ended, Memory>
+    ensures { result ≡ ended_by stopped trace }
+{
+    match stopped {
+        Stopped::Memory => Err(Memory),
+        Stopped::Refused(line) => Ok(Ended::Refused { line, trace }),
+        Stopped::Worn(actor) => Ok(Ended::Worn { actor, trace }),
     }
 }
 
@@ -52,11 +55,7 @@ fn finish(
     match world.drain(alloc, u64::MAX) {
         Ok(Drained::Quiet) => Ok(Ended::Whole(answered(alloc, script, with_trace, world.leave())?)),
         Ok(Drained::Spent) => unreachable!(),
-        Err(DrainError::Memory) => Err(Memory),
-        Err(DrainError::Worn(actor)) => Ok(Ended::Worn {
-            actor,
-            trace: world.leave(),
-        }),
+        Err(error) => ended_by(error.into(), world.leave()),
     }
 }
 

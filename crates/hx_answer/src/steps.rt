@@ -1,11 +1,11 @@
 ghost use Rattle.std.specs.Prelude.{◌≡◌, ℕ, [], map, IfErr, OnErr, OnOk, reverse};
 ghost use Rattle.hx_types.specs.declared.traces.Step.{Step};
 ghost use Rattle.hx_model.specs.Schedule.{stepped};
-ghost use Rattle.hx_answer.specs.Steps.{AreTaken, HasSteps, Stops, StopsAt};
+ghost use Rattle.hx_answer.specs.Steps.{AreTaken, HasSteps, Stops, StopsAt, stopped_by};
 ghost use Rattle.hx_world.specs.Worlds.{IsStepOf, Steps};
 
 use hx_types::{Actor, Script, Step};
-use hx_world::{StepError, World};
+use hx_world::{DrainError, StepError, World};
 use std::alloc::Global;
 
 /// Why the steps of a script were not all taken.
@@ -17,6 +17,19 @@ pub enum Stopped {
     Refused(u64),
     /// A step asks for one more entry of this actor, which has made 1,048,576.
     Worn(Actor),
+}
+
+impl From<DrainError> for Stopped {
+    ghost use Rattle.hx_answer.specs.Steps.{stopped_drain};
+
+    ghost from_gives = { λ error stopped. stopped ≡ stopped_drain error };
+
+    fn from(error: DrainError) -> Self {
+        match error {
+            DrainError::Memory => Stopped::Memory,
+            DrainError::Worn(actor) => Stopped::Worn(actor),
+        }
+    }
 }
 
 /// Takes the steps of a script in order.
@@ -47,8 +60,17 @@ fn take(alloc: Global, world: &mut World, line: u64, step: &Step) -> Result<(), 
 {
     match world.step(alloc, step) {
         Ok(()) => Ok(()),
-        Err(StepError::Memory) => Err(Stopped::Memory),
-        Err(StepError::Worn(actor)) => Err(Stopped::Worn(actor)),
-        Err(_) => Err(Stopped::Refused(line)),
+        Err(error) => Err(stopped_by(error, line)),
+    }
+}
+
+/// Why the steps stop where the one on this line failed so.
+fn stopped_by(error: StepError, line: u64) -> Stopped
+    ensures { result ≡ stopped_by error line }
+{
+    match error {
+        StepError::Memory => Stopped::Memory,
+        StepError::Worn(actor) => Stopped::Worn(actor),
+        _ => Stopped::Refused(line),
     }
 }
