@@ -26,7 +26,8 @@ use Rattle.hx_outbox.specs.declared.outboxes.Outbox.{Outbox}
 use Rattle.hx_outbox.specs.Outboxes.{AreGood, counts_of, kept_weight, out_weight, outs_of, IsOutPort}
 use Rattle.hx_outbox.specs.Places.{place_of}
 use Rattle.hx_outbox.specs.Zipped.{Both}
-use Rattle.hx_outbox.specs.Offers.{FateCounts, IsOffered, IsTotal}
+use Rattle.hx_fate.specs.Counts.{FateCounts}
+use Rattle.hx_outbox.specs.Offers.{IsOffered, IsTotal}
 use Rattle.hx_outbox.proofs.Lists.{map-length}
 use Rattle.hx_outbox.proofs.Offering.{offered-none}
 use Rattle.hx_desk.specs.declared.desks.Desk.{Desk}

@@ -5,7 +5,7 @@ use Rattle.std.proofs.lemmas.Option.{slice_get_within, slice_get-get_or}
 some_inj : {A : Type 0} (x y : A) → Some x ≡ Some y → x ≡ y
 some_inj x y e = cc
 
-module _ {A : Type 0} (count : A → ℕ) where
+module _ {A B : Type 0} (count : A → B) where
   -- a count of the item at each place is that of the item that stood there
   abbrev pub Stays : List A → List A → Type 0
   Stays xs ys = (i : ℕ) (f h : A) → slice_get xs i ≡ Some f → slice_get ys i ≡ Some h → count h ≡ count f

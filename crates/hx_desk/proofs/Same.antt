@@ -20,7 +20,8 @@ use Rattle.hx_machine.specs.Machines.{entry_in, CanTake, IsMachine, IsPlanOn, Is
 use Rattle.hx_mail.specs.declared.views.Mailed.{Mailed}
 use Rattle.hx_mail.specs.Boxes.{Boxed}
 use Rattle.hx_outbox.specs.declared.outboxes.Outbox.{Outbox}
-use Rattle.hx_outbox.specs.Offers.{FateCounts, IsTotal}
+use Rattle.hx_fate.specs.Counts.{FateCounts}
+use Rattle.hx_outbox.specs.Offers.{IsTotal}
 use Rattle.hx_outbox.specs.Outboxes.{kept_weight, IsOutbox}
 use Rattle.hx_desk.specs.declared.desks.Desk.{Desk}
 use Rattle.hx_desk.specs.Desks.{entries_before, past_of, HasRetried, IsBrokenDesk, IsDesk, IsSame, IsWholeDesk}

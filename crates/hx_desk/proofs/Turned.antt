@@ -7,7 +7,8 @@ use Rattle.hx_clock.proofs.Lists.{get-below, get-snoc}
 use Rattle.hx_law_threads.specs.Cuts.{is_retry}
 use Rattle.hx_mail.specs.Boxes.{Boxed}
 use Rattle.hx_outbox.specs.declared.outboxes.Outbox.{Outbox}
-use Rattle.hx_outbox.specs.Offers.{FateCounts, IsTotal}
+use Rattle.hx_fate.specs.Counts.{FateCounts}
+use Rattle.hx_outbox.specs.Offers.{IsTotal}
 use Rattle.hx_outbox.specs.Outboxes.{kept_weight, out_weight, IsOutbox}
 use Rattle.hx_outbox.proofs.Lists.{begins-refl, begins-trans}
 use Rattle.hx_outbox.proofs.Offering.{offered-both, offered-none}

@@ -2,13 +2,9 @@
 use Rattle.std.specs.Prelude.{ℕ, ◌≡◌, ◌+◌, ◌≤◌, true, false, List, [], ◌∷◌, ◌++◌, length, map, reverse, slice_get, Some}
 use mathlib.Core.List.{IsPrefix}
 use Rattle.atomic_table.specs.Seated.{TableId}
-use Rattle.hx_types.specs.declared.ids.Actor.{Actor}
 use Rattle.hx_types.specs.declared.limits.TheConstants.{MOST_ENTRIES}
 use Rattle.hx_types.specs.declared.traces.Entry.{Entry}
-use Rattle.hx_types.specs.declared.traces.Input.{Input}
 use Rattle.hx_types.specs.declared.traces.Script.{Script}
-use Rattle.hx_types.specs.declared.traces.Input.TheVariants.{Tick, Halt, Deliver}
-use Rattle.hx_types.specs.Words.{post}
 use Rattle.hx_model.specs.Runs.{has_halted, is_actor}
 use Rattle.hx_clock.specs.declared.parts.Stamped.{Stamped}
 use Rattle.hx_clock.specs.Views.{Owns}
@@ -18,7 +14,6 @@ use Rattle.hx_law_own.specs.Feeding.{IsFed, entries_in}
 use Rattle.hx_machine.specs.Machines.{IsMachine}
 use Rattle.hx_mail.specs.declared.views.Mailed.{Mailed}
 use Rattle.hx_mail.specs.Boxes.{Boxed}
-use Rattle.hx_mail.specs.Ports.{mailed}
 use Rattle.hx_outbox.specs.Outboxes.{AreGood}
 use Rattle.hx_outbox.specs.Offers.{named}
 use Rattle.hx_outbox.specs.Places.{place_of}

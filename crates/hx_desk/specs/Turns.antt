@@ -11,7 +11,8 @@ use Rattle.hx_mail.specs.declared.views.Mailed.{Mailed}
 use Rattle.hx_mail.specs.Boxes.{Boxed}
 use Rattle.hx_outbox.specs.declared.outboxes.Outbox.{Outbox}
 use Rattle.hx_outbox.specs.Outboxes.{IsOutbox, MorePut, kept_weight, out_weight}
-use Rattle.hx_outbox.specs.Offers.{FateCounts, IsOffered, IsTotal}
+use Rattle.hx_fate.specs.Counts.{FateCounts}
+use Rattle.hx_outbox.specs.Offers.{IsOffered, IsTotal}
 use Rattle.hx_desk.specs.declared.desks.Desk.{Desk}
 use Rattle.hx_desk.specs.declared.faults.Fault.{Fault}
 use Rattle.hx_desk.specs.declared.faults.Fault.TheVariants.{Memory, Worn}

@@ -12,7 +12,8 @@ use Rattle.hx_mail.specs.declared.views.Mailed.{Mailed}
 use Rattle.hx_mail.specs.Boxes.{Boxed}
 use Rattle.hx_outbox.specs.declared.outboxes.Outbox.{Outbox}
 use Rattle.hx_outbox.specs.Outboxes.{kept_weight}
-use Rattle.hx_outbox.specs.Offers.{asked_of, count_of, raised_by, FateCounts, IsOffered, Offer}
+use Rattle.hx_fate.specs.Counts.{FateCounts}
+use Rattle.hx_outbox.specs.Offers.{asked_of, count_of, raised_by, IsOffered, Offer}
 use Rattle.hx_outbox.proofs.Lists.{at-total, set-total, total-one}
 use Rattle.hx_outbox.proofs.Offering.{offered-both, offered-few, offered-long, offered-none}
 use Rattle.hx_desk.specs.declared.desks.Desk.{Desk}

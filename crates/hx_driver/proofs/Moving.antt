@@ -8,7 +8,7 @@ use Rattle.hx_types.specs.Words.{IsIn}
 use Rattle.hx_clock.specs.declared.parts.Stamped.{Stamped}
 use Rattle.hx_clock.proofs.Lists.{each_map}
 use Rattle.hx_mail.specs.Boxes.{Boxed}
-use Rattle.hx_outbox.specs.Offers.{FateCounts}
+use Rattle.hx_fate.specs.Counts.{FateCounts}
 use Rattle.hx_outbox.specs.Zipped.{Both}
 use Rattle.hx_outbox.proofs.Lists.{begins-refl, begins-trans}
 use Rattle.hx_outbox.proofs.Outs.{more-refl, more-trans}

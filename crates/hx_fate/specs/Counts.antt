@@ -3,6 +3,12 @@ use Rattle.std.specs.Prelude.{ℕ, ◌+◌, Bool, true, false, cond, nat_lt}
 use Rattle.hx_fate.specs.declared.fates.Choice.{Choice}
 use Rattle.hx_fate.specs.declared.fates.Choice.TheVariants.{Deliver, Lose, Twice}
 
+-- a fate's counts: of its choices, of those to lose, and of those to repeat
+pub record FateCounts : Type 0 where
+  pub chosen : ℕ
+  pub lost : ℕ
+  pub doubled : ℕ
+
 abbrev pub greatest_count : ℕ
 greatest_count = 18446744073709551615
 

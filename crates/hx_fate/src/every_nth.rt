@@ -42,11 +42,7 @@ impl EveryNth {
 }
 
 impl Fate for EveryNth {
-    ghost choices = { λ e. e.chosen };
-
-    ghost losses = { λ e. e.lost };
-
-    ghost repeats = { λ e. e.doubled };
+    ghost counts = { λ e. record { chosen = e.chosen; lost = e.lost; doubled = e.doubled } };
 
     /// The choice is that of its number, which is the number of choices with it. From the greatest
     /// `u64` on that number stays.

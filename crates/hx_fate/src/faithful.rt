@@ -30,11 +30,7 @@ impl Faithful {
 }
 
 impl Fate for Faithful {
-    ghost choices = { λ f. f };
-
-    ghost losses = { λ _. 0 };
-
-    ghost repeats = { λ _. 0 };
+    ghost counts = { λ f. record { chosen = f; lost = 0; doubled = 0 } };
 
     /// Always delivers.
     fn choose(&mut self, _from: Actor, _to: Actor) -> Choice

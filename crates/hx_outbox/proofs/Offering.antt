@@ -8,11 +8,11 @@ use Rattle.hx_clock.specs.Views.{one, total}
 use Rattle.hx_clock.proofs.Lists.{each_append, total-append}
 use Rattle.hx_fate.specs.declared.fates.Choice.{Choice}
 use Rattle.hx_fate.specs.declared.fates.Choice.TheVariants.{Deliver, Lose, Twice}
-use Rattle.hx_fate.specs.Counts.{is_lose, is_twice, raised_if}
+use Rattle.hx_fate.specs.Counts.{is_lose, is_twice, raised_if, FateCounts}
 use Rattle.hx_mail.specs.declared.views.Mailed.{Mailed}
 use Rattle.hx_mail.specs.Ports.{mailed}
 use Rattle.hx_outbox.specs.declared.copies.Copies.{Copies}
-use Rattle.hx_outbox.specs.Offers.{firsts_of, is_gone, named, offer, put_weight, raised_by, times_of, FateCounts, IsChoiceOn, IsCounted, IsFair, IsOffered, Offer}
+use Rattle.hx_outbox.specs.Offers.{firsts_of, is_gone, named, offer, put_weight, raised_by, times_of, IsChoiceOn, IsCounted, IsFair, IsOffered, Offer}
 use Rattle.hx_outbox.proofs.Lists.{map-length}
 
 map-append : {A B : Type 0} (f : A → B) (xs ys : List A) → map f (xs ++ ys) ≡ map f xs ++ map f ys

@@ -8,7 +8,7 @@ use Rattle.hx_types.specs.declared.totals.Totals.{Totals}
 use Rattle.hx_clock.specs.Views.{one, total}
 use Rattle.hx_fate.specs.declared.fates.Choice.{Choice}
 use Rattle.hx_fate.specs.declared.fates.Choice.TheVariants.{Deliver, Lose, Twice}
-use Rattle.hx_fate.specs.Counts.{is_lose, is_twice, raised_if}
+use Rattle.hx_fate.specs.Counts.{is_lose, is_twice, raised_if, FateCounts}
 use Rattle.hx_mail.specs.declared.views.Mailed.{Mailed}
 use Rattle.hx_mail.specs.Ports.{mailed}
 use Rattle.hx_outbox.specs.declared.copies.Copies.{Copies}
@@ -62,12 +62,6 @@ asked_of offers = total (λ o. one (not (is_gone o.mailed.post.message))) offers
 -- h of all that was put or kept
 abbrev pub put_weight : (Mailed → ℕ) → List Offer → ℕ
 put_weight h offers = total (λ o. o.times * h o.mailed) offers
-
--- a fate's counts
-pub record FateCounts : Type 0 where
-  pub chosen : ℕ
-  pub lost : ℕ
-  pub doubled : ℕ
 
 -- a count after n more, where it stops at the greatest number
 abbrev pub raised_by : ℕ → ℕ → ℕ

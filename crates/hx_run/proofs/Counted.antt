@@ -18,7 +18,8 @@ use Rattle.hx_law_threads.specs.Own.{IsOwn}
 use Rattle.hx_law_threads.proofs.Lists.{in_map, in_reverse, of_filter, of_map}
 use Rattle.hx_law_threads.proofs.Totals.{total_same}
 use Rattle.hx_mail.specs.declared.views.Mailed.{Mailed}
-use Rattle.hx_outbox.specs.Offers.{asked_of, count_of, is_gone, named, raised_by, FateCounts, Offer}
+use Rattle.hx_fate.specs.Counts.{FateCounts}
+use Rattle.hx_outbox.specs.Offers.{asked_of, count_of, is_gone, named, raised_by, Offer}
 use Rattle.hx_outbox.specs.Places.{place_of}
 use Rattle.hx_outbox.proofs.Lists.{total-one}
 use Rattle.hx_outbox.proofs.Offering.{offered-long}

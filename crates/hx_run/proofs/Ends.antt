@@ -11,7 +11,7 @@ use Rattle.hx_clock.specs.declared.parts.Stamped.{Stamped}
 use Rattle.hx_clock.specs.Seats.{Seated}
 use Rattle.hx_law_threads.specs.Merged.{parts_in, ActorPart, AreWholeParts, HasStampsAsPlaces, IsMerged}
 use Rattle.hx_mail.specs.Boxes.{Boxed, Ported}
-use Rattle.hx_outbox.specs.Offers.{FateCounts}
+use Rattle.hx_fate.specs.Counts.{FateCounts}
 use Rattle.hx_outbox.specs.Places.{AreBoxes}
 use Rattle.hx_outbox.specs.Zipped.{Both}
 use Rattle.hx_outbox.proofs.Lists.{map-length}

@@ -11,7 +11,7 @@ use Rattle.hx_types.specs.Words.{same_actor, IsIn}
 use Rattle.hx_clock.proofs.Lists.{each_all, each_in, in_left, in_right}
 use Rattle.hx_law_threads.proofs.Lists.{in_append, in_map, map_append, of_filter}
 use Rattle.hx_mail.specs.Boxes.{Boxed}
-use Rattle.hx_outbox.specs.Offers.{FateCounts}
+use Rattle.hx_fate.specs.Counts.{FateCounts}
 use Rattle.hx_outbox.specs.Places.{place_of, AreBoxes}
 use Rattle.hx_outbox.specs.Zipped.{Both}
 use Rattle.hx_outbox.proofs.Lists.{map-length}
@@ -27,7 +27,7 @@ use Rattle.hx_law_drivers.specs.Joined.{AreInOrder, AreOnce}
 use Rattle.hx_cluster.specs.Clusters.{actors_dealt, AreNewCrews, IsNewCrew}
 use Rattle.hx_cluster.specs.Everyone.{actors_of}
 use Rattle.hx_run.specs.Closed.{AreClosed, HasPosted}
-use Rattle.hx_run.specs.Rounds.{counted, AreOver, StayCrews}
+use Rattle.hx_run.specs.Rounds.{AreOver, StayCrews}
 use Rattle.hx_run.proofs.Counted.{AreDealtFrom}
 use Rattle.hx_run.proofs.Courses.{crew-trans, stay-each}
 use Rattle.hx_run.proofs.Zipped.{both-map, both-trans, some-same}
@@ -125,9 +125,6 @@ module _ (script : Script) (clock : TableId) (boxes : List Boxed) (w : ℕ) (sta
       }
 
 -- ---- fates
-pub counts-same : (a b c a' b' c' : ℕ) → a ≡ a' → b ≡ b' → c ≡ c' → counted a b c ≡ counted a' b' c'
-counts-same a b c a' b' c' e f g = ap (λ x. counted x b c) e ∙ ap (λ x. counted a' x c) f ∙ ap (λ x. counted a' b' x) g
-
 module _ {D X : Type 0} (crew : D → Crew) (fate : D → X) (counts : X → FateCounts) where
   at-both : (olds news : List D) → Both (λ d d'. IsPosted (crew d) (crew d') (counts (fate d)) (counts (fate d'))) olds news → AllByRecursion IsNewCrew (map crew olds)
       → (i : ℕ) (g : X) (c : Crew) → slice_get (map fate news) i ≡ Some g → slice_get (map crew news) i ≡ Some c

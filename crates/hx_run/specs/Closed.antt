@@ -9,7 +9,7 @@ use Rattle.hx_types.specs.Words.{IsIn}
 use Rattle.hx_mail.specs.declared.views.BoxNames.{BoxNames}
 use Rattle.hx_mail.specs.Boxes.{Boxed, Ported}
 use Rattle.hx_mail.specs.Ports.{CarriesAll, TookAlone}
-use Rattle.hx_outbox.specs.Offers.{FateCounts}
+use Rattle.hx_fate.specs.Counts.{FateCounts}
 use Rattle.hx_outbox.specs.Zipped.{Both}
 use Rattle.hx_desk.specs.declared.desks.Desk.{Desk}
 use Rattle.hx_desk.specs.declared.faults.Fault.{Fault}

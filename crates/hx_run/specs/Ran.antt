@@ -24,7 +24,8 @@ use Rattle.hx_mail.specs.declared.views.PortLists.{PortLists}
 use Rattle.hx_mail.specs.declared.views.Sent.{Sent}
 use Rattle.hx_mail.specs.Boxes.{Ported}
 use Rattle.hx_mail.specs.Ports.{CarriesAll, TookAlone}
-use Rattle.hx_outbox.specs.Offers.{FateCounts, IsTotal, is_gone, raised_by}
+use Rattle.hx_fate.specs.Counts.{FateCounts}
+use Rattle.hx_outbox.specs.Offers.{IsTotal, is_gone, raised_by}
 use Rattle.hx_outbox.specs.Places.{place_of}
 use Rattle.hx_outbox.specs.Zipped.{Both}
 use Rattle.hx_desk.specs.Told.{told_by}

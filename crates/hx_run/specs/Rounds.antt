@@ -5,7 +5,6 @@ use Rattle.atomic_table.specs.Seated.{TableId}
 use Rattle.hx_types.specs.declared.traces.Script.{Script}
 use Rattle.hx_types.specs.Words.{first_some}
 use Rattle.hx_mail.specs.Boxes.{Boxed}
-use Rattle.hx_outbox.specs.Offers.{FateCounts}
 use Rattle.hx_outbox.specs.Zipped.{Both}
 use Rattle.hx_desk.specs.declared.desks.Desk.{Desk}
 use Rattle.hx_desk.specs.declared.faults.Fault.{Fault}
@@ -15,10 +14,6 @@ use Rattle.hx_driver.specs.Crews.{IsCrew}
 use Rattle.hx_machine.specs.Machines.{IsMachine}
 use Rattle.hx_law_drivers.specs.Courses.{AreRetried, AreSliced}
 use Rattle.hx_law_drivers.specs.Rests.{AreAtRest, HaveAllEnded, SomeGoesOn}
-
--- a fate's counts of its choices, of those to lose and of those to repeat
-abbrev pub counted : ℕ → ℕ → ℕ → FateCounts
-counted chosen lost doubled = record { chosen = chosen; lost = lost; doubled = doubled }
 
 -- the actor has the state of its entries
 abbrev pub HasMachine : Script → Desk → Type 0

@@ -46,11 +46,7 @@ impl Coin {
 }
 
 impl Fate for Coin {
-    ghost choices = { λ c. c.chosen };
-
-    ghost losses = { λ c. c.lost };
-
-    ghost repeats = { λ _. 0 };
+    ghost counts = { λ c. record { chosen = c.chosen; lost = c.lost; doubled = 0 } };
 
     fn choose(&mut self, _from: Actor, _to: Actor) -> Choice {
         let draw = self.draw();
@@ -117,11 +113,7 @@ impl Drop for Counted {
 }
 
 impl Fate for Counted {
-    ghost choices = { λ c. c.chosen };
-
-    ghost losses = { λ _. 0 };
-
-    ghost repeats = { λ _. 0 };
+    ghost counts = { λ c. record { chosen = c.chosen; lost = 0; doubled = 0 } };
 
     fn choose(&mut self, _from: Actor, _to: Actor) -> Choice {
         self.asked.fetch_add(1, Ordering::SeqCst);

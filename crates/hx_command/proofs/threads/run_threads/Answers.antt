@@ -21,4 +21,4 @@ returns-clause-risen g c i f h t p q r =
     let within = slice_get_within c.args.fates.items i f p in
     let at : slice_get tuned i ≡ Some (get_or tuned i f) = slice_get-get_or tuned i f (omega (arith, c.tune_first.ensures.count, within)) in
     let same = c.tune_first.ensures.same i f (get_or tuned i f) p at in
-    risen_from c.args.script.now c.args.threading.workers c.in_ok-ran.ran.trace i t _ _ _ _ _ _ _ same.0 same.1 same.2 (c.in_ok-ran.ensures.risen i (get_or tuned i f) h t at q r)
+    risen_from c.args.script.now c.args.threading.workers c.in_ok-ran.ran.trace i t _ _ _ same (c.in_ok-ran.ensures.risen i (get_or tuned i f) h t at q r)

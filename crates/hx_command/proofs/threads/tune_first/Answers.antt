@@ -5,9 +5,5 @@ use Rattle.hx_command.proofs.threads.tune_first.Goals as goal
 pub loop-at-preserved : goal.loop-at-preserved
 loop-at-preserved g c =
     let i = c.loop-at.invariant in
-    let e = c.tune_at.ensures in (
-      e.count ∙ i.0,
-      stays_on (λ b. (goal.Fate-dyn g (b.vtable, b.value)).choices b.value) _ c.loop-at.fates.items _ i.0 i.1 (λ k f h p q. (e.same k f h p q).0),
-      stays_on (λ b. (goal.Fate-dyn g (b.vtable, b.value)).losses b.value) _ c.loop-at.fates.items _ i.0 i.2 (λ k f h p q. (e.same k f h p q).1),
-      stays_on (λ b. (goal.Fate-dyn g (b.vtable, b.value)).repeats b.value) _ c.loop-at.fates.items _ i.0 i.3 (λ k f h p q. (e.same k f h p q).2),
-    )
+    let e = c.tune_at.ensures in
+    (e.count ∙ i.0, stays_on (λ b. (goal.Fate-dyn g (b.vtable, b.value)).counts b.value) _ c.loop-at.fates.items _ i.0 i.1 e.same)

@@ -1,7 +1,7 @@
 use Rattle.std.proofs.Common.{map, ◌≡◌, ◌+◌, length}
 use Rattle.hx_outbox.specs.Zipped.{Both}
 use Rattle.hx_driver.specs.Crews.{IsPosted}
-use Rattle.hx_run.specs.Rounds.{counted, StayCrews}
+use Rattle.hx_run.specs.Rounds.{StayCrews}
 use Rattle.hx_run.proofs.Courses.{RetriedTo}
 use Rattle.hx_run.proofs.rounds.retry_all.Given as goal
 
@@ -11,5 +11,5 @@ invariant-loop-at g l =
     × StayCrews l.script l.clock l.boxes (map (λ d. d.crew) l.initial.drivers) (map (λ d. d.crew) l.drivers)
     × RetriedTo l.script l.at (map (λ d. d.crew) l.initial.drivers) (map (λ d. d.crew) l.drivers)
     × Both (λ d d'. IsPosted d.crew d'.crew
-    (counted ((goal.Fate-dyn g (d.fate.vtable, d.fate.value)).choices d.fate.value) ((goal.Fate-dyn g (d.fate.vtable, d.fate.value)).losses d.fate.value) ((goal.Fate-dyn g (d.fate.vtable, d.fate.value)).repeats d.fate.value))
-    (counted ((goal.Fate-dyn g (d'.fate.vtable, d'.fate.value)).choices d'.fate.value) ((goal.Fate-dyn g (d'.fate.vtable, d'.fate.value)).losses d'.fate.value) ((goal.Fate-dyn g (d'.fate.vtable, d'.fate.value)).repeats d'.fate.value))) l.initial.drivers l.drivers
+    ((goal.Fate-dyn g (d.fate.vtable, d.fate.value)).counts d.fate.value)
+    ((goal.Fate-dyn g (d'.fate.vtable, d'.fate.value)).counts d'.fate.value)) l.initial.drivers l.drivers

@@ -4,7 +4,7 @@ use Rattle.hx_driver.specs.declared.crews.Crew.{Crew}
 use Rattle.hx_driver.specs.Crews.{IsCrew, IsPosted}
 use Rattle.hx_law_drivers.specs.Courses.{IsCourse}
 use Rattle.hx_outbox.specs.Zipped.{Both}
-use Rattle.hx_run.specs.Rounds.{counted, StayCrews}
+use Rattle.hx_run.specs.Rounds.{StayCrews}
 use Rattle.hx_run.proofs.rounds.run_rounds.Given as goal
 
 abbrev pub invariant-loop-round : goal.invariant-loop-round
@@ -13,5 +13,5 @@ invariant-loop-round g l =
     × ((w : ℕ) → AllByRecursion (IsCrew l.script l.clock l.boxes w) (map (λ d. d.crew) l.initial.drivers)
     → (cuts : List (List Crew)) × IsCourse l.script l.clock l.boxes w (map (λ d. d.crew) l.initial.drivers) cuts (map (λ d. d.crew) l.drivers))
     × Both (λ d d'. IsPosted d.crew d'.crew
-    (counted ((goal.Fate-dyn g (d.fate.vtable, d.fate.value)).choices d.fate.value) ((goal.Fate-dyn g (d.fate.vtable, d.fate.value)).losses d.fate.value) ((goal.Fate-dyn g (d.fate.vtable, d.fate.value)).repeats d.fate.value))
-    (counted ((goal.Fate-dyn g (d'.fate.vtable, d'.fate.value)).choices d'.fate.value) ((goal.Fate-dyn g (d'.fate.vtable, d'.fate.value)).losses d'.fate.value) ((goal.Fate-dyn g (d'.fate.vtable, d'.fate.value)).repeats d'.fate.value))) l.initial.drivers l.drivers
+    ((goal.Fate-dyn g (d.fate.vtable, d.fate.value)).counts d.fate.value)
+    ((goal.Fate-dyn g (d'.fate.vtable, d'.fate.value)).counts d'.fate.value)) l.initial.drivers l.drivers

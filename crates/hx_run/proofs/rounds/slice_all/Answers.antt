@@ -1,7 +1,7 @@
 use Rattle.hx_law_drivers.specs.Courses.{IsSliced}
 use Rattle.std.proofs.Common.{ℕ}
 use Rattle.hx_driver.specs.Crews.{IsCrew, IsPosted}
-use Rattle.hx_run.specs.Rounds.{counted, StaysCrew}
+use Rattle.hx_run.specs.Rounds.{StaysCrew}
 use Rattle.hx_run.proofs.Zipped.{both-by, both-each-at, moved, moved-at, moved-by}
 use Rattle.hx_run.proofs.rounds.slice_all.Goals as goal
 
@@ -21,14 +21,14 @@ returns-clause-posted g c =
     both-each-at
     (λ d d'.
     IsPosted d.crew d'.crew
-    (counted ((goal.Fate-dyn g (d.fate.vtable, d.fate.value)).choices d.fate.value) ((goal.Fate-dyn g (d.fate.vtable, d.fate.value)).losses d.fate.value) ((goal.Fate-dyn g (d.fate.vtable, d.fate.value)).repeats d.fate.value))
-    (counted ((goal.Fate-dyn g (d'.fate.vtable, d'.fate.value)).choices d'.fate.value) ((goal.Fate-dyn g (d'.fate.vtable, d'.fate.value)).losses d'.fate.value) ((goal.Fate-dyn g (d'.fate.vtable, d'.fate.value)).repeats d'.fate.value)))
+    ((goal.Fate-dyn g (d.fate.vtable, d.fate.value)).counts d.fate.value)
+    ((goal.Fate-dyn g (d'.fate.vtable, d'.fate.value)).counts d'.fate.value))
     c.args.drivers.now c.for_each_mut.new.s c.for_each_mut.auto.s
     (λ i d lt. let k = (c.for_each_mut.ensures i d lt).1 in moved
     (λ d d'.
     IsPosted d.crew d'.crew
-    (counted ((goal.Fate-dyn g (d.fate.vtable, d.fate.value)).choices d.fate.value) ((goal.Fate-dyn g (d.fate.vtable, d.fate.value)).losses d.fate.value) ((goal.Fate-dyn g (d.fate.vtable, d.fate.value)).repeats d.fate.value))
-    (counted ((goal.Fate-dyn g (d'.fate.vtable, d'.fate.value)).choices d'.fate.value) ((goal.Fate-dyn g (d'.fate.vtable, d'.fate.value)).losses d'.fate.value) ((goal.Fate-dyn g (d'.fate.vtable, d'.fate.value)).repeats d'.fate.value)))
+    ((goal.Fate-dyn g (d.fate.vtable, d.fate.value)).counts d.fate.value)
+    ((goal.Fate-dyn g (d'.fate.vtable, d'.fate.value)).counts d'.fate.value))
     k.argument.now k.after_call.now _ _ k.argument_is k.left k.call.1.1)
 
 pub for_each_mut-requires-clause-accepts : goal.for_each_mut-requires-clause-accepts

@@ -1,9 +1,8 @@
 use Rattle.std.proofs.Common.{◌≡◌, ◌∙◌, ap, sym, subst, arith, length, map, drop}
 use Rattle.hx_outbox.specs.Places.{AreBoxes}
 use Rattle.hx_outbox.proofs.Outs.{both-long}
-use Rattle.hx_run.specs.Rounds.{counted}
 use Rattle.hx_run.proofs.Ends.{actors-need, all-posted, closed-of, crews-need, how-long, left-same, lent-crews}
-use Rattle.hx_run.proofs.Starts.{counts-same, cut-same}
+use Rattle.hx_run.proofs.Starts.{cut-same}
 use Rattle.hx_run.proofs.running.run_drivers.Goals as goal
 
 pub run_rounds-fault-requires-clause-crews : goal.run_rounds-fault-requires-clause-crews
@@ -42,7 +41,7 @@ returns g c =
         closed-of (λ d. d.crew) c.args.script.now c.args.clock.now c.as_slice-held.result.now c.args.workers xs c.as_mut_slice.result.now news _ c.as_mut_slice.ensures.value stays c.in_ok-drivers.ensures.crews c.run_rounds-fault.ensures.crews c.run_rounds-fault.ensures.course c.run_rounds-fault.result c.requires.script (subst (AreBoxes c.args.script.now c.args.clock.now) (sym c.as_slice-held.ensures.value) c.in_ok-boxes.ensures.boxes) c.run_rounds-fault.ensures.over c.in_ok-left.ensures.order c.in_ok-left.ensures.once,
         left-same (λ d. d.crew) c.args.script.now c.args.clock.now c.as_slice-held.result.now c.args.workers xs c.as_mut_slice.result.now news _ c.as_mut_slice.ensures.value stays c.in_ok-drivers.ensures.crews c.run_rounds-fault.ensures.crews c.run_rounds-fault.ensures.course c.in_ok-left.left.actors.items c.in_ok-left.left.totals.items c.in_ok-left.left.ports.items c.in_ok-left.ensures.left,
         how-long (λ d. d.crew) c.args.script.now c.args.clock.now c.as_slice-held.result.now c.args.workers xs c.as_mut_slice.result.now news _ c.as_mut_slice.ensures.value stays c.in_ok-drivers.ensures.crews c.run_rounds-fault.ensures.crews c.run_rounds-fault.ensures.course (λ d. d.fate) c.in_ok-left.left.fates.items c.in_ok-left.ensures.fates long,
-        all-posted (λ d. d.crew) c.args.script.now c.args.clock.now c.as_slice-held.result.now c.args.workers xs c.as_mut_slice.result.now news _ c.as_mut_slice.ensures.value stays c.in_ok-drivers.ensures.crews c.run_rounds-fault.ensures.crews c.run_rounds-fault.ensures.course (λ d. d.fate) (λ x. counted ((goal.Fate-dyn g (x.vtable, x.value)).choices x.value) ((goal.Fate-dyn g (x.vtable, x.value)).losses x.value) ((goal.Fate-dyn g (x.vtable, x.value)).repeats x.value)) c.args.fates.items c.in_ok-left.left.fates.items c.run_rounds-fault.ensures.posted
-            (λ i d u p q. let s = c.in_ok-drivers.ensures.fates i d u p q in counts-same _ _ _ _ _ _ s.0 s.1 s.2) c.in_ok-left.ensures.fates,
+        all-posted (λ d. d.crew) c.args.script.now c.args.clock.now c.as_slice-held.result.now c.args.workers xs c.as_mut_slice.result.now news _ c.as_mut_slice.ensures.value stays c.in_ok-drivers.ensures.crews c.run_rounds-fault.ensures.crews c.run_rounds-fault.ensures.course (λ d. d.fate) (λ x. (goal.Fate-dyn g (x.vtable, x.value)).counts x.value) c.args.fates.items c.in_ok-left.left.fates.items c.run_rounds-fault.ensures.posted
+            c.in_ok-drivers.ensures.fates c.in_ok-left.ensures.fates,
       );
     }
