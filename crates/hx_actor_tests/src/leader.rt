@@ -1,6 +1,6 @@
 use crate::chain::config;
 use crate::spaces::{books, text};
-use hx_leader::*;
+use hx_chain::*;
 use hx_region::RegionMap;
 use hx_slot::Slot;
 use hx_types::{Answer, Assigns, Caller, Decision, Op, RegionId, SessionId};

@@ -15,7 +15,7 @@ use Rattle.hx_types.specs.Words.{below}
 use Rattle.hx_model.specs.Runs.{is_actor}
 use Rattle.hx_clock.specs.Views.{total, Owns}
 use Rattle.hx_law_threads.specs.Own.{IsOwn}
-use Rattle.hx_law_own.specs.Feeding.{IsFed}
+use Rattle.hx_law_threads.specs.Feeding.{IsFed}
 use Rattle.hx_machine.specs.Machines.{IsMachine}
 use Rattle.hx_law_drivers.specs.Crews.{AreNumbered}
 use Rattle.hx_clock.proofs.Lists.{each_append}

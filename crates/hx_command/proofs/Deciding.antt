@@ -6,12 +6,12 @@ use Rattle.hx_types.specs.declared.ids.Actor.{Actor}
 use Rattle.hx_types.specs.declared.traces.Script.{Script}
 use Rattle.hx_script.specs.declared.errors.Reason.{Reason}
 use Rattle.hx_words.specs.declared.commands.Run.{Run}
-use Rattle.hx_answer.specs.Calling.{Drawn, Filled}
-use Rattle.hx_answer.specs.Causes.{IsCause, IsFaulty, IsJudged, IsRefused, IsRefusedUnder}
+use Rattle.hx_replay.specs.Calling.{Drawn, Filled}
+use Rattle.hx_replay.specs.Causes.{IsCause, IsFaulty, IsJudged, IsRefused, IsRefusedUnder}
 use Rattle.hx_command.specs.Threads.{EndsOnThreads, EndsRun, Handed, IsDecided, IsReadAs, nothing}
-use Rattle.hx_answer.specs.declared.outcomes.Outcome.{Outcome}
-use Rattle.hx_answer.specs.declared.outcomes.Outcome.TheVariants.{Fine, Usage, Refused, TooLarge, ReadFault, WriteFault, Memory, Worn}
-use Rattle.hx_answer.specs.declared.words.Command.TheVariants.{Plan}
+use Rattle.hx_replay.specs.declared.outcomes.Outcome.{Outcome}
+use Rattle.hx_replay.specs.declared.outcomes.Outcome.TheVariants.{Fine, Usage, Refused, TooLarge, ReadFault, WriteFault, Memory, Worn}
+use Rattle.hx_replay.specs.declared.words.Command.TheVariants.{Plan}
 
 -- a script, where there is none to name
 pub no_script : Script

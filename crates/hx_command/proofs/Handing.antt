@@ -15,16 +15,16 @@ use Rattle.hx_law_causes.specs.Causes.{RunsHaveCauses}
 use Rattle.hx_fate.specs.Counts.{FateCounts}
 use Rattle.hx_outbox.specs.Offers.{raised_by}
 use Rattle.hx_mail.specs.Boxes.{Ported}
-use Rattle.hx_gen.specs.Soaking.{script_drawn}
+use Rattle.hx_soak.specs.Soaking.{script_drawn}
 use Rattle.hx_law_soak.specs.Soaks.{IsSoak, NoHalts, SoaksSumUpInOrder}
 use Rattle.hx_law_threads.proofs.Lists.{of_reverse}
-use Rattle.hx_summary.specs.Summing.{IsSummary}
+use Rattle.hx_soak.specs.Summing.{IsSummary}
 use Rattle.hx_words.specs.declared.commands.Soak.{Soak}
 use Rattle.hx_run.specs.Ran.{HasNoHalts, HasRisen, is_asked, is_halt, posts_by}
-use Rattle.hx_answer.specs.Calling.{Filled}
+use Rattle.hx_replay.specs.Calling.{Filled}
 use Rattle.hx_command.specs.Threads.{EndsOnThreads, Handed, IsLawful, IsSummed, IsThreaded, IsWritten, nothing}
-use Rattle.hx_answer.specs.declared.outcomes.Outcome.{Outcome}
-use Rattle.hx_answer.specs.declared.outcomes.Outcome.TheVariants.{Fine, Usage, Refused, TooLarge, ReadFault, WriteFault, Memory, Worn}
+use Rattle.hx_replay.specs.declared.outcomes.Outcome.{Outcome}
+use Rattle.hx_replay.specs.declared.outcomes.Outcome.TheVariants.{Fine, Usage, Refused, TooLarge, ReadFault, WriteFault, Memory, Worn}
 
 -- what is handed back, part by part
 abbrev pub handed : List Entry → List Totals → List Ported → ℕ → Handed

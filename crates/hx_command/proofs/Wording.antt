@@ -7,12 +7,12 @@ use Rattle.hx_types.specs.declared.traces.Script.{Script}
 use Rattle.hx_words.specs.Saying.{SaysRun, SaysSoak}
 use Rattle.hx_words.specs.declared.commands.Run.{Run}
 use Rattle.hx_words.specs.declared.commands.Soak.{Soak}
-use Rattle.hx_answer.specs.Calling.{Drawn, Filled}
-use Rattle.hx_answer.specs.Causes.{IsJudged}
+use Rattle.hx_replay.specs.Calling.{Drawn, Filled}
+use Rattle.hx_replay.specs.Causes.{IsJudged}
 use Rattle.hx_command.specs.Telling.{Told}
 use Rattle.hx_command.specs.Threads.{EndsRun, IsDecided, nothing}
-use Rattle.hx_answer.specs.declared.outcomes.Outcome.TheVariants.{Memory}
-use Rattle.hx_answer.specs.declared.words.Command.TheVariants.{Plan}
+use Rattle.hx_replay.specs.declared.outcomes.Outcome.TheVariants.{Memory}
+use Rattle.hx_replay.specs.declared.words.Command.TheVariants.{Plan}
 use Rattle.hx_command.proofs.Deciding.{no_script}
 
 pub same_some : {A : Type 0} (x y : A) → Some x ≡ Some y → y ≡ x

@@ -8,9 +8,9 @@ use Rattle.hx_types.specs.declared.traces.Script.{Script}
 use Rattle.hx_words.specs.declared.commands.Run.{Run}
 use Rattle.hx_words.specs.declared.commands.Soak.{Soak}
 use Rattle.hx_words.specs.Saying.{SaysRun, SaysSoak}
-use Rattle.hx_answer.specs.declared.outcomes.Outcome.{Outcome}
-use Rattle.hx_answer.specs.declared.outcomes.Outcome.TheVariants as an_outcome
-use Rattle.hx_answer.specs.Calling.{Drawn, Ends, Filled, Writes}
+use Rattle.hx_replay.specs.declared.outcomes.Outcome.{Outcome}
+use Rattle.hx_replay.specs.declared.outcomes.Outcome.TheVariants as an_outcome
+use Rattle.hx_replay.specs.Calling.{Drawn, Ends, Filled, Writes}
 use Rattle.hx_command.specs.Threads.{EndsRun, EndsSoak, Handed, IsDecided, IsUnthreaded}
 
 -- the answer to words that start no threads was written

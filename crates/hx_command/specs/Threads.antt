@@ -17,17 +17,17 @@ use Rattle.hx_model.specs.Searching.{FinishedSearch, search_of}
 use Rattle.hx_report.specs.Reporting.{IsReport}
 use Rattle.hx_mail.specs.Boxes.{Ported}
 use Rattle.hx_run.specs.Ran.{IsRan}
-use Rattle.hx_gen.specs.Soaking.{script_drawn, soak}
+use Rattle.hx_soak.specs.Soaking.{script_drawn, soak}
 use Rattle.hx_law_soak.specs.Sequence.{tally_in_order}
-use Rattle.hx_summary.specs.Summing.{tally_text}
+use Rattle.hx_soak.specs.Summing.{tally_text}
 use Rattle.hx_words.specs.Saying.{SaysRun, SaysSoak}
 use Rattle.hx_words.specs.declared.commands.Run.{Run}
 use Rattle.hx_words.specs.declared.commands.Soak.{Soak}
-use Rattle.hx_answer.specs.declared.outcomes.Outcome.{Outcome}
-use Rattle.hx_answer.specs.declared.outcomes.Outcome.TheVariants as an_outcome
-use Rattle.hx_answer.specs.declared.words.Command.TheVariants as a_command
-use Rattle.hx_answer.specs.Calling.{Drawn, Filled}
-use Rattle.hx_answer.specs.Causes.{IsFaulty, IsJudged, IsRefused, IsSearchWell, IsTaken, ReadsText, limit}
+use Rattle.hx_replay.specs.declared.outcomes.Outcome.{Outcome}
+use Rattle.hx_replay.specs.declared.outcomes.Outcome.TheVariants as an_outcome
+use Rattle.hx_replay.specs.declared.words.Command.TheVariants as a_command
+use Rattle.hx_replay.specs.Calling.{Drawn, Filled}
+use Rattle.hx_replay.specs.Causes.{IsFaulty, IsJudged, IsRefused, IsSearchWell, IsTaken, ReadsText, limit}
 
 -- what a call hands back beside its outcome; of the fates, how many
 pub record Handed : Type 0 where

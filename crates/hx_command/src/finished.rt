@@ -1,9 +1,9 @@
 ghost use Rattle.std.specs.Prelude.{◌≡◌, []};
-ghost use Rattle.hx_answer.specs.Outcomes.{status_of};
+ghost use Rattle.hx_replay.specs.Outcomes.{status_of};
 
-use hx_answer::{Done, Outcome, status};
 use hx_fate::Fate;
 use hx_mail::Port;
+use hx_replay::{Done, Outcome, status};
 use hx_trace::Trace;
 use hx_types::Totals;
 use std::alloc::Global;

@@ -1,12 +1,12 @@
 ghost use Rattle.std.specs.Prelude.{◌≡◌, ◌≤◌, IfOk, IfErr, IfSome, Ok};
 ghost use Rattle.hx_script.specs.Texts.{script_of};
 ghost use Rattle.hx_types.specs.Fitting.{IsScript};
-ghost use Rattle.hx_answer.specs.Causes.{IsCause, IsTextCause};
+ghost use Rattle.hx_replay.specs.Causes.{IsCause, IsTextCause};
 ghost use Rattle.hx_command.specs.Threads.{IsReadAs, ReadsScript};
-ghost use Rattle.hx_answer.specs.declared.words.Command.TheVariants as a_command;
+ghost use Rattle.hx_replay.specs.declared.words.Command.TheVariants as a_command;
 
-use hx_answer::Outcome;
 use hx_io::{Source, read_all};
+use hx_replay::Outcome;
 use hx_types::{LONGEST_SCRIPT, Script};
 use std::alloc::Global;
 

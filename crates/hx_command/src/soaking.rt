@@ -2,20 +2,20 @@ ghost use Rattle.std.specs.Prelude.{◌≡◌, ◌≤◌, ◌⊎◌, ℕ, [], le
 ghost use Rattle.hx_types.specs.declared.totals.Totals.{Totals as TotalsSeen};
 ghost use Rattle.hx_types.specs.Fitting.{IsScript};
 ghost use Rattle.hx_types.specs.declared.limits.TheConstants.{MOST_CALLS};
-ghost use Rattle.hx_gen.specs.Soaking.{script_drawn};
+ghost use Rattle.hx_soak.specs.Soaking.{script_drawn};
 ghost use Rattle.hx_run.specs.Ran.{HasRisen};
-ghost use Rattle.hx_answer.specs.Outcomes.{IsSilent, status_of};
+ghost use Rattle.hx_replay.specs.Outcomes.{IsSilent, status_of};
 ghost use Rattle.hx_command.specs.Threads.{EndsOnThreads, IsSummed, IsThreaded};
 
 use crate::finished::{Finished, ended};
 use crate::threads::{Threading, run_threads};
 use crate::writing::{hand_worn, write_answer};
-use hx_answer::Outcome;
 use hx_desk::Gate;
 use hx_fate::Fate;
 use hx_io::Sink;
+use hx_replay::Outcome;
 use hx_run::Ran;
-use hx_summary::summary;
+use hx_soak::summary;
 use hx_types::Script;
 use hx_words::Soak;
 use std::alloc::Global;

@@ -1,11 +1,11 @@
 ghost use Rattle.std.specs.Prelude.{◌≡◌, ◌≤◌};
-ghost use Rattle.hx_answer.specs.Outcomes.{status_of};
+ghost use Rattle.hx_replay.specs.Outcomes.{status_of};
 ghost use Rattle.hx_command.specs.Threads.{IsWritten};
-ghost use Rattle.hx_answer.specs.declared.outcomes.Outcome.TheVariants as an_outcome;
+ghost use Rattle.hx_replay.specs.declared.outcomes.Outcome.TheVariants as an_outcome;
 
 use crate::finished::Finished;
-use hx_answer::{Done, Outcome, status};
 use hx_io::{Sink, write_all};
+use hx_replay::{Done, Outcome, status};
 use hx_run::Ran;
 use hx_types::Actor;
 

@@ -21,9 +21,9 @@ use Rattle.hx_types.specs.Spaces.{IsServerOf, IsSpace}
 use Rattle.hx_types.specs.Words.{IsIn, below, post}
 use Rattle.hx_model.specs.CoordinatorSteps.{CoordinatorState, Newest, Phase, Sealing, Steady, coordinator_at_start, coordinator_step}
 use Rattle.hx_law_lemmas.proofs.Lists.{all-in, all-of, in-flat, in_left, in_right, map-in}
-use Rattle.hx_posts.proofs.Bounds.{answer-up}
-use Rattle.hx_posts.proofs.Configs.{first-of_space}
-use Rattle.hx_posts.proofs.CoordinatorSteps.{DoesWell, IsMaybeSound, IsSoundCoordinator, WaitsFor, coordinator-good}
+use Rattle.hx_law_posts.proofs.Bounds.{answer-up}
+use Rattle.hx_law_posts.proofs.Configs.{first-of_space}
+use Rattle.hx_law_posts.proofs.CoordinatorSteps.{DoesWell, IsMaybeSound, IsSoundCoordinator, WaitsFor, coordinator-good}
 use Rattle.hx_coord.specs.Coordinators.{CoordinatorUpTo, IsCoordinatorOf, IsInputOf, IsMaybeAnswerOf, IsTaskOf, MaybeAnswerUpTo, actors_of_coordinator, actors_of_task, known_to, servers_waited_for}
 use Rattle.hx_types.specs.Posted.{ArePostsOf, IsPostOf, MessageUpTo, NameOnly, NamesOnly, PostsUpTo, actors_of_config, actors_of_input, actors_of_message, servers_among}
 use Rattle.hx_coord.proofs.Making.{IsGood, Knows, KnowsInput, stepped}
@@ -160,10 +160,6 @@ posts_small c input most small =
 
 -- every answer is within some bound
 answer_bound : (a : Answer) → (most : ℕ) × AnswerUpTo most a
-answer_bound an_answer.Done = (0, tt)
-answer_bound an_answer.NotFound = (0, tt)
-answer_bound an_answer.CmpFail = (0, tt)
-answer_bound (an_answer.Found object) = (0, tt)
 answer_bound (an_answer.Rows rows) = by rows
   where
     by : (rows : List Row) → (most : ℕ) × All (λ (r : Row). r.version.0 ≤ most) rows
@@ -183,6 +179,7 @@ answer_bound (an_answer.Stopped epoch) = (epoch.0, omega arith)
 answer_bound (an_answer.Member epoch) = (epoch.0, omega arith)
 answer_bound (an_answer.Joining epoch) = (epoch.0, omega arith)
 answer_bound (an_answer.Lost epoch) = (epoch.0, omega arith)
+answer_bound other = (0, tt)
 
 -- and so is all that a coordinator keeps
 coordinator_bound : (c : CoordinatorState) → (most : ℕ) × CoordinatorUpTo most c

@@ -11,7 +11,7 @@ use crate::hearing::hear;
 use crate::outputs::StepOutput;
 use crate::prepared::{Plan, put_config};
 use crate::turns::tick;
-use hx_types::{Actor, Config, Entry, Exact, Input, Memory, Shared, Space, first_config};
+use hx_types::{Actor, Config, Entry, Exact, Input, Memory, Shared, Space, first_shared_config};
 use std::alloc::Global;
 use std::marker::Model;
 
@@ -50,7 +50,7 @@ impl Coordinator {
         ensures state { IfOk result (λ coordinator. coordinator ≡ coordinator_at_start space.now sessions) }
         ensures of_space { IfOk result (IsCoordinatorOf space.now) }
     {
-        let config = Shared::new(alloc, first_config(alloc, space)?)?;
+        let config = first_shared_config(alloc, space)?;
         Ok(Coordinator {
             config,
             agenda: Agenda::new(alloc, sessions),

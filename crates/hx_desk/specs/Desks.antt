@@ -10,7 +10,7 @@ use Rattle.hx_clock.specs.declared.parts.Stamped.{Stamped}
 use Rattle.hx_clock.specs.Views.{Owns}
 use Rattle.hx_law_threads.specs.Own.{IsOwn}
 use Rattle.hx_law_threads.specs.Cuts.{is_retry, is_waiting}
-use Rattle.hx_law_own.specs.Feeding.{IsFed, entries_in}
+use Rattle.hx_law_threads.specs.Feeding.{IsFed, entries_in}
 use Rattle.hx_machine.specs.Machines.{IsMachine}
 use Rattle.hx_mail.specs.declared.views.Mailed.{Mailed}
 use Rattle.hx_mail.specs.Boxes.{Boxed}

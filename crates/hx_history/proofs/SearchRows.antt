@@ -29,17 +29,7 @@ by_answer : (c : Caller) (begin entry : ℕ) (version : Version) (terms : List T
     (when_some (if is_doubt answer then None else Some (record { entry = entry; version = version; answer = answer })) None
     (λ (e : CallEnd). with_rows c terms begin e.entry (rows_in e.answer)))
 by_answer c begin entry version terms an_answer.Done = refl
-by_answer c begin entry version terms an_answer.NotFound = refl
-by_answer c begin entry version terms an_answer.CmpFail = refl
-by_answer c begin entry version terms (an_answer.Found object) = refl
-by_answer c begin entry version terms (an_answer.Rows rows) = refl
-by_answer c begin entry version terms (an_answer.Refused region epoch) = refl
-by_answer c begin entry version terms (an_answer.Doubt region epoch) = refl
-by_answer c begin entry version terms (an_answer.Issued epoch) = refl
-by_answer c begin entry version terms (an_answer.Stopped epoch) = refl
-by_answer c begin entry version terms (an_answer.Member epoch) = refl
-by_answer c begin entry version terms (an_answer.Joining epoch) = refl
-by_answer c begin entry version terms (an_answer.Lost epoch) = refl
+by_answer c begin entry version terms other = refl
 
 abbrev unless_doubt : Option CallEnd → Option CallEnd
 unless_doubt end = when_some end None (λ (e : CallEnd). if is_doubt e.answer then None else Some e)

@@ -7,7 +7,7 @@ ghost use Rattle.hx_index.specs.Orders.{IsOrder, compare_at, key_of, rows_at, ro
 
 use crate::comparing::{is_before, row_at};
 use crate::staying::{has_key, stays};
-use hx_types::{Memory, Row};
+use hx_types::{Memory, Row, insert_within};
 use std::alloc::Global;
 
 /// How many numbers stand before one, at which this row is, in the order of an attribute.
@@ -33,17 +33,6 @@ pub fn insert_number(order: &mut Vec<u32>, rows: &[Option<Row>], attribute: u32,
     };
     let place = place_of(order.as_slice(), rows, attribute, id, row);
     insert_within(order, place, id);
-}
-
-/// Puts a number before the one at a place. There is room, so it takes no memory.
-fn insert_within(order: &mut Vec<u32>, place: usize, id: u32)
-    requires place { place ≤ vec_len order.old }
-    requires room { vec_len order.old < vec_capacity order.old }
-    ensures items { order.new.items ≡ insert order.old.items place id }
-    ensures len { vec_len order.new ≡ vec_len order.old + 1 }
-    ensures capacity { vec_capacity order.old ≤ vec_capacity order.new }
-{
-    let _ = order.insert(place, id);
 }
 
 /// Takes a number, which stands by this row, out of the order of an attribute.

@@ -7,7 +7,7 @@ ghost use Rattle.hx_index.specs.Sides.{matches_at, side_at};
 
 use crate::comparing::{row_at, side_of};
 use crate::looking::{Look, Side};
-use hx_query::matches;
+use hx_region::matches;
 use hx_types::{Row, Term, Terms};
 use std::marker::Model;
 

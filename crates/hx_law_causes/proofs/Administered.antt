@@ -64,13 +64,7 @@ OutcomeCause script t c (an_answer.Stopped epoch) = Passes script t c epoch not_
 OutcomeCause script t c (an_answer.Member epoch) = Passes script t c epoch (λ op config. administers_to (λ s g. lists_ready config g s) (λ s. false) op)
 OutcomeCause script t c (an_answer.Joining epoch) = Passes script t c epoch (λ op config. administers_to (λ s g. any_joining (members_of config g)) (λ s. false) op)
 OutcomeCause script t c (an_answer.Lost epoch) = Passes script t c epoch (λ op config. administers_to (λ s g. is_lost config g) (λ s. false) op)
-OutcomeCause script t c an_answer.Done = ⊥
-OutcomeCause script t c an_answer.NotFound = ⊥
-OutcomeCause script t c an_answer.CmpFail = ⊥
-OutcomeCause script t c (an_answer.Found object) = ⊥
-OutcomeCause script t c (an_answer.Rows rows) = ⊥
-OutcomeCause script t c (an_answer.Refused g epoch) = ⊥
-OutcomeCause script t c (an_answer.Doubt g epoch) = ⊥
+OutcomeCause script t c other = ⊥
 
 -- what every run keeps of administrative calls
 pub record Administers (script : Script) (t : List Entry) : Type 0 where

@@ -44,22 +44,7 @@ to-session (Session u) P Q f h = f u h
 
 pub spoken-map : (G H : Caller → Answer → Type 0) → ((c : Caller) (a : Answer) → G c a → H c a) → (to : Actor) (m : Message) → Spoken G to m → Spoken H to m
 spoken-map G H f to (a_message.Outcome number a) h = to-session to (λ u. G (record { session = u; number = number }) a) (λ u. H (record { session = u; number = number }) a) (λ u. f (record { session = u; number = number }) a) h
-spoken-map G H f to (a_message.Call epoch number op) h = tt
-spoken-map G H f to (a_message.Reply number version answer) h = tt
-spoken-map G H f to (a_message.Update epoch g u) h = tt
-spoken-map G H f to (a_message.Ack epoch g key version) h = tt
-spoken-map G H f to (a_message.Ask epoch number g terms) h = tt
-spoken-map G H f to (a_message.Found epoch number g rows) h = tt
-spoken-map G H f to (a_message.Seal epoch) h = tt
-spoken-map G H f to (a_message.Sealed epoch) h = tt
-spoken-map G H f to (a_message.Install config) h = tt
-spoken-map G H f to a_message.Die h = tt
-spoken-map G H f to a_message.Gone h = tt
-spoken-map G H f to (a_message.StopServer number server) h = tt
-spoken-map G H f to (a_message.AddReplica number server g) h = tt
-spoken-map G H f to (a_message.Snap epoch g snapshot pending) h = tt
-spoken-map G H f to (a_message.Ready epoch g) h = tt
-spoken-map G H f to (a_message.Poll epoch) h = tt
+spoken-map G H f to other h = tt
 
 -- a newest call of a changed list is the new one or an old one
 in-with_newest : (n : Newest) (ns : List Newest) (x : Newest) → IsIn x (with_newest n ns) → (x ≡ n) ⊎ IsIn x ns

@@ -39,7 +39,7 @@ use Rattle.hx_law_lemmas.proofs.Traces.{BeganAt, EndedAt, arrived, began_at}
 use Rattle.hx_law_lemmas.proofs.SessionNotes.{ends_now, may_start}
 use Rattle.hx_law_chains.proofs.Named.{named}
 use Rattle.hx_law_epochs.proofs.Runs.{IsKnown}
-use Rattle.hx_law_facts.specs.Facts.{Tells}
+use Rattle.hx_law_lemmas.specs.Facts.{Tells}
 use Rattle.hx_law_searches.proofs.CallsKept.{calls_kept, step_is, turn_is}
 use Rattle.hx_law_searches.proofs.FromChains.{facts}
 use Rattle.hx_law_causes.proofs.Administered.{OutcomeCause, administers-run}
@@ -70,14 +70,7 @@ Plain an_answer.Done = ⊤
 Plain an_answer.NotFound = ⊤
 Plain an_answer.CmpFail = ⊤
 Plain (an_answer.Found object) = ⊤
-Plain (an_answer.Rows rows) = ⊥
-Plain (an_answer.Refused g epoch) = ⊥
-Plain (an_answer.Doubt g epoch) = ⊥
-Plain (an_answer.Issued epoch) = ⊥
-Plain (an_answer.Stopped epoch) = ⊥
-Plain (an_answer.Member epoch) = ⊥
-Plain (an_answer.Joining epoch) = ⊥
-Plain (an_answer.Lost epoch) = ⊥
+Plain other = ⊥
 
 pub plain-effect : (space : Space) (old : Option (List Value)) (op : Op) → Plain (effect_of space old op).answer
 plain-effect space old (Put key sets) = tt
@@ -97,9 +90,7 @@ key-call (Put key sets) e = (key, refl)
 key-call (Get key) e = (key, refl)
 key-call (Del key) e = (key, refl)
 key-call (Cput key tests sets) e = (key, refl)
-key-call (Search terms) e = absurd (false≢true e)
-key-call (Stop server) e = absurd (false≢true e)
-key-call (Add server region) e = absurd (false≢true e)
+key-call other e = absurd (false≢true e)
 
 -- a get finds an object or none
 get-plain : (o : Option (List Value)) (a : Answer) → a ≡ get_answer o → (is_doubt a ≡ false) × (is_refused a ≡ false)

@@ -28,9 +28,9 @@ use Rattle.hx_model.specs.Places.{declared_subspaces, placed_after, places_of, r
 use Rattle.hx_model.specs.Regions.{key_region}
 use Rattle.hx_model.specs.Runs.{IsRun}
 use Rattle.hx_model.specs.Slots.{top_above, touches_after}
-use Rattle.hx_plan.proofs.Planned.{lowest}
+use Rattle.hx_region.proofs.Planned.{lowest}
 use Rattle.hx_region.proofs.Subspaces.{within}
-use Rattle.hx_posts.proofs.Runs.{kept-run}
+use Rattle.hx_law_posts.proofs.Runs.{kept-run}
 use Rattle.hx_law_lemmas.proofs.Lists.{in-below, in-flat_map, in-map, in-provided}
 use Rattle.hx_law_lemmas.proofs.Regions.{between-places, place-region}
 use Rattle.hx_law_chains.proofs.Doubts.{lost-place}

@@ -21,13 +21,9 @@ use Rattle.hx_law_epochs.proofs.Next.{Grown, MayJoin, any-of, appended-here, gro
 
 -- a test of the server and the region that an administrative call names
 abbrev pub administers_to : (ServerId → RegionId → Bool) → (ServerId → Bool) → Op → Bool
-administers_to add stop (Put key sets) = false
-administers_to add stop (Get key) = false
-administers_to add stop (Del key) = false
-administers_to add stop (Cput key tests sets) = false
-administers_to add stop (Search terms) = false
 administers_to add stop (Stop s) = stop s
 administers_to add stop (Add s g) = add s g
+administers_to add stop other = false
 
 -- the server that it names is none of the configuration
 abbrev pub not_listed : Op → Config → Bool
@@ -40,13 +36,7 @@ Judged Here c op (an_answer.Stopped epoch) = (epoch ≡ c.epoch) × (not_listed 
 Judged Here c op (an_answer.Member epoch) = (epoch ≡ c.epoch) × (administers_to (λ s g. lists_ready c g s) (λ s. false) op ≡ true)
 Judged Here c op (an_answer.Joining epoch) = (epoch ≡ c.epoch) × (administers_to (λ s g. any_joining (members_of c g)) (λ s. false) op ≡ true)
 Judged Here c op (an_answer.Lost epoch) = (epoch ≡ c.epoch) × (administers_to (λ s g. is_lost c g) (λ s. false) op ≡ true)
-Judged Here c op an_answer.Done = ⊥
-Judged Here c op an_answer.NotFound = ⊥
-Judged Here c op an_answer.CmpFail = ⊥
-Judged Here c op (an_answer.Found object) = ⊥
-Judged Here c op (an_answer.Rows rows) = ⊥
-Judged Here c op (an_answer.Refused g epoch) = ⊥
-Judged Here c op (an_answer.Doubt g epoch) = ⊥
+Judged Here c op other = ⊥
 
 -- ---- judged on a configuration, it is judged on what grows from it
 

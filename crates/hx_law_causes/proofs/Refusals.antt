@@ -43,22 +43,7 @@ same-session u = eq-eqb u.0 u.0 refl
 -- a message that carries a call
 carried : (number : ℕ) (m : Message) → carries_call number m ≡ true → (epoch : Epoch) × (op : Op) × (m ≡ a_message.Call epoch number op)
 carried number (a_message.Call epoch n op) t = (epoch, op, ap (λ k. a_message.Call epoch k op) (eqb-true n number t))
-carried number (a_message.Reply n version answer) t = absurd (false≢true t)
-carried number (a_message.Update epoch g u) t = absurd (false≢true t)
-carried number (a_message.Ack epoch g key version) t = absurd (false≢true t)
-carried number (a_message.Ask epoch n g terms) t = absurd (false≢true t)
-carried number (a_message.Found epoch n g rows) t = absurd (false≢true t)
-carried number (a_message.Seal epoch) t = absurd (false≢true t)
-carried number (a_message.Sealed epoch) t = absurd (false≢true t)
-carried number (a_message.Install config) t = absurd (false≢true t)
-carried number a_message.Die t = absurd (false≢true t)
-carried number a_message.Gone t = absurd (false≢true t)
-carried number (a_message.StopServer n server) t = absurd (false≢true t)
-carried number (a_message.AddReplica n server g) t = absurd (false≢true t)
-carried number (a_message.Outcome n answer) t = absurd (false≢true t)
-carried number (a_message.Snap epoch g snapshot pending) t = absurd (false≢true t)
-carried number (a_message.Ready epoch g) t = absurd (false≢true t)
-carried number (a_message.Poll epoch) t = absurd (false≢true t)
+carried number other t = absurd (false≢true t)
 
 -- a Call post of the call
 abbrev pub CallPosted : Caller → List Post → Type 0

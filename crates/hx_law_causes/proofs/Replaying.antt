@@ -18,8 +18,8 @@ use Rattle.hx_model.specs.Runs.{IsRun, MayTake, has_halted, is_actor, is_empty, 
 use Rattle.hx_model.specs.Schedule.{Next, delivery_of, entry_by, first_delivery, idle_among, is_idle, next_input, scheduled, undelivered, with_entry}
 use Rattle.hx_model.specs.SessionSteps.{SessionState, SessionStep, begin, session_tick, staying}
 use Rattle.hx_law_lemmas.proofs.Lists.{in-below, when_some_both}
-use Rattle.hx_posts.proofs.Bounds.{bounds}
-use Rattle.hx_posts.proofs.Runs.{posts_stay_sound}
+use Rattle.hx_law_posts.proofs.Bounds.{bounds}
+use Rattle.hx_law_posts.proofs.Runs.{posts_stay_sound}
 use Rattle.hx_law_epochs.proofs.Positions.{index-some}
 
 -- an input that may come next

@@ -96,18 +96,7 @@ Asks s (a_message.StopServer number server) = (number ≡ s.begun) × Called s (
 Asks s (a_message.AddReplica number server g) = (number ≡ s.begun) × Called s (Add server g)
 Asks s (a_message.Ask epoch number g terms) = ⊤
 Asks s (a_message.Poll epoch) = ⊤
-Asks s (a_message.Reply number version answer) = ⊥
-Asks s (a_message.Update epoch g u) = ⊥
-Asks s (a_message.Ack epoch g key version) = ⊥
-Asks s (a_message.Found epoch number g rows) = ⊥
-Asks s (a_message.Seal epoch) = ⊥
-Asks s (a_message.Sealed epoch) = ⊥
-Asks s (a_message.Install config) = ⊥
-Asks s a_message.Die = ⊥
-Asks s a_message.Gone = ⊥
-Asks s (a_message.Outcome number answer) = ⊥
-Asks s (a_message.Snap epoch g snapshot pending) = ⊥
-Asks s (a_message.Ready epoch g) = ⊥
+Asks s other = ⊥
 
 -- what a step that begins no call does
 pub record Goes (space : Space) (input : Input) (s : SessionState) (step : SessionStep) : Type 0 where

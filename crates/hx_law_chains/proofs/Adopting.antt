@@ -28,7 +28,7 @@ use Rattle.hx_law_lemmas.specs.Words.{standing, view}
 use Rattle.hx_law_lemmas.proofs.Cuts.{more_same}
 use Rattle.hx_law_lemmas.proofs.Cases.{which-server}
 use Rattle.hx_law_lemmas.proofs.ReplicaLists.{listed-there, made-found, made-in, mapped-found, mapped-from}
-use Rattle.hx_folds.specs.Folding.{IsJoinableServer}
+use Rattle.hx_law_folds.specs.Folding.{IsJoinableServer}
 use Rattle.hx_law_epochs.proofs.Facts.{Installed}
 use Rattle.hx_law_chains.proofs.Holders.{Live, Up, live-of, seat-of, state-here, state-off, with_state_of}
 use Rattle.hx_law_chains.proofs.Joining.{Twin, key_joined}

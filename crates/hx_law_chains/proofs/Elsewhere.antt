@@ -168,19 +168,7 @@ coordinator-quiet script w from to (a_message.Seal epoch) h = (tt, tt)
 coordinator-quiet script w from to (a_message.Install config) h = (tt, tt)
 coordinator-quiet script w from to a_message.Die h = (tt, tt)
 coordinator-quiet script w from to (a_message.Outcome number answer) h = (tt, tt)
-coordinator-quiet script w from to (a_message.Call epoch number op) h = absurd h
-coordinator-quiet script w from to (a_message.Reply number version answer) h = absurd h
-coordinator-quiet script w from to (a_message.Update epoch g u) h = absurd h
-coordinator-quiet script w from to (a_message.Ack epoch g key version) h = absurd h
-coordinator-quiet script w from to (a_message.Ask epoch number g terms) h = absurd h
-coordinator-quiet script w from to (a_message.Found epoch number g rows) h = absurd h
-coordinator-quiet script w from to (a_message.Sealed epoch) h = absurd h
-coordinator-quiet script w from to a_message.Gone h = absurd h
-coordinator-quiet script w from to (a_message.StopServer number server) h = absurd h
-coordinator-quiet script w from to (a_message.AddReplica number server g) h = absurd h
-coordinator-quiet script w from to (a_message.Snap epoch g snapshot pending) h = absurd h
-coordinator-quiet script w from to (a_message.Ready epoch g) h = absurd h
-coordinator-quiet script w from to (a_message.Poll epoch) h = absurd h
+coordinator-quiet script w from to other h = absurd h
 
 -- sessions post no snapshots, and call as the script says
 session-quiet : (script : Script) (w : World) (u : SessionId) (s : SessionState) (sent way : _) → s.calls ≡ calls_of script u → (to : Actor) (m : Message) → SaysOf s sent way m → NoSnap m × Valid script w (Session u) to m

@@ -36,7 +36,7 @@ use Rattle.hx_law_lemmas.proofs.Replicas.{replica-found}
 use Rattle.hx_law_lemmas.proofs.Chains.{Differ, server-same}
 use Rattle.hx_law_lemmas.specs.Words.{standing, view}
 use Rattle.hx_law_lemmas.proofs.Cuts.{more_same}
-use Rattle.hx_folds.specs.Folding.{IsJoinableServer}
+use Rattle.hx_law_folds.specs.Folding.{IsJoinableServer}
 use Rattle.hx_law_epochs.specs.Epochs.{FollowsOn}
 use Rattle.hx_law_epochs.proofs.Facts.{EpochsKept, Installed}
 use Rattle.hx_law_epochs.proofs.Follows.{member-ready}

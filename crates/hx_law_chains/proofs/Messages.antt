@@ -39,8 +39,8 @@ use Rattle.hx_law_lemmas.proofs.Cuts.{More, length-upto, more_cut, version-there
 use Rattle.hx_law_lemmas.proofs.Leader.{slot_of}
 use Rattle.hx_law_lemmas.proofs.Cases.{same-key}
 use Rattle.hx_law_lemmas.proofs.Lawful as script_lines
-use Rattle.hx_folds.specs.Folding.{IsSlotOf}
-use Rattle.hx_folds.proofs.Deciding.{decide-same}
+use Rattle.hx_law_folds.specs.Folding.{IsSlotOf}
+use Rattle.hx_law_folds.proofs.Deciding.{decide-same}
 use Rattle.hx_law_epochs.proofs.Facts.{Installed}
 use Rattle.hx_law_epochs.proofs.Neighbours.{leader-first}
 use Rattle.hx_law_chains.proofs.Holders.{Up}

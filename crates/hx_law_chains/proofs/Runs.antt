@@ -28,7 +28,7 @@ use Rattle.hx_law_lemmas.specs.Words.{noted, posts_of, view}
 use Rattle.hx_law_lemmas.proofs.Lists.{in-append, in-map}
 use Rattle.hx_law_lemmas.proofs.Replicas.{replica-found}
 use Rattle.hx_law_lemmas.proofs.Order.{listed-in}
-use Rattle.hx_law_facts.specs.Facts.{DeliversCall}
+use Rattle.hx_law_lemmas.specs.Facts.{DeliversCall}
 use Rattle.hx_law_epochs.proofs.Members.{order}
 use Rattle.hx_law_epochs.proofs.Runs.{EpochsRun, IsKnown, Real, epochs-run, known-still}
 use Rattle.hx_law_lemmas.proofs.Traces.{arrived}

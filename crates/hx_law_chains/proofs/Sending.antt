@@ -19,7 +19,7 @@ use Rattle.hx_model.specs.Slots.{Forget, KeyState, moved, pending_of_all, snapsh
 use Rattle.hx_law_lemmas.proofs.Replicas.{replica-found}
 use Rattle.hx_law_lemmas.proofs.Chains.{Differ, server-other, server-same}
 use Rattle.hx_law_lemmas.specs.Words.{view}
-use Rattle.hx_folds.specs.Folding.{IsJoinableServer, IsSlotOf, folded}
+use Rattle.hx_law_folds.specs.Folding.{IsJoinableServer, IsSlotOf, folded}
 use Rattle.hx_law_epochs.proofs.Facts.{Installed}
 use Rattle.hx_law_chains.proofs.Holders.{Up, live-of, live-only}
 use Rattle.hx_law_chains.proofs.Joining.{Twin}

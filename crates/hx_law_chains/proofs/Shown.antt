@@ -14,8 +14,8 @@ use Rattle.hx_law_lemmas.proofs.Passing.{only-key}
 use Rattle.hx_law_lemmas.proofs.Placed.{AllMade, made-numbered, made-sorted, made-upto}
 use Rattle.hx_law_lemmas.proofs.Leader.{slot_of}
 use Rattle.hx_law_lemmas.proofs.Cuts.{length-upto}
-use Rattle.hx_folds.specs.Folding.{IsSlotOf, ShowSame}
-use Rattle.hx_folds.proofs.Prefixes.{kept-marks-line, kept-touches-line, latest-line, marks-line, object-line, touches-line}
+use Rattle.hx_law_folds.specs.Folding.{IsSlotOf, ShowSame}
+use Rattle.hx_law_folds.proofs.Prefixes.{kept-marks-line, kept-touches-line, latest-line, marks-line, object-line, touches-line}
 use Rattle.hx_law_chains.proofs.Lines.{sorted-descends}
 use Rattle.hx_law_chains.proofs.Moves.{Around, Own}
 

@@ -32,14 +32,14 @@ use Rattle.hx_law_lemmas.proofs.CallEnds.{started}
 use Rattle.hx_law_lemmas.proofs.SessionMessages.{session_turn}
 use Rattle.hx_law_lemmas.proofs.SessionTurns.{SaysOf}
 use Rattle.hx_law_lemmas.proofs.Texts.{Ascend, state_key}
-use Rattle.hx_posts.proofs.Runs.{posts_stay_sound}
-use Rattle.hx_folds.specs.Folding.{CanBeSent, CanJoin, HasFloors, InputJoins, IsJoinableReplica, IsJoinableServer, IsSlotOf, KeysAscend, folded}
-use Rattle.hx_folds.specs.Laws.{SendsJoin}
-use Rattle.hx_folds.proofs.Installing.{among-slot-turn}
-use Rattle.hx_folds.proofs.Joinable.{can-join, joinable-stays, keys-differ, sent-ascends, sent-floors, start-joinable}
-use Rattle.hx_folds.proofs.Slots.{all-weaker}
-use Rattle.hx_folds.proofs.Snapshots.{among-marks, sent}
-use Rattle.hx_folds.proofs.Sound.{sound-joins}
+use Rattle.hx_law_posts.proofs.Runs.{posts_stay_sound}
+use Rattle.hx_law_folds.specs.Folding.{CanBeSent, CanJoin, HasFloors, InputJoins, IsJoinableReplica, IsJoinableServer, IsSlotOf, KeysAscend, folded}
+use Rattle.hx_law_folds.specs.Laws.{SendsJoin}
+use Rattle.hx_law_folds.proofs.Installing.{among-slot-turn}
+use Rattle.hx_law_folds.proofs.Joinable.{can-join, joinable-stays, keys-differ, sent-ascends, sent-floors, start-joinable}
+use Rattle.hx_law_folds.proofs.Slots.{all-weaker}
+use Rattle.hx_law_folds.proofs.Snapshots.{among-marks, sent}
+use Rattle.hx_law_folds.proofs.Sound.{sound-joins}
 use Rattle.hx_law_chains.proofs.CoordinatorPosts.{OfCoordinator, coordinator-plain}
 use Rattle.hx_law_chains.proofs.ServerPosts.{OfServer, server-plain}
 
@@ -115,82 +115,22 @@ pub record SnapshotsKept (script : Script) (t : List Entry) : Type 0 where
 -- servers post no other snapshots
 server-sends : (space : Space) (m : Message) → OfServer (Carries space) m → Sends space m
 server-sends space (a_message.Snap epoch g snapshot pending) h = h
-server-sends space (a_message.Call epoch number op) h = tt
-server-sends space (a_message.Reply number version answer) h = tt
-server-sends space (a_message.Update epoch g u) h = tt
-server-sends space (a_message.Ack epoch g key version) h = tt
-server-sends space (a_message.Ask epoch number g terms) h = tt
-server-sends space (a_message.Found epoch number g rows) h = tt
-server-sends space (a_message.Seal epoch) h = tt
-server-sends space (a_message.Sealed epoch) h = tt
-server-sends space (a_message.Install config) h = tt
-server-sends space a_message.Die h = tt
-server-sends space a_message.Gone h = tt
-server-sends space (a_message.StopServer number server) h = tt
-server-sends space (a_message.AddReplica number server g) h = tt
-server-sends space (a_message.Outcome number answer) h = tt
-server-sends space (a_message.Ready epoch g) h = tt
-server-sends space (a_message.Poll epoch) h = tt
+server-sends space other h = tt
 
 -- what is carried has no floor of 0
 sends-floors : (space : Space) (m : Message) → Sends space m → HasFloors m
 sends-floors space (a_message.Snap epoch g snapshot pending) h = subst (λ (ks : List Kept). AllByRecursion (λ (k : Kept). 0 < k.floor.0) ks) (sym h.snapshot_is) h.sends.floors
-sends-floors space (a_message.Call epoch number op) h = tt
-sends-floors space (a_message.Reply number version answer) h = tt
-sends-floors space (a_message.Update epoch g u) h = tt
-sends-floors space (a_message.Ack epoch g key version) h = tt
-sends-floors space (a_message.Ask epoch number g terms) h = tt
-sends-floors space (a_message.Found epoch number g rows) h = tt
-sends-floors space (a_message.Seal epoch) h = tt
-sends-floors space (a_message.Sealed epoch) h = tt
-sends-floors space (a_message.Install config) h = tt
-sends-floors space a_message.Die h = tt
-sends-floors space a_message.Gone h = tt
-sends-floors space (a_message.StopServer number server) h = tt
-sends-floors space (a_message.AddReplica number server g) h = tt
-sends-floors space (a_message.Outcome number answer) h = tt
-sends-floors space (a_message.Ready epoch g) h = tt
-sends-floors space (a_message.Poll epoch) h = tt
+sends-floors space other h = tt
 
 -- the coordinator posts none
 coordinator-sends : (space : Space) (m : Message) → OfCoordinator m → Sends space m
-coordinator-sends space (a_message.Seal epoch) h = tt
-coordinator-sends space (a_message.Install config) h = tt
-coordinator-sends space a_message.Die h = tt
-coordinator-sends space (a_message.Outcome number answer) h = tt
 coordinator-sends space (a_message.Snap epoch g snapshot pending) h = absurd h
-coordinator-sends space (a_message.Call epoch number op) h = tt
-coordinator-sends space (a_message.Reply number version answer) h = tt
-coordinator-sends space (a_message.Update epoch g u) h = tt
-coordinator-sends space (a_message.Ack epoch g key version) h = tt
-coordinator-sends space (a_message.Ask epoch number g terms) h = tt
-coordinator-sends space (a_message.Found epoch number g rows) h = tt
-coordinator-sends space (a_message.Sealed epoch) h = tt
-coordinator-sends space a_message.Gone h = tt
-coordinator-sends space (a_message.StopServer number server) h = tt
-coordinator-sends space (a_message.AddReplica number server g) h = tt
-coordinator-sends space (a_message.Ready epoch g) h = tt
-coordinator-sends space (a_message.Poll epoch) h = tt
+coordinator-sends space other h = tt
 
 -- nor do sessions
 session-sends : (space : Space) (s : SessionState) (sent way : _) (m : Message) → SaysOf s sent way m → Sends space m
 session-sends space s sent way (a_message.Snap epoch g snapshot pending) h = absurd h
-session-sends space s sent way (a_message.Call epoch number op) h = tt
-session-sends space s sent way (a_message.Reply number version answer) h = tt
-session-sends space s sent way (a_message.Update epoch g u) h = tt
-session-sends space s sent way (a_message.Ack epoch g key version) h = tt
-session-sends space s sent way (a_message.Ask epoch number g terms) h = tt
-session-sends space s sent way (a_message.Found epoch number g rows) h = tt
-session-sends space s sent way (a_message.Seal epoch) h = tt
-session-sends space s sent way (a_message.Sealed epoch) h = tt
-session-sends space s sent way (a_message.Install config) h = tt
-session-sends space s sent way a_message.Die h = tt
-session-sends space s sent way a_message.Gone h = tt
-session-sends space s sent way (a_message.StopServer number server) h = tt
-session-sends space s sent way (a_message.AddReplica number server g) h = tt
-session-sends space s sent way (a_message.Outcome number answer) h = tt
-session-sends space s sent way (a_message.Ready epoch g) h = tt
-session-sends space s sent way (a_message.Poll epoch) h = tt
+session-sends space s sent way other h = tt
 
 module _ (script : Script) (valid : IsScript script) (older : List Entry) (x : Entry) (run : IsRun script (x ∷ older)) (had : SnapshotsKept script older) where
   -- what a server takes keeps its slots so

@@ -37,7 +37,7 @@ use Rattle.hx_model.specs.Leading.{StuckAt, decide, stuck_of}
 use Rattle.hx_model.specs.Regions.{key_region}
 use Rattle.hx_model.specs.ServerSteps.{Replica, ServerState, ServerStep, SlotStep, SlotContext, accepting, acked, adopted, adopted_replica, asked, at_slot, call_at, call_step, called, called_by, decided, doubt_in, doubts_from, get_step, halting, replica_in_epoch, if_installed, input_step, install_at, installed_slots, is_active, leader_doubts, listed_regions, message_step, move_posts, passed_on, pending_posts, ready_post, replica_of, replica_or_new, replica_tick, resumed, resumed_posts, saying, seal_at, server_step, snap_posts, snapped, context_of, state_in, tick_step, unmoved, updated, waiting_doubt, with_config, with_slot, with_slots, write_step}
 use Rattle.hx_model.specs.Slots.{Forget, KeyState, Move, has_place, moved, moved_all, offered, pending_of, top_of}
-use Rattle.hx_folds.specs.Folding.{IsJoinableServer}
+use Rattle.hx_law_folds.specs.Folding.{IsJoinableServer}
 use Rattle.hx_types.specs.Words.{provided}
 use Rattle.hx_law_lemmas.proofs.LeaderLines.{pending-in}
 use Rattle.hx_law_lemmas.proofs.Replicas.{replica-found, replica-here, slot-found, slot-here, state-key, with_slot_at}

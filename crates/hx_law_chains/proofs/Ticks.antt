@@ -27,7 +27,7 @@ use Rattle.hx_law_lemmas.proofs.Texts.{state-there}
 use Rattle.hx_law_lemmas.proofs.Cases.{which-server}
 use Rattle.hx_law_lemmas.specs.Words.{standing}
 use Rattle.hx_law_lemmas.proofs.ReplicaLists.{Once, once-found}
-use Rattle.hx_folds.specs.Folding.{IsJoinableServer}
+use Rattle.hx_law_folds.specs.Folding.{IsJoinableServer}
 use Rattle.hx_law_epochs.proofs.Facts.{Installed}
 use Rattle.hx_law_chains.proofs.Holders.{Up, state-here, state-off, with_state_of}
 use Rattle.hx_law_chains.proofs.Joining.{Twin}

@@ -173,12 +173,7 @@ op_of (inr (inr (inr (inr (inr (inr t)))))) = an_op.Add t.0 t.1
 
 op_back : (x : Op) → op_of (op_code x) ≡ x
 op_back (an_op.Put k sets) = refl
-op_back (an_op.Get k) = refl
-op_back (an_op.Del k) = refl
-op_back (an_op.Cput k tests sets) = refl
-op_back (an_op.Search ts) = refl
-op_back (an_op.Stop s) = refl
-op_back (an_op.Add s g) = refl
+op_back other = refl
 
 op : Discrete Op
 op = by_code op_code op_of op_back (either (both text (listed assign)) (either text (either text (either (both text (both (listed assign) (listed assign))) (either (listed term) (either server (both server region)))))))
@@ -216,17 +211,7 @@ answer_of (inr (inr (inr (inr (inr (inr (inr (inr (inr (inr (inr e))))))))))) = 
 
 answer_back : (x : Answer) → answer_of (answer_code x) ≡ x
 answer_back an_answer.Done = refl
-answer_back an_answer.NotFound = refl
-answer_back an_answer.CmpFail = refl
-answer_back (an_answer.Found o) = refl
-answer_back (an_answer.Rows rows) = refl
-answer_back (an_answer.Refused g e) = refl
-answer_back (an_answer.Doubt g e) = refl
-answer_back (an_answer.Issued e) = refl
-answer_back (an_answer.Stopped e) = refl
-answer_back (an_answer.Member e) = refl
-answer_back (an_answer.Joining e) = refl
-answer_back (an_answer.Lost e) = refl
+answer_back other = refl
 
 answer : Discrete Answer
 answer = by_code answer_code answer_of answer_back (either ℕ_discrete (either ℕ_discrete (either ℕ_discrete (either object (either (listed row) (either (both region epoch) (either (both region epoch) (either epoch (either epoch (either epoch (either epoch epoch)))))))))))
@@ -299,22 +284,7 @@ message_of (inr (inr (inr (inr (inr (inr (inr (inr (inr (inr (inr (inr (inr (inr
 
 message_back : (x : Message) → message_of (message_code x) ≡ x
 message_back (a_message.Call e n o) = refl
-message_back (a_message.Reply n v a) = refl
-message_back (a_message.Update e g u) = refl
-message_back (a_message.Ack e g k v) = refl
-message_back (a_message.Ask e n g ts) = refl
-message_back (a_message.Found e n g rows) = refl
-message_back (a_message.Seal e) = refl
-message_back (a_message.Sealed e) = refl
-message_back (a_message.Install c) = refl
-message_back a_message.Die = refl
-message_back a_message.Gone = refl
-message_back (a_message.StopServer n s) = refl
-message_back (a_message.AddReplica n s g) = refl
-message_back (a_message.Outcome n a) = refl
-message_back (a_message.Snap e g ks us) = refl
-message_back (a_message.Ready e g) = refl
-message_back (a_message.Poll e) = refl
+message_back other = refl
 
 message : Discrete Message
 message = by_code message_code message_of message_back (either (both epoch (both ℕ_discrete op)) (either (both ℕ_discrete (both version answer)) (either (both epoch (both region update)) (either (both epoch (both region (both text version))) (either (both epoch (both ℕ_discrete (both region (listed term)))) (either (both epoch (both ℕ_discrete (both region (listed row)))) (either epoch (either epoch (either config (either ℕ_discrete (either ℕ_discrete (either (both ℕ_discrete server) (either (both ℕ_discrete (both server region)) (either (both ℕ_discrete answer) (either (both epoch (both region (both (listed kept) (listed update)))) (either (both epoch region) epoch))))))))))))))))

@@ -17,39 +17,19 @@ Controls c (a_message.Seal epoch) = epoch ≡ c.epoch
 Controls c (a_message.Install config) = config ≡ c
 Controls c a_message.Die = ⊤
 Controls c (a_message.Outcome number answer) = ⊤
-Controls c (a_message.Sealed epoch) = ⊥
-Controls c a_message.Gone = ⊥
-Controls c (a_message.Call epoch number op) = ⊥
-Controls c (a_message.Reply number version answer) = ⊥
-Controls c (a_message.Update epoch g u) = ⊥
-Controls c (a_message.Ack epoch g key version) = ⊥
-Controls c (a_message.Ask epoch number g terms) = ⊥
-Controls c (a_message.Found epoch number g rows) = ⊥
-Controls c (a_message.StopServer number server) = ⊥
-Controls c (a_message.AddReplica number server g) = ⊥
-Controls c (a_message.Snap epoch g snapshot pending) = ⊥
-Controls c (a_message.Ready epoch g) = ⊥
-Controls c (a_message.Poll epoch) = ⊥
+Controls c other = ⊥
 
 -- so it says what it should
 pub controls-says : (S : ServerId → ServerState) (c : Config) (from to : Actor) (m : Message) → Controls c m → Says S c from to m
 controls-says S c from to (a_message.Seal epoch) h = (let e = ap (λ (x : Epoch). x.0) h in omega (arith, e))
 controls-says S c from to (a_message.Install config) h = (let e = ap (λ (x : Config). x.epoch.0) h in (omega (arith, e), λ q. h))
-controls-says S c from to a_message.Die h = tt
-controls-says S c from to (a_message.Outcome number answer) h = tt
 controls-says S c from to (a_message.Sealed epoch) h = absurd h
 controls-says S c from to a_message.Gone h = absurd h
-controls-says S c from to (a_message.Call epoch number op) h = tt
-controls-says S c from to (a_message.Reply number version answer) h = tt
 controls-says S c from to (a_message.Update epoch g u) h = absurd h
 controls-says S c from to (a_message.Ack epoch g key version) h = absurd h
-controls-says S c from to (a_message.Ask epoch number g terms) h = tt
-controls-says S c from to (a_message.Found epoch number g rows) h = tt
-controls-says S c from to (a_message.StopServer number server) h = tt
-controls-says S c from to (a_message.AddReplica number server g) h = tt
 controls-says S c from to (a_message.Snap epoch g snapshot pending) h = absurd h
 controls-says S c from to (a_message.Ready epoch g) h = absurd h
-controls-says S c from to (a_message.Poll epoch) h = tt
+controls-says S c from to other h = tt
 
 -- what is said of a server's post follows from what was
 pub from-map : (a : Actor) (P Q : ServerId → Type 0) → ((s : ServerId) → P s → Q s) → FromServer a P → FromServer a Q

@@ -43,20 +43,7 @@ told-stays : (script : Script) (t : List Entry) (s : ServerId) (to : Actor) (m :
 told-stays script t s to a_message.Gone h = h
 told-stays script t s to (a_message.Sealed epoch) h = h
 told-stays script t s to (a_message.Ready epoch g) h = λ e. found-installed (server_of script s t) g (h.1 e)
-told-stays script t s to (a_message.Call epoch number op) h = tt
-told-stays script t s to (a_message.Reply number version answer) h = tt
-told-stays script t s to (a_message.Update epoch g u) h = tt
-told-stays script t s to (a_message.Ack epoch g key version) h = tt
-told-stays script t s to (a_message.Ask epoch number g terms) h = tt
-told-stays script t s to (a_message.Found epoch number g rows) h = tt
-told-stays script t s to (a_message.Seal epoch) h = tt
-told-stays script t s to (a_message.Install config) h = tt
-told-stays script t s to a_message.Die h = tt
-told-stays script t s to (a_message.StopServer number server) h = tt
-told-stays script t s to (a_message.AddReplica number server g) h = tt
-told-stays script t s to (a_message.Outcome number answer) h = tt
-told-stays script t s to (a_message.Snap epoch g snapshot pending) h = tt
-told-stays script t s to (a_message.Poll epoch) h = tt
+told-stays script t s to other h = tt
 
 -- in every run
 pub runs_keep_epochs : RunsKeepEpochs

@@ -36,7 +36,7 @@ use Rattle.hx_law_lemmas.proofs.Traces.{arrived}
 use Rattle.hx_law_lemmas.proofs.Chains.{members-differ}
 use Rattle.hx_law_lemmas.proofs.SessionMessages.{session_turn}
 use Rattle.hx_law_lemmas.proofs.SessionTurns.{SaysOf}
-use Rattle.hx_posts.proofs.Configs.{first-of_space, member-server}
+use Rattle.hx_law_posts.proofs.Configs.{first-of_space, member-server}
 use Rattle.hx_law_epochs.specs.Epochs.{FollowsOn, IsSealedOrHalted, RunsOn, WasIssued}
 use Rattle.hx_law_epochs.proofs.Controls.{Controls}
 use Rattle.hx_law_epochs.proofs.Coordinator.{coordinates}

@@ -60,35 +60,14 @@ Tells s st to (a_message.Sealed epoch) = (epoch ≡ st.config.epoch) × (st.seal
 Tells s st to a_message.Gone = st.halted ≡ true
 Tells s st to (a_message.Ready epoch g) = (epoch ≡ st.config.epoch) × Installed st g
 Tells s st to (a_message.Snap epoch g snapshot pending) = (epoch ≡ st.config.epoch) × FromServer to (SendsSnapshot st.config st g s)
-Tells s st to (a_message.Install config) = ⊥
-Tells s st to (a_message.Seal epoch) = ⊥
-Tells s st to a_message.Die = ⊥
-Tells s st to (a_message.Outcome number answer) = ⊥
-Tells s st to (a_message.Call epoch number op) = ⊥
-Tells s st to (a_message.Ask epoch number g terms) = ⊥
-Tells s st to (a_message.StopServer number server) = ⊥
-Tells s st to (a_message.AddReplica number server g) = ⊥
-Tells s st to (a_message.Poll epoch) = ⊥
+Tells s st to other = ⊥
 
 -- what a slot's post says
 pub slot-tells : (s : ServerId) (st : ServerState) (c : Config) (to : Actor) (m : Message) → c ≡ st.config → SlotSays c m → Tells s st to m
 slot-tells s st c to (a_message.Update epoch g u) e h = h ∙ ap (λ (x : Config). x.epoch) e
 slot-tells s st c to (a_message.Ack epoch g key version) e h = h ∙ ap (λ (x : Config). x.epoch) e
 slot-tells s st c to (a_message.Reply number version answer) e h = tt
-slot-tells s st c to (a_message.Found epoch number g rows) e h = absurd h
-slot-tells s st c to (a_message.Sealed epoch) e h = absurd h
-slot-tells s st c to a_message.Gone e h = absurd h
-slot-tells s st c to (a_message.Install config) e h = absurd h
-slot-tells s st c to (a_message.Seal epoch) e h = absurd h
-slot-tells s st c to a_message.Die e h = absurd h
-slot-tells s st c to (a_message.Outcome number answer) e h = absurd h
-slot-tells s st c to (a_message.Call epoch number op) e h = absurd h
-slot-tells s st c to (a_message.Ask epoch number g terms) e h = absurd h
-slot-tells s st c to (a_message.StopServer number server) e h = absurd h
-slot-tells s st c to (a_message.AddReplica number server g) e h = absurd h
-slot-tells s st c to (a_message.Snap epoch g snapshot pending) e h = absurd h
-slot-tells s st c to (a_message.Ready epoch g) e h = absurd h
-slot-tells s st c to (a_message.Poll epoch) e h = absurd h
+slot-tells s st c to other e h = absurd h
 
 -- what a step of a server does; it adopts only what it may
 pub record Does (s : ServerId) (st : ServerState) (May : Config → Type 0) (step : ServerStep) : Type 0 where
@@ -364,22 +343,14 @@ installs-does space s st shaped May config may =
 message-does : (space : Space) (s : ServerId) (st : ServerState) → Shaped s st → ((g : RegionId) → st.sealed ≡ false → leads space st.config st.id g ≡ true → Installed st g)
     → (May : Config → Type 0) (from : Actor) (m : Message) → ((config : Config) → m ≡ a_message.Install config → May config) → Does s st May (message_step space st from m)
 message-does space s st shaped l May from (a_message.Call epoch number op) f = called-does space s st shaped May l from epoch number op
-message-does space s st shaped l May from (a_message.Reply number version answer) f = rests space s st shaped May
 message-does space s st shaped l May from (a_message.Update epoch g u) f = updated-does space s st shaped May epoch g u
 message-does space s st shaped l May from (a_message.Ack epoch g key version) f = acked-does space s st shaped May epoch g key version.0
 message-does space s st shaped l May from (a_message.Ask epoch number g terms) f = asked-does space s st shaped May from epoch number g terms
-message-does space s st shaped l May from (a_message.Found epoch number g rows) f = rests space s st shaped May
 message-does space s st shaped l May from (a_message.Seal epoch) f = sealed-does space s st shaped May epoch
-message-does space s st shaped l May from (a_message.Sealed epoch) f = rests space s st shaped May
 message-does space s st shaped l May from (a_message.Install config) f = installs-does space s st shaped May config (f config refl)
 message-does space s st shaped l May from a_message.Die f = halts space s st shaped May
-message-does space s st shaped l May from a_message.Gone f = rests space s st shaped May
-message-does space s st shaped l May from (a_message.StopServer number server) f = rests space s st shaped May
-message-does space s st shaped l May from (a_message.AddReplica number server g) f = rests space s st shaped May
-message-does space s st shaped l May from (a_message.Outcome number answer) f = rests space s st shaped May
 message-does space s st shaped l May from (a_message.Snap epoch g snapshot pending) f = snapped-does space s st shaped May epoch g snapshot pending
-message-does space s st shaped l May from (a_message.Ready epoch g) f = rests space s st shaped May
-message-does space s st shaped l May from (a_message.Poll epoch) f = rests space s st shaped May
+message-does space s st shaped l May from other f = rests space s st shaped May
 
 -- each step of a server
 pub server-does : (space : Space) (s : ServerId) (st : ServerState) → Shaped s st → ((g : RegionId) → st.sealed ≡ false → leads space st.config st.id g ≡ true → Installed st g)

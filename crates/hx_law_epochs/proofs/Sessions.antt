@@ -37,22 +37,11 @@ use Rattle.hx_law_epochs.proofs.Facts.{Says}
 -- what a session posts says nothing of epochs
 pub session-says : (S : _) (c : Config) (s : SessionState) (sent way : Bool) (from to : Actor) (m : Message) → SaysOf s sent way m → Says S c from to m
 session-says S c s sent way from to (a_message.Call epoch number op) h = tt
-session-says S c s sent way from to (a_message.Reply number version answer) h = absurd h
-session-says S c s sent way from to (a_message.Update epoch g u) h = absurd h
-session-says S c s sent way from to (a_message.Ack epoch g key version) h = absurd h
 session-says S c s sent way from to (a_message.Ask epoch number g terms) h = tt
-session-says S c s sent way from to (a_message.Found epoch number g rows) h = absurd h
-session-says S c s sent way from to (a_message.Seal epoch) h = absurd h
-session-says S c s sent way from to (a_message.Sealed epoch) h = absurd h
-session-says S c s sent way from to (a_message.Install config) h = absurd h
-session-says S c s sent way from to a_message.Die h = absurd h
-session-says S c s sent way from to a_message.Gone h = absurd h
 session-says S c s sent way from to (a_message.StopServer number server) h = tt
 session-says S c s sent way from to (a_message.AddReplica number server g) h = tt
-session-says S c s sent way from to (a_message.Outcome number answer) h = absurd h
-session-says S c s sent way from to (a_message.Snap epoch g snapshot pending) h = absurd h
-session-says S c s sent way from to (a_message.Ready epoch g) h = absurd h
 session-says S c s sent way from to (a_message.Poll epoch) h = tt
+session-says S c s sent way from to other h = absurd h
 
 -- a session issues nothing
 turn-issues : (epoch : Epoch) (b : Bool) (m n : ℕ) (stop : Option CallStop) → config_noted epoch (began_notes b m ++ end_notes n stop) ≡ None

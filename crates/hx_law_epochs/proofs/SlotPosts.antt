@@ -31,20 +31,7 @@ abbrev pub SlotSays : Config → Message → Type 0
 SlotSays c (a_message.Update epoch g u) = epoch ≡ c.epoch
 SlotSays c (a_message.Ack epoch g key version) = epoch ≡ c.epoch
 SlotSays c (a_message.Reply number version answer) = ⊤
-SlotSays c (a_message.Found epoch number g rows) = ⊥
-SlotSays c (a_message.Sealed epoch) = ⊥
-SlotSays c a_message.Gone = ⊥
-SlotSays c (a_message.Install config) = ⊥
-SlotSays c (a_message.Seal epoch) = ⊥
-SlotSays c a_message.Die = ⊥
-SlotSays c (a_message.Outcome number answer) = ⊥
-SlotSays c (a_message.Call epoch number op) = ⊥
-SlotSays c (a_message.Ask epoch number g terms) = ⊥
-SlotSays c (a_message.StopServer number server) = ⊥
-SlotSays c (a_message.AddReplica number server g) = ⊥
-SlotSays c (a_message.Snap epoch g snapshot pending) = ⊥
-SlotSays c (a_message.Ready epoch g) = ⊥
-SlotSays c (a_message.Poll epoch) = ⊥
+SlotSays c other = ⊥
 
 module _ (context : SlotContext) where
   -- a post of a slot

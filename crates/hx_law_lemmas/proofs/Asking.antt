@@ -56,22 +56,11 @@ pub record Gathered (space : Space) (terms : List Term) (Known : RegionId → Li
 -- what a session posts: calls, polls and the asking of its search under way
 abbrev pub Asks : SessionState → Message → Type 0
 Asks s (a_message.Call epoch number op) = ⊤
-Asks s (a_message.Reply number version answer) = ⊥
-Asks s (a_message.Update epoch g u) = ⊥
-Asks s (a_message.Ack epoch g key version) = ⊥
 Asks s (a_message.Ask epoch number g terms) = (number ≡ s.begun) × (s.under_way ≡ true) × (numbered s.calls s.begun ≡ Some (Search terms))
-Asks s (a_message.Found epoch number g rows) = ⊥
-Asks s (a_message.Seal epoch) = ⊥
-Asks s (a_message.Sealed epoch) = ⊥
-Asks s (a_message.Install config) = ⊥
-Asks s a_message.Die = ⊥
-Asks s a_message.Gone = ⊥
 Asks s (a_message.StopServer number server) = ⊤
 Asks s (a_message.AddReplica number server g) = ⊤
-Asks s (a_message.Outcome number answer) = ⊥
-Asks s (a_message.Snap epoch g snapshot pending) = ⊥
-Asks s (a_message.Ready epoch g) = ⊥
 Asks s (a_message.Poll epoch) = ⊤
+Asks s other = ⊥
 
 module _ (space : Space) (Known : ℕ → RegionId → List Row → Type 0) where
   -- what the session has of its search under way

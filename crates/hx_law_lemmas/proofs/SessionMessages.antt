@@ -134,23 +134,11 @@ install_turn input space s config =
 -- the step of a message is a turn
 message_turn : (space : Space) (id : PostId) (from : Actor) (s : SessionState) (message : Message)
     → Turn (Deliver id from message) s (session_message space s message)
-message_turn space id from s (a_message.Call epoch number op) = stays _ s
 message_turn space id from s (a_message.Reply number version answer) = reply_turn id from s number version answer
-message_turn space id from s (a_message.Update epoch g u) = stays _ s
-message_turn space id from s (a_message.Ack epoch g key version) = stays _ s
-message_turn space id from s (a_message.Ask epoch number g terms) = stays _ s
 message_turn space id from s (a_message.Found epoch number g rows) = found_turn _ s epoch number g rows
-message_turn space id from s (a_message.Seal epoch) = stays _ s
-message_turn space id from s (a_message.Sealed epoch) = stays _ s
 message_turn space id from s (a_message.Install config) = install_turn _ space s config
-message_turn space id from s a_message.Die = stays _ s
-message_turn space id from s a_message.Gone = stays _ s
-message_turn space id from s (a_message.StopServer number server) = stays _ s
-message_turn space id from s (a_message.AddReplica number server g) = stays _ s
 message_turn space id from s (a_message.Outcome number answer) = outcome_turn _ s number answer
-message_turn space id from s (a_message.Snap epoch g snapshot pending) = stays _ s
-message_turn space id from s (a_message.Ready epoch g) = stays _ s
-message_turn space id from s (a_message.Poll epoch) = stays _ s
+message_turn space id from s other = stays _ s
 
 -- a call may begin, then what was under way may end
 pub record SessionTurn (input : Input) (s : SessionState) (step : SessionStep) : Type 0 where

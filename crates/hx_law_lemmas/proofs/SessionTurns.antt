@@ -35,22 +35,11 @@ use Rattle.hx_law_lemmas.proofs.CallEnds.{CallStop, end_notes, goes_on}
 -- what a session says of its call under way, and whether that is sent and goes on: it replies to nobody, and says nothing of updates and epochs
 abbrev pub SaysOf : SessionState → Bool → Bool → Message → Type 0
 SaysOf s sent way (a_message.Call epoch number op) = (number ≡ s.begun) × (s.under_way ≡ true) × (numbered s.calls s.begun ≡ Some op) × (sent ≡ true) × (way ≡ true)
-SaysOf s sent way (a_message.Reply number version answer) = ⊥
-SaysOf s sent way (a_message.Update epoch g u) = ⊥
-SaysOf s sent way (a_message.Ack epoch g key version) = ⊥
 SaysOf s sent way (a_message.Ask epoch number g terms) = ⊤
-SaysOf s sent way (a_message.Found epoch number g rows) = ⊥
-SaysOf s sent way (a_message.Seal epoch) = ⊥
-SaysOf s sent way (a_message.Sealed epoch) = ⊥
-SaysOf s sent way (a_message.Install config) = ⊥
-SaysOf s sent way a_message.Die = ⊥
-SaysOf s sent way a_message.Gone = ⊥
 SaysOf s sent way (a_message.StopServer number server) = ⊤
 SaysOf s sent way (a_message.AddReplica number server g) = (numbered s.calls s.begun ≡ Some (Add server g))
-SaysOf s sent way (a_message.Outcome number answer) = ⊥
-SaysOf s sent way (a_message.Snap epoch g snapshot pending) = ⊥
-SaysOf s sent way (a_message.Ready epoch g) = ⊥
 SaysOf s sent way (a_message.Poll epoch) = ⊤
+SaysOf s sent way other = ⊥
 
 -- the session posts this
 abbrev pub Says : SessionState → Bool → Bool → Post → Type 0

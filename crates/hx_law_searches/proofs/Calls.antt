@@ -22,7 +22,7 @@ use Rattle.hx_model.specs.Runs.{session_of}
 use Rattle.hx_model.specs.Histories.{line_of}
 use Rattle.hx_law_lemmas.specs.Words.{posts_of}
 use Rattle.hx_law_lemmas.proofs.Traces.{BeganAt, EndedAt}
-use Rattle.hx_law_facts.specs.Facts.{WasTold}
+use Rattle.hx_law_lemmas.specs.Facts.{WasTold}
 
 -- call a was ended with this version and answer before call b began
 abbrev pub EndedFirst : List Entry → Caller → Version → Answer → Caller → Type 0

@@ -20,8 +20,8 @@ use Rattle.hx_law_lemmas.proofs.Traces.{arrived}
 use Rattle.hx_law_lemmas.proofs.Lines.{in-upto}
 use Rattle.hx_law_lemmas.proofs.SessionMessages.{SessionTurn, session_turn}
 use Rattle.hx_model.specs.CoordinatorSteps.{coordinator_step}
-use Rattle.hx_law_facts.specs.Facts.{DeliversCall, Facts}
-use Rattle.hx_law_facts.proofs.Lines.{line-numbered}
+use Rattle.hx_law_lemmas.specs.Facts.{DeliversCall, Facts}
+use Rattle.hx_law_lemmas.proofs.FactLines.{line-numbered}
 use Rattle.hx_law_lemmas.proofs.Numbered.{in-below}
 use Rattle.hx_law_chains.proofs.Elsewhere.{issued-line}
 use Rattle.hx_law_chains.proofs.Named.{named}

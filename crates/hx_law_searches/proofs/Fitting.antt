@@ -28,7 +28,7 @@ use Rattle.hx_model.specs.Histories.{line_notes, line_of}
 use Rattle.hx_model.specs.Runs.{IsRun, Output, coordinator_of, made_of, server_of, session_of}
 use Rattle.hx_model.specs.ServerSteps.{get_answer}
 use Rattle.hx_law_lemmas.proofs.Lists.{any-in, in-append, in-map, in-reverse, in_left, in_right, of-reverse}
-use Rattle.hx_posts.proofs.SlotPosts.{any-of}
+use Rattle.hx_law_posts.proofs.SlotPosts.{any-of}
 use Rattle.hx_law_lemmas.proofs.CallEnds.{CallStop, began_notes, end_notes, started}
 use Rattle.hx_law_lemmas.proofs.Traces.{BeganAt, EndedAt, of_session, session_self}
 use Rattle.hx_law_lemmas.proofs.SessionMessages.{SessionTurn}
@@ -36,8 +36,8 @@ use Rattle.hx_law_lemmas.proofs.SessionNotes.{all_notes}
 use Rattle.hx_law_chains.proofs.CoordinatorPosts.{Issues, coordinator-plain}
 use Rattle.hx_law_chains.proofs.Named.{named}
 use Rattle.hx_law_chains.proofs.ServerPosts.{AnySnapshot, AssignsOne, server-plain}
-use Rattle.hx_law_facts.specs.Facts.{Facts, Tells}
-use Rattle.hx_law_facts.proofs.Lines.{update-at}
+use Rattle.hx_law_lemmas.specs.Facts.{Facts, Tells}
+use Rattle.hx_law_lemmas.proofs.FactLines.{update-at}
 use Rattle.hx_law_searches.proofs.Calls.{Calls}
 use Rattle.hx_law_searches.proofs.CallsKept.{calls_kept, step_is, turn_is}
 use Rattle.hx_law_searches.proofs.Items as items

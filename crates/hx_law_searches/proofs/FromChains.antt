@@ -35,7 +35,7 @@ use Rattle.hx_law_lemmas.specs.Words.{posts_of, view}
 use Rattle.hx_law_lemmas.proofs.Replicas.{replica-found}
 use Rattle.hx_law_lemmas.proofs.Texts.{state-there}
 use Rattle.hx_law_lemmas.proofs.Placed.{AllMade}
-use Rattle.hx_folds.specs.Folding.{IsSlotOf}
+use Rattle.hx_law_folds.specs.Folding.{IsSlotOf}
 use Rattle.hx_law_lemmas.proofs.Hearing.{replica_in_epoch-found, replica_in_epoch-open, installed-found}
 use Rattle.hx_law_chains.proofs.Holders.{seat-of}
 use Rattle.hx_law_chains.proofs.Keys.{along-fixed}
@@ -45,9 +45,9 @@ use Rattle.hx_law_chains.proofs.Runs.{chained-run, fixed-run, late-run, lines-ru
 use Rattle.hx_law_epochs.proofs.Runs.{IsKnown, Real, epochs-run}
 use Rattle.hx_law_chains.proofs.Snapshots.{replica-ascends, replica-sent, snapshots-kept}
 use Rattle.hx_law_chains.proofs.World.{Along, Fixed, KeyOk, Law, Lawful, Told, lawful-made, lawful-numbered}
-use Rattle.hx_law_facts.specs.Facts.{AnswersGet, AssignsNext, Facts, IsLine, IsUpdateAfter, ShowsRows, StaysUpTo, Tells, WasTold, part_at}
-use Rattle.hx_law_facts.proofs.Showing.{rows-full, rows-sound}
-use Rattle.hx_law_facts.proofs.Staying.{stays-by}
+use Rattle.hx_law_lemmas.specs.Facts.{AnswersGet, AssignsNext, Facts, IsLine, IsUpdateAfter, ShowsRows, StaysUpTo, Tells, WasTold, part_at}
+use Rattle.hx_law_lemmas.proofs.Showing.{rows-full, rows-sound}
+use Rattle.hx_law_lemmas.proofs.Staying.{stays-by}
 use Rattle.hx_law_lemmas.proofs.Numbered.{in-below}
 use Rattle.hx_law_searches.proofs.Fronts.{front, front-fixed, front-kept, front-reaches, front-within}
 

@@ -16,8 +16,8 @@ use Rattle.hx_law_lemmas.proofs.Chains.{Differ}
 use Rattle.hx_law_lemmas.proofs.Lines.{Sorted, in-only, in-top, in-upto, in-upto_from, only, only-in, only-sorted, top-least, upto-low, upto-sorted}
 use Rattle.hx_law_lemmas.proofs.Passing.{passes-key}
 use Rattle.hx_law_lemmas.proofs.UpdatesApart.{places-apart}
-use Rattle.hx_folds.specs.Folding.{IsSlotOf}
-use Rattle.hx_folds.proofs.Prefixes.{object-line}
+use Rattle.hx_law_folds.specs.Folding.{IsSlotOf}
+use Rattle.hx_law_folds.proofs.Prefixes.{object-line}
 use Rattle.hx_law_epochs.proofs.Positions.{placed-number, stands-cases}
 use Rattle.hx_law_chains.proofs.Lines.{only-upto, sorted-descends}
 use Rattle.hx_law_chains.proofs.Moves.{Own}

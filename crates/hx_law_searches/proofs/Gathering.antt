@@ -20,7 +20,7 @@ use Rattle.hx_model.specs.Searching.{FinishedSearch, rows_in, search_of, terms_o
 use Rattle.hx_law_lemmas.proofs.Traces.{BeganAt, EndedAt, began_at, ended_at}
 use Rattle.hx_law_lemmas.proofs.Positions.{end-noted}
 use Rattle.hx_law_lemmas.proofs.Asking.{Gathered}
-use Rattle.hx_law_facts.specs.Facts.{Facts}
+use Rattle.hx_law_lemmas.specs.Facts.{Facts}
 use Rattle.hx_law_chains.proofs.Named.{named}
 use Rattle.hx_law_searches.proofs.Moments.{part-length}
 use Rattle.hx_law_searches.proofs.Searched.{WasShown, searched-run, shown-up, turn-of}

@@ -34,8 +34,8 @@ use Rattle.hx_law_lemmas.proofs.Gets.{GetEnd, GetNote, entry_got, entry_short, g
 use Rattle.hx_law_lemmas.proofs.CallEnds.{began_notes, end_notes}
 use Rattle.hx_law_lemmas.proofs.Traces.{BeganAt, EndedAt, began_at, begin_is, ended_at}
 use Rattle.hx_law_lemmas.proofs.Lines.{Sorted, numbered-sorted, upto_all, upto_upto}
-use Rattle.hx_law_facts.specs.Facts.{Facts, IsLine, Tells}
-use Rattle.hx_law_facts.proofs.Lines.{caller-once, line-numbered, update-at}
+use Rattle.hx_law_lemmas.specs.Facts.{Facts, IsLine, Tells}
+use Rattle.hx_law_lemmas.proofs.FactLines.{caller-once, line-numbered, update-at}
 use Rattle.hx_law_searches.proofs.Calls.{Calls, LaterThan, NoCall}
 use Rattle.hx_law_searches.proofs.CallsKept.{calls_kept, turn_is}
 use Rattle.hx_law_lemmas.proofs.SessionNotes.{all_notes}

@@ -18,7 +18,7 @@ use Rattle.hx_law_lemmas.proofs.Traces.{BeganAt, began_at, begin_is}
 use Rattle.hx_types.specs.declared.traces.Note.TheVariants as a_note
 use Rattle.hx_types.specs.declared.ids.Actor.TheVariants.{Session}
 use Rattle.hx_law_lemmas.proofs.SessionNotes.{begins_now}
-use Rattle.hx_law_facts.specs.Facts.{Facts}
+use Rattle.hx_law_lemmas.specs.Facts.{Facts}
 use Rattle.hx_law_searches.proofs.CallsKept.{calls_kept, turn_is}
 use Rattle.hx_law_searches.proofs.Histories.{write_of}
 use Rattle.hx_law_searches.proofs.Writes.{in-not_refused}
@@ -26,17 +26,7 @@ use Rattle.hx_law_searches.proofs.Writes.{in-not_refused}
 -- what is done isn't refused
 pub done-stands : (a : Answer) → is_done a ≡ true → is_refused a ≡ false
 done-stands an_answer.Done e = refl
-done-stands an_answer.NotFound e = absurd (false≢true e)
-done-stands an_answer.CmpFail e = absurd (false≢true e)
-done-stands (an_answer.Found object) e = absurd (false≢true e)
-done-stands (an_answer.Rows rows) e = absurd (false≢true e)
-done-stands (an_answer.Refused region epoch) e = absurd (false≢true e)
-done-stands (an_answer.Doubt region epoch) e = absurd (false≢true e)
-done-stands (an_answer.Issued epoch) e = absurd (false≢true e)
-done-stands (an_answer.Stopped epoch) e = absurd (false≢true e)
-done-stands (an_answer.Member epoch) e = absurd (false≢true e)
-done-stands (an_answer.Joining epoch) e = absurd (false≢true e)
-done-stands (an_answer.Lost epoch) e = absurd (false≢true e)
+done-stands other e = absurd (false≢true e)
 
 -- a write of the script is an item of the history
 write-there : (script : Script) (key : List ℕ) (whole : List Entry) (high : Option ℕ) (us : List Update) (u : Update) (op : Op) → IsIn u us → call_of script u.caller ≡ Some op → IsIn (write_of u op) (history_on script key whole high us)

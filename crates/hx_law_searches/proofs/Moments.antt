@@ -11,7 +11,7 @@ use Rattle.hx_model.specs.Runs.{IsRun}
 use Rattle.hx_law_lemmas.specs.Words.{posts_of}
 use Rattle.hx_law_lemmas.proofs.Lists.{in-append}
 use Rattle.hx_law_lemmas.proofs.Traces.{BeganAt, EndedAt}
-use Rattle.hx_law_facts.specs.Facts.{IsPartOf}
+use Rattle.hx_law_lemmas.specs.Facts.{IsPartOf}
 
 -- a part of a run is a run
 pub part-run : (script : Script) (s t : List Entry) → IsPartOf s t → IsRun script t → IsRun script s

@@ -22,8 +22,8 @@ use Rattle.hx_law_lemmas.proofs.Gets.{gets-in}
 use Rattle.hx_law_lemmas.proofs.Traces.{EndedAt, ended_at}
 use Rattle.hx_law_lemmas.proofs.Positions.{end-noted}
 use Rattle.hx_law_lemmas.proofs.Lines.{Sorted, numbered-sorted}
-use Rattle.hx_law_facts.specs.Facts.{Facts, IsLine}
-use Rattle.hx_law_facts.proofs.Lines.{caller-once, line-numbered, update-at}
+use Rattle.hx_law_lemmas.specs.Facts.{Facts, IsLine}
+use Rattle.hx_law_lemmas.proofs.FactLines.{caller-once, line-numbered, update-at}
 use Rattle.hx_law_searches.proofs.Calls.{Calls}
 use Rattle.hx_law_searches.proofs.CallsKept.{calls_kept}
 use Rattle.hx_law_searches.proofs.Histories.{ended-told, linear, write_of}

@@ -26,7 +26,7 @@ use Rattle.hx_law_lemmas.specs.Words.{posts_of}
 use Rattle.hx_law_lemmas.proofs.Lists.{in-append}
 use Rattle.hx_law_lemmas.proofs.Traces.{BeganAt, arrived}
 use Rattle.hx_law_lemmas.proofs.Asking.{Asks, HasParts, SearchTurn, search-turn}
-use Rattle.hx_law_facts.specs.Facts.{Facts, IsPartOf, ShowsRows}
+use Rattle.hx_law_lemmas.specs.Facts.{Facts, IsPartOf, ShowsRows}
 use Rattle.hx_law_searches.proofs.Calls.{Calls}
 use Rattle.hx_law_searches.proofs.CallsKept.{calls_kept, step_is}
 use Rattle.hx_law_chains.proofs.Named.{named}
@@ -86,21 +86,7 @@ tells-up script older x from to (a_message.Found epoch number g rows) h = by to 
     by Coordinator h = tt
     by (Server s) h = tt
     by (Session u) h = shown-up script older x (record { session = u; number = number }) g rows h
-tells-up script older x from to (a_message.Call epoch number op) h = tt
-tells-up script older x from to (a_message.Reply number version answer) h = tt
-tells-up script older x from to (a_message.Update epoch g u) h = tt
-tells-up script older x from to (a_message.Ack epoch g key version) h = tt
-tells-up script older x from to (a_message.Seal epoch) h = tt
-tells-up script older x from to (a_message.Sealed epoch) h = tt
-tells-up script older x from to (a_message.Install config) h = tt
-tells-up script older x from to a_message.Die h = tt
-tells-up script older x from to a_message.Gone h = tt
-tells-up script older x from to (a_message.StopServer number server) h = tt
-tells-up script older x from to (a_message.AddReplica number server g) h = tt
-tells-up script older x from to (a_message.Outcome number answer) h = tt
-tells-up script older x from to (a_message.Snap epoch g snapshot pending) h = tt
-tells-up script older x from to (a_message.Ready epoch g) h = tt
-tells-up script older x from to (a_message.Poll epoch) h = tt
+tells-up script older x from to other h = tt
 
 module _ (script : Script) (facts : Facts script) (older : List Entry) (x : Entry) (run : IsRun script (x ∷ older)) (had : Searched script older) where
   -- parts that were shown stay so

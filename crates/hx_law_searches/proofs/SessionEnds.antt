@@ -151,23 +151,11 @@ installs space s config =
 
 -- each message
 messages : (space : Space) (s : SessionState) (m : Message) → NotesFit s (session_message space s m)
-messages space s (a_message.Call epoch number op) = quiet s _ refl
 messages space s (a_message.Reply number version answer) = answers s number is_key_call version answer (λ op t terms e. false≢true (sym (ap is_key_call e) ∙ t))
-messages space s (a_message.Update epoch g u) = quiet s _ refl
-messages space s (a_message.Ack epoch g key version) = quiet s _ refl
-messages space s (a_message.Ask epoch number g terms) = quiet s _ refl
 messages space s (a_message.Found epoch number g rows) = finds s epoch number g rows
-messages space s (a_message.Seal epoch) = quiet s _ refl
-messages space s (a_message.Sealed epoch) = quiet s _ refl
 messages space s (a_message.Install config) = installs space s config
-messages space s a_message.Die = quiet s _ refl
-messages space s a_message.Gone = quiet s _ refl
-messages space s (a_message.StopServer number server) = quiet s _ refl
-messages space s (a_message.AddReplica number server g) = quiet s _ refl
 messages space s (a_message.Outcome number answer) = answers s number is_administrative no_version answer (λ op t terms e. false≢true (sym (ap is_administrative e) ∙ t))
-messages space s (a_message.Snap epoch g snapshot pending) = quiet s _ refl
-messages space s (a_message.Ready epoch g) = quiet s _ refl
-messages space s (a_message.Poll epoch) = quiet s _ refl
+messages space s other = quiet s _ refl
 
 -- each input
 pub notes-fit : (space : Space) (s : SessionState) (input : Input) → NotesFit s (session_step space s input)

@@ -12,8 +12,8 @@ use Rattle.hx_model.specs.Runs.{IsRun}
 use Rattle.hx_model.specs.Histories.{line_of}
 use Rattle.hx_law_lemmas.proofs.Lines.{Sorted, in-upto, in-upto_from, only-in, only-sorted, upto-low, upto-sorted}
 use Rattle.hx_law_lemmas.proofs.Rows.{Kept, kept-is}
-use Rattle.hx_law_facts.specs.Facts.{Facts, IsPartOf, part_at}
-use Rattle.hx_law_facts.proofs.Lines.{line-sorted}
+use Rattle.hx_law_lemmas.specs.Facts.{Facts, IsPartOf, part_at}
+use Rattle.hx_law_lemmas.proofs.FactLines.{line-sorted}
 use Rattle.hx_law_searches.specs.Headline.{IsRowOfLine, RunsKeepRows, RunsServeCalls}
 use Rattle.hx_law_searches.proofs.FromChains.{facts}
 use Rattle.hx_law_searches.proofs.Moments.{part-before, part-run}

@@ -11,7 +11,7 @@ use Rattle.hx_types.specs.Words.{IsIn}
 use Rattle.hx_model.specs.Runs.{IsRun}
 use Rattle.hx_law_lemmas.proofs.CallEnds.{CallStop}
 use Rattle.hx_law_lemmas.proofs.Traces.{BeganAt, EndedAt}
-use Rattle.hx_law_facts.specs.Facts.{Facts}
+use Rattle.hx_law_lemmas.specs.Facts.{Facts}
 use Rattle.hx_law_searches.proofs.Calls.{Calls, EndedFirst}
 use Rattle.hx_law_searches.proofs.CallsKept.{calls_kept, turn_is}
 use Rattle.hx_law_lemmas.proofs.SessionNotes.{begins_now, ends_now, may_start}

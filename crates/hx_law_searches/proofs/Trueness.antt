@@ -32,7 +32,7 @@ use Rattle.hx_law_lemmas.proofs.Lines.{Sorted, in-only, in-upto, in-upto_from, o
 use Rattle.hx_law_lemmas.proofs.Passing.{Lies, keeps-where, passes-key, passes-old}
 use Rattle.hx_law_lemmas.proofs.Rows.{Changed, Kept, Stands, kept-is, next-change, stands}
 use Rattle.hx_law_lemmas.proofs.Texts.{ascend-test}
-use Rattle.hx_law_facts.specs.Facts.{Facts, part_at}
+use Rattle.hx_law_lemmas.specs.Facts.{Facts, part_at}
 use Rattle.hx_law_searches.proofs.Changes.{change-item, item-change, made, sorted}
 use Rattle.hx_law_searches.proofs.Gathering.{Finished, ShownBefore}
 use Rattle.hx_law_searches.proofs.Histories.{write_of}

@@ -26,8 +26,8 @@ use Rattle.hx_model.specs.Runs.{IsRun}
 use Rattle.hx_model.specs.Histories.{history_of, line_of}
 use Rattle.hx_model.specs.Linear.{began_before, ended_before}
 use Rattle.hx_model.specs.Searching.{ItemWithNewer, FinishedSearch, IsChangeShown, IsSearchWhole, IsShown, changes_object, last_change}
-use Rattle.hx_plan.proofs.Listing.{Contains-below}
-use Rattle.hx_plan.proofs.Planned.{all_asked, asked}
+use Rattle.hx_region.proofs.Listing.{Contains-below}
+use Rattle.hx_region.proofs.Planned.{all_asked, asked}
 use Rattle.hx_region.specs.Spans.{subspace_count}
 use Rattle.hx_law_lemmas.proofs.Lists.{any-in, before-first, in-map}
 use Rattle.hx_law_lemmas.proofs.Traces.{BeganAt}
@@ -37,7 +37,7 @@ use Rattle.hx_law_lemmas.proofs.Lines.{same_version}
 use Rattle.hx_law_lemmas.proofs.Passing.{keeps-key, keeps-new, passes-key}
 use Rattle.hx_law_lemmas.proofs.Placed.{Made}
 use Rattle.hx_law_lemmas.proofs.Rows.{kept-newest, row_with, stands}
-use Rattle.hx_law_facts.specs.Facts.{Facts}
+use Rattle.hx_law_lemmas.specs.Facts.{Facts}
 use Rattle.hx_law_searches.proofs.Changes.{change-item, item-change, made, sorted}
 use Rattle.hx_law_searches.proofs.Gathering.{Finished, ShownBefore}
 use Rattle.hx_law_searches.proofs.Histories.{write_of}

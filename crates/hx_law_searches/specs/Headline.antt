@@ -18,7 +18,7 @@ use Rattle.hx_model.specs.Histories.{line_of}
 use Rattle.hx_model.specs.Linear.{IsLinear}
 use Rattle.hx_model.specs.Searching.{FinishedSearch, IsSearchTrue, IsSearchWhole, search_of}
 use Rattle.hx_law_lemmas.specs.Words.{posts_of}
-use Rattle.hx_law_facts.specs.Facts.{Facts}
+use Rattle.hx_law_lemmas.specs.Facts.{Facts}
 
 -- in every run the history of every key is linear
 abbrev pub RunsAreLinear : Type 0

@@ -1,8 +1,8 @@
 -- The law on soaks.
 use Rattle.std.proofs.Common.{ap, ◌∙◌}
-use Rattle.hx_gen.specs.Soaking.{soak}
-use Rattle.hx_summary.specs.Tallying.{Tally}
-use Rattle.hx_summary.specs.Summing.{tally_text}
+use Rattle.hx_soak.specs.Soaking.{soak}
+use Rattle.hx_soak.specs.Tallying.{Tally}
+use Rattle.hx_soak.specs.Summing.{tally_text}
 use Rattle.hx_law_soak.specs.Soaks.{SoaksSumUpInOrder}
 use Rattle.hx_law_soak.proofs.Tallies.{tallies-same}
 

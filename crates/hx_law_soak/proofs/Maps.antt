@@ -5,7 +5,7 @@ use Rattle.hx_types.specs.declared.values.Value.{Value}
 use Rattle.hx_types.specs.Words.{IsIn, same_text, text_below}
 use Rattle.hx_model.proofs.States.{eq_of_same_text, same_text_self}
 use Rattle.hx_law_lemmas.proofs.Texts.{Ascend, below-differs, below-other, below-trans}
-use Rattle.hx_summary.specs.Tallying.{KeyObject}
+use Rattle.hx_soak.specs.Tallying.{KeyObject}
 use Rattle.hx_law_soak.specs.Sequence.{keyed, object_at, with_object}
 
 abbrev pub key_of_object : KeyObject → List ℕ

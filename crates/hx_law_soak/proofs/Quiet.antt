@@ -51,19 +51,7 @@ Calm a_message.Die = ⊥
 Calm a_message.Gone = ⊥
 Calm (a_message.StopServer number server) = ⊥
 Calm (a_message.AddReplica number server g) = ⊥
-Calm (a_message.Call epoch number op) = ⊤
-Calm (a_message.Reply number version answer) = ⊤
-Calm (a_message.Update epoch g u) = ⊤
-Calm (a_message.Ack epoch g key version) = ⊤
-Calm (a_message.Ask epoch number g terms) = ⊤
-Calm (a_message.Found epoch number g rows) = ⊤
-Calm (a_message.Seal epoch) = ⊤
-Calm (a_message.Sealed epoch) = ⊤
-Calm (a_message.Install config) = ⊤
-Calm (a_message.Outcome number answer) = ⊤
-Calm (a_message.Snap epoch g snapshot pending) = ⊤
-Calm (a_message.Ready epoch g) = ⊤
-Calm (a_message.Poll epoch) = ⊤
+Calm other = ⊤
 
 -- what stays so in every such run
 pub record IsQuiet (script : Script) (t : List Entry) : Type 0 where
@@ -140,23 +128,11 @@ module _ (space : Space) (s : ServerState) (up : s.halted ≡ false) where
 
 -- what a server tells that hasn't halted is calm
 calm-told : (s : ServerId) (st : ServerState) → st.halted ≡ false → (to : Actor) (m : Message) → Tells s st to m → Calm m
-calm-told s st up to (a_message.Update epoch g u) h = tt
-calm-told s st up to (a_message.Ack epoch g key version) h = tt
-calm-told s st up to (a_message.Reply number version answer) h = tt
-calm-told s st up to (a_message.Found epoch number g rows) h = tt
-calm-told s st up to (a_message.Sealed epoch) h = tt
 calm-told s st up to a_message.Gone h = absurd (false≢true (sym up ∙ h))
-calm-told s st up to (a_message.Ready epoch g) h = tt
-calm-told s st up to (a_message.Snap epoch g snapshot pending) h = tt
-calm-told s st up to (a_message.Install config) h = tt
-calm-told s st up to (a_message.Seal epoch) h = tt
 calm-told s st up to a_message.Die h = absurd h
-calm-told s st up to (a_message.Outcome number answer) h = tt
-calm-told s st up to (a_message.Call epoch number op) h = tt
-calm-told s st up to (a_message.Ask epoch number g terms) h = tt
 calm-told s st up to (a_message.StopServer number server) h = absurd h
 calm-told s st up to (a_message.AddReplica number server g) h = absurd h
-calm-told s st up to (a_message.Poll epoch) h = tt
+calm-told s st up to other h = tt
 
 -- ---- sessions
 

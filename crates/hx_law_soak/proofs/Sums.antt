@@ -8,10 +8,10 @@ use Rattle.hx_types.specs.declared.calls.Caller.{Caller}
 use Rattle.hx_types.specs.declared.calls.Op.{Op}
 use Rattle.hx_types.specs.Fitting.{calls_of}
 use Rattle.hx_types.specs.Words.{below}
-use Rattle.hx_gen.specs.Calling.{call_drawn}
-use Rattle.hx_gen.specs.Drawing.{draw_of}
-use Rattle.hx_gen.specs.Soaking.{script_drawn, session_at, turns_of}
-use Rattle.hx_gen.proofs.Dealing.{one_more}
+use Rattle.hx_soak.specs.Calling.{call_drawn}
+use Rattle.hx_soak.specs.Drawing.{draw_of}
+use Rattle.hx_soak.specs.Soaking.{script_drawn, session_at, turns_of}
+use Rattle.hx_soak.proofs.Dealing.{one_more}
 use Rattle.hx_model.specs.Histories.{callers_of}
 use Rattle.hx_law_soak.proofs.Turns.{caller_at, calls-of, dealt_out}
 

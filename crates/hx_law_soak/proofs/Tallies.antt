@@ -28,10 +28,10 @@ use Rattle.hx_history.specs.declared.key_histories.KeyHistory.{KeyHistory}
 use Rattle.hx_history.specs.Listed.{AreHistories, IsHistory, keys_of_histories}
 use Rattle.hx_law_lemmas.proofs.Lists.{all-in}
 use Rattle.hx_law_lemmas.proofs.Texts.{Ascend, below-differs}
-use Rattle.hx_gen.specs.Soaking.{script_drawn, soak}
-use Rattle.hx_summary.specs.declared.counting.Counted.{Counted}
-use Rattle.hx_summary.specs.declared.counting.Counted.TheVariants as a_count
-use Rattle.hx_summary.specs.Tallying.{KeyObject, Tally, how_many, is_counted, last_object, objects_of, tally_of}
+use Rattle.hx_soak.specs.Soaking.{script_drawn, soak}
+use Rattle.hx_soak.specs.declared.counting.Counted.{Counted}
+use Rattle.hx_soak.specs.declared.counting.Counted.TheVariants as a_count
+use Rattle.hx_soak.specs.Tallying.{KeyObject, Tally, how_many, is_counted, last_object, objects_of, tally_of}
 use Rattle.hx_law_soak.specs.Sequence.{object_at, one_if, op_at, tally_in_order, with_effect, with_search}
 use Rattle.hx_law_soak.specs.Soaks.{IsSoak}
 use Rattle.hx_law_soak.proofs.Cutting.{cut_below}

@@ -11,7 +11,7 @@ use Rattle.hx_model.specs.Runs.{IsRun, session_of}
 use Rattle.hx_law_lemmas.proofs.CallEnds.{started}
 use Rattle.hx_law_lemmas.proofs.SessionNotes.{begins_now, ends_now, may_start}
 use Rattle.hx_law_lemmas.proofs.Traces.{BeganAt, EndedAt}
-use Rattle.hx_law_facts.specs.Facts.{Facts}
+use Rattle.hx_law_lemmas.specs.Facts.{Facts}
 use Rattle.hx_law_searches.proofs.Calls.{Calls}
 use Rattle.hx_law_searches.proofs.CallsKept.{calls_kept, turn_is}
 

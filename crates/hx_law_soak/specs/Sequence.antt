@@ -9,10 +9,10 @@ use Rattle.hx_types.specs.declared.values.Value.{Value}
 use Rattle.hx_types.specs.Effects.{effect_of, key_of}
 use Rattle.hx_types.specs.Fitting.{is_cmp_fail, is_done, is_found, is_not_found}
 use Rattle.hx_types.specs.Words.{below, list_of, same_text, text_below, when_some}
-use Rattle.hx_gen.specs.Calling.{call_drawn}
-use Rattle.hx_gen.specs.Drawing.{draw_of}
-use Rattle.hx_gen.specs.Soaking.{session_at, soak}
-use Rattle.hx_summary.specs.Tallying.{KeyObject, Tally}
+use Rattle.hx_soak.specs.Calling.{call_drawn}
+use Rattle.hx_soak.specs.Drawing.{draw_of}
+use Rattle.hx_soak.specs.Soaking.{session_at, soak}
+use Rattle.hx_soak.specs.Tallying.{KeyObject, Tally}
 
 -- the object of a key, if the map has one
 abbrev pub object_at : List ℕ → List KeyObject → Option (List Value)

@@ -9,8 +9,8 @@ use Rattle.hx_types.specs.Fitting.{call_of}
 use Rattle.hx_types.specs.Words.{IsIn}
 use Rattle.hx_model.specs.Histories.{note_of_end}
 use Rattle.hx_model.specs.Runs.{IsRun}
-use Rattle.hx_gen.specs.Soaking.{script_drawn, soak}
-use Rattle.hx_summary.specs.Summing.{IsSummary, tally_text}
+use Rattle.hx_soak.specs.Soaking.{script_drawn, soak}
+use Rattle.hx_soak.specs.Summing.{IsSummary, tally_text}
 use Rattle.hx_law_soak.specs.Sequence.{tally_in_order}
 
 -- no server is halted

@@ -13,3 +13,4 @@ pub mod Growing
 pub mod Reading
 pub mod PartPaces
 pub mod Example
+pub mod Feeding

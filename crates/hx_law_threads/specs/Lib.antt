@@ -7,3 +7,4 @@ pub mod Counting
 pub mod Offers
 pub mod Laws
 pub mod PartPacing
+pub mod Feeding

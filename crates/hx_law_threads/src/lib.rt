@@ -1,9 +1,15 @@
 //! The laws on what several threads make: what each actor made on its own, merged by the stamps of
 //! one clock, is a run of the script, so that every law over all runs holds of it.
+//!
+//! And the law on posts, actor by actor: what one actor makes on its own thread is sound, as long as what
+//! it is given is. So a driver that knows no more of a run than its own actors' entries and the posts
+//! that they took knows that each post which it puts is sound, and that its actors can take their next
+//! input. The laws over whole runs say the same of the merged trace, which no thread has yet.
 #![tactic(auto)]
 
 ghost use Rattle.hx_law_threads.specs.Calls.{CallsOfDoneSessionsEnd, CallsUnderWayAreOpen};
 ghost use Rattle.hx_law_threads.specs.Counting.{CutsAddUp, OpenAreCounted, PostsAreNamedOnce, PostsOfCutsWeigh, TracesAddUp};
+ghost use Rattle.hx_law_threads.specs.Feeding.{ActorsStaySound};
 ghost use Rattle.hx_law_threads.specs.PartPacing.{PacedPartsPaceTraces, PartsTellPace};
 ghost use Rattle.hx_law_threads.specs.Offers.{OpenWereLost, RepeatsWerePut};
 ghost use Rattle.hx_law_threads.specs.Laws.{CutsAreReadInParts, EntriesAreOfParts, EntriesOfRunsAreOwn, MergedPartsAreRuns, MergedStampsArePlaces, PostsAreFound, RetriersWaited, RetriesWait, StatesAreByOwnEntries};
@@ -69,4 +75,12 @@ pub fn open_posts_were_lost()
 pub fn parts_tell_the_pace()
     ensures parts { PartsTellPace }
     ensures traces { PacedPartsPaceTraces }
+{}
+
+/// An actor that made its steps on sound posts of entries with smaller stamps, each stamp above the
+/// one before it, made sound posts alone, each for the number of its entry; it has its own number, no
+/// epoch of its configuration and no version of its slots is above the number of its newest entry by
+/// more than 1, and what it took comes after lower versions.
+pub fn actors_stay_sound()
+    ensures { ActorsStaySound }
 {}

@@ -2,10 +2,10 @@ ghost use Rattle.std.specs.Prelude.{◌≡◌, ◌↔◌, unwrap_or, IsTrue};
 ghost use Rattle.std.specs.Option.{option_copied};
 ghost use Rattle.hx_legal.specs.Shown.{Shows};
 ghost use Rattle.hx_model.specs.Legal.{IsEffect};
-ghost use Rattle.hx_types.specs.Effects.{changed_to, defaults, deleted, got, left_as, put_where, test_holds, tests_hold, written};
+ghost use Rattle.hx_types.specs.Effects.{changed_to, defaults, deleted, got, left_as, put_where, tests_hold, written};
 
 use crate::writes::{is_written, same_object};
-use hx_types::{Answer, Assign, Item, Object, Op, Same, Space};
+use hx_types::{Answer, Assign, Item, Object, Op, Same, Space, tests_hold};
 
 /// Whether the item has the answer and the object of its operation's effect on the object before
 /// it.
@@ -61,7 +61,7 @@ fn is_cput(
     let Some(object) = before else {
         return is_not_found(before, item);
     };
-    if all_hold(object, tests) {
+    if tests_hold(object, tests) {
         is_put(space, before, sets, item)
     } else {
         is_failed(&item.answer) && same_object(item.object.as_ref(), before)
@@ -93,21 +93,5 @@ fn is_found(answer: &Answer, object: &Object) -> bool
     match answer {
         Answer::Found(found) => found.same(object),
         _ => false,
-    }
-}
-
-/// Whether each tested attribute has the tested value.
-fn all_hold(object: &Object, tests: &[Assign]) -> bool
-    ensures { result ≡ tests_hold object.now tests.now }
-{
-    tests.iter().all(|test| holds(object, test))
-}
-
-fn holds(object: &Object, test: &Assign) -> bool
-    ensures { result ≡ test_holds object.now test.now }
-{
-    match object.get((test.attribute as usize).saturating_sub(1)) {
-        Some(value) => test.value.same(value),
-        None => false,
     }
 }

@@ -14,10 +14,10 @@ use Rattle.hx_model.specs.Runs.{coordinator_of, entry_of, made_of, server_of, se
 use Rattle.hx_model.specs.ServerSteps.{ServerState, ServerStep, server_step}
 use Rattle.hx_model.specs.SessionSteps.{SessionState, session_step}
 use Rattle.hx_clock.specs.declared.parts.Stamped.{Stamped}
-use Rattle.hx_folds.specs.Folding.{IsServerOf as AreInOrder, folded_server}
-use Rattle.hx_folds.proofs.Servers.{server-folds}
-use Rattle.hx_folds.proofs.Staying.{server-stays}
-use Rattle.hx_law_own.specs.Feeding.{entries_in}
+use Rattle.hx_law_folds.specs.Folding.{IsServerOf as AreInOrder, folded_server}
+use Rattle.hx_law_folds.proofs.Servers.{server-folds}
+use Rattle.hx_law_folds.proofs.Staying.{server-stays}
+use Rattle.hx_law_threads.specs.Feeding.{entries_in}
 use Rattle.hx_coord.specs.Coordinators as coordinator
 use Rattle.hx_coord.specs.Changes as coordinator_plan
 use Rattle.hx_coord.specs.declared.prepared.Plan.{Plan as CoordinatorPlan}

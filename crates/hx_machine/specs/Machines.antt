@@ -7,10 +7,10 @@ use Rattle.hx_types.specs.declared.traces.Script.{Script}
 use Rattle.hx_types.specs.declared.ids.Actor.TheVariants.{Coordinator, Server, Session}
 use Rattle.hx_types.specs.Fitting.{IsScript}
 use Rattle.hx_model.specs.Runs.{coordinator_of, entry_of, has_halted, is_actor, made_of, server_of, session_of}
-use Rattle.hx_folds.specs.Folding.{IsServerOf as AreInOrder, folded_server}
+use Rattle.hx_law_folds.specs.Folding.{IsServerOf as AreInOrder, folded_server}
 use Rattle.hx_clock.specs.declared.parts.Stamped.{Stamped}
 use Rattle.hx_law_threads.specs.Own.{IsOwn}
-use Rattle.hx_law_own.specs.Feeding.{IsFed, IsFedBy, entries_in, latest}
+use Rattle.hx_law_threads.specs.Feeding.{IsFed, IsFedBy, entries_in, latest}
 use Rattle.hx_coord.specs.Changes as coordinator
 use Rattle.hx_replica.specs.Plans as server
 use Rattle.hx_session.specs.Changes as session

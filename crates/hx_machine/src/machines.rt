@@ -5,7 +5,7 @@ ghost use Rattle.hx_types.specs.declared.traces.Script.{Script as ScriptSeen};
 ghost use Rattle.hx_types.specs.Fitting.{IsScript};
 ghost use Rattle.hx_model.specs.Runs.{has_halted, is_actor};
 ghost use Rattle.hx_clock.specs.declared.parts.Stamped.{Stamped};
-ghost use Rattle.hx_law_own.specs.Feeding.{entries_in};
+ghost use Rattle.hx_law_threads.specs.Feeding.{entries_in};
 ghost use Rattle.hx_law_threads.specs.Cuts.{is_idle_actor};
 ghost use Rattle.hx_coord.specs.Changes.{IsPlanOn as IsCoordinatorPlan};
 ghost use Rattle.hx_coord.specs.Coordinators.{CanTake as CoordinatorCanTake};

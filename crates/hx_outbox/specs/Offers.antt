@@ -15,23 +15,8 @@ use Rattle.hx_outbox.specs.declared.copies.Copies.{Copies}
 
 -- a server's word that it has halted: it is never lost
 abbrev pub is_gone : Message → Bool
-is_gone (a_message.Call epoch number op) = false
-is_gone (a_message.Reply number version answer) = false
-is_gone (a_message.Update epoch region update) = false
-is_gone (a_message.Ack epoch region key version) = false
-is_gone (a_message.Ask epoch number region terms) = false
-is_gone (a_message.Found epoch number region rows) = false
-is_gone (a_message.Seal epoch) = false
-is_gone (a_message.Sealed epoch) = false
-is_gone (a_message.Install config) = false
-is_gone a_message.Die = false
 is_gone a_message.Gone = true
-is_gone (a_message.StopServer number server) = false
-is_gone (a_message.AddReplica number server region) = false
-is_gone (a_message.Outcome number answer) = false
-is_gone (a_message.Snap epoch region snapshot pending) = false
-is_gone (a_message.Ready epoch region) = false
-is_gone (a_message.Poll epoch) = false
+is_gone other = false
 
 abbrev pub times_of : Choice → ℕ
 times_of Deliver = 1

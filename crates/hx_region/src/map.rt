@@ -109,7 +109,7 @@ impl RegionMap {
         ensures place { result ≡ key_region self.now key.now }
         ensures within { IsRegionIn self.now 0 result }
     {
-        RegionId(hx_hash::text_cell(key.as_bytes(), self.space.key_parts))
+        RegionId(crate::text_cell(key.as_bytes(), self.space.key_parts))
     }
 
     /// The region of a key and object in a subspace, found in one step an axis of the subspace.

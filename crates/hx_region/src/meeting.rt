@@ -7,9 +7,9 @@ ghost use Rattle.hx_types.specs.Subspaces.{size_of};
 ghost use Rattle.hx_types.specs.Words.{below};
 ghost use Rattle.hx_types.specs.declared.spaces.Axis.{Axis};
 
+use crate::cell;
 use crate::cells::CellRange;
 use crate::rows::{kind, number_cell, size};
-use hx_hash::cell;
 use hx_types::{Axis, Memory, RegionId, RegionList, Space, Term};
 use std::alloc::Global;
 

@@ -7,7 +7,7 @@ ghost use Rattle.hx_types.specs.Subspaces.{kind_at, size_of};
 ghost use Rattle.hx_types.specs.declared.spaces.Axis.{Axis};
 ghost use Rattle.hx_types.specs.declared.values.Value.TheVariants as a_value;
 
-use hx_hash::{cell, int_cell, text_cell};
+use crate::{cell, int_cell, text_cell};
 use hx_types::{Axis, Kind, Object, Space, Term, Text};
 
 /// How many regions a subspace of these axes has.

@@ -16,7 +16,7 @@ use Rattle.hx_types.specs.Words.{same_text, when_some}
 use Rattle.hx_model.specs.ServerSteps.{Replica as ReplicaState, ServerState, replica_of, server_step, context_of, state_in, with_replica, with_slot}
 use Rattle.hx_model.specs.Slots.{KeyState, new_state, state_among}
 use Rattle.hx_store.specs.Stores.{IsPlace, Room, has_slot, StoreState, after_step, key_at, spare_at, state_at}
-use Rattle.hx_folds.specs.Folding.{folded_server}
+use Rattle.hx_law_folds.specs.Folding.{folded_server}
 use Rattle.hx_replica.specs.declared.outputs.SlotChange.{SlotChange}
 use Rattle.hx_replica.specs.declared.outputs.SlotOutput.{SlotOutput}
 use Rattle.hx_replica.specs.declared.prepared.Change.{Change}

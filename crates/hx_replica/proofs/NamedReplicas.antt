@@ -18,8 +18,8 @@ use Rattle.hx_model.specs.Slots.{Forget, KeyState, kept_of, moved_all, pending_o
 use Rattle.hx_law_lemmas.proofs.KnownUpdates.{AllKnown, Known as IsMoveKnown, accepting-known, marks-known, with_commits-known}
 use Rattle.hx_law_lemmas.proofs.Lists.{in-append, in-filter, in-flat_map, in-map, in_left}
 use Rattle.hx_law_lemmas.proofs.Replicas.{in-with_state}
-use Rattle.hx_posts.proofs.Moves.{offered_all-known}
-use Rattle.hx_posts.proofs.Slots.{held-together, together}
+use Rattle.hx_law_posts.proofs.Moves.{offered_all-known}
+use Rattle.hx_law_posts.proofs.Slots.{held-together, together}
 use Rattle.hx_replica.proofs.NamedMembers.{IsMaybeKnown, KnowsMembers, joiner-known}
 use Rattle.hx_replica.proofs.NamedSlots.{AreGood, KnowsCaller, KnowsSlot, among-known, both-good, each-good, kept-known, moved-known, moves-good, none-good, one-good, pending-good, pending-known, provided-good, together-known}
 use Rattle.hx_replica.proofs.NamedSteps.{leader-good}

@@ -31,7 +31,7 @@ use Rattle.hx_model.specs.ServerSteps.{Replica, ServerState, ServerStep, acked, 
 use Rattle.hx_model.specs.Slots.{KeyState}
 use Rattle.hx_law_lemmas.proofs.Lists.{in-flat, in-map, in-slice_get, in_left, in_right, map-in, when_some_both}
 use Rattle.hx_law_lemmas.proofs.Replicas.{replica-found}
-use Rattle.hx_posts.proofs.Servers.{replica_in_epoch-found, installed-found}
+use Rattle.hx_law_posts.proofs.Servers.{replica_in_epoch-found, installed-found}
 use Rattle.hx_replica.proofs.NamedReplicas.{Knows, adopted-good, installed-good, ready-good, tick-good}
 use Rattle.hx_replica.proofs.NamedSlots.{AreGood, KnowsSlot, among-known, both-good, each-good, none-good, one-good, provided-good}
 use Rattle.hx_replica.proofs.NamedSteps.{ack-good, call-good, update-good}

@@ -26,7 +26,7 @@ use Rattle.hx_law_lemmas.proofs.LeaderLines.{pending-in}
 use Rattle.hx_law_lemmas.proofs.Lines.{in-upto}
 use Rattle.hx_law_lemmas.proofs.Lists.{in-append, in-flat_map, in-map, in-provided}
 use Rattle.hx_law_lemmas.proofs.Replicas.{state-from}
-use Rattle.hx_posts.proofs.Slots.{held-together, together}
+use Rattle.hx_law_posts.proofs.Slots.{held-together, together}
 use Rattle.hx_replica.proofs.NamedMembers.{GoesToKnown, KnowsMembers, next-known, prev-known}
 
 -- a mark of a changed list is the new one or an old one

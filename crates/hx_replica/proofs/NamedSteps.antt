@@ -23,7 +23,7 @@ use Rattle.hx_model.specs.Slots.{KeyState, acknowledged, latest_of, object_in, o
 use Rattle.hx_law_lemmas.proofs.Decisions.{decides}
 use Rattle.hx_law_lemmas.proofs.KnownUpdates.{accepting-known, acknowledged-known, offered-known}
 use Rattle.hx_law_lemmas.proofs.Lists.{in-filter, when_some_both}
-use Rattle.hx_posts.proofs.Slots.{held-together, together}
+use Rattle.hx_law_posts.proofs.Slots.{held-together, together}
 use Rattle.hx_replica.proofs.NamedMembers.{KnowsMembers}
 use Rattle.hx_replica.proofs.NamedSlots.{AreGood, IsGood, KnowsCaller, KnowsSlot, ack_to-good, mapped-good, moves-good, none-good, one-good, pending-known, provided-good, reply-good, together-known}
 

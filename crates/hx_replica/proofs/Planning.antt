@@ -19,8 +19,8 @@ use Rattle.hx_types.specs.declared.ids.Actor.TheVariants.{Server}
 use Rattle.hx_model.specs.ServerSteps.{Replica, ServerState, ServerStep, asked, at_slot, input_step, message_step, server_step, context_of, state_in, unmoved, with_slot}
 use Rattle.hx_model.specs.Slots.{KeyState, Move, moved_all}
 use Rattle.hx_store.specs.Stores.{Room}
-use Rattle.hx_folds.specs.Folding.{folded, folded_server}
-use Rattle.hx_folds.proofs.Servers.{found-lean, state-lean, with-slot-lean}
+use Rattle.hx_law_folds.specs.Folding.{folded, folded_server}
+use Rattle.hx_law_folds.proofs.Servers.{found-lean, state-lean, with-slot-lean}
 use Rattle.hx_replica.specs.declared.outputs.SlotChange.TheVariants.{Open, Accept, Acknowledge}
 use Rattle.hx_replica.specs.declared.outputs.SlotChange.{SlotChange}
 use Rattle.hx_replica.specs.declared.outputs.SlotOutput.{SlotOutput}

@@ -13,7 +13,7 @@ use Rattle.hx_model.specs.Leading.{StuckAt, stuck_among}
 use Rattle.hx_model.specs.Neighbours.{is_end}
 use Rattle.hx_model.specs.ServerSteps.{SlotContext as ModelContext, doubt_in, doubts_from, tail_acks, leader_doubts, move_posts, next_at, passed_on, resumed, resumed_posts}
 use Rattle.hx_model.specs.Slots.{Acknowledge, Forget, KeyState, Move, commits, moved, moved_all, pending_of, settled}
-use Rattle.hx_folds.specs.Folding.{Descends, IsSlotOf}
+use Rattle.hx_law_folds.specs.Folding.{Descends, IsSlotOf}
 use Rattle.hx_store.specs.Stores.{ArePending, acknowledging}
 use Rattle.hx_store.proofs.Moves.{moved_all_append}
 use Rattle.hx_replica.specs.Adopting.{IsCarriedOn, doubt_of, doubts_among, doubts_on}

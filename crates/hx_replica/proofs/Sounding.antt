@@ -15,14 +15,14 @@ use Rattle.hx_types.specs.Posts.{IsSoundPost}
 use Rattle.hx_types.specs.Words.{IsIn, post, text_below}
 use Rattle.hx_model.specs.ServerSteps.{Replica, ServerState, server_step}
 use Rattle.hx_model.specs.Slots.{KeyState}
-use Rattle.hx_folds.specs.Folding.{Descends, KeysAscend}
+use Rattle.hx_law_folds.specs.Folding.{Descends, KeysAscend}
 use Rattle.hx_law_lemmas.proofs.Lists.{all-of}
-use Rattle.hx_posts.proofs.Bounds as a_bound
-use Rattle.hx_posts.proofs.Moves as a_move
-use Rattle.hx_posts.proofs.Servers as a_server
-use Rattle.hx_posts.proofs.Slots as a_slot
-use Rattle.hx_posts.proofs.Texts as a_text
-use Rattle.hx_posts.proofs.ServerSteps.{server-good}
+use Rattle.hx_law_posts.proofs.Bounds as a_bound
+use Rattle.hx_law_posts.proofs.Moves as a_move
+use Rattle.hx_law_posts.proofs.Servers as a_server
+use Rattle.hx_law_posts.proofs.Slots as a_slot
+use Rattle.hx_law_posts.proofs.Texts as a_text
+use Rattle.hx_law_posts.proofs.ServerSteps.{server-good}
 use Rattle.hx_replica.specs.Servers.{ServerValue, server_entry}
 use Rattle.hx_replica.specs.Sound.{IsSoundAt, IsSoundInput, IsSoundReplica, IsSoundServer, IsSoundSlot}
 

@@ -12,7 +12,7 @@ use Rattle.hx_types.specs.Words.{provided, when_some}
 use Rattle.hx_model.specs.Leading.{StuckAt, stuck_among}
 use Rattle.hx_model.specs.ServerSteps.{Replica as ReplicaState, ServerState, SlotContext as ModelContext, doubt_in, tail_acks, is_active, listed_regions, move_posts, passed_on, ready_post, replica_or_new, resumed, resumed_posts, snap_posts, context_of}
 use Rattle.hx_model.specs.Slots.{Forget, KeyState, is_pending, moved, moved_all, pending_of}
-use Rattle.hx_folds.specs.Folding.{folded}
+use Rattle.hx_law_folds.specs.Folding.{folded}
 use Rattle.hx_store.specs.Stores.{ArePending, acknowledging}
 use Rattle.hx_replica.specs.Outputs.{tail_version}
 use Rattle.hx_replica.specs.Ticking.{kept_here, standing}

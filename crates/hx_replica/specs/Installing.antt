@@ -9,7 +9,7 @@ use Rattle.hx_types.specs.declared.updates.Update.{Update}
 use Rattle.hx_types.specs.Words.{same_text, text_below}
 use Rattle.hx_model.specs.ServerSteps.{Slots, SlotContext as ModelContext, accepting, join_keys, offered_all}
 use Rattle.hx_model.specs.Slots.{KeyState, Move, offered}
-use Rattle.hx_folds.specs.Folding.{KeptsAscend, folded}
+use Rattle.hx_law_folds.specs.Folding.{KeptsAscend, folded}
 use Rattle.hx_slot.specs.States.{IsOrderly, IsPlacedIn}
 
 -- an update that a slot of the region can be offered

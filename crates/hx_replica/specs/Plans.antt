@@ -8,7 +8,7 @@ use Rattle.hx_types.specs.declared.spaces.Space.{Space}
 use Rattle.hx_types.specs.declared.traces.Input.{Input}
 use Rattle.hx_types.specs.declared.traces.Input.TheVariants.{Deliver}
 use Rattle.hx_model.specs.ServerSteps.{Replica as ReplicaState, ServerState, ServerStep, listed_regions, server_step, context_of, state_in, with_replica, with_slot}
-use Rattle.hx_folds.specs.Folding.{folded_server}
+use Rattle.hx_law_folds.specs.Folding.{folded_server}
 use Rattle.hx_replica.specs.declared.outputs.SlotChange.{SlotChange}
 use Rattle.hx_replica.specs.declared.outputs.SlotOutput.{SlotOutput}
 use Rattle.hx_replica.specs.declared.prepared.Change.{Change}

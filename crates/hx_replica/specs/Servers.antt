@@ -13,7 +13,7 @@ use Rattle.hx_types.specs.Words.{IsIn, post}
 use Rattle.hx_model.specs.Runs.{entry_of}
 use Rattle.hx_model.specs.ServerSteps.{Replica, ServerState, server_step}
 use Rattle.hx_model.specs.Slots.{KeyState, top_of}
-use Rattle.hx_folds.specs.Folding.{folded_server}
+use Rattle.hx_law_folds.specs.Folding.{folded_server}
 use Rattle.hx_store.specs.Stores.{Room}
 
 -- rooms: for how many more updates the slots of each replica have room

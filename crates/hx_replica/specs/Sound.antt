@@ -12,7 +12,7 @@ use Rattle.hx_types.specs.Spaces.{IsConfigOf, IsRegionOf, IsServerOf, IsSpace}
 use Rattle.hx_types.specs.Words.{IsIn, post}
 use Rattle.hx_model.specs.ServerSteps.{Replica, ServerState}
 use Rattle.hx_model.specs.Slots.{KeyState}
-use Rattle.hx_folds.specs.Folding.{Descends, KeysAscend}
+use Rattle.hx_law_folds.specs.Folding.{Descends, KeysAscend}
 
 -- of the space, of so many sessions, with no epoch above n + 1
 abbrev pub bounds : Space → ℕ → ℕ → Bounds

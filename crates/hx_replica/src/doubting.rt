@@ -5,7 +5,7 @@ ghost use Rattle.hx_replica.specs.Adopting.{doubt_of, doubts_among};
 ghost use Rattle.hx_replica.specs.Outputs.{context_seen};
 
 use crate::contexts::{SlotContext, doubt};
-use hx_leader::stuck_from;
+use hx_chain::stuck_from;
 use hx_slot::Slot;
 use hx_types::{Memory, Posts, RegionId, Update, Version};
 

@@ -2,7 +2,7 @@ ghost use Rattle.std.specs.Prelude.{◌≡◌, ◌≤◌, ◌++◌, [], IfOk, On
 ghost use Rattle.std.specs.List.{All, AllByRecursion, flat_map};
 ghost use Rattle.hx_types.specs.declared.limits.TheConstants.{MOST_ATTRIBUTES};
 ghost use Rattle.hx_types.specs.Subspaces.{is_key_region};
-ghost use Rattle.hx_folds.specs.Folding.{KeptsAscend, folded};
+ghost use Rattle.hx_law_folds.specs.Folding.{KeptsAscend, folded};
 ghost use Rattle.hx_model.specs.ServerSteps.{installed_slots, move_posts, offered_all, ready_post};
 ghost use Rattle.hx_model.specs.Slots.{Forget, KeyState, moved, moved_all};
 ghost use Rattle.hx_slot.specs.States.{IsOrderly};

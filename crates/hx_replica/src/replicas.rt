@@ -1,7 +1,6 @@
 ghost use Rattle.std.specs.Prelude.{◌≡◌, ◌<◌, ◌≤◌, IfOk, OnOk, Some, length, map, slice_get, slice_set, true};
 ghost use Rattle.std.specs.Option.{option_map};
 ghost use Rattle.hx_types.specs.declared.limits.TheConstants.{MOST_ATTRIBUTES};
-ghost use Rattle.hx_types.specs.Configs.{first_config};
 ghost use Rattle.hx_types.specs.Spaces.{IsSpace};
 ghost use Rattle.hx_types.specs.Subspaces.{region_count};
 ghost use Rattle.hx_model.specs.ServerSteps.{listed_regions, replica_of};
@@ -11,7 +10,7 @@ ghost use Rattle.hx_replica.specs.Replicas.{AscendByRegion, first_replica, new_r
 
 use crate::outputs::SlotChange;
 use hx_store::Store;
-use hx_types::{Config, Memory, RegionId, ServerId, Shared, Space, first_config};
+use hx_types::{Config, Memory, RegionId, ServerId, Space};
 use std::alloc::Global;
 
 /// A server's part of a region: whether it has all that was there before it joined, and its slots.
@@ -29,14 +28,6 @@ impl Drop for Replica {
             store: _,
         } = self;
     }
-}
-
-/// The configuration of epoch 1.
-pub fn config_at_start(alloc: Global, space: &Space) -> Result<Shared<Config>, Memory>
-    requires { IsSpace space.now }
-    ensures { IfOk result (λ config. config ≡ first_config space.now) }
-{
-    Shared::new(alloc, first_config(alloc, space)?)
 }
 
 /// A replica, installed and empty, of each region in which the configuration lists the server.

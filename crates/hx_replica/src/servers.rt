@@ -8,7 +8,7 @@ ghost use Rattle.hx_types.specs.Posts.{IsSoundPost};
 ghost use Rattle.hx_types.specs.Spaces.{IsConfigOf, IsServerOf, IsSpace};
 ghost use Rattle.hx_types.specs.Subspaces.{is_key_region};
 ghost use Rattle.hx_types.specs.Words.{when_some};
-ghost use Rattle.hx_folds.specs.Folding.{folded_server};
+ghost use Rattle.hx_law_folds.specs.Folding.{folded_server};
 ghost use Rattle.hx_model.specs.ServerSteps.{Replica as ReplicaState, asked, halting, replica_in_epoch, if_installed, install_at, listed_regions, message_step, replica_of, seal_at, server_at_start, server_step, snapped, state_in, tick_step};
 ghost use Rattle.hx_model.specs.Slots.{found_in, new_state};
 ghost use Rattle.hx_replica.specs.Hearing.{IsOfOneSlot, heard, leading};
@@ -31,8 +31,7 @@ use crate::prepared::{
     Change, Plan, ServerOutput, plan_nothing, plan_posting, plan_slot, to_coordinator,
 };
 use crate::replicas::{
-    Replica, change_slot, config_at_start, first_replicas, joined_replica, new_replicas, place_of,
-    put_replica,
+    Replica, change_slot, first_replicas, joined_replica, new_replicas, place_of, put_replica,
 };
 use crate::slot_steps::step_slot;
 use crate::ticking::{post_ready, tick_all};
@@ -40,7 +39,7 @@ use hx_region::RegionMap;
 use hx_slot::Slot;
 use hx_types::{
     Actor, Config, Entry, Epoch, Exact, Input, Memory, Message, Op, Post, Posts, RegionId, Rows,
-    ServerId, Shared, Snapshot, Space, Terms, Text, Updates,
+    ServerId, Shared, Snapshot, Space, Terms, Text, Updates, first_shared_config,
 };
 use std::alloc::Global;
 use std::marker::Model;
@@ -104,7 +103,7 @@ impl Server {
         let Ok(map) = RegionMap::new(alloc, space) else {
             return Err(Memory);
         };
-        let Ok(config) = config_at_start(alloc, space) else {
+        let Ok(config) = first_shared_config(alloc, space) else {
             return Err(Memory);
         };
         let Ok(replicas) = first_replicas(alloc, space, &config, map.regions(), id) else {

@@ -14,7 +14,7 @@ use crate::accepting::accepted;
 use crate::contexts::{SlotContext, doubt, place_at, post_ack, reply};
 use crate::outputs::{SlotChange, SlotOutput, slot_replies, slot_unchanged};
 use crate::settling::post_lowest_commits;
-use hx_leader::{decide, stuck};
+use hx_chain::{decide, stuck};
 use hx_slot::Slot;
 use hx_types::{
     Actor, Answer, Caller, Decision, Exact, Memory, Message, Note, Notes, Op, Posts, SessionId,

@@ -101,14 +101,7 @@ word_of an_answer.Done = codes "done"
 word_of an_answer.NotFound = codes "notfound"
 word_of an_answer.CmpFail = codes "cmpfail"
 word_of (an_answer.Found object) = codes "found"
-word_of (an_answer.Rows rows) = []
-word_of (an_answer.Refused region epoch) = []
-word_of (an_answer.Doubt region epoch) = []
-word_of (an_answer.Issued epoch) = []
-word_of (an_answer.Stopped epoch) = []
-word_of (an_answer.Member epoch) = []
-word_of (an_answer.Joining epoch) = []
-word_of (an_answer.Lost epoch) = []
+word_of other = []
 
 -- the object after an item
 unfoldable pub state_text : Space → Option (List Value) → List ℕ

@@ -31,7 +31,7 @@ use Rattle.hx_law_threads.specs.Pacing.{IsPaced, IsPacedToEnd}
 use Rattle.hx_law_threads.proofs.Actors.{same_actor_is}
 use Rattle.hx_law_threads.proofs.Lists.{in_append, in_permuted, in_map, in_reverse, map_reverse, of_map, reverse_cons, reverse_snoc}
 use Rattle.hx_law_threads.proofs.Runs.{merged_run}
-use Rattle.hx_law_own.specs.Feeding.{IsFed, IsFedBy}
+use Rattle.hx_law_threads.specs.Feeding.{IsFed, IsFedBy}
 use Rattle.hx_mail.specs.declared.views.Mailed.{Mailed}
 use Rattle.hx_mail.specs.declared.views.Sent.{Sent}
 use Rattle.hx_mail.specs.Boxes.{Boxed, Ported}

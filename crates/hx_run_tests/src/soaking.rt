@@ -1,8 +1,8 @@
 //! What the calls of a drawn script add up to, taken one after the other on one ordered map by
 //! `effect`. Each key is called by one session alone, so it doesn't matter how sessions overlap.
-use hx_gen::script_of;
-use hx_hash::fnv;
 use hx_print::{put_bytes, put_named, put_text};
+use hx_region::fnv;
+use hx_soak::script_of;
 use hx_types::{Answer, Effect, Exact, Memory, Object, Op, Space, Text, effect};
 use std::alloc::Global;
 use std::collections::BTreeMap;

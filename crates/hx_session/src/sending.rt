@@ -7,8 +7,7 @@ ghost use Rattle.hx_session.specs.Changes.{IsOutputOf, asked_as, sender_seen};
 
 use crate::parts::{Part, Parts, PartsChange};
 use crate::prepared::{Change, Progress, StepOutput, ended};
-use hx_plan::plan;
-use hx_region::RegionMap;
+use hx_region::{RegionMap, plan};
 use hx_types::{
     Actor, Answer, Config, Exact, Memory, Message, Notes, Op, Planned, Post, Posts, RegionId,
     RegionList, SessionId, Shared, Space, Terms, Version,

@@ -21,7 +21,7 @@ use crate::sending::{Sender, send};
 use hx_region::RegionMap;
 use hx_types::{
     Actor, Answer, Calls, Config, Entry, Epoch, Exact, Input, Memory, Message, Op, RegionId, Rows,
-    SessionId, Shared, Space, Version, first_config,
+    SessionId, Shared, Space, Version, first_shared_config,
 };
 use std::alloc::Global;
 use std::marker::Model;
@@ -74,15 +74,6 @@ struct Surroundings {
     config: Shared<Config>,
 }
 
-/// The first configuration of a space, shared.
-fn shared_config(alloc: Global, space: &Space) -> Result<Shared<Config>, Memory>
-    requires { IsSpace space.now }
-    ensures { IfOk result (λ config. config ≡ first_config space.now) }
-{
-    let config = first_config(alloc, space)?;
-    Shared::new(alloc, config)
-}
-
 /// A space, its regions, and its first configuration.
 fn surroundings_of(alloc: Global, space: &Space) -> Result<Surroundings, Memory>
     requires { IsSpace space.now }
@@ -90,7 +81,7 @@ fn surroundings_of(alloc: Global, space: &Space) -> Result<Surroundings, Memory>
     ensures map { IfOk result (λ around. around.map ≡ space.now) }
     ensures config { IfOk result (λ around. around.config ≡ first_config space.now) }
 {
-    let config = shared_config(alloc, space)?;
+    let config = first_shared_config(alloc, space)?;
     let map = RegionMap::new(alloc, space)?;
     let space = space.copy(alloc)?;
     Ok(Surroundings { space, map, config })

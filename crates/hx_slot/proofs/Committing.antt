@@ -13,7 +13,7 @@ use Rattle.hx_types.specs.declared.snapshots.Touch.{Touch}
 use Rattle.hx_types.specs.declared.updates.Update.{Update}
 use Rattle.hx_types.specs.Words.{provided}
 use Rattle.hx_model.specs.Slots.{KeyState, kept_row, mark_by, marks_after, top_above, touches_after, with_mark, with_touches}
-use Rattle.hx_folds.specs.Folding.{above, folded}
+use Rattle.hx_law_folds.specs.Folding.{above, folded}
 use Rattle.hx_slot.specs.declared.bases.Base.{Base}
 use Rattle.hx_slot.specs.declared.updates.AcceptedUpdate.{AcceptedUpdate}
 use Rattle.hx_slot.specs.declared.slots.Slot.TheInside.{Inside}

@@ -5,9 +5,9 @@ ghost use Rattle.hx_types.specs.Words.{provided};
 ghost use Rattle.hx_slot.specs.States.{call_at, call_seen};
 ghost use Rattle.hx_slot.specs.MarksAndTouches.{marks_over, newer_of, newest_over, newest_with};
 
-use crate::rooms::{copy_all, insert_within};
+use crate::rooms::copy_all;
 use crate::updates::AcceptedUpdate;
-use hx_types::{Answer, Exact, Mark, Marks, Memory, SessionId, Update, Version};
+use hx_types::{Answer, Exact, Mark, Marks, Memory, SessionId, Update, Version, insert_within};
 use std::alloc::Global;
 
 /// The update of the session's newest call among these: of the highest call number, and of equal

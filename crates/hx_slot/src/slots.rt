@@ -1,7 +1,7 @@
 ghost use Rattle.std.specs.Prelude.{◌≡◌, ℕ, ◌+◌, ◌^◌, ◌<◌, ◌≤◌, ◌==◌, [], IfErr, IfOk, IfSome, IsTrue, OnOk, is_some, length, nat_lt, true, slice_get, vec_capacity, vec_len};
 ghost use Rattle.std.specs.List.{All, AllByRecursion, find, list_any};
 ghost use Rattle.std.specs.Option.{option_copied};
-ghost use Rattle.hx_folds.specs.Folding.{IsBare, IsSlotOf, StandsFor, folded};
+ghost use Rattle.hx_law_folds.specs.Folding.{IsBare, IsSlotOf, StandsFor, folded};
 ghost use Rattle.hx_model.specs.Places.{touched_in};
 ghost use Rattle.hx_model.specs.Neighbours.{place_number};
 ghost use Rattle.hx_model.specs.ServerSteps.{state_from};
@@ -26,12 +26,12 @@ use crate::line::{
 };
 use crate::marks::{mark_of, marks_over, newer, newest_of};
 use crate::renewing::{renewed_base, renewed_line};
-use crate::rooms::{grow, insert_within};
+use crate::rooms::grow;
 use crate::touches::{last_touch, touches_over};
 use crate::updates::{AcceptedUpdate, PlacedUpdate};
 use hx_types::{
     Acked, Answer, Exact, Kept, Marks, Memory, Object, Offer, RegionId, SessionId, Shared, Text,
-    Touches, Update, Version,
+    Touches, Update, Version, insert_within,
 };
 use std::alloc::Global;
 use std::marker::Model;

@@ -9,9 +9,9 @@ ghost use Rattle.hx_types.specs.Words.{provided};
 ghost use Rattle.hx_types.specs.declared.ids.Version.{Version};
 ghost use Rattle.hx_types.specs.declared.updates.Place.{Place};
 
-use crate::rooms::{copy_all, insert_within};
+use crate::rooms::copy_all;
 use crate::updates::AcceptedUpdate;
-use hx_types::{Memory, Place, RegionId, Touch, Touches, Version};
+use hx_types::{Memory, Place, RegionId, Touch, Touches, Version, insert_within};
 use std::alloc::Global;
 
 /// The version of a region's touch, found by halving.

@@ -4,8 +4,8 @@ use Rattle.std.specs.List.{AllByRecursion, filter}
 use Rattle.std.proofs.lemmas.Bool.{cond_both, cond-false, lt-ltb, false≢true}
 use Rattle.hx_types.specs.declared.ids.RegionId.{RegionId}
 use Rattle.hx_types.specs.Words.{same_text, text_below}
-use Rattle.hx_folds.specs.Folding.{KeysAscend}
-use Rattle.hx_folds.proofs.Texts.{below-differs}
+use Rattle.hx_law_folds.specs.Folding.{KeysAscend}
+use Rattle.hx_law_folds.proofs.Texts.{below-differs}
 use Rattle.hx_model.proofs.States.{eq_of_same_text}
 use Rattle.hx_model.specs.ServerSteps.{state_from}
 use Rattle.hx_model.specs.Slots.{KeyState, kept_of, new_state, no_kept, snapshot_of, state_among}

@@ -7,7 +7,7 @@ use Rattle.std.proofs.lemmas.List.Edits.{length-insert}
 use Rattle.indexmap.specs.IndexMap.{set_value_at}
 use Rattle.hx_types.specs.declared.ids.RegionId.{RegionId}
 use Rattle.hx_types.specs.Words.{same_text, when_some}
-use Rattle.hx_folds.specs.Folding.{KeysAscend}
+use Rattle.hx_law_folds.specs.Folding.{KeysAscend}
 use Rattle.hx_model.specs.Slots.{KeyState, new_state, state_among, with_state}
 use Rattle.hx_store.specs.Slots.{StoreSlot}
 use Rattle.hx_store.specs.Invariant.{IsSplit, IsStore, IsStoreSlot, KeysApart, is_listed, is_place, listed_count, room_of, rooms_in, state_in, states_in}

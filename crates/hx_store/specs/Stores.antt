@@ -7,7 +7,7 @@ use Rattle.hx_types.specs.declared.updates.Place.{Place}
 use Rattle.hx_types.specs.declared.updates.Update.{Update}
 use Rattle.hx_types.specs.Words.{same_text, when_some}
 use Rattle.hx_model.specs.Neighbours.{place_number}
-use Rattle.hx_folds.specs.Folding.{folded}
+use Rattle.hx_law_folds.specs.Folding.{folded}
 use Rattle.hx_model.specs.Slots.{Acknowledge, Forget, KeyState, acknowledged, Move, is_pending, moved, moved_all, offered, settled, state_among, with_state}
 
 -- a key of which a replica has heard, and for how many more updates there is room at its slot

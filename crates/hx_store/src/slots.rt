@@ -331,13 +331,3 @@ fn prefix_of(text: &str) -> u64
     }
     prefix
 }
-
-/// Puts a place before the one at a number. There is room, so it takes no memory.
-pub fn insert_within(order: &mut Vec<usize>, number: usize, place: usize)
-    requires number { number ≤ vec_len order.old }
-    requires room { vec_len order.old < vec_capacity order.old }
-    ensures items { order.new.items ≡ insert order.old.items number place }
-    ensures capacity { vec_capacity order.old ≤ vec_capacity order.new }
-{
-    let _ = order.insert(number, place);
-}

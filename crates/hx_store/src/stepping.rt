@@ -1,5 +1,5 @@
 ghost use Rattle.std.specs.Prelude.{◌≡◌, ◌+◌, ◌<◌, ◌≤◌, ◌++◌};
-ghost use Rattle.hx_folds.specs.Folding.{folded};
+ghost use Rattle.hx_law_folds.specs.Folding.{folded};
 ghost use Rattle.hx_model.specs.Slots.{moved_all, offered, settled};
 ghost use Rattle.hx_store.specs.Stores.{ArePending, CanBeOffered, accepted_at, acknowledging};
 

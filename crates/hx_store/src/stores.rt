@@ -3,7 +3,7 @@ ghost use Rattle.std.specs.Borrow.{Bor};
 ghost use Rattle.std.specs.List.{All};
 ghost use Rattle.std.specs.Option.{option_map};
 ghost use Rattle.hx_types.specs.declared.limits.TheConstants.{MOST_ATTRIBUTES};
-ghost use Rattle.hx_folds.specs.Folding.{KeptsAscend, KeysAscend};
+ghost use Rattle.hx_law_folds.specs.Folding.{KeptsAscend, KeysAscend};
 ghost use Rattle.hx_model.specs.ServerSteps.{state_from};
 ghost use Rattle.hx_model.specs.Slots.{found_in, is_pending, moved_all, offered, pending_of_all, rows_of, snapshot_of, with_state};
 ghost use Rattle.hx_store.specs.Looks.{most_looks_at};
@@ -11,10 +11,11 @@ ghost use Rattle.hx_slot.specs.States.{IsOrderly, SlotState};
 ghost use Rattle.hx_store.specs.Stores.{ArePending, CanBeOffered, IsPlace, KeepsOtherRooms, KeepsRooms, UsesRoom, accepted_at, acknowledged_at, after_step, forgotten_at, has_room, has_slot, key_at, marked_at, no_moves, settled_at, spare_at, state_at};
 
 use crate::copying::{add_kept, add_pending};
-use crate::slots::{Slots, insert_within};
+use crate::slots::Slots;
 use hx_slot::Slot;
 use hx_types::{
     Exact, Memory, RegionId, Rows, Shared, Snapshot, Space, Terms, Text, Update, Updates, Version,
+    insert_within,
 };
 use std::alloc::Global;
 use std::marker::Model;

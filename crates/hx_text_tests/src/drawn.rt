@@ -1,4 +1,4 @@
-use hx_gen::script_of;
+use hx_soak::script_of;
 use hx_types::{Caller, Op, Script, SessionId};
 
 /// Whether a session has so many calls.

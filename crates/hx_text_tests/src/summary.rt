@@ -1,5 +1,5 @@
 use crate::parts::{is_printed, list, script_of, shared_list, text};
-use hx_summary::summary;
+use hx_soak::summary;
 use hx_trace::Trace;
 use hx_types::{
     Actor, Answer, Caller, Entry, Epoch, Input, Note, Object, Places, Posts, RegionId, Rows,

@@ -7,7 +7,7 @@
 //! That form is this project's choice: memory that is touched for the first time is the dearest part of a run.
 //!
 //! No contract says that there is memory, so a function that always answered
-//! [`Memory`](hx_types::Memory) would be proved. The tests in `hx_tests` make traces and read them.
+//! [`Memory`](hx_types::Memory) would be proved. The tests in `hx_value_tests` make traces and read them.
 #![tactic(auto)]
 
 mod entries;

@@ -47,13 +47,9 @@ actors_of_config config = map (λ (s : ServerId). Server s) config.servers ++ fl
 
 -- the server of a stop or an add
 abbrev pub actors_of_op : Op → List Actor
-actors_of_op (Put key sets) = []
-actors_of_op (Get key) = []
-actors_of_op (Del key) = []
-actors_of_op (Cput key tests sets) = []
-actors_of_op (Search terms) = []
 actors_of_op (Stop server) = Server server ∷ []
 actors_of_op (Add server region) = Server server ∷ []
+actors_of_op other = []
 
 abbrev pub sessions_marked : Kept → List Actor
 sessions_marked kept = map (λ (m : Mark). Session m.session) kept.marks

@@ -8,7 +8,7 @@
 //! The limits of spaces, scripts and runs are constants, which clauses cite.
 //!
 //! No contract says that there is memory, so a function that always answered [`Memory`] would be
-//! proved. The tests in `hx_tests` and of the actors make texts, lists, effects, configurations and
+//! proved. The tests in `hx_value_tests` and of the actors make texts, lists, effects, configurations and
 //! copies, and show that each can succeed.
 #![tactic(auto)]
 
@@ -25,6 +25,7 @@ mod lists;
 mod messages;
 mod outcomes;
 mod places;
+mod rooms;
 mod shared;
 mod shared_lists;
 mod snapshots;
@@ -55,11 +56,12 @@ pub use lists::Sequence;
 pub use messages::{Message, Post, PostId, Posts};
 pub use outcomes::{Acked, Decision, Effect, Hop, Offer, Planned};
 pub use places::Places;
+pub use rooms::insert_within;
 pub use shared::Shared;
 pub use shared_lists::SharedList;
 pub use snapshots::{Kept, Mark, Marks, Snapshot, Touch, Touches};
 pub use spaces::{Attribute, Attributes, Axes, Axis, Kind, Space, Subspaces};
-pub use starting::first_config;
+pub use starting::{first_config, first_shared_config};
 pub use texts::Text;
 pub use totals::Totals;
 pub use traces::{Entry, Input, Note, Notes, Script, Step, Steps};

@@ -132,7 +132,7 @@ impl<T: Exact> SharedList<T> {
             return Ok(());
         }
         let mut items = copy_of(self.alloc, &self.items)?;
-        items.reserve_exact(1)?;
+        items.reserve_exact(2)?;
         items.push(item)?;
         self.items = Some(Arc::new(self.alloc, items)?);
         Ok(())

@@ -10,6 +10,7 @@ ghost use Rattle.hx_types.specs.declared.spaces.Axis.{Axis};
 use crate::configs::{Config, Member, Members, RegionLists};
 use crate::errors::Memory;
 use crate::ids::{Epoch, ServerId, ServerList};
+use crate::shared::Shared;
 use crate::spaces::{Axis, Space};
 use std::alloc::Global;
 
@@ -18,6 +19,10 @@ use std::alloc::Global;
 /// It has all servers of the space. Each region stands on as many servers as the space tolerates
 /// failures and one more, counted round from the region's number, all of them ready. This layout
 /// is this project's choice.
+///
+/// # Errors
+///
+/// [`Memory`] alone.
 pub fn first_config(alloc: Global, space: &Space) -> Result<Config, Memory>
     requires { IsSpace space.now }
     ensures { IfOk result (λ config. config ≡ first_config space.now) }
@@ -29,6 +34,18 @@ pub fn first_config(alloc: Global, space: &Space) -> Result<Config, Memory>
         servers,
         regions,
     })
+}
+
+/// The configuration of epoch 1 in a form that many can hold.
+///
+/// # Errors
+///
+/// [`Memory`] alone.
+pub fn first_shared_config(alloc: Global, space: &Space) -> Result<Shared<Config>, Memory>
+    requires { IsSpace space.now }
+    ensures { IfOk result (λ config. config ≡ first_config space.now) }
+{
+    Shared::new(alloc, first_config(alloc, space)?)
 }
 
 #[tactic(auto, using(crate::proofs::Counting::map_below_next))]

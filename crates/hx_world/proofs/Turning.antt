@@ -24,7 +24,7 @@ use Rattle.hx_coord.specs.Coordinators as coordinator
 use Rattle.hx_model.specs.CoordinatorSteps.{CoordinatorState}
 use Rattle.hx_world.specs.Coordinators as counted_coordinator
 use Rattle.hx_world.specs.declared.coordinators.CountedCoordinator.{CountedCoordinator}
-use Rattle.hx_folds.specs.Folding.{IsServerOf as AreInOrder, folded_server}
+use Rattle.hx_law_folds.specs.Folding.{IsServerOf as AreInOrder, folded_server}
 use Rattle.hx_world.specs.declared.actors.Actors.{Actors}
 use Rattle.hx_world.specs.declared.ends.StepError.{StepError}
 use Rattle.hx_world.specs.declared.ends.StepError.TheVariants.{Memory, Unsent, Halted, NotServer, Idle, Worn}

@@ -12,8 +12,8 @@ use Rattle.hx_types.specs.Fitting.{IsScript}
 use Rattle.hx_types.specs.Words.{IsIn}
 use Rattle.hx_model.specs.Runs.{IsRun, coordinator_of, post_named, server_of, session_of}
 use Rattle.hx_model.specs.Schedule.{entries_of, undelivered}
-use Rattle.hx_posts.specs.Posts.{EpochsStaySmall, PostsStaySound, VersionsStaySmall}
-use Rattle.hx_folds.specs.Folding.{IsServerOf as AreInOrder, folded_server}
+use Rattle.hx_law_posts.specs.Posts.{EpochsStaySmall, PostsStaySound, VersionsStaySmall}
+use Rattle.hx_law_folds.specs.Folding.{IsServerOf as AreInOrder, folded_server}
 use Rattle.hx_world.specs.declared.actors.Actors.{Actors}
 use Rattle.hx_world.specs.declared.clusters.Cluster.{Cluster}
 use Rattle.hx_world.specs.declared.coordinators.CountedCoordinator.{CountedCoordinator}

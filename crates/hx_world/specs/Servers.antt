@@ -2,7 +2,7 @@
 use Rattle.std.specs.Prelude.{◌≡◌, ◌+◌}
 use Rattle.hx_types.specs.declared.traces.Input.{Input}
 use Rattle.hx_model.specs.ServerSteps.{server_step}
-use Rattle.hx_folds.specs.Folding.{folded_server}
+use Rattle.hx_law_folds.specs.Folding.{folded_server}
 use Rattle.hx_world.specs.declared.servers.CountedServer.{CountedServer}
 
 -- the server has taken the input, and its slots have no past

@@ -47,7 +47,7 @@ impl<'a> World<'a> {
         requires { IsScript script.now }
         ensures { IfOk result (λ world. world ≡ record { script = script.now; trace = [] }) }
     {
-        hx_posts::posts_of_runs_are_sound();
+        hx_law_posts::posts_of_runs_are_sound();
         let actors = start_actors(alloc, script)?;
         Ok(World {
             cluster: Cluster {

@@ -1,9 +1,9 @@
 -- Status 0 is that of a call which went well.
 use Rattle.std.proofs.Common.{◌≡◌, ◌⊎◌, inl, inr, ℕ, refl, sym, ◌∙◌}
 use Rattle.hx_script.specs.declared.errors.Reason.{Reason}
-use Rattle.hx_answer.specs.Outcomes.{status_of}
-use Rattle.hx_answer.specs.declared.outcomes.Outcome.{Outcome}
-use Rattle.hx_answer.specs.declared.outcomes.Outcome.TheVariants.{Fine, Usage, Refused, TooLarge, ReadFault, WriteFault, Memory, Worn}
+use Rattle.hx_replay.specs.Outcomes.{status_of}
+use Rattle.hx_replay.specs.declared.outcomes.Outcome.{Outcome}
+use Rattle.hx_replay.specs.declared.outcomes.Outcome.TheVariants.{Fine, Usage, Refused, TooLarge, ReadFault, WriteFault, Memory, Worn}
 use Rattle.hx_command.proofs.program.run.Goals as goal
 use Rattle.hx_command.proofs.program.run.Goals.{in-Ok, in-Err}
 

@@ -5,7 +5,7 @@ use Rattle.hx_types.specs.declared.traces.Entry.{Entry}
 use Rattle.hx_clock.specs.Parts.{stamped}
 use Rattle.hx_clock.specs.Seats.{Seated}
 use Rattle.hx_clock.specs.Views.{Owns}
-use Rattle.hx_law_own.specs.Feeding.{IsFed, entries_in}
+use Rattle.hx_law_threads.specs.Feeding.{IsFed, entries_in}
 use Rattle.hx_law_threads.specs.Own.{IsOwn}
 use Rattle.hx_machine.specs.Machines.{IsMachine}
 use Rattle.hx_outbox.specs.declared.copies.Copies.{Copies}

@@ -1,6 +1,6 @@
 use Rattle.std.proofs.Common.{◌++◌, ap, ◌∙◌}
 use Rattle.hx_types.specs.declared.ids.RegionId.{RegionId}
-use Rattle.hx_folds.specs.Folding.{folded}
+use Rattle.hx_law_folds.specs.Folding.{folded}
 use Rattle.hx_model.specs.Slots.{moved_all, settled}
 use Rattle.hx_store.specs.Stores.{acknowledging}
 use Rattle.hx_replica.specs.Outputs.{context_seen}

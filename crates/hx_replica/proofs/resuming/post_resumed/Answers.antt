@@ -3,7 +3,7 @@ use Rattle.std.proofs.Common.{drop}
 use Rattle.std.proofs.lemmas.Result.{on_ok_weaker}
 use Rattle.hx_types.specs.declared.ids.RegionId.{RegionId}
 use Rattle.hx_types.specs.declared.ids.Version.{Version}
-use Rattle.hx_folds.specs.Folding.{IsSlotOf}
+use Rattle.hx_law_folds.specs.Folding.{IsSlotOf}
 use Rattle.hx_model.specs.Slots.{pending_of}
 use Rattle.hx_replica.specs.Adopting.{doubts_among}
 use Rattle.hx_replica.specs.Outputs.{ended_count, context_seen}

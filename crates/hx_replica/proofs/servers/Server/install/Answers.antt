@@ -4,7 +4,7 @@ use Rattle.hx_types.specs.declared.configs.Config.{Config}
 use Rattle.hx_types.specs.declared.ids.RegionId.{RegionId}
 use Rattle.hx_types.specs.declared.messages.Post.{Post}
 use Rattle.hx_model.specs.ServerSteps.{adopted_posts, install_at, listed_regions, replica_or_new}
-use Rattle.hx_folds.specs.Folding.{folded_server}
+use Rattle.hx_law_folds.specs.Folding.{folded_server}
 use Rattle.hx_replica.specs.declared.replicas.Replica.{Replica}
 use Rattle.hx_replica.specs.Invariant.{value_of}
 use Rattle.hx_replica.specs.Plans.{IsStepOutput}

@@ -1,7 +1,7 @@
 use Rattle.std.proofs.Common.{◌≡◌, ◌++◌, Some, ap, map, refl, slice_get, subst, sym, ◌∙◌}
 use Rattle.std.specs.Option.{option_map}
 use Rattle.hx_types.specs.declared.configs.Config.{Config}
-use Rattle.hx_folds.specs.Folding.{folded, folded_server}
+use Rattle.hx_law_folds.specs.Folding.{folded, folded_server}
 use Rattle.hx_model.specs.ServerSteps.{Replica as ReplicaState, replica_in_epoch, installed_slots, ready_post, snapped}
 use Rattle.hx_replica.specs.Invariant.{value_of}
 use Rattle.hx_replica.specs.Plans.{IsStepOutput}

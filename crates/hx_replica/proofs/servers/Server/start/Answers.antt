@@ -11,7 +11,7 @@ first_replicas-requires-clause-attributes c = c.requires.space.attributes
 
 pub first_replicas-requires-clause-regions : goal.first_replicas-requires-clause-regions
 first_replicas-requires-clause-regions c =
-    c.regions.ensures ∙ ap region_count c.in-Ok.ensures ∙ first_count c.args.space.now ∙ ap (λ (k : Config). length k.regions) (sym (c.deref.ensures ∙ c.in-Ok-config_at_start.ensures))
+    c.regions.ensures ∙ ap region_count c.in-Ok.ensures ∙ first_count c.args.space.now ∙ ap (λ (k : Config). length k.regions) (sym (c.deref.ensures ∙ c.in-Ok-first_shared_config.ensures))
 
 pub with_parts-requires-clause-replicas : goal.with_parts-requires-clause-replicas
 with_parts-requires-clause-replicas c = c.in-Ok-first_replicas.ensures ∙ ap (λ (k : Config). map (first_replica c.args.space.now) (listed_regions k c.args.id)) c.deref.ensures

@@ -1,7 +1,7 @@
 -- What isn't pending changes nothing; else what is acknowledged from the lowest on is committed.
 use Rattle.std.proofs.Common.{◌≡◌, ℕ, List, false, ◌∙◌, ap, drop, length, refl, subst, sym}
 use Rattle.std.specs.List.{list_any}
-use Rattle.hx_folds.specs.Folding.{folded}
+use Rattle.hx_law_folds.specs.Folding.{folded}
 use Rattle.hx_model.specs.Slots.{KeyState, is_pending, pending_of, settled, waits_below}
 use Rattle.hx_slot.specs.declared.updates.AcceptedUpdate.{AcceptedUpdate}
 use Rattle.hx_slot.specs.declared.slots.Slot.TheInside.{Inside}

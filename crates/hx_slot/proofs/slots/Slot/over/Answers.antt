@@ -1,6 +1,6 @@
 use Rattle.std.proofs.Common.{[], ◌∙◌}
-use Rattle.hx_folds.proofs.Bare.{bare-folded}
-use Rattle.hx_folds.specs.Folding.{folded}
+use Rattle.hx_law_folds.proofs.Bare.{bare-folded}
+use Rattle.hx_law_folds.specs.Folding.{folded}
 use Rattle.hx_slot.specs.Updates.{newest_first}
 use Rattle.hx_slot.specs.Invariant.{updates_of, versions_of}
 use Rattle.hx_slot.proofs.slots.Slot.over.Goals as goal

@@ -1,7 +1,7 @@
 -- The lowest acknowledged updates are committed.
 use Rattle.std.proofs.Common.{◌≤◌, List, ◌∙◌, ap, drop, length, subst, sym, take}
 use Rattle.hx_model.specs.Slots.{moved_all, settled}
-use Rattle.hx_folds.specs.Folding.{folded}
+use Rattle.hx_law_folds.specs.Folding.{folded}
 use Rattle.hx_slot.specs.declared.updates.AcceptedUpdate.{AcceptedUpdate}
 use Rattle.hx_slot.specs.Acks.{front_acked}
 use Rattle.hx_slot.specs.Updates.{last_version}

@@ -1,4 +1,0 @@
-pub mod Drawing
-pub mod Calling
-pub mod Soaking
-pub mod Owning

@@ -1,0 +1,41 @@
+-- Nothing is read back but what is within the limits and can be said.
+use Rattle.std.proofs.Common.{◌≡◌, ℕ, suc, ◌+◌, ◌≤◌, List, [], ◌∷◌, length, Ok, refl, ap, subst}
+use Rattle.std.specs.List.{All}
+use Rattle.std.proofs.lemmas.List.Elements.{All-nil, All-cons, All-head, All-tail}
+use Rattle.hx_types.specs.declared.traces.Script.{Script}
+use Rattle.hx_types.specs.declared.traces.Step.{Step}
+use Rattle.hx_types.specs.Fitting.{IsScript}
+use Rattle.hx_print.specs.Printing.{script_text}
+use Rattle.hx_script.specs.Texts.{script_of}
+use Rattle.hx_script.proofs.SoundTexts.{text_sound}
+use Rattle.hx_law_texts.specs.Again.{on_lines_from, first_step_line, on_printed_lines}
+use Rattle.hx_law_texts.specs.Sayable.{StepIsSayable, IsSayableScript}
+use Rattle.hx_law_texts.proofs.ToldTexts.{text_told}
+
+same_length : (n : ℕ) (steps : List (ℕ × Step)) → length (on_lines_from n steps) ≡ length steps
+same_length n [] = refl
+same_length n (x ∷ rest) = ap suc (same_length (n + 1) rest)
+
+same_steps : (P : Step → Type 0) (n : ℕ) (steps : List (ℕ × Step)) → All (λ (x : ℕ × Step). P x.1) (on_lines_from n steps) → All (λ (x : ℕ × Step). P x.1) steps
+same_steps P n [] all = All-nil (λ (x : ℕ × Step). P x.1)
+same_steps P n (x ∷ rest) all =
+    All-cons (λ (y : ℕ × Step). P y.1) x rest (All-head (λ (y : ℕ × Step). P y.1) (n, x.1) (on_lines_from (n + 1) rest) all)
+    (same_steps P (n + 1) rest (All-tail (λ (y : ℕ × Step). P y.1) (n, x.1) (on_lines_from (n + 1) rest) all))
+
+pub only_those : (s : Script) → script_of (script_text s) ≡ Ok (on_printed_lines s) → IsScript s × IsSayableScript s
+only_those s e =
+    let is : IsScript (on_printed_lines s) = text_sound (script_text s) (on_printed_lines s) e in
+    let said : IsSayableScript (on_printed_lines s) = text_told (script_text s) (on_printed_lines s) e in (
+      record {
+        space = is.space;
+        sessions = is.sessions;
+        calls = is.calls;
+        few_calls = is.few_calls;
+        few_steps = subst (λ (n : ℕ). n ≤ 65536) (same_length (first_step_line s) s.steps) is.few_steps;
+      },
+      record {
+        bounds = said.bounds;
+        calls = said.calls;
+        steps = same_steps (StepIsSayable s.space.servers (length s.sessions)) (first_step_line s) s.steps said.steps;
+      },
+    )

@@ -1,5 +1,0 @@
-use Rattle.hx_plan.specs.Counts.{IsFewest}
-use Rattle.hx_plan.proofs.candidates.fewest.Given as goal
-
-abbrev pub invariant-loop-s : goal.invariant-loop-s
-invariant-loop-s l = IsFewest l.counts l.s l.best

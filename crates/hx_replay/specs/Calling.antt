@@ -1,0 +1,87 @@
+-- What the program makes of its words, its source and its sink.
+use Rattle.std.specs.Prelude.{◌≡◌, ◌↔◌, ◌⊎◌, ℕ, ◌+◌, ◌≤◌, List, length, Option, Some, IfSome}
+use Rattle.std.specs.declared.string.String.{String}
+use Rattle.std.specs.declared.alloc.Global.{Global}
+use Rattle.std.specs.Io.KnownBytes.{Appends}
+use Rattle.hx_io.specs.Causes.{Rose}
+use Rattle.hx_io.specs.Pieces.{AppendsPrefix, ConsumesExactly}
+use Rattle.hx_types.specs.declared.ids.Actor.{Actor}
+use Rattle.hx_types.specs.declared.traces.Entry.{Entry}
+use Rattle.hx_script.specs.declared.errors.Reason.{Reason}
+use Rattle.hx_script.specs.declared.errors.Reason.TheVariants as a_reason
+use Rattle.hx_replay.specs.declared.outcomes.Outcome.{Outcome}
+use Rattle.hx_replay.specs.declared.outcomes.Outcome.TheVariants as an_outcome
+use Rattle.hx_replay.specs.declared.words.Command.{Command}
+use Rattle.hx_replay.specs.Causes.{IsAnswer, IsFaulty, IsJudged, IsRefused, IsStopped, IsTaken, IsWorn, ReadsText, limit}
+use Rattle.hx_replay.specs.Commands.{Replays, Says}
+
+-- a source before and after a call: the bytes that are left, where it tells them, and its count of faults
+pub record Drawn : Type 0 where
+  pub before : Option (List ℕ)
+  pub after : Option (List ℕ)
+  pub faults_before : ℕ
+  pub faults_after : ℕ
+
+-- a sink before and after a call: the bytes that it holds, where it tells them, and its count of faults
+pub record Filled : Type 0 where
+  pub before : Option (List ℕ)
+  pub after : Option (List ℕ)
+  pub faults_before : ℕ
+  pub faults_after : ℕ
+
+-- the text was written, or a prefix of it and a fault rose
+abbrev pub Shows : Filled → List ℕ → Outcome → Type 0
+Shows sink text outcome =
+    ((outcome ≡ an_outcome.Fine) × Appends sink.before sink.after text)
+    ⊎ ((outcome ≡ an_outcome.WriteFault) × Rose sink.faults_before sink.faults_after × AppendsPrefix sink.before sink.after text)
+
+-- the source was read, and the answer to its text was written
+pub record Writes (words : List (String Global)) (source : Drawn) (sink : Filled) (trace : List Entry) : Type 0 where
+  pub command : Command
+  pub text : List ℕ
+  pub bytes : List ℕ
+  pub says : Says words command
+  pub reads : ReadsText source.before source.after text
+  pub answer : IsAnswer command text trace bytes
+  pub written : Appends sink.before sink.after bytes
+
+-- the source was read, and a prefix of the answer to its text was written
+pub record WritesPrefix (words : List (String Global)) (source : Drawn) (sink : Filled) (trace : List Entry) : Type 0 where
+  pub command : Command
+  pub text : List ℕ
+  pub bytes : List ℕ
+  pub says : Says words command
+  pub reads : ReadsText source.before source.after text
+  pub answer : IsAnswer command text trace bytes
+  pub written : AppendsPrefix sink.before sink.after bytes
+
+-- a call with the words of a command, or with words that are none, ends so with this trace
+pub record Ends (words : List (String Global)) (source : Drawn) (sink : Filled) (outcome : Outcome) (trace : List Entry) : Type 0 where
+  pub fine : outcome ≡ an_outcome.Fine → Writes words source sink trace
+  pub usage : (outcome ≡ an_outcome.Usage) ↔ ((command : Command) → ¬ Says words command)
+  pub refused : (line : ℕ) (reason : Reason) → outcome ≡ an_outcome.Refused line reason → (text : List ℕ)
+      × ReadsText source.before source.after text
+      × (IsRefused text line reason
+      ⊎ ((reason ≡ a_reason.Step) × ((command : Command) × Says words command × Replays command) × IsStopped text line trace))
+  pub too_large : outcome ≡ an_outcome.TooLarge → ConsumesExactly source.before source.after (limit + 1)
+  pub read_fault : outcome ≡ an_outcome.ReadFault → Rose source.faults_before source.faults_after
+  pub write_fault : outcome ≡ an_outcome.WriteFault → Rose sink.faults_before sink.faults_after × WritesPrefix words source sink trace
+  pub worn : (a : Actor) → outcome ≡ an_outcome.Worn a → (text : List ℕ)
+      × ((command : Command) × Says words command × Replays command)
+      × ReadsText source.before source.after text
+      × IsWorn text trace a
+  pub wears : (command : Command) (text : List ℕ) (worn : List Entry) (a : Actor) → Says words command → Replays command
+      → source.before ≡ Some text → length text ≤ limit → IsWorn text worn a
+      → ¬ Rose source.faults_before source.faults_after
+      → (outcome ≡ an_outcome.Worn a) ⊎ (outcome ≡ an_outcome.Memory)
+  pub judged : (command : Command) → Says words command → IfSome source.before (λ text. IsJudged command text outcome)
+  pub faulty : (command : Command) (text : List ℕ) (wanted : Outcome) → Says words command
+      → source.before ≡ Some text → IsFaulty command text wanted
+      → ¬ Rose source.faults_before source.faults_after
+      → (outcome ≡ wanted) ⊎ (outcome ≡ an_outcome.Memory)
+  pub complete : (command : Command) (text : List ℕ) → Says words command
+      → source.before ≡ Some text → length text ≤ limit → IsTaken command text
+      → ¬ Rose source.faults_before source.faults_after
+      → ¬ Rose sink.faults_before sink.faults_after
+      → (outcome ≡ an_outcome.Fine) ⊎ (outcome ≡ an_outcome.Memory)
+      ⊎ ((a : Actor) × (outcome ≡ an_outcome.Worn a))

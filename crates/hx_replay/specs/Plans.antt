@@ -1,0 +1,47 @@
+-- The text of the command `plan`: which regions each search asks while no server has failed.
+use Rattle.std.specs.Prelude.{ℕ, ◌+◌, List, [], ◌∷◌, ◌++◌, map, codes}
+use Rattle.std.specs.Fmt.{decimal}
+use Rattle.hx_types.specs.declared.calls.Caller.{Caller}
+use Rattle.hx_types.specs.declared.calls.Op.{Op}
+use Rattle.hx_types.specs.declared.calls.Op.TheVariants.{Put, Get, Del, Cput, Search, Stop, Add}
+use Rattle.hx_types.specs.declared.configs.Config.{Config}
+use Rattle.hx_types.specs.declared.ids.RegionId.{RegionId}
+use Rattle.hx_types.specs.declared.outcomes.Planned.{Planned}
+use Rattle.hx_types.specs.declared.outcomes.Planned.TheVariants as a_plan
+use Rattle.hx_types.specs.declared.spaces.Space.{Space}
+use Rattle.hx_types.specs.declared.traces.Script.{Script}
+use Rattle.hx_types.specs.Configs.{first_config}
+use Rattle.hx_model.specs.Planning.{plan_of}
+use Rattle.hx_print.specs.Printing.{caller_text, numbers_text}
+
+-- `subspace X regions R,R` or `lost R`, with a blank before it
+unfoldable pub planned_text : Planned → List ℕ
+planned_text (a_plan.Regions subspace regions) =
+    codes " subspace " ++ decimal subspace ++ codes " regions " ++ numbers_text (map (λ (g : RegionId). g.0) regions)
+planned_text (a_plan.Lost region) = codes " lost " ++ decimal region.0
+
+-- `plan uS.N` and the plan
+unfoldable pub plan_line : Caller → Planned → List ℕ
+plan_line caller planned = codes "plan " ++ caller_text caller ++ planned_text planned ++ codes "\n"
+
+-- a search has a line, another call none
+abbrev pub call_lines : Space → Config → Caller → Op → List ℕ
+call_lines space config caller (Search terms) = plan_line caller (plan_of space config terms)
+call_lines space config caller other = []
+
+-- the calls of a session from a number on
+unfoldable pub session_lines : Space → Config → ℕ → ℕ → List Op → List ℕ
+session_lines space config session number [] = []
+session_lines space config session number (op ∷ rest) =
+    call_lines space config (record { session = record { 0 = session }; number = number }) op
+    ++ session_lines space config session (number + 1) rest
+
+-- the sessions from a number on
+unfoldable pub sessions_lines : Space → Config → ℕ → List (List Op) → List ℕ
+sessions_lines space config session [] = []
+sessions_lines space config session (calls ∷ rest) =
+    session_lines space config session 1 calls ++ sessions_lines space config (session + 1) rest
+
+-- a line for each search in the order of the script, in the first configuration, and the line `end`
+unfoldable pub plans_text : Script → List ℕ
+plans_text script = sessions_lines script.space (first_config script.space) 1 script.sessions ++ codes "end\n"

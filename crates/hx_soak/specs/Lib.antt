@@ -1,0 +1,7 @@
+pub mod Drawing
+pub mod Calling
+pub mod Soaking
+pub mod Owning
+pub mod Tallying
+pub mod Summing
+pub mod Present

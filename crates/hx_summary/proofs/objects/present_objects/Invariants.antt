@@ -1,7 +1,0 @@
-use Rattle.std.proofs.Common.{◌≡◌, map, take}
-use Rattle.hx_summary.specs.Present.{key_object}
-use Rattle.hx_summary.specs.Tallying.{objects_of}
-use Rattle.hx_summary.proofs.objects.present_objects.Given as goal
-
-abbrev pub invariant-loop-history : goal.invariant-loop-history
-invariant-loop-history l = map key_object l.made.items ≡ objects_of (take l.history-index l.histories)
