@@ -1,3 +1,5 @@
 pub mod Counting
 pub mod Differing
 pub mod Writing
+pub mod Sums
+pub mod Failing

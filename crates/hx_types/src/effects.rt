@@ -1,22 +1,32 @@
 ghost use Rattle.std.specs.Prelude.{◌≡◌, OnOk, IfOk, unwrap_or, slice_set};
 ghost use Rattle.std.specs.Option.{option_copied};
-ghost use Rattle.hx_types.specs.Effects.{changed_to, default_of, defaults, deleted, effect_of, got, left_as, put_where, test_holds, tests_hold, written};
+ghost use Rattle.hx_types.specs.Effects.{changed_to, default_of, defaults, deleted, edited, effect_of, got, left_as, put_where, test_holds, tests_hold, written};
 
 use crate::calls::{Answer, Op};
 use crate::copies::{Exact, Same};
+use crate::edits::{EditError, edited};
 use crate::errors::Memory;
 use crate::outcomes::Effect;
 use crate::spaces::{Kind, Space};
 use crate::texts::Text;
-use crate::values::{Assign, Object, Value};
+use crate::values::{Assign, Edit, Object, Value};
 use std::alloc::Global;
 
 /// The object after an operation on a key, its answer, and whether it changes.
 ///
 /// A put writes its values over the old object, or over the defaults where there is none; a get
-/// and a failed test leave the object; a del removes it. An operation that isn't on a key leaves
-/// the object and answers [`Answer::NotFound`]. The operations are HyperDex's; the defaults (the
-/// empty text, the least number) are this project's choice.
+/// and a failed test leave the object; a del removes it. An atomic operation makes all its edits of
+/// the object that is there; where one has no result the object stays, and the answer is that of
+/// the first such edit, [`Answer::Overflow`] or [`Answer::TooLong`]. An operation that isn't on a key
+/// leaves the object and answers [`Answer::NotFound`], as one on an absent object does that needs
+/// one.
+///
+/// The operations are HyperDex's; the defaults (the empty text, the least number) are this project's
+/// choice, and so is that one edit without a result refuses all edits of its operation.
+///
+/// # Errors
+///
+/// [`Memory`] alone.
 pub fn effect(alloc: Global, space: &Space, old: Option<&Object>, op: &Op) -> Result<Effect, Memory>
     ensures { IfOk result (λ effect. effect ≡ effect_of space.now (option_copied old.entry) op.now) }
 {
@@ -25,6 +35,7 @@ pub fn effect(alloc: Global, space: &Space, old: Option<&Object>, op: &Op) -> Re
         Op::Get { .. } => get(alloc, old),
         Op::Del { .. } => del(old),
         Op::Cput { tests, sets, .. } => put_if(alloc, old, tests.as_slice(), sets.as_slice()),
+        Op::Atomic { edits, .. } => edit(alloc, old, edits.as_slice()),
         Op::Search { .. } | Op::Stop { .. } | Op::Add { .. } => left(alloc, old, Answer::NotFound),
     }
 }
@@ -89,6 +100,20 @@ fn put_if(
     Ok(changed(Some(object)))
 }
 
+fn edit(alloc: Global, old: Option<&Object>, edits: &[Edit]) -> Result<Effect, Memory>
+    ensures { IfOk result (λ effect. effect ≡ edited (option_copied old.entry) edits.now) }
+{
+    let Some(before) = old else {
+        return left(alloc, old, Answer::NotFound);
+    };
+    match edited(alloc, before, edits) {
+        Ok(object) => Ok(changed(Some(object))),
+        Err(EditError::Memory) => Err(Memory),
+        Err(EditError::Overflow) => left(alloc, old, Answer::Overflow),
+        Err(EditError::TooLong) => left(alloc, old, Answer::TooLong),
+    }
+}
+
 fn changed(object: Option<Object>) -> Effect
     ensures { result ≡ changed_to object }
 {
@@ -145,8 +170,9 @@ fn write_over(alloc: Global, object: &mut Object, sets: &[Assign]) -> Result<(),
     Ok(())
 }
 
+/// Writes a value at a place, where the object has that place.
 #[tactic(auto, using(crate::proofs::Writing::nothing_set))]
-fn put_at(object: &mut Object, place: usize, value: Value) -> Result<(), Memory>
+pub fn put_at(object: &mut Object, place: usize, value: Value) -> Result<(), Memory>
     ensures { OnOk result (object.new ≡ slice_set object.old place value) }
 {
     if place < object.len() {

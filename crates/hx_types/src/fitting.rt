@@ -1,7 +1,8 @@
 ghost use Rattle.std.specs.Prelude.{◌≡◌, ◌↔◌, ◌<◌, ◌≤◌, ◌≢◌, IsTrue, length, map};
 ghost use Rattle.std.specs.List.{All};
-ghost use Rattle.hx_types.specs.Spaces.{AllDiffer, AssignFits, AssignsFit, Fits, IsAttribute, IsIntKind, IsOfKind, IsRegionOf, IsServerOf, KeyFits, TermFits, TermsFit, attribute_of};
+ghost use Rattle.hx_types.specs.Spaces.{AllDiffer, AssignFits, AssignsFit, EditFits, EditsFit, Fits, IsEditOf, IsAttribute, IsIntKind, IsOfKind, IsRegionOf, IsServerOf, KeyFits, TermFits, TermsFit, attribute_of};
 ghost use Rattle.hx_types.specs.declared.values.Assign.{Assign};
+ghost use Rattle.hx_types.specs.declared.values.Edit.{Edit};
 ghost use Rattle.hx_types.specs.declared.values.Term.{Term};
 ghost use Rattle.hx_types.specs.Spaces.{IsSpace};
 
@@ -11,7 +12,7 @@ use crate::limits::LONGEST_TEXT;
 use crate::spaces::{Kind, Space};
 use crate::starting::count_regions;
 use crate::texts::Text;
-use crate::values::{Assign, Term, Value};
+use crate::values::{Assign, Edit, EditKind, Term, Value};
 
 /// Whether an operation belongs to a space.
 ///
@@ -39,7 +40,55 @@ pub fn fits(space: &Space, op: &Op) -> bool
         Op::Add { server, region } => {
             is_server_of(space, *server) && is_region_of(space, *region)
         }
+        Op::Atomic { key, edits } => {
+            key_fits(key) && edits_fit(space, edits.as_slice()) && !edits.is_empty()
+        }
     }
+}
+
+fn edits_fit(space: &Space, edits: &[Edit]) -> bool
+    ensures { IsTrue result ↔ EditsFit space.now edits.now }
+{
+    edits.iter().all(|edit| edit_fits(space, edit)) && edited_once(edits)
+}
+
+fn edit_fits(space: &Space, edit: &Edit) -> bool
+    ensures { IsTrue result ↔ EditFits space.now edit.now }
+{
+    if edit.attribute == 0 {
+        return false;
+    }
+    match space.attributes.get(edit.attribute as usize - 1) {
+        Some(declared) => is_edit_of(edit.what, declared.kind)
+            && is_of_kind(declared.kind, &edit.value),
+        None => false,
+    }
+}
+
+fn is_edit_of(what: EditKind, kind: Kind) -> bool
+    ensures { IsTrue result ↔ IsEditOf what kind }
+{
+    match (what, kind) {
+        (EditKind::Append, Kind::Text) => true,
+        (EditKind::Add | EditKind::Min | EditKind::Max, Kind::Int { .. }) => true,
+        _ => false,
+    }
+}
+
+/// Whether no attribute is edited twice.
+fn edited_once(edits: &[Edit]) -> bool
+    ensures { IsTrue result ↔ AllDiffer (map (λ (e : Edit). e.attribute) edits.now) }
+{
+    match edits.split_first() {
+        None => true,
+        Some((first, rest)) => lacks_edit(rest, first.attribute) && edited_once(rest),
+    }
+}
+
+fn lacks_edit(edits: &[Edit], attribute: u32) -> bool
+    ensures { IsTrue result ↔ All (λ (e : Edit). e.attribute ≢ attribute) edits.now }
+{
+    edits.iter().all(|edit| edit.attribute != attribute)
 }
 
 fn key_fits(key: &Text) -> bool
