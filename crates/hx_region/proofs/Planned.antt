@@ -19,7 +19,7 @@ use Rattle.hx_model.specs.Planning.{QueryRegions, any_lost, chosen, fewer_of, lo
 use Rattle.hx_model.specs.Regions.{meets, place_of, regions_of}
 use Rattle.hx_region.specs.Spans.{IsRegionIn, subspace_count}
 use Rattle.hx_region.proofs.Counted.{All-below}
-use Rattle.hx_region.proofs.Matches.{matches_are_met}
+use Rattle.hx_region.proofs.MetTerms.{matches_are_met}
 use Rattle.hx_region.proofs.Subspaces.{places_belong}
 use Rattle.hx_region.specs.Counts.{IsNoWorse}
 use Rattle.hx_region.specs.Plans.{AreAsked, FewestAreAsked, HasLost, IsForQuery, IsLowestLost, IsPlan, LostWhereEachLost, LowestLostIsNamed, MatchesAreAsked}

@@ -1,5 +1,5 @@
 -- Each part of the law is a lemma.
-use Rattle.hx_region.proofs.Matches.{matches_are_met}
+use Rattle.hx_region.proofs.MetTerms.{matches_are_met}
 use Rattle.hx_region.proofs.Subspaces as lemma
 use Rattle.hx_region.proofs.laws.regions_are_shared_out.Goals as goal
 
