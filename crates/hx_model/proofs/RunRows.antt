@@ -44,11 +44,10 @@ it_is_sent = refl
 
 -- the session's tick and the delivery to the leader make a run
 is_run : IsRun script (made (first ∷ []) (Server (server 1)) to_leader ∷ first ∷ [])
-is_run =
-    (
-      record { actor = refl; running = refl; input = refl; made = refl; enough = refl },
-      (record { actor = refl; running = refl; input = tt; made = refl; enough = refl }, tt),
-    )
+is_run = (
+  record { actor = refl; running = refl; input = refl; made = refl; enough = refl },
+  (record { actor = refl; running = refl; input = tt; made = refl; enough = refl }, tt),
+)
 
 -- a post goes to nobody but its addressee
 abbrev is_for_the_second : Option Post → Bool
