@@ -25,7 +25,7 @@ failed() {
 
 # is_command WORD..: whether the words are a command, so that wrong ones never start a build
 is_command() {
-  local LC_ALL=C word twice='(--[a-z]+) .*\1' any='(0|[1-9][0-9]{0,19})' workers='--workers ([1-9]|1[0-6])'
+  local LC_ALL=C word twice='(--[a-z]+) .*\1' seed='(0|[1-9][0-9]{0,19})' workers='--workers ([1-9]|1[0-6])'
   local period='--(lose|repeat) (0|[1-9][0-9]{0,5}|1000000)'
   local calls='([1-9][0-9]{0,3}|1[0-5][0-9]{3}|16[0-2][0-9]{2}|163[0-7][0-9]|1638[0-4])'
   local of_run="$workers|$period|--trace"
@@ -33,7 +33,7 @@ is_command() {
     # shellcheck disable=SC2071 # of two numbers of 20 digits the greater is the later text
     [[ $word != *[[:space:]]* && (${#word} -lt 20 || ! $word > 18446744073709551615) ]] || return 1
   done
-  [[ $* =~ ^(replay( --trace)?|plan|picture|run( ($of_run))*|soak $any $calls( $workers)?)$ && ! $* =~ $twice ]]
+  [[ $* =~ ^(replay( --trace)?|plan|picture|run( ($of_run))*|soak $seed $calls( $workers)?)$ && ! $* =~ $twice ]]
 }
 
 # is_fresh PROGRAM ENDING..: whether the program is there and no source with such an ending is newer

@@ -23,5 +23,5 @@ needs() {
 
 # hx WORD..: the program, which is stopped where it doesn't end
 hx() {
-  timeout 60 "$program" "$@"
+  timeout 120 "$program" "$@"
 }
