@@ -28,7 +28,7 @@ is_command() {
   local LC_ALL=C word twice='(--[a-z]+) .*\1' seed='(0|[1-9][0-9]{0,19})' workers='--workers ([1-9]|1[0-6])'
   local period='--(lose|repeat) (0|[1-9][0-9]{0,5}|1000000)'
   local calls='([1-9][0-9]{0,3}|1[0-5][0-9]{3}|16[0-2][0-9]{2}|163[0-7][0-9]|1638[0-4])'
-  local of_run="$workers|$period|--trace"
+  local of_run="$workers|$period|--seed $seed|--trace"
   for word in "$@"; do
     # shellcheck disable=SC2071 # of two numbers of 20 digits the greater is the later text
     [[ $word != *[[:space:]]* && (${#word} -lt 20 || ! $word > 18446744073709551615) ]] || return 1
