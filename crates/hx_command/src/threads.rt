@@ -69,6 +69,7 @@ pub fn run_threads<R: Threads + Wait + Sync, G: Gate + Sync>(
     hx_law_order::runs_have_one_order();
     hx_law_searches::searches_are_true_and_whole();
     hx_law_causes::answers_have_causes();
+    hx_law_epochs::lost_regions_have_lost_their_replicas();
     let mut fates = fates;
     tune_first(
         &mut fates,
