@@ -115,23 +115,8 @@ module _ (Asked : Caller → Op → Type 0) (Old : Caller → Answer → Type 0)
   to-each G m servers p i = let r = in-map (to_server m) servers p i in subst (λ (q : Post). Spoken G q.to q.message) (sym r.2) (at r.0 m)
     where
       at : (s : ServerId) (m : Message) → Spoken G (Server s) m
-      at s (a_message.Outcome number a) = tt
-      at s (a_message.Call epoch number op) = tt
-      at s (a_message.Reply number version answer) = tt
-      at s (a_message.Update epoch g u) = tt
-      at s (a_message.Ack epoch g key version) = tt
-      at s (a_message.Ask epoch number g terms) = tt
-      at s (a_message.Found epoch number g rows) = tt
-      at s (a_message.Seal epoch) = tt
-      at s (a_message.Sealed epoch) = tt
-      at s (a_message.Install config) = tt
-      at s a_message.Die = tt
-      at s a_message.Gone = tt
-      at s (a_message.StopServer number server) = tt
-      at s (a_message.AddReplica number server g) = tt
-      at s (a_message.Snap epoch g snapshot pending) = tt
-      at s (a_message.Ready epoch g) = tt
-      at s (a_message.Poll epoch) = tt
+      at s (a_message.Outcome number answer) = tt
+      at s other = tt
 
   -- one post
   one : (G : Caller → Answer → Type 0) (p : Post) → Spoken G p.to p.message → (q : Post) → IsIn q (p ∷ []) → Spoken G q.to q.message
@@ -338,16 +323,7 @@ module _ (Asked : Caller → Op → Type 0) (Old : Caller → Answer → Type 0)
   AsksFor from other = ⊤
 
   hears : (d : CoordinatorState) (from : Actor) (m : Message) → Answers d → AsksFor from m → Coordinated d (coordinator_message d from m)
-  hears d from (a_message.Call epoch number op) h v = rests d h
-  hears d from (a_message.Reply number version answer) h v = rests d h
-  hears d from (a_message.Update epoch g u) h v = rests d h
-  hears d from (a_message.Ack epoch g key version) h v = rests d h
-  hears d from (a_message.Ask epoch number g terms) h v = rests d h
-  hears d from (a_message.Found epoch number g rows) h v = rests d h
-  hears d from (a_message.Seal epoch) h v = rests d h
   hears d from (a_message.Sealed epoch) h v = hears-sealed d epoch from h
-  hears d from (a_message.Install config) h v = rests d h
-  hears d from a_message.Die h v = rests d h
   hears d from a_message.Gone h v = hears-gone d from h
   hears d Coordinator (a_message.StopServer number server) h v = rests d h
   hears d (Server s) (a_message.StopServer number server) h v = rests d h
@@ -355,13 +331,12 @@ module _ (Asked : Caller → Op → Type 0) (Old : Caller → Answer → Type 0)
   hears d Coordinator (a_message.AddReplica number server g) h v = rests d h
   hears d (Server s) (a_message.AddReplica number server g) h v = rests d h
   hears d (Session u) (a_message.AddReplica number server g) h v = hears-add d number server g u h v
-  hears d from (a_message.Outcome number answer) h v = rests d h
-  hears d from (a_message.Snap epoch g snapshot pending) h v = rests d h
   hears d from (a_message.Ready epoch g) h v = hears-ready d epoch g from h
   hears d from (a_message.Poll epoch) h v =
       cond_both (ltb epoch.0 d.config.epoch.0) (telling d (post Coordinator from (a_message.Install d.config) ∷ [])) (resting d) (Coordinated d)
       (λ t. keeps d h (post Coordinator from (a_message.Install d.config) ∷ []) (one (Now d) (post Coordinator from (a_message.Install d.config)) tt))
       (λ t. rests d h)
+  hears d from other h v = rests d h
 
   -- each step
   pub coordinated : (d : CoordinatorState) (input : Input) → Answers d → ((id : _) (from : Actor) (m : Message) → input ≡ Deliver id from m → AsksFor from m) → Coordinated d (coordinator_step d input)

@@ -215,19 +215,7 @@ module _ (script : Script) (w : World) where
   Valid from to (a_message.Reply number version answer) = at_session to (ReplyOk number version answer)
   Valid from to (a_message.Update epoch g u) = at_server to (UpdateOk epoch g u)
   Valid from to (a_message.Ack epoch g key version) = at_server to (AckOk epoch g key version.0)
-  Valid from to (a_message.Ask epoch number g terms) = ⊤
-  Valid from to (a_message.Found epoch number g rows) = ⊤
-  Valid from to (a_message.Seal epoch) = ⊤
-  Valid from to (a_message.Sealed epoch) = ⊤
-  Valid from to (a_message.Install config) = ⊤
-  Valid from to a_message.Die = ⊤
-  Valid from to a_message.Gone = ⊤
-  Valid from to (a_message.StopServer number server) = ⊤
-  Valid from to (a_message.AddReplica number server g) = ⊤
-  Valid from to (a_message.Outcome number answer) = ⊤
-  Valid from to (a_message.Snap epoch g snapshot pending) = ⊤
-  Valid from to (a_message.Ready epoch g) = ⊤
-  Valid from to (a_message.Poll epoch) = ⊤
+  Valid from to other = ⊤
 
   -- what holds of all keys and posts
   pub record Chained (posts : List Post) : Type 0 where

@@ -370,23 +370,13 @@ module _ (space : Space) (sessions n : ℕ) where
 
   -- each message, where its post is sound
   message-good : (c : CoordinatorState) → Relies c → (from : Actor) → ActorExists (bounds space sessions n) from → (m : Message) → goes_between from Coordinator m ≡ true → (j : ℕ) → IsSoundMessage (bounds space sessions j) m → DoesWell (coordinator_message c from m)
-  message-good c h from x (a_message.Call epoch number op) b j k = resting-good c h.sound
-  message-good c h from x (a_message.Reply number version answer) b j k = resting-good c h.sound
-  message-good c h from x (a_message.Update epoch g u) b j k = resting-good c h.sound
-  message-good c h from x (a_message.Ack epoch g key version) b j k = resting-good c h.sound
-  message-good c h from x (a_message.Ask epoch number g terms) b j k = resting-good c h.sound
-  message-good c h from x (a_message.Found epoch number g rows) b j k = resting-good c h.sound
-  message-good c h from x (a_message.Seal epoch) b j k = resting-good c h.sound
   message-good c h from x (a_message.Sealed epoch) b j k = sealed-good c h epoch from x
-  message-good c h from x (a_message.Install config) b j k = resting-good c h.sound
-  message-good c h from x a_message.Die b j k = resting-good c h.sound
   message-good c h from x a_message.Gone b j k = gone-good c h from
   message-good c h from x (a_message.StopServer number server) b j k = administers-good c h from x (stop_step c number server) (stop-good c h number server k)
   message-good c h from x (a_message.AddReplica number server g) b j k = administers-good c h from x (add_step c number server g) (add-good c h number server g k)
-  message-good c h from x (a_message.Outcome number answer) b j k = resting-good c h.sound
-  message-good c h from x (a_message.Snap epoch g snapshot pending) b j k = resting-good c h.sound
   message-good c h from x (a_message.Ready epoch g) b j k = ready-good c h epoch g from
   message-good c h from x (a_message.Poll epoch) b j k = poll-good c h epoch from x (and_parts (is_session_actor from) true b).0
+  message-good c h from x other b j k = resting-good c h.sound
 
   -- each input of the coordinator
   pub coordinator-good : (c : CoordinatorState) → Relies c → (input : Input)
