@@ -20,9 +20,10 @@ use Rattle.hx_types.specs.declared.messages.Message.TheVariants as a_message
 use Rattle.hx_types.specs.declared.ids.Actor.TheVariants.{Coordinator, Server, Session}
 use Rattle.hx_types.specs.declared.traces.Input.TheVariants.{Tick, Halt, Deliver}
 use Rattle.hx_types.specs.declared.traces.Note.TheVariants as a_note
-use Rattle.hx_types.specs.Words.{IsIn, below, post, provided, same_session, server_in, without_server}
+use Rattle.hx_types.specs.Words.{IsIn, below, post, provided, server_in, without_server}
 use Rattle.hx_types.specs.Configs.{is_lost, lists_joining}
 use Rattle.hx_model.specs.CoordinatorSteps.{Answered, CoordinatorState, CoordinatorStep, Newest, Phase, Sealing, Steady, Task, add_step, adds, adds_steady, again, by_number, coordinator_message, coordinator_step, coordinator_tick, die_for, die_posts, gone_step, goes, is_newest_call, is_out, issue, issuing, judged, newest_answered, newest_of, outcome, ready_now, ready_step, remaining, resting, seal, sealed_now, sealed_step, sealing_or_issue, session_posts, still_sealing, stop_step, stops, telling, to_server, waits_less, with_answer, with_newest, with_number, with_server, with_task}
+use Rattle.hx_law_lemmas.proofs.Newest.{in-with_newest, newest-in}
 use Rattle.hx_law_lemmas.proofs.Lists.{in-append, in-flat_map, in-map, in-provided}
 use Rattle.hx_law_causes.proofs.Outcomes.{Judged, issuing-well, judged-is}
 
@@ -45,22 +46,6 @@ to-session (Session u) P Q f h = f u h
 pub spoken-map : (G H : Caller → Answer → Type 0) → ((c : Caller) (a : Answer) → G c a → H c a) → (to : Actor) (m : Message) → Spoken G to m → Spoken H to m
 spoken-map G H f to (a_message.Outcome number a) h = to-session to (λ u. G (record { session = u; number = number }) a) (λ u. H (record { session = u; number = number }) a) (λ u. f (record { session = u; number = number }) a) h
 spoken-map G H f to other h = tt
-
--- a newest call of a changed list is the new one or an old one
-in-with_newest : (n : Newest) (ns : List Newest) (x : Newest) → IsIn x (with_newest n ns) → (x ≡ n) ⊎ IsIn x ns
-in-with_newest n [] x = λ i. elim i [ inl e ↦ inl e | inr j ↦ absurd j ]
-in-with_newest n (y ∷ ns) x =
-    cond_both (same_session y.session n.session) (n ∷ ns) (y ∷ with_newest n ns) (λ (l : List Newest). IsIn x l → (x ≡ n) ⊎ IsIn x (y ∷ ns))
-    (λ t i. elim i [ inl e ↦ inl e | inr j ↦ inr (inr j) ])
-    (λ t i. elim i [ inl e ↦ inr (inl e) | inr j ↦ elim (in-with_newest n ns x j) [ inl e ↦ inl e | inr k ↦ inr (inr k) ] ])
-
--- the newest call of a session stands in the list, with the session
-newest-in : (u : SessionId) (ns : List Newest) (x : Newest) → newest_of u ns ≡ Some x → IsIn x ns × (x.session ≡ u)
-newest-in u [] x = λ e. absurd (cc)
-newest-in u (y ∷ ns) x =
-    cond_both (same_session y.session u) (Some y) (newest_of u ns) (λ o. o ≡ Some x → IsIn x (y ∷ ns) × (x.session ≡ u))
-    (λ t e. let q : x ≡ y = cc in (inl q, ap (λ (z : Newest). z.session) q ∙ (let e = eqb-true y.session.0 u.0 t in λ j. record { 0 = e j })))
-    (λ t e. let r = newest-in u ns x e in (inr r.0, r.1))
 
 -- the caller of a newest call
 abbrev pub caller_of : Newest → Caller
