@@ -4,6 +4,7 @@ pub mod Parts
 pub mod Keywords
 pub mod Words
 pub mod Values
+pub mod Edits
 pub mod Axes
 pub mod Actors
 pub mod Calls

@@ -24,10 +24,11 @@
 //! | `cput T if N=V .. set N=V ..` | one test and one assignment at least |
 //! | `search` and then `N=V` or `N=I..I` .. | here the key's name is known too |
 //! | `stop I`, `add I I` | a server; a server and a region |
+//! | `atomic T` and then `add N=V`, `append N=V`, `min N=V` or `max N=V` .. | one edit at least; texts are appended, numbers added and compared |
 //! | `deliver I.I` | the entry and place of a post |
 //! | `tick A`, `halt A` | |
 //!
-//! Each attribute stands at most once in each group of assignments, tests, terms or axes. Lines end
+//! Each attribute stands at most once in each group of assignments, tests, terms, edits or axes. Lines end
 //! with a newline, the last may lack it. A line without tokens is skipped, but counted.
 //!
 //! The first faulty line is refused. In it a fault of the tokens comes first; then the tokens are
@@ -46,6 +47,7 @@
 mod actors;
 mod axes;
 mod draft;
+mod edits;
 mod errors;
 mod keyword;
 mod laws;
