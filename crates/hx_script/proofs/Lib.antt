@@ -16,3 +16,4 @@ mod Sections
 mod FittingAxes
 mod SoundLines
 pub mod SoundTexts
+pub mod LoneCalls

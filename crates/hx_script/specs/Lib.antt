@@ -10,3 +10,4 @@ pub mod Actors
 pub mod Calls
 pub mod Grammar
 pub mod Texts
+pub mod LoneCalls

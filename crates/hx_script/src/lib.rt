@@ -38,6 +38,10 @@
 //! gives exactly that. [`scripts_are_valid`] says that each such script is within the limits, and
 //! that each of its calls fits its space.
 //!
+//! [`read_op`] reads one line as a call of a session of a space, by the same definitions
+//! (`specs/LoneCalls.antt`); [`calls_are_read_as_in_sessions`] says what a session makes of that
+//! line. No calls stand before it, so no count is full.
+//!
 //! No contract says that there is memory, so a `read` that always answered `Memory` would be
 //! proved. The tests show it succeed.
 #![tactic(auto)]
@@ -52,11 +56,16 @@ mod errors;
 mod keyword;
 mod laws;
 mod line;
+mod lone_calls;
 mod ops;
 mod reading;
 mod values;
 mod words;
 
 pub use errors::{Reason, ScriptError};
-pub use laws::{scripts_are_valid, texts_are_not_refused_by_steps};
+pub use laws::{
+    calls_are_read_as_in_sessions, calls_fit_their_space, scripts_are_valid,
+    texts_are_not_refused_by_steps,
+};
+pub use lone_calls::read_op;
 pub use reading::read;
