@@ -1,2 +1,2 @@
-pub mod Counts
-pub mod Patterns
+pub mod States
+pub mod Choices
