@@ -42,7 +42,7 @@ pub fn answer_soak<R: Threads + Wait + Sync, K: Sink, G: Gate + Sync>(
     requires workers { (1 ≤ command.workers) × (command.workers ≤ 16) × (command.workers ≤ length fates.items) }
     ensures ends { EndsOnThreads (IsSummed command) script.now command.workers (record { before = K.held sink.old; after = K.held sink.new; faults_before = K.faults sink.old; faults_after = K.faults sink.new }) (record { trace = result.done.trace; totals = result.totals.items; ports = result.ports.items; fates = length result.fates.items }) result.done.outcome }
     ensures status { result.done.status ≡ status_of result.done.outcome }
-    ensures risen { (i : ℕ) (f : _) (g : _) (t : TotalsSeen) → slice_get fates.items i ≡ Some f → slice_get result.fates.items i ≡ Some g → slice_get result.totals.items i ≡ Some t → HasRisen script.now command.workers result.done.trace i t (counts f) (counts g) }
+    ensures risen { (i : ℕ) (f : _) (g : _) (t : TotalsSeen) → slice_get fates.items i ≡ Some f → slice_get result.fates.items i ≡ Some g → slice_get result.totals.items i ≡ Some t → HasRisen script.now command.workers result.done.trace i t (state f) (state g) }
     ensures silent { IsSilent result.done.outcome → sink.new ≡ sink.old }
     ensures faults { K.faults sink.old ≤ K.faults sink.new }
 {

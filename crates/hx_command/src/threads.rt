@@ -25,7 +25,7 @@ pub struct Threading {
 
 /// Tunes a fate. No count changes.
 fn tune(fate: &mut Box<dyn Fate + Send>, lose: u32, repeat: u32)
-    ensures { counts fate.new ≡ counts fate.old }
+    ensures { state fate.new ≡ state fate.old }
 {
     fate.tune(lose, repeat);
 }
@@ -34,7 +34,7 @@ fn tune(fate: &mut Box<dyn Fate + Send>, lose: u32, repeat: u32)
 fn tune_at(fates: &mut Vec<Box<dyn Fate + Send>>, at: usize, lose: u32, repeat: u32)
     requires { at < length fates.old.items }
     ensures count { length fates.new.items ≡ length fates.old.items }
-    ensures same { (i : ℕ) (f : _) (g : _) → slice_get fates.old.items i ≡ Some f → slice_get fates.new.items i ≡ Some g → counts g ≡ counts f }
+    ensures same { (i : ℕ) (f : _) (g : _) → slice_get fates.old.items i ≡ Some f → slice_get fates.new.items i ≡ Some g → state g ≡ state f }
 {
     tune(&mut fates[at], lose, repeat);
 }
@@ -43,7 +43,7 @@ fn tune_at(fates: &mut Vec<Box<dyn Fate + Send>>, at: usize, lose: u32, repeat: 
 fn tune_first(fates: &mut Vec<Box<dyn Fate + Send>>, count: u32, lose: u32, repeat: u32)
     requires { count ≤ length fates.old.items }
     ensures count { length fates.new.items ≡ length fates.old.items }
-    ensures same { (i : ℕ) (f : _) (g : _) → slice_get fates.old.items i ≡ Some f → slice_get fates.new.items i ≡ Some g → counts g ≡ counts f }
+    ensures same { (i : ℕ) (f : _) (g : _) → slice_get fates.old.items i ≡ Some f → slice_get fates.new.items i ≡ Some g → state g ≡ state f }
 {
     for at in 0..count {
         tune_at(fates, at as usize, lose, repeat);
@@ -63,7 +63,7 @@ pub fn run_threads<R: Threads + Wait + Sync, G: Gate + Sync>(
     requires workers { (1 ≤ threading.workers) × (threading.workers ≤ 16) × (threading.workers ≤ length fates.items) }
     requires capacity { 1 ≤ threading.capacity }
     ensures ran { IfOk result (λ ran. IsThreaded script.now threading.workers (record { trace = ran.trace; totals = ran.totals.items; ports = ran.ports.items; fates = length ran.fates.items }) ran.worn) }
-    ensures risen { IfOk result (λ ran. (i : ℕ) (f : _) (g : _) (t : TotalsSeen) → slice_get fates.items i ≡ Some f → slice_get ran.fates.items i ≡ Some g → slice_get ran.totals.items i ≡ Some t → HasRisen script.now threading.workers ran.trace i t (counts f) (counts g)) }
+    ensures risen { IfOk result (λ ran. (i : ℕ) (f : _) (g : _) (t : TotalsSeen) → slice_get fates.items i ≡ Some f → slice_get ran.fates.items i ≡ Some g → slice_get ran.totals.items i ≡ Some t → HasRisen script.now threading.workers ran.trace i t (state f) (state g)) }
 {
     hx_law_searches::histories_are_linear();
     hx_law_searches::searches_are_true_and_whole();

@@ -6,4 +6,4 @@ pub loop-at-preserved : goal.loop-at-preserved
 loop-at-preserved g c =
     let i = c.loop-at.invariant in
     let e = c.tune_at.ensures in
-    (e.count ∙ i.0, stays_on (λ b. (goal.Fate-dyn g (b.vtable, b.value)).counts b.value) _ c.loop-at.fates.items _ i.0 i.1 e.same)
+    (e.count ∙ i.0, stays_on (λ b. (goal.Fate-dyn g (b.vtable, b.value)).state b.value) _ c.loop-at.fates.items _ i.0 i.1 e.same)

@@ -5,4 +5,4 @@ use Rattle.hx_command.proofs.threads.tune_first.Given as goal
 abbrev pub invariant-loop-at : goal.invariant-loop-at
 invariant-loop-at g l =
     (length l.fates.items ≡ length l.initial.fates.items)
-    × Stays (λ b. (goal.Fate-dyn g (b.vtable, b.value)).counts b.value) l.initial.fates.items l.fates.items
+    × Stays (λ b. (goal.Fate-dyn g (b.vtable, b.value)).state b.value) l.initial.fates.items l.fates.items
