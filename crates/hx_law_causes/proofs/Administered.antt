@@ -127,13 +127,7 @@ module _ (script : Script) (valid : IsScript script) (older : List Entry) (befor
   cause-still c (an_answer.Member epoch) h = passes-still c epoch _ h
   cause-still c (an_answer.Joining epoch) h = passes-still c epoch _ h
   cause-still c (an_answer.Lost epoch) h = passes-still c epoch _ h
-  cause-still c an_answer.Done h = absurd h
-  cause-still c an_answer.NotFound h = absurd h
-  cause-still c an_answer.CmpFail h = absurd h
-  cause-still c (an_answer.Found object) h = absurd h
-  cause-still c (an_answer.Rows rows) h = absurd h
-  cause-still c (an_answer.Refused g epoch) h = absurd h
-  cause-still c (an_answer.Doubt g epoch) h = absurd h
+  cause-still c other h = absurd h
 
   -- what was asked stays so
   asked-still : (c : Caller) (op : Op) → Asked script older c op → Asked script (x ∷ older) c op
@@ -175,13 +169,7 @@ module _ (script : Script) (valid : IsScript script) (older : List Entry) (befor
   judged-cause Now c op asked config k f (an_answer.Member epoch) h = now-passes c op asked config k epoch (λ op config. administers_to (λ s g. lists_ready config g s) (λ s. false) op) h.0 h.1
   judged-cause Now c op asked config k f (an_answer.Joining epoch) h = now-passes c op asked config k epoch (λ op config. administers_to (λ s g. any_joining (members_of config g)) (λ s. false) op) h.0 h.1
   judged-cause Now c op asked config k f (an_answer.Lost epoch) h = now-passes c op asked config k epoch (λ op config. administers_to (λ s g. is_lost config g) (λ s. false) op) h.0 h.1
-  judged-cause Now c op asked config k f an_answer.Done h = absurd h
-  judged-cause Now c op asked config k f an_answer.NotFound h = absurd h
-  judged-cause Now c op asked config k f an_answer.CmpFail h = absurd h
-  judged-cause Now c op asked config k f (an_answer.Found object) h = absurd h
-  judged-cause Now c op asked config k f (an_answer.Rows rows) h = absurd h
-  judged-cause Now c op asked config k f (an_answer.Refused g epoch) h = absurd h
-  judged-cause Now c op asked config k f (an_answer.Doubt g epoch) h = absurd h
+  judged-cause Now c op asked config k f other h = absurd h
 
   -- what is kept where the coordinator rests and new posts neither ask nor answer
   elsewhere : ((u : SessionId) → (session_of script u (x ∷ older)).under_way ≡ true → (n : ℕ) × BeganAt (x ∷ older) (record { session = u; number = (session_of script u (x ∷ older)).begun }) n)

@@ -15,7 +15,7 @@ use Rattle.hx_types.specs.declared.messages.Message.{Message}
 use Rattle.hx_types.specs.declared.messages.Post.{Post}
 use Rattle.hx_types.specs.declared.traces.Input.{Input}
 use Rattle.hx_types.specs.declared.calls.Answer.TheVariants as an_answer
-use Rattle.hx_types.specs.declared.calls.Op.TheVariants.{Put, Get, Del, Cput, Search, Stop, Add}
+use Rattle.hx_types.specs.declared.calls.Op.TheVariants.{Stop, Add}
 use Rattle.hx_types.specs.declared.messages.Message.TheVariants as a_message
 use Rattle.hx_types.specs.declared.ids.Actor.TheVariants.{Coordinator, Server, Session}
 use Rattle.hx_types.specs.declared.traces.Input.TheVariants.{Tick, Halt, Deliver}
@@ -178,17 +178,7 @@ module _ (Asked : Caller → Op → Type 0) (Old : Caller → Answer → Type 0)
 
       here : (c : Config) (Note : Type 0) → Note → (op : Op) (a : Answer) → Judged ⊤ c op a → Judged Note c op a
       here c Note n op (an_answer.Issued epoch) h = (n, h.1, h.2)
-      here c Note n op (an_answer.Stopped epoch) h = h
-      here c Note n op (an_answer.Member epoch) h = h
-      here c Note n op (an_answer.Joining epoch) h = h
-      here c Note n op (an_answer.Lost epoch) h = h
-      here c Note n op an_answer.Done h = h
-      here c Note n op an_answer.NotFound h = h
-      here c Note n op an_answer.CmpFail h = h
-      here c Note n op (an_answer.Found object) h = h
-      here c Note n op (an_answer.Rows rows) h = h
-      here c Note n op (an_answer.Refused g epoch) h = h
-      here c Note n op (an_answer.Doubt g epoch) h = h
+      here c Note n op other h = h
 
       answered : (a : Answered) → (op : Op) × Asked a.caller op × Judged ⊤ (issuing d').config op a.answer → Given (ByStep d (issue d')) a.caller a.answer
       answered a (op, asked, j) = inr (op, asked, inr (here (issuing d').config ((issue d').notes ≡ a_note.Issued (issue d').state.config ∷ []) refl op a.answer j))
@@ -327,13 +317,8 @@ module _ (Asked : Caller → Op → Type 0) (Old : Caller → Answer → Type 0)
   dies G test ts p i = let r = in-flat_map (λ (t : Task). die_for test t.op) ts p i in by r.0.op r.2
     where
       by : (op : Op) → IsIn p (die_for test op) → Spoken G p.to p.message
-      by (Put key sets) j = absurd j
-      by (Get key) j = absurd j
-      by (Del key) j = absurd j
-      by (Cput key tests sets) j = absurd j
-      by (Search terms) j = absurd j
       by (Stop s) j = to-each G a_message.Die (s ∷ []) p (in-provided (test s) (to_server a_message.Die s ∷ []) p j).1
-      by (Add s g) j = absurd j
+      by other j = absurd j
 
   ticks : (d : CoordinatorState) → Answers d → Coordinated d (coordinator_tick d d.phase)
   ticks d h = by d.phase

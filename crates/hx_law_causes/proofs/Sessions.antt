@@ -22,7 +22,7 @@ use Rattle.hx_types.specs.declared.traces.Input.{Input}
 use Rattle.hx_types.specs.declared.traces.Note.{Note}
 use Rattle.hx_types.specs.declared.values.Term.{Term}
 use Rattle.hx_types.specs.declared.calls.Answer.TheVariants as an_answer
-use Rattle.hx_types.specs.declared.calls.Op.TheVariants.{Put, Get, Del, Cput, Search, Stop, Add}
+use Rattle.hx_types.specs.declared.calls.Op.TheVariants.{Put, Get, Del, Cput, Search, Stop, Add, Atomic}
 use Rattle.hx_types.specs.declared.messages.Message.TheVariants as a_message
 use Rattle.hx_types.specs.declared.traces.Note.TheVariants as a_note
 use Rattle.hx_types.specs.declared.outcomes.Planned.TheVariants as a_plan
@@ -222,6 +222,7 @@ module _ (space : Space) (input : Input) where
   sends s (Get key) way called = sends-key s (Get key) key way called refl
   sends s (Del key) way called = sends-key s (Del key) key way called refl
   sends s (Cput key tests sets) way called = sends-key s (Cput key tests sets) key way called refl
+  sends s (Atomic key edits) way called = sends-key s (Atomic key edits) key way called refl
   sends s (Search terms) way called = asks s terms way called (plan_of space s.config terms) refl
   sends s (Stop server) way called = says s Coordinator (a_message.StopServer s.begun server) way (refl, called)
   sends s (Add server g) way called = says s Coordinator (a_message.AddReplica s.begun server g) way (refl, called)
@@ -376,12 +377,7 @@ module _ (space : Space) (s : SessionState) where
     where
       shown : (mid : SessionState) (op : Op) → Called mid op → is_search op ≡ true → Shown mid (an_answer.Rows (merged_parts mid.parts))
       shown mid (Search terms) c e = record { terms = terms; called = c; rows = merged_parts mid.parts; answer = refl }
-      shown mid (Put key sets) c e = absurd (false≢true e)
-      shown mid (Get key) c e = absurd (false≢true e)
-      shown mid (Del key) c e = absurd (false≢true e)
-      shown mid (Cput key tests sets) c e = absurd (false≢true e)
-      shown mid (Stop server) c e = absurd (false≢true e)
-      shown mid (Add server region) c e = absurd (false≢true e)
+      shown mid other c e = absurd (false≢true e)
 
   -- the outcome of an administrative call
   outcomes : (id : PostId) (from : Actor) (number : ℕ) (answer : Answer) → SessionDoes space (Deliver id from (a_message.Outcome number answer)) s (session_message space s (a_message.Outcome number answer))

@@ -16,7 +16,7 @@ use Rattle.hx_types.specs.declared.ids.SessionId.{SessionId}
 use Rattle.hx_types.specs.declared.traces.Input.{Input}
 use Rattle.hx_types.specs.declared.traces.Note.{Note}
 use Rattle.hx_types.specs.declared.calls.Answer.TheVariants as an_answer
-use Rattle.hx_types.specs.declared.calls.Op.TheVariants.{Put, Get, Del, Cput, Search, Stop, Add}
+use Rattle.hx_types.specs.declared.calls.Op.TheVariants.{Stop, Add}
 use Rattle.hx_types.specs.declared.messages.Message.TheVariants as a_message
 use Rattle.hx_types.specs.declared.ids.Actor.TheVariants.{Coordinator, Server, Session}
 use Rattle.hx_types.specs.declared.traces.Input.TheVariants.{Tick, Halt, Deliver}
@@ -185,13 +185,8 @@ dying : (test : ServerId → Bool) (todo : List Task) → AllOf (die_posts test 
 dying test todo p i = let r = in-flat_map (λ (t : Task). die_for test t.op) todo p i in by r.0.op r.2
   where
     by : (op : Op) → IsIn p (die_for test op) → OfCoordinator p.message
-    by (Put key sets) j = absurd j
-    by (Get key) j = absurd j
-    by (Del key) j = absurd j
-    by (Cput key tests sets) j = absurd j
-    by (Search terms) j = absurd j
     by (Stop s) j = one (to_server a_message.Die s) tt p (in-provided (test s) (to_server a_message.Die s ∷ []) p j).1
-    by (Add s g) j = absurd j
+    by other j = absurd j
 
 -- each message
 messages : (c : CoordinatorState) (from : Actor) (m : Message) → Plain (coordinator_message c from m)

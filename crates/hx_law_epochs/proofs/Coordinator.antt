@@ -14,7 +14,7 @@ use Rattle.hx_types.specs.declared.messages.Message.{Message}
 use Rattle.hx_types.specs.declared.messages.Post.{Post}
 use Rattle.hx_types.specs.declared.traces.Input.{Input}
 use Rattle.hx_types.specs.declared.calls.Answer.TheVariants as an_answer
-use Rattle.hx_types.specs.declared.calls.Op.TheVariants.{Put, Get, Del, Cput, Search, Stop, Add}
+use Rattle.hx_types.specs.declared.calls.Op.TheVariants.{Stop, Add}
 use Rattle.hx_types.specs.declared.messages.Message.TheVariants as a_message
 use Rattle.hx_types.specs.declared.ids.Actor.TheVariants.{Coordinator, Server, Session}
 use Rattle.hx_types.specs.declared.traces.Input.TheVariants.{Tick, Halt, Deliver}
@@ -356,13 +356,8 @@ module _ (Real : ServerId → Type 0) (S : ServerId → ServerState) (posts : Li
   dies test c ts p i = let r = in-flat_map (λ (t : Task). die_for test t.op) ts p i in by r.0.op r.2
     where
       by : (op : Op) → IsIn p (die_for test op) → Rules c p
-      by (Put key sets) j = absurd j
-      by (Get key) j = absurd j
-      by (Del key) j = absurd j
-      by (Cput key tests sets) j = absurd j
-      by (Search terms) j = absurd j
       by (Stop s) j = to-each c a_message.Die tt (s ∷ []) p (in-provided (test s) (to_server a_message.Die s ∷ []) p j).1
-      by (Add s g) j = absurd j
+      by other j = absurd j
 
   -- a tick of the coordinator
   ticks : (d : CoordinatorState) → KeptBy Real S d posts → Coordinates d (coordinator_tick d d.phase)

@@ -17,7 +17,7 @@ use Rattle.hx_types.specs.declared.values.Term.{Term}
 use Rattle.hx_types.specs.declared.calls.Row.{Row}
 use Rattle.std.specs.List.{list_any}
 use Rattle.hx_types.specs.declared.calls.Answer.TheVariants as an_answer
-use Rattle.hx_types.specs.declared.calls.Op.TheVariants.{Put, Get, Del, Cput, Search, Stop, Add}
+use Rattle.hx_types.specs.declared.calls.Op.TheVariants.{Put, Get, Del, Cput, Search, Stop, Add, Atomic}
 use Rattle.hx_types.specs.declared.messages.Message.TheVariants as a_message
 use Rattle.hx_types.specs.declared.outcomes.Planned.TheVariants as a_plan
 use Rattle.hx_types.specs.declared.traces.Input.TheVariants.{Tick, Halt, Deliver}
@@ -78,6 +78,7 @@ send-config space s op = by op
     by (Get k) = key (Get k) (key_region space k)
     by (Del k) = key (Del k) (key_region space k)
     by (Cput k tests sets) = key (Cput k tests sets) (key_region space k)
+    by (Atomic k edits) = key (Atomic k edits) (key_region space k)
     by (Search terms) = asks terms (plan_of space s.config terms)
     by (Stop server) = refl
     by (Add server region) = refl

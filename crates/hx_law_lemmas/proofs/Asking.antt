@@ -21,7 +21,7 @@ use Rattle.hx_types.specs.declared.spaces.Space.{Space}
 use Rattle.hx_types.specs.declared.traces.Input.{Input}
 use Rattle.hx_types.specs.declared.values.Term.{Term}
 use Rattle.hx_types.specs.declared.calls.Answer.TheVariants as an_answer
-use Rattle.hx_types.specs.declared.calls.Op.TheVariants.{Put, Get, Del, Cput, Search, Stop, Add}
+use Rattle.hx_types.specs.declared.calls.Op.TheVariants.{Put, Get, Del, Cput, Search, Stop, Add, Atomic}
 use Rattle.hx_types.specs.declared.messages.Message.TheVariants as a_message
 use Rattle.hx_types.specs.declared.ids.Actor.TheVariants.{Coordinator, Session}
 use Rattle.hx_types.specs.declared.outcomes.Planned.TheVariants as a_plan
@@ -157,6 +157,7 @@ module _ (space : Space) (Known : ℕ → RegionId → List Row → Type 0) wher
   sends s (Get key) w e = sends-key s (Get key) (key_region space key) e (λ terms q. absurd (cc))
   sends s (Del key) w e = sends-key s (Del key) (key_region space key) e (λ terms q. absurd (cc))
   sends s (Cput key tests sets) w e = sends-key s (Cput key tests sets) (key_region space key) e (λ terms q. absurd (cc))
+  sends s (Atomic key edits) w e = sends-key s (Atomic key edits) (key_region space key) e (λ terms q. absurd (cc))
   sends s (Search terms) w e = asks-regions s terms (plan_of space s.config terms) refl w e
   sends s (Stop server) w e = sends-coordinator s (Stop server) (a_message.StopServer s.begun server) tt e (λ terms q. absurd (cc))
   sends s (Add server g) w e = sends-coordinator s (Add server g) (a_message.AddReplica s.begun server g) tt e (λ terms q. absurd (cc))
@@ -191,6 +192,7 @@ module _ (space : Space) (Known : ℕ → RegionId → List Row → Type 0) wher
       by (Get k) = key (Get k) (key_region space k)
       by (Del k) = key (Del k) (key_region space k)
       by (Cput k tests sets) = key (Cput k tests sets) (key_region space k)
+      by (Atomic k edits) = key (Atomic k edits) (key_region space k)
       by (Search terms) = plan terms (plan_of space s.config terms)
       by (Stop server) = refl
       by (Add server g) = refl

@@ -16,7 +16,7 @@ use Rattle.hx_types.specs.declared.ids.SessionId.{SessionId}
 use Rattle.hx_types.specs.declared.spaces.Space.{Space}
 use Rattle.hx_types.specs.declared.traces.Input.{Input}
 use Rattle.hx_types.specs.declared.calls.Answer.TheVariants as an_answer
-use Rattle.hx_types.specs.declared.calls.Op.TheVariants.{Put, Get, Del, Cput, Search, Stop, Add}
+use Rattle.hx_types.specs.declared.calls.Op.TheVariants.{Stop, Add}
 use Rattle.hx_types.specs.declared.messages.Message.TheVariants as a_message
 use Rattle.hx_types.specs.declared.ids.Actor.TheVariants.{Coordinator, Server, Session}
 use Rattle.hx_types.specs.declared.traces.Input.TheVariants.{Tick, Halt, Deliver}
@@ -343,13 +343,8 @@ module _ (space : Space) (sessions n : ℕ) where
 
   -- who is to stop is told again
   die-sound : (test : ServerId → Bool) (op : Op) → Fits space op → (p : Post) → IsIn p (die_for test op) → IsSound p
-  die-sound test (Put key sets) f p i = absurd i
-  die-sound test (Get key) f p i = absurd i
-  die-sound test (Del key) f p i = absurd i
-  die-sound test (Cput key tests sets) f p i = absurd i
-  die-sound test (Search terms) f p i = absurd i
   die-sound test (Stop s) f p i = one-sound (to_server a_message.Die s) (to_server-sound a_message.Die s f refl tt) p (in-provided (test s) (to_server a_message.Die s ∷ []) p i).1
-  die-sound test (Add s g) f p i = absurd i
+  die-sound test other f p i = absurd i
 
   -- everyone who is to stop is told again
   dies-sound : (c : CoordinatorState) → Relies c → (test : ServerId → Bool) (p : Post) → IsIn p (die_posts test c.todo) → IsSound p

@@ -13,7 +13,7 @@ use Rattle.hx_types.specs.declared.ids.RegionId.{RegionId}
 use Rattle.hx_types.specs.declared.ids.ServerId.{ServerId}
 use Rattle.hx_types.specs.declared.spaces.Space.{Space}
 use Rattle.hx_types.specs.declared.calls.Answer.TheVariants as an_answer
-use Rattle.hx_types.specs.declared.calls.Op.TheVariants.{Put, Get, Del, Cput, Search, Stop, Add}
+use Rattle.hx_types.specs.declared.calls.Op.TheVariants.{Stop, Add}
 use Rattle.hx_types.specs.Words.{IsIn, same_server, server_in}
 use Rattle.hx_types.specs.Configs.{is_lost, lists_ready, members_of}
 use Rattle.hx_types.specs.Spaces.{AllDiffer, Fits, IsConfigOf, IsListOf, IsServerOf}
@@ -208,16 +208,12 @@ module _ (space : Space) (sessions n : ℕ) where
 
   -- one call
   does-sound : (i : Issuing) → IsSoundIssuing i → (t : Task) → IsSoundTask t → (op : Op) → Fits space op → IsSoundIssuing (does i t op)
-  does-sound i h t task (Put key sets) f = leaves-sound i h t task
-  does-sound i h t task (Get key) f = leaves-sound i h t task
-  does-sound i h t task (Del key) f = leaves-sound i h t task
-  does-sound i h t task (Cput key tests sets) f = leaves-sound i h t task
-  does-sound i h t task (Search terms) f = leaves-sound i h t task
   does-sound i h t task (Stop s) f =
       cond_both (server_in s i.config.servers) (leaves i t) (answers_with i t (an_answer.Issued i.config.epoch)) IsSoundIssuing
       (λ b. leaves-sound i h t task)
       (λ b. answers-sound i h t task (an_answer.Issued i.config.epoch) (tt, h.config.epoch))
   does-sound i h t task (Add s g) f = adds-sound i h t task s g f.0 (judged i.config s g) (judged-sound i.config s g h.config.epoch)
+  does-sound i h t task other f = leaves-sound i h t task
 
   -- each call, one after another
   does_all-sound : (i : Issuing) → IsSoundIssuing i → (ts : List Task) → ((t : Task) → IsIn t ts → IsSoundTask t) → IsSoundIssuing (does_all i ts)

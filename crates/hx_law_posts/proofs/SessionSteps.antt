@@ -18,7 +18,7 @@ use Rattle.hx_types.specs.declared.traces.Input.{Input}
 use Rattle.hx_types.specs.declared.traces.Script.{Script}
 use Rattle.hx_types.specs.declared.configs.Config.{Config}
 use Rattle.hx_types.specs.declared.values.Term.{Term}
-use Rattle.hx_types.specs.declared.calls.Op.TheVariants.{Put, Get, Del, Cput, Search, Stop, Add}
+use Rattle.hx_types.specs.declared.calls.Op.TheVariants.{Put, Get, Del, Cput, Search, Stop, Add, Atomic}
 use Rattle.hx_types.specs.declared.messages.Message.TheVariants as a_message
 use Rattle.hx_types.specs.declared.ids.Actor.TheVariants.{Coordinator, Session}
 use Rattle.hx_types.specs.declared.outcomes.Planned.TheVariants as a_plan
@@ -135,6 +135,7 @@ module _ (script : Script) (valid : IsScript script) (n : ℕ) (u : SessionId) (
   send-good st (Get key) fits k = send_to-good st (Get key) (key_region script.space key) fits k
   send-good st (Del key) fits k = send_to-good st (Del key) (key_region script.space key) fits k
   send-good st (Cput key tests sets) fits k = send_to-good st (Cput key tests sets) (key_region script.space key) fits k
+  send-good st (Atomic key edits) fits k = send_to-good st (Atomic key edits) (key_region script.space key) fits k
   send-good st (Search terms) fits k = ask-good st terms (plan_of script.space st.config terms) (plan-regions script.space st.config terms) fits k
   send-good st (Stop server) fits k = coordinator-good st (a_message.StopServer st.begun server) k refl fits
   send-good st (Add server region) fits k = coordinator-good st (a_message.AddReplica st.begun server region) k refl fits
