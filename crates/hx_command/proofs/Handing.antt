@@ -55,8 +55,8 @@ module _ (good : Handed → List ℕ → Type 0) (script : Script) (workers : �
   pub written_ends : (h h' : Handed) (bytes : List ℕ) (outcome : Outcome) → h' ≡ h → good h bytes → IsWritten sink bytes outcome → EndsOnThreads good script workers sink h' outcome
   written_ends h h' bytes outcome same g written = subst (λ (x : Handed). EndsOnThreads good script workers sink x outcome) (sym same) (by_outcome h bytes outcome g written)
 
--- ---- the counts of a fate
--- tuning a fate leaves what is said of its counts
+-- ---- the state of a fate
+-- what is said of a fate from the state in which it was tuned
 pub risen_from : (script : Script) (w : ℕ) (trace : List Entry) (i : ℕ) (t : Totals) (before tuned after : FateState) → tuned ≡ before → HasRisen script w trace i t tuned after → HasRisen script w trace i t before after
 risen_from script w trace i t before tuned after same risen = subst (λ (f : FateState). HasRisen script w trace i t f after) same risen
 

@@ -2,6 +2,7 @@
 use Rattle.std.proofs.Common.{◌≡◌, [], ◌∷◌, map, refl}
 use Rattle.hx_fate.specs.declared.fates.Choice.TheVariants.{Deliver, Lose, Twice}
 use Rattle.hx_fate.specs.declared.fates.Tuning.{Tuning}
+use Rattle.hx_fate.specs.States.{never}
 use Rattle.hx_fate.specs.Choices.{choice_at, choice_drawn, draw_of}
 
 first_published : draw_of 1234567 0 ≡ 6457827717110365317
@@ -15,9 +16,6 @@ fifth_published = refl
 
 abbrev third_and_second : Tuning
 third_and_second = record { lose_every = 3; repeat_every = 2 }
-
-abbrev never : Tuning
-never = record { lose_every = 0; repeat_every = 0 }
 
 -- every third is lost, and of the others every second repeated
 by_number : map (choice_at third_and_second) (1 ∷ 2 ∷ 3 ∷ 4 ∷ 5 ∷ 6 ∷ []) ≡ Deliver ∷ Twice ∷ Lose ∷ Twice ∷ Deliver ∷ Lose ∷ []

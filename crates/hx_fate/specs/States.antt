@@ -23,9 +23,13 @@ is_twice Deliver = false
 is_twice Lose = false
 is_twice Twice = true
 
+-- nothing is to be lost or repeated
+abbrev pub never : Tuning
+never = record { lose_every = 0; repeat_every = 0 }
+
 -- nothing is to be lost or repeated, and no choice was made
 abbrev pub untouched : FateState
-untouched = record { tuning = record { lose_every = 0; repeat_every = 0 }; chosen = 0; lost = 0; doubled = 0 }
+untouched = record { tuning = never; chosen = 0; lost = 0; doubled = 0 }
 
 -- one more choice is counted, and the tuning stays
 abbrev pub after_choice : Choice → FateState → FateState

@@ -1,5 +1,5 @@
 ghost use Rattle.std.specs.Prelude.{◌≡◌};
-ghost use Rattle.hx_fate.specs.States.{after_choice, tuned, untouched};
+ghost use Rattle.hx_fate.specs.States.{after_choice, never, tuned, untouched};
 
 use hx_types::Actor;
 
@@ -21,6 +21,18 @@ pub struct Tuning {
     pub repeat_every: u32,
 }
 
+impl Tuning {
+    /// Nothing is to be lost or repeated.
+    pub fn never() -> Tuning
+        ensures { result ≡ never }
+    {
+        Tuning {
+            lose_every: 0,
+            repeat_every: 0,
+        }
+    }
+}
+
 /// How a fate is tuned, and what it has chosen. A count stops at the greatest `u64`.
 #[derive(Clone, Copy, PartialEq, Eq)]
 pub struct FateState {
@@ -39,10 +51,7 @@ impl FateState {
         ensures { result ≡ untouched }
     {
         FateState {
-            tuning: Tuning {
-                lose_every: 0,
-                repeat_every: 0,
-            },
+            tuning: Tuning::never(),
             chosen: 0,
             lost: 0,
             doubled: 0,

@@ -16,8 +16,10 @@ mod drawn;
 mod every_nth;
 mod faithful;
 mod fates;
+mod losing;
 
 pub use drawn::Drawn;
 pub use every_nth::EveryNth;
 pub use faithful::Faithful;
 pub use fates::{Choice, Fate, FateState, Tuning};
+pub use losing::Losing;
