@@ -16,6 +16,7 @@ use Rattle.hx_model.specs.Causes.{HasCauses}
 use Rattle.hx_model.specs.Searching.{FinishedSearch, search_of}
 use Rattle.hx_report.specs.Reporting.{IsReport}
 use Rattle.hx_mail.specs.Boxes.{Ported}
+use Rattle.hx_fate.specs.declared.fates.Tuning.{Tuning}
 use Rattle.hx_run.specs.Ran.{IsRan}
 use Rattle.hx_soak.specs.Soaking.{script_drawn, soak}
 use Rattle.hx_law_epochs.specs.Epochs.{LosesReplicas}
@@ -30,6 +31,15 @@ use Rattle.hx_replay.specs.declared.outcomes.Outcome.TheVariants as an_outcome
 use Rattle.hx_replay.specs.declared.words.Command.TheVariants as a_command
 use Rattle.hx_replay.specs.Calling.{Drawn, Filled}
 use Rattle.hx_replay.specs.Causes.{IsFaulty, IsJudged, IsRefused, IsSearchWell, IsTaken, ReadsText, limit}
+
+-- how the words of `run` tune a fate
+abbrev pub tuning_of : Run → Tuning
+tuning_of run = record { lose_every = run.lose; repeat_every = run.repeat }
+
+-- there are as many fates as the words start drivers
+pub record HasEnough (words : List (String Global)) (fates : ℕ) : Type 0 where
+  pub run : (run : Run) → SaysRun words run → run.workers ≤ fates
+  pub soak : (soak : Soak) → SaysSoak words soak → soak.workers ≤ fates
 
 -- what a call hands back beside its outcome; of the fates, how many
 pub record Handed : Type 0 where

@@ -35,7 +35,7 @@ use Rattle.hx_law_threads.specs.Feeding.{IsFed, IsFedBy}
 use Rattle.hx_mail.specs.declared.views.Mailed.{Mailed}
 use Rattle.hx_mail.specs.declared.views.Sent.{Sent}
 use Rattle.hx_mail.specs.Boxes.{Boxed, Ported}
-use Rattle.hx_fate.specs.Counts.{FateCounts}
+use Rattle.hx_fate.specs.declared.fates.FateState.{FateState}
 use Rattle.hx_outbox.specs.Places.{place_of}
 use Rattle.hx_outbox.specs.Zipped.{Both}
 use Rattle.hx_outbox.proofs.Lists.{map-length}
@@ -313,7 +313,7 @@ module _ (script : Script) (clock : TableId) (w : ℕ) (start now : List Crew) (
       ports_are = both-map (IsFirstPort now) (IsPortOfActor trace) port-one (actors_of script) ports p;
     }
 
-    pub has-risen : (i : ℕ) (t : Totals) (f f' : FateCounts) → ((c : Crew) → slice_get now i ≡ Some c → HasPosted c f f') → slice_get totals i ≡ Some t → HasRisen script w trace i t f f'
+    pub has-risen : (i : ℕ) (t : Totals) (f f' : FateState) → ((c : Crew) → slice_get now i ≡ Some c → HasPosted c f f') → slice_get totals i ≡ Some t → HasRisen script w trace i t f f'
     has-risen i t f f' posted g =
         let c = get-map (λ (c : Crew). c.totals) now i t (subst (λ l. slice_get l i ≡ Some t) totals-are g) in
         subst (λ u. HasRisen script w trace i u f f') c.2 (posted-risen script w trace i c.0 f f' (crew-posts is_asked i c.0 c.1) (posted c.0 c.1))

@@ -9,7 +9,7 @@ use Rattle.hx_types.specs.Words.{IsIn}
 use Rattle.hx_mail.specs.declared.views.BoxNames.{BoxNames}
 use Rattle.hx_mail.specs.Boxes.{Boxed, Ported}
 use Rattle.hx_mail.specs.Ports.{CarriesAll, TookAlone}
-use Rattle.hx_fate.specs.Counts.{FateCounts}
+use Rattle.hx_fate.specs.declared.fates.FateState.{FateState}
 use Rattle.hx_outbox.specs.Zipped.{Both}
 use Rattle.hx_desk.specs.declared.desks.Desk.{Desk}
 use Rattle.hx_desk.specs.declared.faults.Fault.{Fault}
@@ -61,8 +61,8 @@ pub record AreClosed (script : Script) (clock : TableId) (w : ℕ) (start now : 
   pub run : HaveRun script clock boxes w start now
   pub over : AreOver script now fault
 
--- what a new driver posted by now, and its fate's counts then and now
-pub record HasPosted (c : Crew) (f f' : FateCounts) : Type 0 where
+-- what a new driver posted by now, and its fate's state then and now
+pub record HasPosted (c : Crew) (f f' : FateState) : Type 0 where
   pub start : Crew
   pub new : IsNewCrew start
   pub posted : IsPosted start c f f'

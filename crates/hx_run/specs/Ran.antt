@@ -24,7 +24,7 @@ use Rattle.hx_mail.specs.declared.views.PortLists.{PortLists}
 use Rattle.hx_mail.specs.declared.views.Sent.{Sent}
 use Rattle.hx_mail.specs.Boxes.{Ported}
 use Rattle.hx_mail.specs.Ports.{CarriesAll, TookAlone}
-use Rattle.hx_fate.specs.Counts.{FateCounts}
+use Rattle.hx_fate.specs.declared.fates.FateState.{FateState}
 use Rattle.hx_outbox.specs.Offers.{IsTotal, is_gone, raised_by}
 use Rattle.hx_outbox.specs.Places.{place_of}
 use Rattle.hx_outbox.specs.Zipped.{Both}
@@ -73,11 +73,12 @@ pub record AreTotalsOf (script : Script) (w : ℕ) (trace : List Entry) (totals 
   pub count : length totals ≡ w
   pub each : (i : ℕ) (t : Totals) → slice_get totals i ≡ Some t → IsTotalOf script w trace i t
 
--- the counts of driver i's fate rose by what it was asked, and by what it answered
-pub record HasRisen (script : Script) (w : ℕ) (trace : List Entry) (i : ℕ) (t : Totals) (f f' : FateCounts) : Type 0 where
+-- the counts of driver i's fate rose by what it was asked, and by what it answered, and it is tuned as it was
+pub record HasRisen (script : Script) (w : ℕ) (trace : List Entry) (i : ℕ) (t : Totals) (f f' : FateState) : Type 0 where
   pub chosen : f'.chosen ≡ raised_by (posts_by is_asked script w i trace) f.chosen
   pub lost : f'.lost ≡ raised_by t.lose f.lost
   pub doubled : f'.doubled ≡ raised_by t.twice f.doubled
+  pub tuning : f'.tuning ≡ f.tuning
 
 abbrev pub lost_in : List Totals → ℕ
 lost_in totals = total (λ (t : Totals). t.lose) totals

@@ -46,7 +46,7 @@ impl Coin {
 }
 
 impl Fate for Coin {
-    ghost counts = { λ c. record { chosen = c.chosen; lost = c.lost; doubled = 0 } };
+    ghost state = { λ c. record { chosen = c.chosen; lost = c.lost; doubled = 0 } };
 
     fn choose(&mut self, _from: Actor, _to: Actor) -> Choice {
         let draw = self.draw();
@@ -113,7 +113,7 @@ impl Drop for Counted {
 }
 
 impl Fate for Counted {
-    ghost counts = { λ c. record { chosen = c.chosen; lost = 0; doubled = 0 } };
+    ghost state = { λ c. record { chosen = c.chosen; lost = 0; doubled = 0 } };
 
     fn choose(&mut self, _from: Actor, _to: Actor) -> Choice {
         self.asked.fetch_add(1, Ordering::SeqCst);
