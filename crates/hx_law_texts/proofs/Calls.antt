@@ -3,7 +3,7 @@ use Rattle.std.proofs.Common.{◌≡◌, ℕ, pos, ◌+◌, ◌-◌, ◌<◌, �
 use Rattle.std.specs.Prelude.{codes}
 use Rattle.std.specs.List.{All, flat_map}
 use Rattle.std.specs.Fmt.{decimal}
-use Rattle.std.proofs.lemmas.Bool.{le-leb, lt-ltb}
+use Rattle.std.proofs.lemmas.Bool.{le-leb}
 use Rattle.std.proofs.lemmas.List.{append-nil}
 use Rattle.std.proofs.lemmas.List.Concat.{flat_map-cons}
 use Rattle.std.proofs.lemmas.List.Elements.{All-head, All-tail}
@@ -24,11 +24,13 @@ use Rattle.hx_print.specs.Printing.{quoted, assigns_text, edits_text, terms_text
 use Rattle.hx_script.specs.declared.draft.Section.TheVariants as sections
 use Rattle.hx_script.specs.declared.line.Until.TheVariants as until
 use Rattle.hx_script.specs.Calls.{put, get, del, cput, search_call, stop, add, atomic}
-use Rattle.hx_script.specs.Grammar.{line_of_toks, command, push_to_last, call_line}
+use Rattle.hx_script.specs.Grammar.{line_of_toks, push_to_last}
+use Rattle.hx_script.specs.LoneCalls.{lone_call, op_of_toks, op_of_line}
 use Rattle.hx_script.specs.Readers.{number_in}
 use Rattle.hx_script.specs.Toks.{Tok, Word, Number, Text}
 use Rattle.hx_script.specs.Values.{short_text}
 use Rattle.hx_script.proofs.Lists.{push_to_last_is}
+use Rattle.hx_script.proofs.LoneCalls.{toks_take}
 use Rattle.hx_law_texts.specs.Sayable.{ValuesAreSayable, EditsAreSayable, TermIsSayable, CallIsSayable}
 use Rattle.hx_law_texts.proofs.Assignments.{assigns_toks, all_left, assigns_say, assigns_again, some_again, goes_no_further}
 use Rattle.hx_law_texts.proofs.Drafts.{calling}
@@ -37,7 +39,7 @@ use Rattle.hx_law_texts.proofs.Heads.{word_number}
 use Rattle.hx_law_texts.proofs.Numbers.{number_says}
 use Rattle.hx_law_texts.proofs.Quotes.{text_says}
 use Rattle.hx_law_texts.proofs.Reading.{ReadsTo, line_reads}
-use Rattle.hx_law_texts.proofs.Says.{Says, nil_says, blank_says, word_says, word_and_blank}
+use Rattle.hx_law_texts.proofs.Says.{Says, nil_says, blank_says, word_says, word_and_blank, line_toks}
 use Rattle.hx_law_texts.proofs.Terms.{terms_toks, terms_say, terms_again, goes_no_further as terms_go_no_further}
 
 -- ---- what a call says
@@ -163,17 +165,27 @@ atomic_again : (s : Space) (key : List ℕ) (edits : List Edit) → IsSpace s �
 unfolding atomic short_text
 atomic_again s key edits is fits said = rw (le-leb (length key) 1024 fits.0, edits_again edits s is fits.1 said fits.2) refl
 
+lone_again : (s : Space) (op : Op) → IsSpace s → Fits s op → CallIsSayable op → op_of_toks s (call_toks s op) ≡ Ok op
+unfolding lone_call
+lone_again s (Put key sets) is fits said = rw (put_again s key sets is fits.0 fits.1 said.1) refl
+lone_again s (Get key) is fits said = rw (get_again key fits) refl
+lone_again s (Del key) is fits said = rw (del_again key fits) refl
+lone_again s (Cput key tests sets) is fits said = rw (cput_again s key tests sets is fits said.1 said.2) refl
+lone_again s (Search terms) is fits said = rw (search_again s terms is fits said) refl
+lone_again s (Stop server) is fits said = rw (stop_again s server fits) refl
+lone_again s (Add server region) is fits said = rw (add_again s (region_count s) server region fits.0 fits.1) refl
+lone_again s (Atomic key edits) is fits said = rw (atomic_again s key edits is fits said.1) refl
+
 call_again : (n : ℕ) (s : Space) (regions : ℕ) (sessions : List (List Op)) (calls : ℕ) (op : Op) → IsSpace s → regions ≡ region_count s → Fits s op → CallIsSayable op → calls < 16384
     → line_of_toks n (calling sections.Calls s regions sessions calls) (call_toks s op) ≡ Ok (calling sections.Calls s regions (push_to_last sessions op) (calls + 1))
-unfolding command call_line
-call_again n s regions sessions calls (Put key sets) is all fits said room = rw (lt-ltb calls 16384 room, put_again s key sets is fits.0 fits.1 said.1) refl
-call_again n s regions sessions calls (Get key) is all fits said room = rw (lt-ltb calls 16384 room, get_again key fits) refl
-call_again n s regions sessions calls (Del key) is all fits said room = rw (lt-ltb calls 16384 room, del_again key fits) refl
-call_again n s regions sessions calls (Cput key tests sets) is all fits said room = rw (lt-ltb calls 16384 room, cput_again s key tests sets is fits said.1 said.2) refl
-call_again n s regions sessions calls (Search terms) is all fits said room = rw (lt-ltb calls 16384 room, search_again s terms is fits said) refl
-call_again n s regions sessions calls (Stop server) is all fits said room = rw (lt-ltb calls 16384 room, stop_again s server fits) refl
-call_again n s regions sessions calls (Add server region) is all fits said room = rw (lt-ltb calls 16384 room, add_again s regions server region fits.0 (subst (λ r. region.0 < r) (sym all) fits.1)) refl
-call_again n s regions sessions calls (Atomic key edits) is all fits said room = rw (lt-ltb calls 16384 room, atomic_again s key edits is fits said.1) refl
+call_again n s regions sessions calls op is all fits said room =
+    toks_take n (calling sections.Calls s regions sessions calls) (call_toks s op) op (record { section = refl; regions = all; room = room }) (lone_again s op is fits said)
+
+-- the text of a call, with no newline, is read as that call
+pub lone_reads : (s : Space) (op : Op) → IsSpace s → Fits s op → CallIsSayable op → op_of_line s (op_text s op) ≡ Ok op
+lone_reads s op is fits said =
+    let says : Says (call_toks s op) (op_text s op) = subst (λ (x : List ℕ). Says (call_toks s op) x) (append-nil (op_text s op)) (call_says s op is fits said) in
+    rw (line_toks (op_text s op) (call_toks s op) says) (lone_again s op is fits said)
 
 -- ---- the calls of a session
 

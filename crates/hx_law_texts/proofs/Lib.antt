@@ -19,4 +19,5 @@ pub mod ToldCalls
 pub mod ToldLines
 pub mod ToldTexts
 pub mod Only
+pub mod LoneCalls
 mod Examples

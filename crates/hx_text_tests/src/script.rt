@@ -1,4 +1,8 @@
+ghost use Rattle.hx_types.specs.Spaces.{IsSpace};
+
+use crate::parts::script_of;
 use hx_script::*;
+use hx_types::Space;
 use std::process::Abort;
 
 const BOOKS: &str =
@@ -240,6 +244,47 @@ fn refuses_bytes_that_are_no_text(rt: HostRuntime) {
         reason: Reason::Token,
     };
     assert!(rt; read(rt.alloc(), b"hx 1\n# \xFF").err() == Some(refused));
+}
+
+/// Lines that are no call of books, and what is wrong with each.
+const NO_LONE_CALLS: [(&str, Reason); 15] = [
+    ("", Reason::Order),
+    ("\t# note", Reason::Order),
+    ("\"a\"", Reason::Order),
+    ("gets \"a\"", Reason::Order),
+    ("session 3", Reason::Order),
+    ("steps", Reason::Order),
+    ("tick s9", Reason::Order),
+    ("get \"a\" get \"a\"", Reason::Order),
+    ("get \"a\"\nget \"b\"", Reason::Token),
+    ("put \"a\" colour=\"b\"", Reason::Unknown),
+    ("atomic \"a\" add genre=\"b\"", Reason::TypeOf),
+    ("search name=\"a\" name=\"b\"", Reason::Twice),
+    ("cput \"a\" if genre=1 set year=2", Reason::TypeOf),
+    ("add 4 8", Reason::Bounds),
+    ("get \"a", Reason::Token),
+];
+
+/// What is wrong with a line as a call of the space.
+fn lone_refusal<R: Abort + AllocGlobal>(rt: &R, space: &Space, line: &str) -> Option<(u64, Reason)>
+    requires { IsSpace space.now }
+{
+    match read_op(rt.alloc(), space, line.as_bytes()).err() {
+        None => None,
+        Some(ScriptError::Refused { line, reason }) => Some((line, reason)),
+        Some(_) => panic!(rt; "memory"),
+    }
+}
+
+#[test]
+fn refuses_lines_that_are_no_call(rt: HostRuntime) {
+    let script = script_of(&rt, CALLS);
+    for (line, reason) in NO_LONE_CALLS {
+        assert!(rt;
+            lone_refusal(&rt, &script.space, line) == Some((1, reason)),
+            "{line}"
+        );
+    }
 }
 
 /// A head, a text, what is repeated behind it and how often, what stands behind that, and what is wrong.
