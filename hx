@@ -1,150 +1,130 @@
 #!/usr/bin/env bash
-# hx: runs the store with these words on standard input and output. The program is proved and built
-# first where it is missing or older than its sources; --unproved runs it before it is proved.
-# `hx picture` makes a space-time diagram (SVG) of the replay of a script.
+# hx: runs the store with these words on standard input and output. Until `hx prove` has proved this checkout,
+# the answer comes from the same sources compiled without their proofs (tools/unproved.sh), and a line says so.
+# `hx --proved WORD..` proves first; `hx picture` draws the replay of a script (SVG).
 set -u
 top=$(cd "$(dirname "${BASH_SOURCE[0]}")" && pwd)
-folder=$top/crates/hx_tool
-program=$folder/out/hx_tool
-picture=$top/crates/hx_picture/out/hx_picture
-log=$folder/hx-build.log
+kept=$top/out
+[ -w "$top" ] || kept=${XDG_CACHE_HOME:-${HOME-}/.cache}/hx$top
+declare -A program=()
 
-# number WORD LEAST MOST: whether the word is a number in decimal, without a leading zero, from LEAST to MOST
-number() {
-  [[ ${1-} =~ ^(0|[1-9][0-9]*)$ ]] || return 1
-  at_most "$2" "$1" && at_most "$1" "$3"
+say() { printf 'hx: %s\n' "$*" >&2; }
+
+# stop STATUS: ends what works side by side, and the script
+stop() {
+  for job in $(jobs -p); do kill "$job" 2>/dev/null; done
+  exit "$1"
 }
 
-at_most() {
-  [ "${#1}" -lt "${#2}" ] || { [ "${#1}" -eq "${#2}" ] && [[ ! $1 > $2 ]]; }
+# failed WHAT LOG: tells in one line what was not done and why, and where the log is
+failed() {
+  local reason='error(\[|:)|refused|not proved|no proof|failed:|No space|not found'
+  say "$1: $(grep -m1 -E "$reason" "$2" || tail -n 1 "$2"); the log is $2"
+  stop 1
 }
 
-# options NAMES WORD..: whether the words are options of these names, each at most once with its value
-options() {
-  local names=" $1 " seen=' '
-  shift
-  while [ $# -gt 0 ]; do
-    [[ $names == *" $1 "* && $seen != *" $1 "* ]] || return 1
-    seen="$seen$1 "
-    case $1 in
-      --trace) shift; continue ;;
-      --workers) number "${2-}" 1 16 || return 1 ;;
-      *) number "${2-}" 0 1000000 || return 1 ;;
-    esac
-    shift 2
+# is_command WORD..: whether the words are a command, so that wrong ones never start a build
+is_command() {
+  local LC_ALL=C word twice='(--[a-z]+) .*\1' seed='(0|[1-9][0-9]{0,19})' workers='--workers ([1-9]|1[0-6])'
+  local period='--(lose|repeat) (0|[1-9][0-9]{0,5}|1000000)'
+  local calls='([1-9][0-9]{0,3}|1[0-5][0-9]{3}|16[0-2][0-9]{2}|163[0-7][0-9]|1638[0-4])'
+  local of_run="$workers|$period|--seed $seed|--trace"
+  for word in "$@"; do
+    # shellcheck disable=SC2071 # of two numbers of 20 digits the greater is the later text
+    [[ $word != *[[:space:]]* && (${#word} -lt 20 || ! $word > 18446744073709551615) ]] || return 1
+  done
+  [[ $* =~ ^(replay( --trace)?|plan|picture|run( ($of_run))*|soak $seed $calls( $workers)?)$ && ! $* =~ $twice ]]
+}
+
+# is_fresh PROGRAM ENDING..: whether the program is there and no source with such an ending is newer
+is_fresh() {
+  local endings=(-name crates.txt) ending
+  for ending in "${@:2}"; do endings+=(-o -name "*.$ending"); done
+  [ -x "$1" ] && [ -z "$(find "$top/crates.txt" "$top/crates" \( -name out -o -name 'hx_*tests' \) -prune \
+    -o \( "${endings[@]}" \) -newer "$1" -print -quit)" ]
+}
+
+# locked NAME: waits until no other call is at this work
+locked() {
+  command -v rt >/dev/null || { say 'the Rattle toolchain (rt) is not on the path'; exit 1; }
+  if ! mkdir -p "$kept" 2>/dev/null || ! exec 9>"$kept/$1.lock"; then say "nothing can be kept in $kept"; exit 1; fi
+  flock -n 9 || { say 'another call is at it: waiting'; flock 9; }
+}
+
+# are_proved CRATE..: whether the proved program of each is there; if so these answer
+are_proved() {
+  local crate
+  for crate in "$@"; do
+    program[$crate]=$top/crates/$crate/out/$crate
+    is_fresh "${program[$crate]}" rt antt || return 1
   done
 }
 
-# commands WORD..: whether the words are some that the program takes; wrong words never start a build
-commands() {
-  case "$*" in
-    replay | 'replay --trace' | plan | --help | --version) return 0 ;;
-  esac
-  case "${1-}" in
-    run) shift && options '--workers --lose --repeat --trace' "$@" ;;
-    soak)
-      number "${2-}" 0 18446744073709551615 && number "${3-}" 1 16384 || return 1
-      shift 3 && options '--workers' "$@"
-      ;;
-    *) return 1 ;;
-  esac
+# compile CRATE..: compiles those of the programs that aren't kept, side by side; these answer
+compile() {
+  local crate
+  local -A jobs=()
+  for crate in "$@"; do
+    program[$crate]=$kept/$crate
+    is_fresh "$kept/$crate" rt && continue
+    [ "${#jobs[@]}" -gt 0 ] || locked compile
+    is_fresh "$kept/$crate" rt && continue
+    say "compiling $crate, once: about a minute"
+    "$top/tools/unproved.sh" "$crate" "$kept/$crate" >"$kept/$crate.log" 2>&1 &
+    jobs[$crate]=$!
+  done
+  for crate in "${!jobs[@]}"; do
+    wait "${jobs[$crate]}"
+    case $? in 0) ;; 3) program[$crate]='' ;; *) failed 'not compiled' "$kept/$crate.log" ;; esac
+  done
+  exec 9>&-
 }
 
-stale() {
-  [ ! -x "$program" ] && return 0
-  [ -n "$(find "$top/crates" "$top/crates.txt" \( -name '*.rt' -o -name '*.antt' -o -name crates.txt \) -newer "$program" \
-    -not -path '*/out/*' -not -path '*/hx_picture/*' -not -path '*/hx_*tests/*' -print -quit)" ]
-}
-
-# lanes: how many crates are proved side by side: one a processor, where each has 4 GB of free memory
-lanes() {
-  awk -v most="$(nproc)" '/^MemAvailable:/ { free = int($2 / 4194304) }
-    END { print free < 1 ? 1 : free < most ? free : most }' /proc/meminfo
-}
-
-# prove: proves all crates, lowest first, and tells of each when it is done
+# prove: proves all crates and builds both programs, where that isn't done
 prove() {
-  local count done=0 started=$SECONDS line spent
-  count=$(grep -c '^[a-z_0-9][^:]*:' "$top/crates.txt")
-  set -o pipefail
-  (cd "$top" && rt all check --jobs "$(lanes)") 2>&1 | tee -a "$log" | while IFS= read -r line; do
-    case $line in
-      '== '*)
-        done=$((done + 1)) spent=$((SECONDS - started))
-        printf 'hx: %2d of %d crates checked: %s (%d:%02d)\n' "$done" "$count" "${line#== }" $((spent / 60)) $((spent % 60)) >&2
-        ;;
-    esac
-  done
+  are_proved hx_tool hx_picture && return
+  locked prove
+  are_proved hx_tool hx_picture && return
+  say 'proving every crate; from nothing this takes half an hour to an hour'
+  "$top/tools/prove.sh" "$kept/prove.log" || failed 'not proved' "$kept/prove.log"
 }
 
-build() {
-  printf 'hx: proving the program before it is built; from nothing this takes half an hour to an hour.\n' >&2
-  printf 'hx: to see an answer in a minute, call it with --unproved as the first word.\n' >&2
-  rm -f "$log"
-  if prove && (cd "$folder" && rt run -- --version </dev/null) >>"$log" 2>&1; then
-    touch "$program"
-    return 0
+# answer CRATE WORD..: ends as the crate's program does with these words
+answer() {
+  [ -z "${program[$1]}" ] || exec "${program[$1]}" "${@:2}"
+  say "tools/unproved.sh doesn't fit this kit: rt try answers, in about a minute and each time anew"
+  { (cd "$top/crates/$1" && rt try -- "${@:2}" 2>&1 >&3) | grep -vE '^(checked: ended|races:|run=ended)' >&2; } 3>&1
+  exit "${PIPESTATUS[0]}"
+}
+
+trap 'stop 130' INT
+trap 'stop 143' TERM
+texts=$top/crates/hx_command/src/program.rt insists=no
+if [ "${1-}" = --proved ]; then shift; insists=yes; fi
+case "$*" in
+  --version) sed -n 's/^const VERSION: .*b"\(.*\)\\n";$/\1/p' "$texts"; exit ;;
+  --help)
+    sed -n '/^const HELP: /,/^";$/ { s/^const HELP: .*b"//; /^";$/! p }' "$texts"
+    printf '\nOf ./hx alone: picture draws a script (SVG), prove proves the program, --proved as first word insists on it.\n'
+    exit
+    ;;
+  prove) prove && say 'proved'; exit ;;
+esac
+is_command "$@" || { printf 'usage: hx replay or run or soak or plan\n' >&2; exit 2; }
+crates=(hx_tool)
+[ "$1" != picture ] || crates+=(hx_picture)
+if ! are_proved "${crates[@]}"; then
+  if [ "$insists" = yes ]; then
+    prove
+    are_proved "${crates[@]}" || { say 'the sources have changed since they were proved'; exit 1; }
+  else
+    compile "${crates[@]}"
+    say 'not proved on this machine yet; ./hx prove proves it'
   fi
-  reason=$(grep -m1 -E 'error|refused|not proved|failed|No space|command not found' "$log" || tail -n 1 "$log")
-  printf 'hx: not built: %s\nhx: the whole log is %s\n' "$reason" "$log" >&2
-  return 1
-}
-
-# draw: the picture of the replay of the script on standard input; its program is built where it is
-# missing or older than its sources
-draw() {
-  if [ ! -x "$picture" ] || [ -n "$(find "${picture%/out/*}/src" -newer "$picture" -print -quit)" ]; then
-    (cd "${picture%/out/*}" && rt run -- --built </dev/null) >>"$log" 2>&1
-    [ -x "$picture" ] || { printf 'hx: the picture was not built; the whole log is %s\n' "$log" >&2; return 1; }
-  fi
-  trace=$(mktemp) || return 1
-  "$program" replay --trace >"$trace" && "$picture" <"$trace"
-  status=$?
-  rm -f "$trace"
-  return "$status"
-}
-
-# at_work: tells from the second second on, on standard error, for how long a run has been at work
-at_work() {
-  sleep 2
-  while :; do
-    printf '\rhx: at work, %d s' "$SECONDS" >&2
-    sleep 1
-  done
-}
-
-# watched WORD..: the program, with a line that tells that it is at work until it writes or ends
-watched() {
-  local status first=''
-  errors=$(mktemp) || return 1
-  SECONDS=0
-  at_work &
-  ticker=$!
-  trap 'kill "$ticker" 2>/dev/null; rm -f "$errors"' EXIT
-  "$program" "$@" 2>"$errors" | {
-    IFS= read -r first && first=$first$'\n'
-    kill "$ticker" 2>/dev/null
-    printf '\r\033[K' >&2
-    printf '%s' "$first"
-    cat
-  }
-  status=${PIPESTATUS[0]}
-  cat "$errors" >&2
-  return "$status"
-}
-
-if [ "${1-}" = --unproved ]; then
-  shift
-  commands "$@" || { printf 'usage: hx replay or run or soak or plan\n' >&2; exit 2; }
-  printf 'hx: what follows is written by code that has not been proved\n' >&2
-  cd "$folder" && exec rt try -- "$@" 2> >(grep -vE '^(checked|races|run)[:=]' >&2)
 fi
-if [ "$*" != picture ] && ! commands "$@"; then
-  printf 'usage: hx replay or run or soak or plan\n' >&2
-  exit 2
-fi
-command -v rt >/dev/null || { printf 'hx: the Rattle toolchain (rt) is not on the path\n' >&2; exit 1; }
-if stale; then build || exit 1; fi
-if [ "$*" = picture ]; then draw; exit; fi
-if [ -t 2 ]; then watched "$@"; exit; fi
-exec "$program" "$@"
+[ "$1" = picture ] || answer hx_tool "$@"
+trace=$(mktemp) || exit 1
+exec 6>"$trace"
+exec 7<"$trace"
+rm "$trace"
+(answer hx_tool replay --trace) >&6 && answer hx_picture <&7

@@ -3,7 +3,7 @@
 top=$(cd "$(dirname "${BASH_SOURCE[0]}")/.." && pwd)
 work=$(mktemp -d)
 trap 'rm -rf "$work"' EXIT
-"$top/hx" --version >"$work/version"
+"$top/hx" prove || exit 1
 program=$top/crates/hx_tool/out/hx_tool
 
 # seconds COMMAND FILE: the best of three runs of the command on the file; what the last one wrote is

@@ -6,7 +6,7 @@
 set -eu
 top=$(cd "$(dirname "${BASH_SOURCE[0]}")/.." && pwd)
 program=$top/crates/hx_tool/out/hx_tool
-[ -x "$program" ] || { printf 'build the program first: ./hx --version\n' >&2; exit 1; }
+[ -x "$program" ] || { printf 'build the program first: ./hx prove\n' >&2; exit 1; }
 work=$(mktemp -d)
 trap 'rm -rf "$work"' EXIT
 

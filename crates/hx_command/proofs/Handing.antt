@@ -11,6 +11,8 @@ use Rattle.hx_types.specs.Fitting.{IsScript}
 use Rattle.hx_types.specs.Words.{IsIn}
 use Rattle.hx_model.specs.Runs.{IsRun}
 use Rattle.hx_law_searches.specs.Headline.{RunsAreLinear, RunsSearchWell}
+use Rattle.hx_law_epochs.specs.Epochs.{RunsLoseReplicas}
+use Rattle.hx_law_order.specs.Headline.{RunsHaveOneOrder}
 use Rattle.hx_law_causes.specs.Causes.{RunsHaveCauses}
 use Rattle.hx_fate.specs.Counts.{FateCounts}
 use Rattle.hx_outbox.specs.Offers.{raised_by}
@@ -62,14 +64,17 @@ pub risen_same : (script drawn : Script) (w : ℕ) (trace : List Entry) (i : ℕ
 risen_same script drawn w trace i t f f' same risen = subst (λ (s : Script). HasRisen s w trace i t f f') same risen
 
 -- ---- what the laws say of a run
-pub is_lawful : (script : Script) (trace : List Entry) → IsScript script → IsRun script (reverse trace) → RunsAreLinear → RunsSearchWell → RunsHaveCauses → IsLawful script trace
-is_lawful script trace valid run linear searches causes =
+pub is_lawful : (script : Script) (trace : List Entry) → IsScript script → IsRun script (reverse trace) → RunsAreLinear → RunsHaveOneOrder → RunsSearchWell → RunsHaveCauses → RunsLoseReplicas
+    → IsLawful script trace
+is_lawful script trace valid run linear orders searches causes losses =
     record {
       linear = linear script valid (reverse trace) run;
+      one_order = orders script valid (reverse trace) run;
       searches = λ caller s found.
           let well = searches script valid (reverse trace) run caller s found in
           record { true_rows = well.0; whole = well.1 };
       causes = causes script valid (reverse trace) run;
+      lost = losses script valid (reverse trace) run;
     }
 
 -- ---- what the law on soaks asks for

@@ -66,8 +66,10 @@ pub fn run_threads<R: Threads + Wait + Sync, G: Gate + Sync>(
     ensures risen { IfOk result (λ ran. (i : ℕ) (f : _) (g : _) (t : TotalsSeen) → slice_get fates.items i ≡ Some f → slice_get ran.fates.items i ≡ Some g → slice_get ran.totals.items i ≡ Some t → HasRisen script.now threading.workers ran.trace i t (counts f) (counts g)) }
 {
     hx_law_searches::histories_are_linear();
+    hx_law_order::runs_have_one_order();
     hx_law_searches::searches_are_true_and_whole();
     hx_law_causes::answers_have_causes();
+    hx_law_epochs::lost_regions_have_lost_their_replicas();
     let mut fates = fates;
     tune_first(
         &mut fates,

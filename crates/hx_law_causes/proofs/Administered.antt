@@ -127,13 +127,7 @@ module _ (script : Script) (valid : IsScript script) (older : List Entry) (befor
   cause-still c (an_answer.Member epoch) h = passes-still c epoch _ h
   cause-still c (an_answer.Joining epoch) h = passes-still c epoch _ h
   cause-still c (an_answer.Lost epoch) h = passes-still c epoch _ h
-  cause-still c an_answer.Done h = absurd h
-  cause-still c an_answer.NotFound h = absurd h
-  cause-still c an_answer.CmpFail h = absurd h
-  cause-still c (an_answer.Found object) h = absurd h
-  cause-still c (an_answer.Rows rows) h = absurd h
-  cause-still c (an_answer.Refused g epoch) h = absurd h
-  cause-still c (an_answer.Doubt g epoch) h = absurd h
+  cause-still c other h = absurd h
 
   -- what was asked stays so
   asked-still : (c : Caller) (op : Op) → Asked script older c op → Asked script (x ∷ older) c op
@@ -142,21 +136,7 @@ module _ (script : Script) (valid : IsScript script) (older : List Entry) (befor
   asks-still : (from : Actor) (m : Message) → AsksFor (Asked script older) (OutcomeCause script older) from m → AsksFor (Asked script (x ∷ older)) (OutcomeCause script (x ∷ older)) from m
   asks-still from (a_message.StopServer number server) h = to-session from _ _ (λ u. asked-still (record { session = u; number = number }) (Stop server)) h
   asks-still from (a_message.AddReplica number server g) h = to-session from _ _ (λ u. asked-still (record { session = u; number = number }) (Add server g)) h
-  asks-still from (a_message.Call epoch number op) h = tt
-  asks-still from (a_message.Reply number version answer) h = tt
-  asks-still from (a_message.Update epoch g u) h = tt
-  asks-still from (a_message.Ack epoch g key version) h = tt
-  asks-still from (a_message.Ask epoch number g terms) h = tt
-  asks-still from (a_message.Found epoch number g rows) h = tt
-  asks-still from (a_message.Seal epoch) h = tt
-  asks-still from (a_message.Sealed epoch) h = tt
-  asks-still from (a_message.Install config) h = tt
-  asks-still from a_message.Die h = tt
-  asks-still from a_message.Gone h = tt
-  asks-still from (a_message.Outcome number answer) h = tt
-  asks-still from (a_message.Snap epoch g snapshot pending) h = tt
-  asks-still from (a_message.Ready epoch g) h = tt
-  asks-still from (a_message.Poll epoch) h = tt
+  asks-still from other h = tt
 
   -- what is judged now has its cause
   now-passes : (c : Caller) (op : Op) → Asked script older c op → (config : Config) → IsKnown script (x ∷ older) config → (epoch : Epoch) (test : Op → Config → Bool) → epoch ≡ config.epoch → test op config ≡ true → Passes script (x ∷ older) c epoch test
@@ -175,13 +155,7 @@ module _ (script : Script) (valid : IsScript script) (older : List Entry) (befor
   judged-cause Now c op asked config k f (an_answer.Member epoch) h = now-passes c op asked config k epoch (λ op config. administers_to (λ s g. lists_ready config g s) (λ s. false) op) h.0 h.1
   judged-cause Now c op asked config k f (an_answer.Joining epoch) h = now-passes c op asked config k epoch (λ op config. administers_to (λ s g. any_joining (members_of config g)) (λ s. false) op) h.0 h.1
   judged-cause Now c op asked config k f (an_answer.Lost epoch) h = now-passes c op asked config k epoch (λ op config. administers_to (λ s g. is_lost config g) (λ s. false) op) h.0 h.1
-  judged-cause Now c op asked config k f an_answer.Done h = absurd h
-  judged-cause Now c op asked config k f an_answer.NotFound h = absurd h
-  judged-cause Now c op asked config k f an_answer.CmpFail h = absurd h
-  judged-cause Now c op asked config k f (an_answer.Found object) h = absurd h
-  judged-cause Now c op asked config k f (an_answer.Rows rows) h = absurd h
-  judged-cause Now c op asked config k f (an_answer.Refused g epoch) h = absurd h
-  judged-cause Now c op asked config k f (an_answer.Doubt g epoch) h = absurd h
+  judged-cause Now c op asked config k f other h = absurd h
 
   -- what is kept where the coordinator rests and new posts neither ask nor answer
   elsewhere : ((u : SessionId) → (session_of script u (x ∷ older)).under_way ≡ true → (n : ℕ) × BeganAt (x ∷ older) (record { session = u; number = (session_of script u (x ∷ older)).begun }) n)
@@ -209,20 +183,7 @@ module _ (script : Script) (valid : IsScript script) (older : List Entry) (befor
   server-asks (a_message.StopServer number server) h from to = absurd h
   server-asks (a_message.AddReplica number server g) h from to = absurd h
   server-asks (a_message.Outcome number answer) h from to = absurd h
-  server-asks (a_message.Call epoch number op) h from to = (tt, tt)
-  server-asks (a_message.Reply number version answer) h from to = (tt, tt)
-  server-asks (a_message.Update epoch g u) h from to = (tt, tt)
-  server-asks (a_message.Ack epoch g key version) h from to = (tt, tt)
-  server-asks (a_message.Ask epoch number g terms) h from to = (tt, tt)
-  server-asks (a_message.Found epoch number g rows) h from to = (tt, tt)
-  server-asks (a_message.Seal epoch) h from to = (tt, tt)
-  server-asks (a_message.Sealed epoch) h from to = (tt, tt)
-  server-asks (a_message.Install config) h from to = (tt, tt)
-  server-asks a_message.Die h from to = (tt, tt)
-  server-asks a_message.Gone h from to = (tt, tt)
-  server-asks (a_message.Snap epoch g snapshot pending) h from to = (tt, tt)
-  server-asks (a_message.Ready epoch g) h from to = (tt, tt)
-  server-asks (a_message.Poll epoch) h from to = (tt, tt)
+  server-asks other h from to = (tt, tt)
 
   of-server : (i : _) → x.actor ≡ Server i → Administers script (x ∷ older)
   of-server i acts =
@@ -241,20 +202,7 @@ module _ (script : Script) (valid : IsScript script) (older : List Entry) (befor
   session-asks u s e b (a_message.AddReplica number server g) h to =
       (subst (λ k. Asked script (x ∷ older) (record { session = u; number = k }) (Add server g)) (sym h.0) (ap (λ (l : List Op). numbered l s.begun) (sym e) ∙ h.1, b), tt)
   session-asks u s e b (a_message.Outcome number answer) h to = absurd h
-  session-asks u s e b (a_message.Call epoch number op) h to = (tt, tt)
-  session-asks u s e b (a_message.Reply number version answer) h to = (tt, tt)
-  session-asks u s e b (a_message.Update epoch g w) h to = (tt, tt)
-  session-asks u s e b (a_message.Ack epoch g key version) h to = (tt, tt)
-  session-asks u s e b (a_message.Ask epoch number g terms) h to = (tt, tt)
-  session-asks u s e b (a_message.Found epoch number g rows) h to = (tt, tt)
-  session-asks u s e b (a_message.Seal epoch) h to = (tt, tt)
-  session-asks u s e b (a_message.Sealed epoch) h to = (tt, tt)
-  session-asks u s e b (a_message.Install config) h to = (tt, tt)
-  session-asks u s e b a_message.Die h to = (tt, tt)
-  session-asks u s e b a_message.Gone h to = (tt, tt)
-  session-asks u s e b (a_message.Snap epoch g snapshot pending) h to = (tt, tt)
-  session-asks u s e b (a_message.Ready epoch g) h to = (tt, tt)
-  session-asks u s e b (a_message.Poll epoch) h to = (tt, tt)
+  session-asks u s e b other h to = (tt, tt)
 
   -- what the step of the session does, with the posts and notes of the entry
   does-here : (u : SessionId) → x.actor ≡ Session u → SessionDoes script.space x.input (session_of script u older) (record { state = session_of script u (x ∷ older); posts = x.outputs; notes = x.notes })
@@ -286,21 +234,7 @@ module _ (script : Script) (valid : IsScript script) (older : List Entry) (befor
   coordinator-asks : (m : Message) → OfCoordinator m → (from : Actor) → AsksFor (Asked script (x ∷ older)) (OutcomeCause script (x ∷ older)) from m
   coordinator-asks (a_message.StopServer number server) h from = absurd h
   coordinator-asks (a_message.AddReplica number server g) h from = absurd h
-  coordinator-asks (a_message.Outcome number answer) h from = tt
-  coordinator-asks (a_message.Call epoch number op) h from = tt
-  coordinator-asks (a_message.Reply number version answer) h from = tt
-  coordinator-asks (a_message.Update epoch g u) h from = tt
-  coordinator-asks (a_message.Ack epoch g key version) h from = tt
-  coordinator-asks (a_message.Ask epoch number g terms) h from = tt
-  coordinator-asks (a_message.Found epoch number g rows) h from = tt
-  coordinator-asks (a_message.Seal epoch) h from = tt
-  coordinator-asks (a_message.Sealed epoch) h from = tt
-  coordinator-asks (a_message.Install config) h from = tt
-  coordinator-asks a_message.Die h from = tt
-  coordinator-asks a_message.Gone h from = tt
-  coordinator-asks (a_message.Snap epoch g snapshot pending) h from = tt
-  coordinator-asks (a_message.Ready epoch g) h from = tt
-  coordinator-asks (a_message.Poll epoch) h from = tt
+  coordinator-asks other h from = tt
 
   of-coordinator : x.actor ≡ Coordinator → Administers script (x ∷ older)
   of-coordinator acts =

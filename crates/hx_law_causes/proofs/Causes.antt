@@ -14,7 +14,7 @@ use Rattle.hx_types.specs.declared.traces.Entry.{Entry}
 use Rattle.hx_types.specs.declared.traces.Script.{Script}
 use Rattle.hx_types.specs.declared.values.Term.{Term}
 use Rattle.hx_types.specs.declared.calls.Answer.TheVariants as an_answer
-use Rattle.hx_types.specs.declared.calls.Op.TheVariants.{Put, Get, Del, Cput, Search, Stop, Add}
+use Rattle.hx_types.specs.declared.calls.Op.TheVariants.{Put, Get, Del, Cput, Search, Stop, Add, Atomic}
 use Rattle.hx_types.specs.declared.outcomes.Planned.TheVariants as a_plan
 use Rattle.hx_types.specs.Words.{server_in}
 use Rattle.hx_types.specs.Configs.{is_lost, lists_ready, members_of}
@@ -45,33 +45,20 @@ module _ (script : Script) (valid : IsScript script) (trace : List Entry) (run :
   pub same-op : (c : Caller) (a b : Op) → call_of script c ≡ Some a → call_of script c ≡ Some b → a ≡ b
   same-op c a b p q = let e : Some a ≡ Some b = sym p ∙ q in cc
 
+  not-true : (b : Bool) → not b ≡ true → b ≡ false
+  not-true true e = absurd (false≢true e)
+  not-true false e = refl
+
   -- the server that is named is none of them
   stopped-named : (op : Op) (config : Config) → not_listed op config ≡ true → (s : ServerId) × (server_named op ≡ Some s) × (server_in s config.servers ≡ false)
-  stopped-named (Put key sets) config t = absurd (false≢true t)
-  stopped-named (Get key) config t = absurd (false≢true t)
-  stopped-named (Del key) config t = absurd (false≢true t)
-  stopped-named (Cput key tests sets) config t = absurd (false≢true t)
-  stopped-named (Search terms) config t = absurd (false≢true t)
-  stopped-named (Stop s) config t = (s, refl, flip (server_in s config.servers) t)
-    where
-      flip : (b : Bool) → not b ≡ true → b ≡ false
-      flip true e = absurd (false≢true e)
-      flip false e = refl
-  stopped-named (Add s g) config t = (s, refl, flip (server_in s config.servers) t)
-    where
-      flip : (b : Bool) → not b ≡ true → b ≡ false
-      flip true e = absurd (false≢true e)
-      flip false e = refl
+  stopped-named (Stop s) config t = (s, refl, not-true (server_in s config.servers) t)
+  stopped-named (Add s g) config t = (s, refl, not-true (server_in s config.servers) t)
+  stopped-named other config t = absurd (false≢true t)
 
   -- a call that adds passes the test
   adds-named : (test : ServerId → RegionId → Bool) (op : Op) → administers_to test (λ s. false) op ≡ true → (s : ServerId) × ((g : RegionId) × (op ≡ Add s g) × (test s g ≡ true))
-  adds-named test (Put key sets) t = absurd (false≢true t)
-  adds-named test (Get key) t = absurd (false≢true t)
-  adds-named test (Del key) t = absurd (false≢true t)
-  adds-named test (Cput key tests sets) t = absurd (false≢true t)
-  adds-named test (Search terms) t = absurd (false≢true t)
-  adds-named test (Stop s) t = absurd (false≢true t)
   adds-named test (Add s g) t = (s, (g, refl, t))
+  adds-named test other t = absurd (false≢true t)
 
   module _ (older : List Entry) (c : Caller) (op : Op) (n : ℕ) (v : Version) (called : call_of script c ≡ Some op) where
     -- the call that was answered
@@ -101,13 +88,7 @@ module _ (script : Script) (valid : IsScript script) (trace : List Entry) (run :
     outcome-has (an_answer.Member epoch) h same = add-refused epoch (λ config s g. lists_ready config g s) h
     outcome-has (an_answer.Joining epoch) h same = add-refused epoch (λ config s g. any_joining (members_of config g)) h
     outcome-has (an_answer.Lost epoch) h same = add-refused epoch (λ config s g. is_lost config g) h
-    outcome-has an_answer.Done h same = absurd h
-    outcome-has an_answer.NotFound h same = absurd h
-    outcome-has an_answer.CmpFail h same = absurd h
-    outcome-has (an_answer.Found object) h same = absurd h
-    outcome-has (an_answer.Rows rows) h same = absurd h
-    outcome-has (an_answer.Refused g epoch) h same = absurd h
-    outcome-has (an_answer.Doubt g epoch) h same = absurd h
+    outcome-has other h same = absurd h
 
     -- ---- a lost region of the session's configuration
 
@@ -124,9 +105,8 @@ module _ (script : Script) (valid : IsScript script) (trace : List Entry) (run :
         by (Get k) e f = (let q : k ≡ key = cc in ap (key_region script.space) q)
         by (Del k) e f = write k e (f refl)
         by (Cput k tests sets) e f = write k e (f refl)
-        by (Search terms) e f = absurd (cc)
-        by (Stop s) e f = absurd (cc)
-        by (Add s g) e f = absurd (cc)
+        by (Atomic k edits) e f = write k e (f refl)
+        by other e f = absurd (cc)
 
     -- lost in a configuration that is known
     lost-in : (config : Config) (g : RegionId) → IsKnown script older config → is_lost config g ≡ true → IsLostIn call config g config.epoch

@@ -19,7 +19,7 @@ use Rattle.hx_types.specs.declared.traces.Script.{Script}
 use Rattle.hx_types.specs.declared.updates.Update.{Update}
 use Rattle.hx_types.specs.declared.values.Value.{Value}
 use Rattle.hx_types.specs.declared.calls.Answer.TheVariants as an_answer
-use Rattle.hx_types.specs.declared.calls.Op.TheVariants.{Put, Get, Del, Cput, Search, Stop, Add}
+use Rattle.hx_types.specs.declared.calls.Op.TheVariants.{Put, Get, Del, Cput, Search, Atomic}
 use Rattle.hx_types.specs.declared.messages.Message.TheVariants as a_message
 use Rattle.hx_types.specs.declared.ids.Actor.TheVariants.{Session}
 use Rattle.hx_types.specs.declared.traces.Note.TheVariants as a_note
@@ -34,6 +34,7 @@ use Rattle.hx_model.specs.Runs.{IsRun, MayTake, session_of}
 use Rattle.hx_model.specs.ServerSteps.{get_answer}
 use Rattle.hx_model.specs.SessionSteps.{SessionState, is_key_call}
 use Rattle.hx_law_lemmas.specs.Words.{posts_of}
+use Rattle.hx_law_lemmas.proofs.Edits.{atomic-both}
 use Rattle.hx_law_lemmas.proofs.CallEnds.{started}
 use Rattle.hx_law_lemmas.proofs.Traces.{BeganAt, EndedAt, arrived, began_at}
 use Rattle.hx_law_lemmas.proofs.SessionNotes.{ends_now, may_start}
@@ -69,6 +70,8 @@ abbrev pub Plain : Answer → Type 0
 Plain an_answer.Done = ⊤
 Plain an_answer.NotFound = ⊤
 Plain an_answer.CmpFail = ⊤
+Plain an_answer.Overflow = ⊤
+Plain an_answer.TooLong = ⊤
 Plain (an_answer.Found object) = ⊤
 Plain other = ⊥
 
@@ -80,9 +83,8 @@ plain-effect space None (Del key) = tt
 plain-effect space (Some object) (Del key) = tt
 plain-effect space None (Cput key tests sets) = tt
 plain-effect space (Some object) (Cput key tests sets) = cond_both (tests_hold object tests) _ _ (λ (e : Effect). Plain e.answer) (λ t. tt) (λ t. tt)
-plain-effect space old (Search terms) = tt
-plain-effect space old (Stop server) = tt
-plain-effect space old (Add server region) = tt
+plain-effect space old (Atomic key edits) = atomic-both (λ (e : Effect). Plain e.answer) space old key edits (λ object. tt) tt (λ object. tt) (λ object. tt)
+plain-effect space old other = tt
 
 -- a call on a key has one
 key-call : (op : Op) → is_key_call op ≡ true → (key : List ℕ) × (key_of op ≡ Some key)
@@ -90,6 +92,7 @@ key-call (Put key sets) e = (key, refl)
 key-call (Get key) e = (key, refl)
 key-call (Del key) e = (key, refl)
 key-call (Cput key tests sets) e = (key, refl)
+key-call (Atomic key edits) e = (key, refl)
 key-call other e = absurd (false≢true e)
 
 -- a get finds an object or none
@@ -118,12 +121,10 @@ module _ (script : Script) (valid : IsScript script) (told : DoubtsAreTold scrip
 
         by : (o : Op) → key_of o ≡ Some key → is_write o ≡ true → IsRefusedFor call config g o
         by (Put k sets) e w = inr (of k e)
-        by (Get k) e w = absurd (false≢true w)
         by (Del k) e w = inr (of k e)
         by (Cput k tests sets) e w = inr (of k e)
-        by (Search terms) e w = absurd (false≢true w)
-        by (Stop s) e w = absurd (false≢true w)
-        by (Add s g) e w = absurd (false≢true w)
+        by (Atomic k edits) e w = inr (of k e)
+        by other e w = absurd (false≢true w)
 
     -- a plain answer is given by the history
     plain-has : (a : Answer) → IsGiven call a → HasCause call a
@@ -133,15 +134,10 @@ module _ (script : Script) (valid : IsScript script) (told : DoubtsAreTold scrip
         by an_answer.Done g p = g
         by an_answer.NotFound g p = g
         by an_answer.CmpFail g p = g
+        by an_answer.Overflow g p = g
+        by an_answer.TooLong g p = g
         by (an_answer.Found object) g p = g
-        by (an_answer.Rows rows) g p = absurd p
-        by (an_answer.Refused r epoch) g p = absurd p
-        by (an_answer.Doubt r epoch) g p = absurd p
-        by (an_answer.Issued epoch) g p = absurd p
-        by (an_answer.Stopped epoch) g p = absurd p
-        by (an_answer.Member epoch) g p = absurd p
-        by (an_answer.Joining epoch) g p = absurd p
-        by (an_answer.Lost epoch) g p = absurd p
+        by other g p = absurd p
 
     -- an answer by a reply
     reply-has : (from : Actor) (a : Answer) (key : List ℕ) → key_of op ≡ Some key → IsIn (post from (Session c.session) (a_message.Reply c.number v a)) (posts_of older) → EndedAt trace c v a m → HasCause call a
@@ -169,16 +165,7 @@ module _ (script : Script) (valid : IsScript script) (told : DoubtsAreTold scrip
               lost = record { of_epoch = subst (λ (e : Epoch). config_of script e older ≡ Some r.0) r.2 r.1; lost = r.3 };
               refused = named-place r.0 g key on_key w r.4 r.5;
             }
-        by an_answer.Done i h t = plain an_answer.Done h refl refl
-        by an_answer.NotFound i h t = plain an_answer.NotFound h refl refl
-        by an_answer.CmpFail i h t = plain an_answer.CmpFail h refl refl
-        by (an_answer.Found object) i h t = plain (an_answer.Found object) h refl refl
-        by (an_answer.Rows rows) i h t = plain (an_answer.Rows rows) h refl refl
-        by (an_answer.Issued epoch) i h t = plain (an_answer.Issued epoch) h refl refl
-        by (an_answer.Stopped epoch) i h t = plain (an_answer.Stopped epoch) h refl refl
-        by (an_answer.Member epoch) i h t = plain (an_answer.Member epoch) h refl refl
-        by (an_answer.Joining epoch) i h t = plain (an_answer.Joining epoch) h refl refl
-        by (an_answer.Lost epoch) i h t = plain (an_answer.Lost epoch) h refl refl
+        by other i h t = plain other h refl refl
 
   module _ (newer older : List Entry) (x : Entry) (c : Caller) (op : Op) (n : ℕ) (v : Version) (a : Answer) (stands : trace ≡ newer ++ x ∷ older) (acts : x.actor ≡ Session c.session) (ended : IsIn (a_note.Ended c.number v a) x.notes)
       (called : call_of script c ≡ Some op) (began : begin_of c trace ≡ Some n) where

@@ -14,7 +14,7 @@ use Rattle.hx_types.specs.declared.traces.Script.{Script}
 use Rattle.hx_types.specs.declared.updates.Place.{Place}
 use Rattle.hx_types.specs.declared.updates.Update.{Update}
 use Rattle.hx_types.specs.declared.values.Value.{Value}
-use Rattle.hx_types.specs.declared.calls.Op.TheVariants.{Put, Get, Del, Cput, Search, Stop, Add}
+use Rattle.hx_types.specs.declared.calls.Op.TheVariants.{Put, Get, Del, Cput, Search, Atomic}
 use Rattle.hx_types.specs.Words.{IsIn, below}
 use Rattle.hx_types.specs.Effects.{effect_of}
 use Rattle.hx_types.specs.Fitting.{IsScript}
@@ -82,9 +82,9 @@ module _ (script : Script) (valid : IsScript script) (trace older : List Entry) 
   refused-real config g (Get key) h = subst (IsRegionOf script.space) h (key-real script.space valid.space key)
   refused-real config g (Del key) h = write-named config g key h
   refused-real config g (Cput key tests sets) h = write-named config g key h
+  refused-real config g (Atomic key edits) h = write-named config g key h
   refused-real config g (Search terms) h = within script.space 0 g (omega arith) (lowest script.space config terms g h).asked.belongs
-  refused-real config g (Stop s) h = absurd h
-  refused-real config g (Add s r) h = absurd h
+  refused-real config g other h = absurd h
 
   -- the region for which a call is in doubt
   pub doubted-real : (g : RegionId) (epoch : Epoch) → IsDoubted call g epoch → IsRegionOf script.space g

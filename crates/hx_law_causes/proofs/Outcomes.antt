@@ -11,7 +11,7 @@ use Rattle.hx_types.specs.declared.configs.Member.{Member}
 use Rattle.hx_types.specs.declared.ids.RegionId.{RegionId}
 use Rattle.hx_types.specs.declared.ids.ServerId.{ServerId}
 use Rattle.hx_types.specs.declared.calls.Answer.TheVariants as an_answer
-use Rattle.hx_types.specs.declared.calls.Op.TheVariants.{Put, Get, Del, Cput, Search, Stop, Add}
+use Rattle.hx_types.specs.declared.calls.Op.TheVariants.{Stop, Add}
 use Rattle.hx_types.specs.Words.{IsIn, same_server, server_in}
 use Rattle.hx_types.specs.Configs.{any_ready, is_lost, lists_joining, lists_ready, members_of}
 use Rattle.hx_model.specs.Causes.{is_fulfilled}
@@ -62,23 +62,15 @@ module _ (c d : Config) (grown : Grown c d) where
   -- what is asked of the server and the region that a call names
   asked-grown : (p q : ServerId → RegionId → Bool) (v w : ServerId → Bool) → ((s : ServerId) (g : RegionId) → p s g ≡ true → q s g ≡ true) → ((s : ServerId) → v s ≡ true → w s ≡ true)
       → (op : Op) → administers_to p v op ≡ true → administers_to q w op ≡ true
-  asked-grown p q v w f h (Put key sets) t = t
-  asked-grown p q v w f h (Get key) t = t
-  asked-grown p q v w f h (Del key) t = t
-  asked-grown p q v w f h (Cput key tests sets) t = t
-  asked-grown p q v w f h (Search terms) t = t
   asked-grown p q v w f h (Stop s) t = h s t
   asked-grown p q v w f h (Add s g) t = f s g t
+  asked-grown p q v w f h other t = t
 
   -- what was asked for
   fulfilled-grown : (op : Op) → is_fulfilled op c ≡ true → is_fulfilled op d ≡ true
-  fulfilled-grown (Put key sets) t = t
-  fulfilled-grown (Get key) t = t
-  fulfilled-grown (Del key) t = t
-  fulfilled-grown (Cput key tests sets) t = t
-  fulfilled-grown (Search terms) t = t
   fulfilled-grown (Stop s) t = gone-grown s t
   fulfilled-grown (Add s g) t = any-grown (λ (m : Member). same_server m.server s && not m.ready) g t
+  fulfilled-grown other t = t
 
   pub judged-grown : (Here : Type 0) (op : Op) (a : Answer) → Judged Here c op a → Judged Here d op a
   judged-grown Here op (an_answer.Issued epoch) h = (h.0, h.1 ∙ sym grown.epoch, fulfilled-grown op h.2)
@@ -86,13 +78,7 @@ module _ (c d : Config) (grown : Grown c d) where
   judged-grown Here op (an_answer.Member epoch) h = (h.0 ∙ sym grown.epoch, asked-grown (λ s g. lists_ready c g s) (λ s g. lists_ready d g s) (λ s. false) (λ s. false) (λ s g. any-grown (λ (m : Member). same_server m.server s && m.ready) g) (λ s t. t) op h.1)
   judged-grown Here op (an_answer.Joining epoch) h = (h.0 ∙ sym grown.epoch, asked-grown (λ s g. any_joining (members_of c g)) (λ s g. any_joining (members_of d g)) (λ s. false) (λ s. false) (λ s g. any-grown (λ (m : Member). not m.ready) g) (λ s t. t) op h.1)
   judged-grown Here op (an_answer.Lost epoch) h = (h.0 ∙ sym grown.epoch, asked-grown (λ s g. is_lost c g) (λ s g. is_lost d g) (λ s. false) (λ s. false) (λ s g. lost-grown g) (λ s t. t) op h.1)
-  judged-grown Here op an_answer.Done h = absurd h
-  judged-grown Here op an_answer.NotFound h = absurd h
-  judged-grown Here op an_answer.CmpFail h = absurd h
-  judged-grown Here op (an_answer.Found object) h = absurd h
-  judged-grown Here op (an_answer.Rows rows) h = absurd h
-  judged-grown Here op (an_answer.Refused g epoch) h = absurd h
-  judged-grown Here op (an_answer.Doubt g epoch) h = absurd h
+  judged-grown Here op other h = absurd h
 
 -- why a server can't be added is judged
 pub judged-is : (Here : Type 0) (c : Config) (s : ServerId) (g : RegionId) (a : Answer) → judged c s g ≡ Some a → Judged Here c (Add s g) a
@@ -162,16 +148,12 @@ module _ (Asked : Caller → Op → Type 0) where
               (and_from (same_server s s) true (eq-eqb s.0 s.0 refl) refl)
 
       by : (op : Op) → Asked t.caller op → IssuesWell (does i t op)
-      by (Put key sets) a = one-left i t asked h
-      by (Get key) a = one-left i t asked h
-      by (Del key) a = one-left i t asked h
-      by (Cput key tests sets) a = one-left i t asked h
-      by (Search terms) a = one-left i t asked h
       by (Stop s) a =
           cond_both (server_in s i.config.servers) (leaves i t) (answers_with i t (an_answer.Issued i.config.epoch)) IssuesWell
           (λ e. one-left i t asked h)
           (λ e. one-answered i t (Stop s) (an_answer.Issued i.config.epoch) a (tt, refl, ap not e) h)
       by (Add s g) a = adds-well s g a (judged i.config s g) refl
+      by other a = one-left i t asked h
 
   does_all-well : (i : Issuing) (ts : List Task) → ((t : Task) → IsIn t ts → Asked t.caller t.op) → IssuesWell i → IssuesWell (does_all i ts)
   does_all-well i [] f h = h

@@ -126,13 +126,4 @@ module _ (script : Script) (valid : IsScript script) where
         by st earlier op n (an_answer.Doubt g epoch) h =
             absurd (none-lost st.newer x st.older st.stands (record { script = script; trace = trace; older = st.older; caller = c; op = op; begin = n; version = v }) refl refl h.config g epoch h.lost
             (doubted-real script valid trace st.older earlier c op n v g epoch h))
-        by st earlier op n an_answer.Done h = (refl, refl)
-        by st earlier op n an_answer.NotFound h = (refl, refl)
-        by st earlier op n an_answer.CmpFail h = (refl, refl)
-        by st earlier op n (an_answer.Found object) h = (refl, refl)
-        by st earlier op n (an_answer.Rows rows) h = (refl, refl)
-        by st earlier op n (an_answer.Issued epoch) h = (refl, refl)
-        by st earlier op n (an_answer.Stopped epoch) h = (refl, refl)
-        by st earlier op n (an_answer.Member epoch) h = (refl, refl)
-        by st earlier op n (an_answer.Joining epoch) h = (refl, refl)
-        by st earlier op n (an_answer.Lost epoch) h = (refl, refl)
+        by st earlier op n other h = (refl, refl)

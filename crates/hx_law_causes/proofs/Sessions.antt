@@ -22,7 +22,7 @@ use Rattle.hx_types.specs.declared.traces.Input.{Input}
 use Rattle.hx_types.specs.declared.traces.Note.{Note}
 use Rattle.hx_types.specs.declared.values.Term.{Term}
 use Rattle.hx_types.specs.declared.calls.Answer.TheVariants as an_answer
-use Rattle.hx_types.specs.declared.calls.Op.TheVariants.{Put, Get, Del, Cput, Search, Stop, Add}
+use Rattle.hx_types.specs.declared.calls.Op.TheVariants.{Put, Get, Del, Cput, Search, Stop, Add, Atomic}
 use Rattle.hx_types.specs.declared.messages.Message.TheVariants as a_message
 use Rattle.hx_types.specs.declared.traces.Note.TheVariants as a_note
 use Rattle.hx_types.specs.declared.outcomes.Planned.TheVariants as a_plan
@@ -222,6 +222,7 @@ module _ (space : Space) (input : Input) where
   sends s (Get key) way called = sends-key s (Get key) key way called refl
   sends s (Del key) way called = sends-key s (Del key) key way called refl
   sends s (Cput key tests sets) way called = sends-key s (Cput key tests sets) key way called refl
+  sends s (Atomic key edits) way called = sends-key s (Atomic key edits) key way called refl
   sends s (Search terms) way called = asks s terms way called (plan_of space s.config terms) refl
   sends s (Stop server) way called = says s Coordinator (a_message.StopServer s.begun server) way (refl, called)
   sends s (Add server g) way called = says s Coordinator (a_message.AddReplica s.begun server g) way (refl, called)
@@ -376,12 +377,7 @@ module _ (space : Space) (s : SessionState) where
     where
       shown : (mid : SessionState) (op : Op) → Called mid op → is_search op ≡ true → Shown mid (an_answer.Rows (merged_parts mid.parts))
       shown mid (Search terms) c e = record { terms = terms; called = c; rows = merged_parts mid.parts; answer = refl }
-      shown mid (Put key sets) c e = absurd (false≢true e)
-      shown mid (Get key) c e = absurd (false≢true e)
-      shown mid (Del key) c e = absurd (false≢true e)
-      shown mid (Cput key tests sets) c e = absurd (false≢true e)
-      shown mid (Stop server) c e = absurd (false≢true e)
-      shown mid (Add server region) c e = absurd (false≢true e)
+      shown mid other c e = absurd (false≢true e)
 
   -- the outcome of an administrative call
   outcomes : (id : PostId) (from : Actor) (number : ℕ) (answer : Answer) → SessionDoes space (Deliver id from (a_message.Outcome number answer)) s (session_message space s (a_message.Outcome number answer))
@@ -401,23 +397,11 @@ module _ (space : Space) (s : SessionState) where
 
   -- each message to a session
   messages : (id : PostId) (from : Actor) (m : Message) → SessionDoes space (Deliver id from m) s (session_message space s m)
-  messages id from (a_message.Call epoch number op) = on _ (staying s) (stays space _ s)
   messages id from (a_message.Reply number version answer) = replies id from number version answer
-  messages id from (a_message.Update epoch g u) = on _ (staying s) (stays space _ s)
-  messages id from (a_message.Ack epoch g key version) = on _ (staying s) (stays space _ s)
-  messages id from (a_message.Ask epoch number g terms) = on _ (staying s) (stays space _ s)
   messages id from (a_message.Found epoch number g rows) = founds id from epoch number g rows
-  messages id from (a_message.Seal epoch) = on _ (staying s) (stays space _ s)
-  messages id from (a_message.Sealed epoch) = on _ (staying s) (stays space _ s)
   messages id from (a_message.Install config) = installs id from config
-  messages id from a_message.Die = on _ (staying s) (stays space _ s)
-  messages id from a_message.Gone = on _ (staying s) (stays space _ s)
-  messages id from (a_message.StopServer number server) = on _ (staying s) (stays space _ s)
-  messages id from (a_message.AddReplica number server g) = on _ (staying s) (stays space _ s)
   messages id from (a_message.Outcome number answer) = outcomes id from number answer
-  messages id from (a_message.Snap epoch g snapshot pending) = on _ (staying s) (stays space _ s)
-  messages id from (a_message.Ready epoch g) = on _ (staying s) (stays space _ s)
-  messages id from (a_message.Poll epoch) = on _ (staying s) (stays space _ s)
+  messages id from other = on _ (staying s) (stays space _ s)
 
   -- each step
   pub session-does : (input : Input) → SessionDoes space input s (session_step space s input)

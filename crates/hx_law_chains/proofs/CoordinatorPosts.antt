@@ -16,7 +16,7 @@ use Rattle.hx_types.specs.declared.ids.SessionId.{SessionId}
 use Rattle.hx_types.specs.declared.traces.Input.{Input}
 use Rattle.hx_types.specs.declared.traces.Note.{Note}
 use Rattle.hx_types.specs.declared.calls.Answer.TheVariants as an_answer
-use Rattle.hx_types.specs.declared.calls.Op.TheVariants.{Put, Get, Del, Cput, Search, Stop, Add}
+use Rattle.hx_types.specs.declared.calls.Op.TheVariants.{Stop, Add}
 use Rattle.hx_types.specs.declared.messages.Message.TheVariants as a_message
 use Rattle.hx_types.specs.declared.ids.Actor.TheVariants.{Coordinator, Server, Session}
 use Rattle.hx_types.specs.declared.traces.Input.TheVariants.{Tick, Halt, Deliver}
@@ -185,35 +185,20 @@ dying : (test : ServerId → Bool) (todo : List Task) → AllOf (die_posts test 
 dying test todo p i = let r = in-flat_map (λ (t : Task). die_for test t.op) todo p i in by r.0.op r.2
   where
     by : (op : Op) → IsIn p (die_for test op) → OfCoordinator p.message
-    by (Put key sets) j = absurd j
-    by (Get key) j = absurd j
-    by (Del key) j = absurd j
-    by (Cput key tests sets) j = absurd j
-    by (Search terms) j = absurd j
     by (Stop s) j = one (to_server a_message.Die s) tt p (in-provided (test s) (to_server a_message.Die s ∷ []) p j).1
-    by (Add s g) j = absurd j
+    by other j = absurd j
 
 -- each message
 messages : (c : CoordinatorState) (from : Actor) (m : Message) → Plain (coordinator_message c from m)
-messages c from (a_message.Call epoch number op) = rests c
-messages c from (a_message.Reply number version answer) = rests c
-messages c from (a_message.Update epoch g u) = rests c
-messages c from (a_message.Ack epoch g key version) = rests c
-messages c from (a_message.Ask epoch number g terms) = rests c
-messages c from (a_message.Found epoch number g rows) = rests c
-messages c from (a_message.Seal epoch) = rests c
 messages c from (a_message.Sealed epoch) = sealed c epoch from
-messages c from (a_message.Install config) = rests c
-messages c from a_message.Die = rests c
 messages c from a_message.Gone = going c from
 messages c from (a_message.StopServer number server) =
     administered c from (stop_step c number server) (λ u. by-number c (record { session = u; number = number }) (newest_of u c.newest) _ (stopping c (record { session = u; number = number }) server))
 messages c from (a_message.AddReplica number server g) =
     administered c from (add_step c number server g) (λ u. by-number c (record { session = u; number = number }) (newest_of u c.newest) _ (adding c (record { session = u; number = number }) server g c.phase))
-messages c from (a_message.Outcome number answer) = rests c
-messages c from (a_message.Snap epoch g snapshot pending) = rests c
 messages c from (a_message.Ready epoch g) = readied c epoch g from
 messages c from (a_message.Poll epoch) = polled c epoch from
+messages c from other = rests c
 
 -- each input
 pub coordinator-plain : (c : CoordinatorState) (input : Input) → Plain (coordinator_step c input)

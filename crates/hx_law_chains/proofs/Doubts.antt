@@ -7,7 +7,7 @@ use Rattle.hx_types.specs.declared.calls.Answer.{Answer}
 use Rattle.hx_types.specs.declared.calls.Answer.TheVariants as an_answer
 use Rattle.hx_types.specs.declared.calls.Caller.{Caller}
 use Rattle.hx_types.specs.declared.calls.Op.{Op}
-use Rattle.hx_types.specs.declared.calls.Op.TheVariants.{Put, Get, Del, Cput, Search, Stop, Add}
+use Rattle.hx_types.specs.declared.calls.Op.TheVariants.{Put, Del, Cput, Atomic}
 use Rattle.hx_types.specs.declared.configs.Config.{Config}
 use Rattle.hx_types.specs.declared.ids.Actor.{Actor}
 use Rattle.hx_types.specs.declared.ids.Epoch.{Epoch}
@@ -36,6 +36,8 @@ use Rattle.hx_model.specs.Lines.{line_object}
 use Rattle.hx_model.specs.Regions.{key_region}
 use Rattle.hx_model.specs.ServerSteps.{ServerState, SlotContext, ack_to, get_answer, move_posts, next_at, passed_on, prev_at, reply, told_to, update_to}
 use Rattle.hx_model.specs.Slots.{Acknowledge, Commit, Forget, Hold, KeyState, Move, Take, has_place, mark_of}
+use Rattle.hx_types.specs.declared.outcomes.Effect.{Effect}
+use Rattle.hx_law_lemmas.proofs.Edits.{atomic-both}
 use Rattle.hx_law_lemmas.proofs.Chains.{place-in}
 use Rattle.hx_law_lemmas.proofs.Lists.{in-flat_map, when_some_both}
 use Rattle.hx_law_lemmas.proofs.HeldUpdates.{AllKnown, Known}
@@ -71,7 +73,6 @@ Says script st i p = SaysOf script st i p.to p.message
 -- an effect is never in doubt
 pub effect-sure : (space : Space) (old : Option (List Value)) (op : Op) → is_write op ≡ true → is_doubt (effect_of space old op).answer ≡ false
 effect-sure space old (Put key sets) w = refl
-effect-sure space old (Get key) w = absurd (false≢true w)
 effect-sure space None (Del key) w = refl
 effect-sure space (Some x) (Del key) w = refl
 effect-sure space None (Cput key tests sets) w = refl
@@ -80,9 +81,8 @@ effect-sure space (Some x) (Cput key tests sets) w = by (tests_hold x tests)
     by : (b : Bool) → is_doubt (cond b (changed_to (Some (written x sets))) (left_as (Some x) an_answer.CmpFail)).answer ≡ false
     by true = refl
     by false = refl
-effect-sure space old (Search terms) w = absurd (false≢true w)
-effect-sure space old (Stop server) w = absurd (false≢true w)
-effect-sure space old (Add server g) w = absurd (false≢true w)
+effect-sure space old (Atomic key edits) w = atomic-both (λ (e : Effect). is_doubt e.answer ≡ false) space old key edits (λ object. refl) refl (λ object. refl) (λ object. refl)
+effect-sure space old other w = absurd (false≢true w)
 
 -- nor is a get
 pub get-sure : (o : Option (List Value)) → is_doubt (get_answer o) ≡ false

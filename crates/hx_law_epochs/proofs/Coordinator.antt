@@ -14,7 +14,7 @@ use Rattle.hx_types.specs.declared.messages.Message.{Message}
 use Rattle.hx_types.specs.declared.messages.Post.{Post}
 use Rattle.hx_types.specs.declared.traces.Input.{Input}
 use Rattle.hx_types.specs.declared.calls.Answer.TheVariants as an_answer
-use Rattle.hx_types.specs.declared.calls.Op.TheVariants.{Put, Get, Del, Cput, Search, Stop, Add}
+use Rattle.hx_types.specs.declared.calls.Op.TheVariants.{Stop, Add}
 use Rattle.hx_types.specs.declared.messages.Message.TheVariants as a_message
 use Rattle.hx_types.specs.declared.ids.Actor.TheVariants.{Coordinator, Server, Session}
 use Rattle.hx_types.specs.declared.traces.Input.TheVariants.{Tick, Halt, Deliver}
@@ -356,13 +356,8 @@ module _ (Real : ServerId → Type 0) (S : ServerId → ServerState) (posts : Li
   dies test c ts p i = let r = in-flat_map (λ (t : Task). die_for test t.op) ts p i in by r.0.op r.2
     where
       by : (op : Op) → IsIn p (die_for test op) → Rules c p
-      by (Put key sets) j = absurd j
-      by (Get key) j = absurd j
-      by (Del key) j = absurd j
-      by (Cput key tests sets) j = absurd j
-      by (Search terms) j = absurd j
       by (Stop s) j = to-each c a_message.Die tt (s ∷ []) p (in-provided (test s) (to_server a_message.Die s ∷ []) p j).1
-      by (Add s g) j = absurd j
+      by other j = absurd j
 
   -- a tick of the coordinator
   ticks : (d : CoordinatorState) → KeptBy Real S d posts → Coordinates d (coordinator_tick d d.phase)
@@ -378,16 +373,7 @@ module _ (Real : ServerId → Type 0) (S : ServerId → ServerState) (posts : Li
 
   -- each message to the coordinator
   hears : (d : CoordinatorState) (from to : Actor) (m : Message) → KeptBy Real S d posts → Says S d.config from to m → Coordinates d (coordinator_message d from m)
-  hears d from to (a_message.Call epoch number op) k v = rests d k
-  hears d from to (a_message.Reply number version answer) k v = rests d k
-  hears d from to (a_message.Update epoch h u) k v = rests d k
-  hears d from to (a_message.Ack epoch h key version) k v = rests d k
-  hears d from to (a_message.Ask epoch number h terms) k v = rests d k
-  hears d from to (a_message.Found epoch number h rows) k v = rests d k
-  hears d from to (a_message.Seal epoch) k v = rests d k
   hears d from to (a_message.Sealed epoch) k v = hears-sealed d epoch from to k v
-  hears d from to (a_message.Install config) k v = rests d k
-  hears d from to a_message.Die k v = rests d k
   hears d from to a_message.Gone k v = hears-gone d from to k v
   hears d Coordinator to (a_message.StopServer number server) k v = rests d k
   hears d (Server s) to (a_message.StopServer number server) k v = rests d k
@@ -395,13 +381,12 @@ module _ (Real : ServerId → Type 0) (S : ServerId → ServerState) (posts : Li
   hears d Coordinator to (a_message.AddReplica number server h) k v = rests d k
   hears d (Server s) to (a_message.AddReplica number server h) k v = rests d k
   hears d (Session u) to (a_message.AddReplica number server h) k v = hears-add d number server h u k
-  hears d from to (a_message.Outcome number answer) k v = rests d k
-  hears d from to (a_message.Snap epoch h snapshot pending) k v = rests d k
   hears d from to (a_message.Ready epoch h) k v = hears-ready d epoch h from to k v
   hears d from to (a_message.Poll epoch) k v =
       cond_both (ltb epoch.0 d.config.epoch.0) (telling d (post Coordinator from (a_message.Install d.config) ∷ [])) (resting d) (Coordinates d)
       (λ t. tells d d refl k (post Coordinator from (a_message.Install d.config) ∷ []) (one d.config (post Coordinator from (a_message.Install d.config)) (refl, refl)))
       (λ t. rests d k)
+  hears d from to other k v = rests d k
 
   -- each step of the coordinator
   pub coordinates : (d : CoordinatorState) (input : Input) → KeptBy Real S d posts

@@ -9,7 +9,7 @@ use Rattle.hx_types.specs.declared.configs.Member.{Member}
 use Rattle.hx_types.specs.declared.ids.RegionId.{RegionId}
 use Rattle.hx_types.specs.declared.ids.ServerId.{ServerId}
 use Rattle.hx_types.specs.declared.calls.Answer.TheVariants as an_answer
-use Rattle.hx_types.specs.declared.calls.Op.TheVariants.{Put, Get, Del, Cput, Search, Stop, Add}
+use Rattle.hx_types.specs.declared.calls.Op.TheVariants.{Stop, Add}
 use Rattle.hx_types.specs.Words.{IsBefore, IsIn, same_server, server_in, when_some}
 use Rattle.hx_types.specs.Configs.{any_ready, is_lost, lists_ready, members_of}
 use Rattle.hx_model.specs.CoordinatorSteps.{CoordinatorState, Issuing, Task, adds_by, answers_with, any_joining, appended, config_without, does, does_all, issuing, judged, leaves}
@@ -156,13 +156,9 @@ grown-by c i h t = by t.op
     adds s g None e = grown-more c i.config h s g (judged-may i.config s g e)
 
     by : (op : Op) → Grown c (does i t op).config
-    by (Put key sets) = h
-    by (Get key) = h
-    by (Del key) = h
-    by (Cput key tests sets) = h
-    by (Search terms) = h
     by (Stop s) = cond_both (server_in s i.config.servers) (leaves i t) (answers_with i t (an_answer.Issued i.config.epoch)) (λ (y : Issuing). Grown c y.config) (λ e. h) (λ e. h)
     by (Add s g) = adds s g (judged i.config s g) refl
+    by other = h
 
 pub grown-all : (c : Config) (i : Issuing) → Grown c i.config → (ts : List Task) → Grown c (does_all i ts).config
 grown-all c i h [] = h

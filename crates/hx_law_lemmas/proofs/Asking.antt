@@ -21,7 +21,7 @@ use Rattle.hx_types.specs.declared.spaces.Space.{Space}
 use Rattle.hx_types.specs.declared.traces.Input.{Input}
 use Rattle.hx_types.specs.declared.values.Term.{Term}
 use Rattle.hx_types.specs.declared.calls.Answer.TheVariants as an_answer
-use Rattle.hx_types.specs.declared.calls.Op.TheVariants.{Put, Get, Del, Cput, Search, Stop, Add}
+use Rattle.hx_types.specs.declared.calls.Op.TheVariants.{Put, Get, Del, Cput, Search, Stop, Add, Atomic}
 use Rattle.hx_types.specs.declared.messages.Message.TheVariants as a_message
 use Rattle.hx_types.specs.declared.ids.Actor.TheVariants.{Coordinator, Session}
 use Rattle.hx_types.specs.declared.outcomes.Planned.TheVariants as a_plan
@@ -157,6 +157,7 @@ module _ (space : Space) (Known : ℕ → RegionId → List Row → Type 0) wher
   sends s (Get key) w e = sends-key s (Get key) (key_region space key) e (λ terms q. absurd (cc))
   sends s (Del key) w e = sends-key s (Del key) (key_region space key) e (λ terms q. absurd (cc))
   sends s (Cput key tests sets) w e = sends-key s (Cput key tests sets) (key_region space key) e (λ terms q. absurd (cc))
+  sends s (Atomic key edits) w e = sends-key s (Atomic key edits) (key_region space key) e (λ terms q. absurd (cc))
   sends s (Search terms) w e = asks-regions s terms (plan_of space s.config terms) refl w e
   sends s (Stop server) w e = sends-coordinator s (Stop server) (a_message.StopServer s.begun server) tt e (λ terms q. absurd (cc))
   sends s (Add server g) w e = sends-coordinator s (Add server g) (a_message.AddReplica s.begun server g) tt e (λ terms q. absurd (cc))
@@ -191,6 +192,7 @@ module _ (space : Space) (Known : ℕ → RegionId → List Row → Type 0) wher
       by (Get k) = key (Get k) (key_region space k)
       by (Del k) = key (Del k) (key_region space k)
       by (Cput k tests sets) = key (Cput k tests sets) (key_region space k)
+      by (Atomic k edits) = key (Atomic k edits) (key_region space k)
       by (Search terms) = plan terms (plan_of space s.config terms)
       by (Stop server) = refl
       by (Add server g) = refl
@@ -325,23 +327,11 @@ module _ (space : Space) (Known : ℕ → RegionId → List Row → Type 0) wher
   -- each message
   messages : (s : SessionState) → HasParts s → (m : Message) → ((epoch : Epoch) (number : ℕ) (g : RegionId) (rows : List Row) → m ≡ a_message.Found epoch number g rows → Known number g rows)
       → SearchTurn s (session_message space s m)
-  messages s k (a_message.Call epoch number op) f = stays s k
   messages s k (a_message.Reply number version answer) f = replies s k number version answer
-  messages s k (a_message.Update epoch g w) f = stays s k
-  messages s k (a_message.Ack epoch g key version) f = stays s k
-  messages s k (a_message.Ask epoch number g terms) f = stays s k
   messages s k (a_message.Found epoch number g rows) f = finds s k epoch number g rows (f epoch number g rows refl)
-  messages s k (a_message.Seal epoch) f = stays s k
-  messages s k (a_message.Sealed epoch) f = stays s k
   messages s k (a_message.Install config) f = installs s k config
-  messages s k a_message.Die f = stays s k
-  messages s k a_message.Gone f = stays s k
-  messages s k (a_message.StopServer number server) f = stays s k
-  messages s k (a_message.AddReplica number server g) f = stays s k
   messages s k (a_message.Outcome number answer) f = outcomes s k number answer
-  messages s k (a_message.Snap epoch g snapshot pending) f = stays s k
-  messages s k (a_message.Ready epoch g) f = stays s k
-  messages s k (a_message.Poll epoch) f = stays s k
+  messages s k other f = stays s k
 
   -- each input of a session
   pub search-turn : (s : SessionState) → HasParts s → (input : Input)

@@ -19,7 +19,7 @@ use Rattle.hx_types.specs.declared.ids.Version.{Version}
 use Rattle.hx_types.specs.declared.calls.Answer.TheVariants as an_answer
 use Rattle.hx_types.specs.declared.messages.Message.TheVariants as a_message
 use Rattle.hx_types.specs.declared.outcomes.Planned.TheVariants as a_plan
-use Rattle.hx_types.specs.declared.calls.Op.TheVariants.{Put, Get, Del, Cput, Search, Stop, Add}
+use Rattle.hx_types.specs.declared.calls.Op.TheVariants.{Put, Get, Del, Cput, Search, Stop, Add, Atomic}
 use Rattle.hx_types.specs.declared.ids.Actor.TheVariants.{Coordinator, Session}
 use Rattle.hx_types.specs.declared.traces.Input.TheVariants.{Deliver}
 use Rattle.hx_types.specs.Words.{IsIn, post, provided}
@@ -163,6 +163,7 @@ sends input space s (Put key sets) running called = sends_key input s (Put key s
 sends input space s (Get key) running called = sends_key input s (Get key) (key_region space key) running called
 sends input space s (Del key) running called = sends_key input s (Del key) (key_region space key) running called
 sends input space s (Cput key tests sets) running called = sends_key input s (Cput key tests sets) (key_region space key) running called
+sends input space s (Atomic key edits) running called = sends_key input s (Atomic key edits) (key_region space key) running called
 sends input space s (Search terms) running called = asks input s (Search terms) terms (plan_of space s.config terms) running called refl
 sends input space s (Stop server) running called = record {
   id = refl;

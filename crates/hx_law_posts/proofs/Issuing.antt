@@ -1,5 +1,5 @@
 -- The next configuration: it is of the space, and what is answered and left of the calls is sound.
-use Rattle.std.proofs.Common.{◌≡◌, ℕ, zero, suc, ◌+◌, ◌≤◌, ◌≢◌, ◌⊎◌, inl, inr, Bool, true, false, List, [], ◌∷◌, ◌++◌, map, length, Option, Some, None, refl, sym, ap, ◌∙◌, subst, arith, cond}
+use Rattle.std.proofs.Common.{◌≡◌, ℕ, zero, suc, ◌+◌, ◌≤◌, ◌≢◌, inl, inr, Bool, true, false, List, [], ◌∷◌, ◌++◌, map, length, Option, Some, None, refl, sym, ap, ◌∙◌, subst, arith, cond}
 use Rattle.std.specs.Prelude.{not, ◌&&◌}
 use Rattle.std.specs.List.{filter, slice_get, slice_set}
 use Rattle.std.proofs.lemmas.Bool.{and_from, cond_both, eq-eqb, false≢true}
@@ -13,13 +13,13 @@ use Rattle.hx_types.specs.declared.ids.RegionId.{RegionId}
 use Rattle.hx_types.specs.declared.ids.ServerId.{ServerId}
 use Rattle.hx_types.specs.declared.spaces.Space.{Space}
 use Rattle.hx_types.specs.declared.calls.Answer.TheVariants as an_answer
-use Rattle.hx_types.specs.declared.calls.Op.TheVariants.{Put, Get, Del, Cput, Search, Stop, Add}
+use Rattle.hx_types.specs.declared.calls.Op.TheVariants.{Stop, Add}
 use Rattle.hx_types.specs.Words.{IsIn, same_server, server_in}
 use Rattle.hx_types.specs.Configs.{is_lost, lists_ready, members_of}
 use Rattle.hx_types.specs.Spaces.{AllDiffer, Fits, IsConfigOf, IsListOf, IsServerOf}
 use Rattle.hx_types.specs.Posts.{IsSessionOf, IsSoundAnswer}
 use Rattle.hx_model.specs.CoordinatorSteps.{Answered, CoordinatorState, Issuing, Joined, Task, adds_by, answers_with, any_joining, appended, config_without, does, does_all, is_out, issuing, judged, leaves, lists_without, made_ready, remaining}
-use Rattle.hx_law_lemmas.proofs.Lists.{all-in, all-of, differ-append, in-append, in-filter, in-map, in-slice_get, map-in, when_some_both}
+use Rattle.hx_law_lemmas.proofs.Lists.{all-in, all-of, differ-append, in-append, in-filter, in-map, in-slice_get, map-in, when_some_both, in-slice_set}
 use Rattle.hx_law_posts.proofs.Bounds.{IsSoundConfig, bounds}
 use Rattle.hx_law_posts.proofs.Configs.{server_number}
 use Rattle.hx_law_posts.proofs.SlotPosts.{any-of}
@@ -74,15 +74,7 @@ without-sound space c h = record {
 
 -- ---- a server is appended
 
--- what stands in a list of which an item is set
-in-slice_set : {A : Type 0} (xs : List A) (i : ℕ) (y : A) (x : A) → IsIn x (slice_set xs i y) → (x ≡ y) ⊎ IsIn x xs
-in-slice_set [] i y x j = absurd j
-in-slice_set (a ∷ xs) zero y x (inl e) = inl e
-in-slice_set (a ∷ xs) zero y x (inr j) = inr (inr j)
-in-slice_set (a ∷ xs) (suc i) y x (inl e) = inr (inl e)
-in-slice_set (a ∷ xs) (suc i) y x (inr j) = elim (in-slice_set xs i y x j) [ inl e ↦ inl e | inr k ↦ inr (inr k) ]
-
--- and as many items as before
+-- a list with an item set has as many items as before
 count-slice_set : {A : Type 0} (xs : List A) (i : ℕ) (y : A) → length (slice_set xs i y) ≡ length xs
 count-slice_set [] i y = refl
 count-slice_set (a ∷ xs) zero y = refl
@@ -208,16 +200,12 @@ module _ (space : Space) (sessions n : ℕ) where
 
   -- one call
   does-sound : (i : Issuing) → IsSoundIssuing i → (t : Task) → IsSoundTask t → (op : Op) → Fits space op → IsSoundIssuing (does i t op)
-  does-sound i h t task (Put key sets) f = leaves-sound i h t task
-  does-sound i h t task (Get key) f = leaves-sound i h t task
-  does-sound i h t task (Del key) f = leaves-sound i h t task
-  does-sound i h t task (Cput key tests sets) f = leaves-sound i h t task
-  does-sound i h t task (Search terms) f = leaves-sound i h t task
   does-sound i h t task (Stop s) f =
       cond_both (server_in s i.config.servers) (leaves i t) (answers_with i t (an_answer.Issued i.config.epoch)) IsSoundIssuing
       (λ b. leaves-sound i h t task)
       (λ b. answers-sound i h t task (an_answer.Issued i.config.epoch) (tt, h.config.epoch))
   does-sound i h t task (Add s g) f = adds-sound i h t task s g f.0 (judged i.config s g) (judged-sound i.config s g h.config.epoch)
+  does-sound i h t task other f = leaves-sound i h t task
 
   -- each call, one after another
   does_all-sound : (i : Issuing) → IsSoundIssuing i → (ts : List Task) → ((t : Task) → IsIn t ts → IsSoundTask t) → IsSoundIssuing (does_all i ts)

@@ -18,7 +18,7 @@ use Rattle.hx_types.specs.declared.traces.Input.{Input}
 use Rattle.hx_types.specs.declared.traces.Script.{Script}
 use Rattle.hx_types.specs.declared.configs.Config.{Config}
 use Rattle.hx_types.specs.declared.values.Term.{Term}
-use Rattle.hx_types.specs.declared.calls.Op.TheVariants.{Put, Get, Del, Cput, Search, Stop, Add}
+use Rattle.hx_types.specs.declared.calls.Op.TheVariants.{Put, Get, Del, Cput, Search, Stop, Add, Atomic}
 use Rattle.hx_types.specs.declared.messages.Message.TheVariants as a_message
 use Rattle.hx_types.specs.declared.ids.Actor.TheVariants.{Coordinator, Session}
 use Rattle.hx_types.specs.declared.outcomes.Planned.TheVariants as a_plan
@@ -135,6 +135,7 @@ module _ (script : Script) (valid : IsScript script) (n : ℕ) (u : SessionId) (
   send-good st (Get key) fits k = send_to-good st (Get key) (key_region script.space key) fits k
   send-good st (Del key) fits k = send_to-good st (Del key) (key_region script.space key) fits k
   send-good st (Cput key tests sets) fits k = send_to-good st (Cput key tests sets) (key_region script.space key) fits k
+  send-good st (Atomic key edits) fits k = send_to-good st (Atomic key edits) (key_region script.space key) fits k
   send-good st (Search terms) fits k = ask-good st terms (plan_of script.space st.config terms) (plan-regions script.space st.config terms) fits k
   send-good st (Stop server) fits k = coordinator-good st (a_message.StopServer st.begun server) k refl fits
   send-good st (Add server region) fits k = coordinator-good st (a_message.AddReplica st.begun server region) k refl fits
@@ -217,23 +218,11 @@ module _ (script : Script) (valid : IsScript script) (n : ℕ) (u : SessionId) (
 
   -- each message of a sound post of an earlier entry
   message-good : (k : ℕ) → k ≤ n → (st : SessionState) → IsOwn script n u st → (m : Message) → IsSoundMessage (bounds script.space (length script.sessions) k) m → DoesWell (session_message script.space st m)
-  message-good j l st k (a_message.Call epoch number op) h = staying-good st k
   message-good j l st k (a_message.Reply number version answer) h = end_or_stay (awaits st number is_key_call) st version answer k
-  message-good j l st k (a_message.Update epoch g w) h = staying-good st k
-  message-good j l st k (a_message.Ack epoch g key version) h = staying-good st k
-  message-good j l st k (a_message.Ask epoch number g terms) h = staying-good st k
   message-good j l st k (a_message.Found epoch number g rows) h = found-good _ st (map (with_part g rows) st.parts) k
-  message-good j l st k (a_message.Seal epoch) h = staying-good st k
-  message-good j l st k (a_message.Sealed epoch) h = staying-good st k
   message-good j l st k (a_message.Install config) h = install-good st k config (record { of_space = h.1; epoch = (let e = h.0 in omega (arith, e, l)) })
-  message-good j l st k a_message.Die h = staying-good st k
-  message-good j l st k a_message.Gone h = staying-good st k
-  message-good j l st k (a_message.StopServer number server) h = staying-good st k
-  message-good j l st k (a_message.AddReplica number server g) h = staying-good st k
   message-good j l st k (a_message.Outcome number answer) h = end_or_stay (awaits st number is_administrative) st no_version answer k
-  message-good j l st k (a_message.Snap epoch g snapshot pending) h = staying-good st k
-  message-good j l st k (a_message.Ready epoch g) h = staying-good st k
-  message-good j l st k (a_message.Poll epoch) h = staying-good st k
+  message-good j l st k other h = staying-good st k
 
   -- each input of a session
   pub session-good : (st : SessionState) → IsOwn script n u st → (input : Input)

@@ -17,16 +17,18 @@ use Rattle.hx_types.specs.declared.traces.Script.{Script}
 use Rattle.hx_types.specs.declared.updates.Update.{Update}
 use Rattle.hx_types.specs.declared.values.Value.{Value}
 use Rattle.hx_types.specs.declared.calls.Answer.TheVariants as an_answer
-use Rattle.hx_types.specs.declared.calls.Op.TheVariants.{Put, Get, Del, Cput, Search, Stop, Add}
+use Rattle.hx_types.specs.declared.calls.Op.TheVariants.{Put, Get, Del, Cput, Search, Atomic}
 use Rattle.hx_types.specs.declared.ids.Actor.TheVariants.{Coordinator, Server, Session}
 use Rattle.hx_types.specs.declared.traces.Note.TheVariants as a_note
 use Rattle.hx_types.specs.Words.{IsIn, same_actor, same_session, same_text, when_some}
 use Rattle.hx_types.specs.Effects.{changed_to, effect_of, is_write, key_of, left_as, tests_hold, written}
-use Rattle.hx_types.specs.Fitting.{Noted, assigns_well, call_of, ends_well, has_begun, has_ended, is_begin_of, is_cmp_fail, is_done, is_end_of, is_found, is_not_found, is_refused, noted_in, notes_fit, numbered, other_note_fits}
+use Rattle.hx_types.specs.Fitting.{Noted, assigns_well, call_of, ends_well, has_begun, has_ended, is_begin_of, is_cmp_fail, is_overflow, is_too_long, is_done, is_end_of, is_found, is_not_found, is_refused, noted_in, notes_fit, numbered, other_note_fits}
 use Rattle.hx_model.proofs.States.{same_text_self}
 use Rattle.hx_model.specs.Histories.{line_notes, line_of}
 use Rattle.hx_model.specs.Runs.{IsRun, Output, coordinator_of, made_of, server_of, session_of}
 use Rattle.hx_model.specs.ServerSteps.{get_answer}
+use Rattle.hx_types.specs.declared.outcomes.Effect.{Effect}
+use Rattle.hx_law_lemmas.proofs.Edits.{atomic-both}
 use Rattle.hx_law_lemmas.proofs.Lists.{any-in, in-append, in-map, in-reverse, in_left, in_right, of-reverse}
 use Rattle.hx_law_posts.proofs.SlotPosts.{any-of}
 use Rattle.hx_law_lemmas.proofs.CallEnds.{CallStop, began_notes, end_notes, started}
@@ -52,39 +54,32 @@ none false b f = refl
 
 -- ---- what is assigned
 
--- an update of a write is answered as its operation can be, or refused
-assigned-well : (space : Space) (old : Option (List Value)) (key : List ℕ) (op : Op) (answer : Answer) → is_write op ≡ true → key_of op ≡ Some key → (answer ≡ (effect_of space old op).answer) ⊎ (is_refused answer ≡ true) → assigns_well key op answer ≡ true
-assigned-well space old key (Get k) answer w e h = absurd (false≢true w)
-assigned-well space old key (Search terms) answer w e h = absurd (false≢true w)
-assigned-well space old key (Stop server) answer w e h = absurd (false≢true w)
-assigned-well space old key (Add server region) answer w e h = absurd (false≢true w)
-assigned-well space old key (Put k sets) answer w e h =
-    let q : k ≡ key = cc in
-    and_from (same_text k key) _ (ap (same_text k) (sym q) ∙ same_text_self k) (elim h [ inl z ↦ ap (λ (a : Answer). is_done a || is_refused a) z | inr z ↦ or-last (is_done answer) (is_refused answer) z ])
-  where
-    or-last : (a b : Bool) → b ≡ true → a || b ≡ true
-    or-last true b z = refl
-    or-last false b z = z
-assigned-well space old key (Del k) answer w e h =
-    let q : k ≡ key = cc in
-    and_from (same_text k key) _ (ap (same_text k) (sym q) ∙ same_text_self k) (elim h [ inl z ↦ ap (λ (a : Answer). is_done a || is_not_found a || is_refused a) z ∙ by old | inr z ↦ or-last (is_done answer || is_not_found answer) (is_refused answer) z ])
+-- a key that an operation names is the one asked for
+same_key : (k key : List ℕ) → Some k ≡ Some key → same_text k key ≡ true
+same_key k key e = let q : k ≡ key = cc in ap (same_text k) (sym q) ∙ same_text_self k
+
+-- an answer that is another, which is one of some or Refused, or that is Refused itself
+one-of : (some : Answer → Bool) (made answer : Answer) → some made || is_refused made ≡ true → (answer ≡ made) ⊎ (is_refused answer ≡ true) → some answer || is_refused answer ≡ true
+one-of some made answer t (inl same) = ap (λ (a : Answer). some a || is_refused a) same ∙ t
+one-of some made answer t (inr refused) = or-last (some answer) (is_refused answer) refused
   where
     or-last : (a b : Bool) → b ≡ true → a || b ≡ true
     or-last true b z = refl
     or-last false b z = z
 
+-- an update of a write is answered as its operation can be, or refused
+assigned-well : (space : Space) (old : Option (List Value)) (key : List ℕ) (op : Op) (answer : Answer) → is_write op ≡ true → key_of op ≡ Some key → (answer ≡ (effect_of space old op).answer) ⊎ (is_refused answer ≡ true) → assigns_well key op answer ≡ true
+assigned-well space old key (Put k sets) answer w e h = and_from (same_text k key) _ (same_key k key e) (one-of is_done _ answer refl h)
+assigned-well space old key (Del k) answer w e h =
+    and_from (same_text k key) _ (same_key k key e) (one-of (λ (a : Answer). is_done a || is_not_found a) (effect_of space old (Del k)).answer answer (by old) h)
+  where
     by : (old : Option (List Value)) → (let a = (effect_of space old (Del k)).answer in is_done a || is_not_found a || is_refused a) ≡ true
     by None = refl
     by (Some x) = refl
 assigned-well space old key (Cput k tests sets) answer w e h =
-    let q : k ≡ key = cc in
-    and_from (same_text k key) _ (ap (same_text k) (sym q) ∙ same_text_self k)
-    (elim h [ inl z ↦ ap (λ (a : Answer). is_done a || is_not_found a || is_cmp_fail a || is_refused a) z ∙ by old | inr z ↦ or-last (is_done answer || is_not_found answer || is_cmp_fail answer) (is_refused answer) z ])
+    and_from (same_text k key) _ (same_key k key e)
+    (one-of (λ (a : Answer). is_done a || is_not_found a || is_cmp_fail a) (effect_of space old (Cput k tests sets)).answer answer (by old) h)
   where
-    or-last : (a b : Bool) → b ≡ true → a || b ≡ true
-    or-last true b z = refl
-    or-last false b z = z
-
     by : (old : Option (List Value)) → (let a = (effect_of space old (Cput k tests sets)).answer in is_done a || is_not_found a || is_cmp_fail a || is_refused a) ≡ true
     by None = refl
     by (Some x) = some (tests_hold x tests)
@@ -92,6 +87,14 @@ assigned-well space old key (Cput k tests sets) answer w e h =
         some : (b : Bool) → (let a = (cond b (changed_to (Some (written x sets))) (left_as (Some x) an_answer.CmpFail)).answer in is_done a || is_not_found a || is_cmp_fail a || is_refused a) ≡ true
         some true = refl
         some false = refl
+assigned-well space old key (Atomic k edits) answer w e h =
+    and_from (same_text k key) _ (same_key k key e)
+    (one-of (λ (a : Answer). is_done a || is_not_found a || is_overflow a || is_too_long a) (effect_of space old (Atomic k edits)).answer answer by h)
+  where
+    by : (let a = (effect_of space old (Atomic k edits)).answer in is_done a || is_not_found a || is_overflow a || is_too_long a || is_refused a) ≡ true
+    by = atomic-both (λ (f : Effect). is_done f.answer || is_not_found f.answer || is_overflow f.answer || is_too_long f.answer || is_refused f.answer ≡ true) space old k edits
+        (λ object. refl) refl (λ object. refl) (λ object. refl)
+assigned-well space old key other answer w e h = absurd (false≢true w)
 
 -- ---- begins and ends among the notes
 
@@ -108,16 +111,12 @@ now-in x m i =
 -- a begin that is noted began
 begin-number : (c : Caller) (n : Note) → is_begin_of c.number n ≡ true → n ≡ a_note.Began c.number
 begin-number c (a_note.Began k) e = let q = eqb-true k c.number e in ap a_note.Began q
-begin-number c (a_note.Ended k v a) e = absurd (false≢true e)
-begin-number c (a_note.Assigned u) e = absurd (false≢true e)
-begin-number c (a_note.Issued config) e = absurd (false≢true e)
+begin-number c other e = absurd (false≢true e)
 
 -- an end that is noted ended
 end-number : (c : Caller) (n : Note) → is_end_of c.number n ≡ true → (v : Version) × (a : Answer) × (n ≡ a_note.Ended c.number v a)
 end-number c (a_note.Ended k v a) e = let q = eqb-true k c.number e in (v, a, ap (λ m. a_note.Ended m v a) q)
-end-number c (a_note.Began k) e = absurd (false≢true e)
-end-number c (a_note.Assigned u) e = absurd (false≢true e)
-end-number c (a_note.Issued config) e = absurd (false≢true e)
+end-number c other e = absurd (false≢true e)
 
 -- who was noted as begun began
 has-begun : (t : List Entry) (c : Caller) → has_begun c (noted_in t) ≡ true → (n : ℕ) × BeganAt t c n
@@ -220,11 +219,6 @@ module _ (script : Script) (facts : Facts script) (older : List Entry) (x : Entr
         got (Some y) e = ap (λ (a : Answer). is_found a || is_not_found a || is_refused a) e
 
         by : (op : Op) → call_of script (record { session = u; number = n }) ≡ Some op → SearchEnds op answer → ends_well op answer ≡ true
-        by (Put key sets) c s = refl
-        by (Del key) c s = refl
-        by (Cput key tests sets) c s = refl
-        by (Stop server) c s = refl
-        by (Add server region) c s = refl
         by (Search terms) c s = s terms refl
         by (Get key) c s = elim (calls.replied (record { session = u; number = n }) v answer (length older + 1) (inl (acts, i, refl)) (Get key) key c refl) [
           | inl r ↦ told (facts.replies (x ∷ older) run r.0 (record { session = u; number = n }) v answer r.1 (Get key) key c refl)
@@ -235,6 +229,7 @@ module _ (script : Script) (facts : Facts script) (older : List Entry) (x : Entr
             told (inl h) = absurd (false≢true h.0)
             told (inr (inl h)) = absurd (false≢true h.0)
             told (inr (inr h)) = got (line_object (upto v.0 (line_of key (x ∷ older)))) h.2
+        by other c s = refl
 
     -- the call that ends has not ended before
     ends-once : (n : ℕ) (v : Version) (answer : Answer) → IsIn (a_note.Ended n v answer) x.notes → has_ended (record { session = u; number = n }) (noted_in older) ≡ false

@@ -11,7 +11,7 @@ use Rattle.hx_types.specs.declared.traces.Entry.{Entry}
 use Rattle.hx_types.specs.declared.traces.Script.{Script}
 use Rattle.hx_types.specs.declared.values.Term.{Term}
 use Rattle.hx_types.specs.declared.calls.Answer.TheVariants as an_answer
-use Rattle.hx_types.specs.declared.calls.Op.TheVariants.{Put, Get, Del, Cput, Search, Stop, Add}
+use Rattle.hx_types.specs.declared.calls.Op.TheVariants.{Search}
 use Rattle.hx_types.specs.Words.{when_some}
 use Rattle.hx_types.specs.Fitting.{call_of, numbered}
 use Rattle.hx_model.specs.Runs.{IsRun}
@@ -93,28 +93,13 @@ module _ (script : Script) (facts : Facts script) where
 
   -- a search by its parts
   terms-are : (op : Op) (terms : List Term) → terms_of op ≡ Some terms → op ≡ Search terms
-  terms-are (Put key sets) terms e = absurd (cc)
-  terms-are (Get key) terms e = absurd (cc)
-  terms-are (Del key) terms e = absurd (cc)
-  terms-are (Cput key tests sets) terms e = absurd (cc)
   terms-are (Search ts) terms e = let q : ts ≡ terms = cc in ap Search q
-  terms-are (Stop server) terms e = absurd (cc)
-  terms-are (Add server region) terms e = absurd (cc)
+  terms-are other terms e = absurd (cc)
 
   -- rows that an answer has are its own
   rows-are : (a : Answer) (rows : List Row) → rows_in a ≡ Some rows → a ≡ an_answer.Rows rows
-  rows-are an_answer.Done rows e = absurd (cc)
-  rows-are an_answer.NotFound rows e = absurd (cc)
-  rows-are an_answer.CmpFail rows e = absurd (cc)
-  rows-are (an_answer.Found object) rows e = absurd (cc)
   rows-are (an_answer.Rows rs) rows e = let q : rs ≡ rows = cc in ap an_answer.Rows q
-  rows-are (an_answer.Refused region epoch) rows e = absurd (cc)
-  rows-are (an_answer.Doubt region epoch) rows e = absurd (cc)
-  rows-are (an_answer.Issued epoch) rows e = absurd (cc)
-  rows-are (an_answer.Stopped epoch) rows e = absurd (cc)
-  rows-are (an_answer.Member epoch) rows e = absurd (cc)
-  rows-are (an_answer.Joining epoch) rows e = absurd (cc)
-  rows-are (an_answer.Lost epoch) rows e = absurd (cc)
+  rows-are other rows e = absurd (cc)
 
   -- each finished search is known so
   pub finished : (t : List Entry) → IsRun script t → (c : Caller) (s : FinishedSearch) → search_of script t c ≡ Some s → Finished t c s

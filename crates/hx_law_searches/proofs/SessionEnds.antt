@@ -17,7 +17,7 @@ use Rattle.hx_types.specs.declared.spaces.Space.{Space}
 use Rattle.hx_types.specs.declared.traces.Input.{Input}
 use Rattle.hx_types.specs.declared.values.Term.{Term}
 use Rattle.hx_types.specs.declared.calls.Answer.TheVariants as an_answer
-use Rattle.hx_types.specs.declared.calls.Op.TheVariants.{Put, Get, Del, Cput, Search, Stop, Add}
+use Rattle.hx_types.specs.declared.calls.Op.TheVariants.{Put, Get, Del, Cput, Search, Stop, Add, Atomic}
 use Rattle.hx_types.specs.declared.messages.Message.TheVariants as a_message
 use Rattle.hx_types.specs.declared.outcomes.Planned.TheVariants as a_plan
 use Rattle.hx_types.specs.declared.traces.Input.TheVariants.{Tick, Halt, Deliver}
@@ -80,6 +80,7 @@ sends space s (Put key sets) e = sends-key s (Put key sets) (key_region space ke
 sends space s (Get key) e = sends-key s (Get key) (key_region space key) e (λ terms q. absurd (cc))
 sends space s (Del key) e = sends-key s (Del key) (key_region space key) e (λ terms q. absurd (cc))
 sends space s (Cput key tests sets) e = sends-key s (Cput key tests sets) (key_region space key) e (λ terms q. absurd (cc))
+sends space s (Atomic key edits) e = sends-key s (Atomic key edits) (key_region space key) e (λ terms q. absurd (cc))
 sends space s (Search terms) e = asks s terms (plan_of space s.config terms) e
 sends space s (Stop server) e = quiet s _ refl
 sends space s (Add server g) e = quiet s _ refl

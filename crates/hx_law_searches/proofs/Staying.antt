@@ -1,5 +1,5 @@
 -- Rows that a session was ever sent are of changes that stay in their keys' lines, and servers serve the calls.
-use Rattle.std.proofs.Common.{◌≡◌, List, subst, sym}
+use Rattle.std.proofs.Common.{List, subst, sym}
 use Rattle.hx_types.specs.declared.calls.Caller.{Caller}
 use Rattle.hx_types.specs.declared.calls.Row.{Row}
 use Rattle.hx_types.specs.declared.ids.RegionId.{RegionId}
@@ -11,8 +11,8 @@ use Rattle.hx_model.specs.Lines.{upto}
 use Rattle.hx_model.specs.Runs.{IsRun}
 use Rattle.hx_model.specs.Histories.{line_of}
 use Rattle.hx_law_lemmas.proofs.Lines.{Sorted, in-upto, in-upto_from, only-in, only-sorted, upto-low, upto-sorted}
-use Rattle.hx_law_lemmas.proofs.Rows.{Kept, kept-is}
-use Rattle.hx_law_lemmas.specs.Facts.{Facts, IsPartOf, part_at}
+use Rattle.hx_law_lemmas.proofs.Rows.{kept-is}
+use Rattle.hx_law_lemmas.specs.Facts.{Facts, part_at}
 use Rattle.hx_law_lemmas.proofs.FactLines.{line-sorted}
 use Rattle.hx_law_searches.specs.Headline.{IsRowOfLine, RunsKeepRows, RunsServeCalls}
 use Rattle.hx_law_searches.proofs.FromChains.{facts}

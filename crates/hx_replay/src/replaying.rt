@@ -71,8 +71,10 @@ fn answered(
     ensures { IfOk result (λ made. IsWholeReplay with_trace script.now made.trace made.bytes.items) }
 {
     hx_law_searches::histories_are_linear();
+    hx_law_order::runs_have_one_order();
     hx_law_searches::searches_are_true_and_whole();
     hx_law_causes::answers_have_causes();
+    hx_law_epochs::lost_regions_have_lost_their_replicas();
     let bytes = report(alloc, script, &trace, &[], with_trace)?;
     Ok(Written { trace, bytes })
 }

@@ -10,8 +10,8 @@ returns-clause-ran g c =
     record {
       ran = e.ran;
       lawful =
-          is_lawful c.args.script.now c.in_ok-ran.ran.trace c.requires.script e.ran.run c.histories_are_linear.ensures c.searches_are_true_and_whole.ensures
-          c.answers_have_causes.ensures;
+          is_lawful c.args.script.now c.in_ok-ran.ran.trace c.requires.script e.ran.run c.histories_are_linear.ensures c.runs_have_one_order.ensures
+          c.searches_are_true_and_whole.ensures c.answers_have_causes.ensures c.lost_regions_have_lost_their_replicas.ensures;
       fates = e.fates;
     }
 

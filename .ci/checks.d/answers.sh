@@ -1,0 +1,70 @@
+#!/usr/bin/env bash
+# What the program writes of a script, alone: each example and each case, and what no file can say.
+. "$(dirname "${BASH_SOURCE[0]}")/../common.sh"
+needs "$program"
+
+# Each example has what a command writes of it, and the program writes that.
+compare() {
+  [ -f "$3" ] || return 1
+  hx "$1" <"$2" | cmp -s - "$3" || complain "hx $1 <$2 doesn't write $3"
+}
+for script in examples/*.hx; do
+  told=no
+  compare replay "$script" "${script%.hx}.report" && told=yes
+  compare plan "$script" "${script%.hx}.plan" && told=yes
+  [ "$told" = yes ] || complain "$script has neither report nor plan"
+done
+
+# Each case is answered, or refused, as it is told there (cases/README.md).
+answered() {
+  local folder=$1 ending=$2 script wanted
+  shift 2
+  for script in cases/"$folder"/*.hx; do
+    wanted=${script%.hx}.$ending
+    [ -f "$wanted" ] || complain "$script has no answer"
+    hx "$@" <"$script" | cmp -s - "$wanted" || complain "hx $* <$script doesn't write $wanted"
+  done
+}
+answered replay report replay
+answered trace report replay --trace
+answered plan plan plan
+for script in cases/part/*.hx; do
+  lines=$(cat "${script%.hx}.lines") || complain "$script has no lines"
+  [[ $(hx replay <"$script") == *"$lines"* ]] || complain "hx replay <$script doesn't write ${script%.hx}.lines"
+done
+refused() {
+  told=$(hx "$1" <"$2" 2>&1)
+  status=$?
+  [[ $status -eq 3 && $told = "$3" ]] || complain "hx $1 <$2 tells '$told' with $status, and not '$3' with 3"
+}
+for script in cases/refused/*.hx; do
+  line=$(sed -n "s/^${script##*/} //p" cases/refused/lines)
+  [ -n "$line" ] || complain "$script has no line"
+  refused replay "$script" "$line"
+  case $line in *': step') ;; *) refused plan "$script" "$line" ;; esac
+done
+
+# A put whose leader halts after any number of deliveries is done once, and a get of another session finds it.
+survives() {
+  {
+    sed '/^session 1$/,$d' cases/replay/puts_along_chains.hx
+    printf 'session 1\nput "a" genre="b" year=1999\nsession 2\nget "a"\nsteps\ntick u1\n'
+    for entry in $(seq "$1"); do printf 'deliver %d.0\n' "$entry"; done
+    printf 'halt s1\n'
+  } | hx replay
+}
+found=$'-> found version 1 genre="b" year=1999\nhistory "a"\nitem 1 u1.1 done'
+for delivered in $(seq 0 12); do
+  [[ $(survives "$delivered") == *"$found"* ]] || complain "a put doesn't survive the halt of its leader after $delivered deliveries"
+done
+
+# A script may end after each of its lines: before its head is whole the line that is missing is refused.
+script=$(sed 's/ *#.*//; /^ *$/d' examples/library.hx)
+head_lines=$(sed -n '/^session 1/=' <<<"$script")
+for lines in $(seq 0 "$(wc -l <<<"$script")"); do
+  told=$(head -n "$lines" <<<"$script" | hx replay 2>&1 >/dev/null)
+  status=$?
+  if [ "$lines" -ge $((head_lines - 1)) ]; then wanted='0 '; else wanted="3 line $((lines + 1)): order"; fi
+  [ "$status $told" = "$wanted" ] || complain "the first $lines lines of a script end with $status and '$told'"
+done
+exit "$failed"

@@ -1,0 +1,46 @@
+#!/usr/bin/env bash
+# Soaks and runs on threads. One that doesn't end is stopped.
+. "$(dirname "${BASH_SOURCE[0]}")/../common.sh"
+needs "$program"
+
+# A soak writes the same summary on any number of threads: what its calls make one after another on one map (bench/soak.py).
+soaked() {
+  hx soak "$1" "$2" --workers "$3" | cmp -s - "$4" || complain "hx soak $1 $2 --workers $3 doesn't write $4"
+}
+for workers in 1 2 4; do
+  soaked 7 256 "$workers" examples/soak.summary
+  for summary in cases/soak/*.summary; do
+    words=${summary##*/} words=${words%.summary}
+    soaked "${words%_*}" "${words#*_}" "$workers" "$summary"
+  done
+done
+
+# On threads every call is answered, whatever is lost or repeated, and as many posts are as the words say. Where several
+# threads lose messages by number, one may lose the same message each time that it is sent again (of 400 runs nine on four
+# threads): such a run is made anew.
+ran() {
+  words=$*
+  for _ in 1 2 3 4; do
+    report=$(timeout 20 "$program" run "$@" <examples/library.hx) && break
+  done || complain "hx run $words fails"
+  [[ $report != *'-> open'* && $report == *$'\nend' ]] || complain "hx run $words leaves a call open"
+}
+tells() {
+  grep -qE "^driver $1\$" <<<"$report" || complain "hx run $words has no line of a driver as '$1'"
+}
+ran --workers 1
+tells '1 posts [0-9]+ deliver [0-9]+ lose 0 twice 0'
+ran --workers 4
+tells '4 posts [0-9]+ deliver [0-9]+ lose 0 twice 0'
+ran --workers 1 --lose 7
+tells '1 posts [0-9]+ deliver [0-9]+ lose [1-9][0-9]* twice 0'
+ran --workers 1 --repeat 2
+tells '1 posts [0-9]+ deliver [0-9]+ lose 0 twice [1-9][0-9]*'
+# Each thread loses and repeats, the last one too.
+ran --workers 4 --lose 7
+for driver in 1 2 3 4; do tells "$driver posts [0-9]+ deliver [0-9]+ lose [1-9][0-9]* twice 0"; done
+ran --workers 4 --repeat 2
+for driver in 1 2 3 4; do tells "$driver posts [0-9]+ deliver [0-9]+ lose 0 twice [1-9][0-9]*"; done
+ran --workers 16
+tells '16 posts [0-9]+ deliver [0-9]+ lose 0 twice 0'
+exit "$failed"

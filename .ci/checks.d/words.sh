@@ -1,0 +1,91 @@
+#!/usr/bin/env bash
+# Words, statuses and faults: with which status the program and ./hx end, and what they tell on standard error.
+. "$(dirname "${BASH_SOURCE[0]}")/../common.sh"
+needs "$program"
+
+# ends STATUS LINE INPUT WORD..: the program ends so where it reads this input
+ends() {
+  local wanted=$1 line=$2 input=$3
+  shift 3
+  told=$(printf '%s' "$input" | hx "$@" 2>&1 >/dev/null)
+  status=$?
+  [[ $status -eq $wanted && $told = "$line" ]] || complain "hx ${*@Q} ends with $status and '$told', and not with $wanted and '$line'"
+}
+ends 0 '' '' --help
+ends 0 '' '' --version
+ends 3 'line 2: order' $'hx 1\nkey k 1\n' replay
+ends 3 'line 1: order' '' run --workers 2
+# A session whose every message is lost asks again until it is worn.
+ends 7 'worn u1' $'hx 1\nspace one\nkey k 1\nstring v\nservers 1\ntolerate 0\nsession 1\nget "a"\n' run --workers 1 --lose 1
+# Each search of 256 regions takes 257 entries of its session.
+ends 7 'worn u1' "$(printf 'hx 1\nspace w\nkey k 256\nservers 1\ntolerate 0\nsession 1\n'; yes search | head -n 4081)"$'\n' replay
+
+# What is no command is refused by the program and by ./hx alike. A copy of ./hx alone has nothing that it could build:
+# so it is seen that for such words it doesn't try to, and that for right ones it does.
+usage='usage: hx replay or run or soak or plan'
+bare=$(mktemp -d)
+trap 'rm -r "$bare"' EXIT
+cp hx "$bare/hx"
+asked() {
+  local wanted=$1
+  shift
+  told=$("$bare/hx" "$@" 2>&1 </dev/null)
+  status=$?
+  [[ $status -eq $wanted ]] || complain "./hx ${*@Q} ends with $status and '$told', and not with $wanted"
+}
+wrong() {
+  ends 2 "$usage" '' "$@"
+  asked 2 "$@"
+  [ "$told" = "$usage" ] || complain "./hx ${*@Q} tells '$told'"
+}
+wrong
+wrong ''
+wrong Plan
+wrong $'\xff'
+wrong replay plan
+wrong replay ''
+wrong 'replay --trace'
+wrong replay --trace --trace
+wrong replay $'\xff'
+wrong run --workers 0
+wrong run --workers 17
+wrong run --workers $'1\xff'
+wrong run --lose 01
+wrong run --lose 1 --lose 1
+wrong run --repeat 1000001
+wrong run --workers 2 --lose 1 --repeat 1 --trace x
+wrong soak 1
+wrong soak 1 16385
+wrong soak 18446744073709551616 1
+asked 2 --proved
+asked 2 --proved plan 1
+asked 1 replay
+asked 1 replay --trace
+asked 1 plan
+asked 1 picture
+asked 1 run --workers 16 --lose 1000000
+asked 1 run --trace --repeat 0
+asked 1 run --workers 2 --lose 1 --repeat 1 --trace
+asked 1 soak 18446744073709551615 16384 --workers 1
+asked 1 --proved plan
+
+# ./hx prints these texts itself, as the program does, and answers by the program where that is proved.
+cmp -s <(./hx --version) <(hx --version) || complain './hx --version has another text'
+[[ $(./hx --help) == "$(hx --help)"* ]] || complain './hx --help has another text'
+told=$(./hx replay <examples/first.hx 2>&1)
+[ "$told" = "$(cat examples/first.report)" ] || complain "./hx doesn't answer by the proved program, and tells '${told%%$'\n'*}'"
+
+# Faults of the standard streams, and a text that is too large.
+told=$(head -c 16777217 /dev/zero | tr '\0' '#' | hx plan 2>&1)
+[ "$? $told" = '3 too large' ] || complain "a text of 16,777,217 bytes isn't told to be too large"
+told=$(hx replay 2>&1 <.)
+[ "$? $told" = '4 read fault' ] || complain "a fault of reading isn't told"
+told=$(hx replay <examples/first.hx 2>&1 >/dev/full)
+[ "$? $told" = '5 write fault' ] || complain "a fault of writing isn't told"
+# Each read and each write of them may fail.
+if command -v cc >/dev/null; then
+  told=$(bash bench/faults.sh 2>&1) || complain "a fault of reading or writing is not told: ${told%%$'\n'*}"
+else
+  printf 'skipped: no C compiler (bench/faults.sh)\n'
+fi
+exit "$failed"

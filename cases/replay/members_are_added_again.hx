@@ -1,0 +1,51 @@
+# Server 3 has joined region 0, and is added to it once more; server 1 is added to region 3, of which it was a
+# member from the start. Then server 2 is stopped, and can't be added again.
+hx 1
+space books
+key name 2
+string genre
+int year 1900 2099
+subspace genre 4
+subspace year 2
+servers 4
+tolerate 1
+session 1
+put "a" genre="b" year=1999
+add 3 0
+session 2
+add 3 0
+add 3 0
+add 1 3
+stop 2
+add 2 0
+steps
+tick u1
+deliver 1.0
+deliver 2.0
+deliver 3.0
+deliver 4.0
+deliver 5.0
+deliver 6.0
+deliver 7.0
+deliver 8.0
+deliver 9.0
+deliver 10.0
+deliver 11.0
+deliver 12.0
+tick u1
+deliver 14.0
+deliver 15.0
+deliver 15.1
+deliver 15.2
+deliver 15.3
+deliver 16.0
+deliver 17.0
+deliver 18.0
+deliver 19.0
+deliver 23.0
+deliver 23.1
+tick u2
+deliver 26.0
+deliver 23.2
+deliver 25.0
+deliver 25.0
