@@ -137,15 +137,17 @@ impl Clock {
         self.table.shared.load::<Load>(&mut seat.token, 0)
     }
 
-    /// The number of stamps that were drawn. Where the seat has taken in every actor's seat, they are
-    /// the stamps of its parts.
-    pub fn close(self, seat: Seat) -> u64
-        requires clock { seat.clock ≡ self }
-        ensures entries { IsWhole seat.view → result ≡ length (all_of (parts_of seat.view)) }
-        ensures causal { IsWhole seat.view → IsCausal (parts_of seat.view) }
-        ensures stamps { IsWhole seat.view → HasStampsBelow result (parts_of seat.view) }
+    /// The number of stamps that were drawn, after which none is drawn. Where the seat has taken in every
+    /// actor's seat, they are the stamps of its parts. It keeps these, and so tells each entry's stamp.
+    pub fn close(self, seat: &mut Seat) -> u64
+        requires clock { seat.old.clock ≡ self }
+        ensures clock { seat.new.clock ≡ self }
+        ensures seat { seat.new.view ≡ seat.old.view }
+        ensures entries { IsWhole seat.old.view → result ≡ length (all_of (parts_of seat.old.view)) }
+        ensures causal { IsWhole seat.old.view → IsCausal (parts_of seat.old.view) }
+        ensures stamps { IsWhole seat.old.view → HasStampsBelow result (parts_of seat.old.view) }
     {
-        let Seat { mut token } = seat;
-        self.table.shared.load::<Load>(&mut token, 0)
+        let Seat { token } = seat;
+        self.table.shared.load::<Load>(token, 0)
     }
 }

@@ -402,10 +402,8 @@ issued-well script valid x older run next i =
     noted (n ∷ ns) (inr i) = λ q. noted ns i (later n q)
       where
         later : (n : Note) → config_noted next.epoch (n ∷ ns) ≡ None → config_noted next.epoch ns ≡ None
-        later (a_note.Began number) = λ q. q
-        later (a_note.Ended number version answer) = λ q. q
-        later (a_note.Assigned u) = λ q. q
         later (a_note.Issued c) = cond_both (eqb c.epoch.0 next.epoch.0) (Some c) (config_noted next.epoch ns) (λ o. o ≡ None → config_noted next.epoch ns ≡ None) (λ t e. absurd (cc)) (λ t e. e)
+        later other = λ q. q
 
     by : (kept : EpochsRun script older) → Notes script valid older kept (coordinator_of script (x ∷ older)).config x.notes → WasIssued script older next
     by kept (inl (e, f)) = absurd (noted x.notes i (f next.epoch))

@@ -8,6 +8,7 @@ pub mod Heads
 pub mod Attributes
 pub mod Subspaces
 pub mod Assignments
+pub mod Edits
 pub mod Terms
 pub mod Calls
 pub mod Steps

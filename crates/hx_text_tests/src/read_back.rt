@@ -24,6 +24,9 @@ const WRITTEN: &str = "# each kind of line\n\
     search\n\
     stop 3\r\n\
     add 4 7\n\
+    atomic \"a\"  add year = -0 append genre=\"c\"# both\n\
+    atomic \"b\" min\tyear=-9223372036854775808\n\
+    atomic \"b\" max year=07\n\
     session 2\n\
     steps\n\
     deliver 1 . 0\n\
@@ -51,6 +54,9 @@ const PLAIN: &str = "hx 1\n\
     search\n\
     stop 3\n\
     add 4 7\n\
+    atomic \"a\" add year=0 append genre=\"c\"\n\
+    atomic \"b\" min year=-9223372036854775808\n\
+    atomic \"b\" max year=7\n\
     session 2\n\
     steps\n\
     deliver 1.0\n\
@@ -98,7 +104,7 @@ fn is_read(alloc: Global, text: &str, lines: &[u64], plain: &str) -> bool {
 
 #[test]
 fn reads_what_it_prints(rt: HostRuntime) {
-    assert!(rt; is_read(rt.alloc(), WRITTEN, &[23, 25, 26, 27], PLAIN));
-    assert!(rt; is_read(rt.alloc(), PLAIN, &[21, 22, 23, 24], PLAIN));
+    assert!(rt; is_read(rt.alloc(), WRITTEN, &[26, 28, 29, 30], PLAIN));
+    assert!(rt; is_read(rt.alloc(), PLAIN, &[24, 25, 26, 27], PLAIN));
     assert!(rt; is_read(rt.alloc(), SESSIONS, &[20, 21, 22], SESSIONS));
 }

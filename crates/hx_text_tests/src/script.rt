@@ -121,6 +121,32 @@ const NO_CALLS: [Row; 38] = [
 ];
 
 /// Behind the same.
+const NO_EDITS: [Row; 22] = [
+    ("atomic", 11, Reason::Order),
+    ("atomic a add year=1", 11, Reason::Order),
+    ("atomic add year=1", 11, Reason::Order),
+    ("atomic \"a\"", 11, Reason::Order),
+    ("atomic \"a\" year=1", 11, Reason::Order),
+    ("atomic \"a\" mul year=2", 11, Reason::Order),
+    ("atomic \"a\" add", 11, Reason::Order),
+    ("atomic \"a\" add if=1", 11, Reason::Order),
+    ("atomic \"a\" add year 1", 11, Reason::Order),
+    ("atomic \"a\" add year=", 11, Reason::Order),
+    ("atomic \"a\" add year=1..2", 11, Reason::Order),
+    ("atomic \"a\" add year=1 genre=\"b\"", 11, Reason::Order),
+    ("atomic \"a\" add colour=\"b\"", 11, Reason::Unknown),
+    ("atomic \"a\" append name=\"b\"", 11, Reason::Unknown),
+    ("atomic \"a\" add year=1 min year=\"x\"", 11, Reason::Twice),
+    ("atomic \"a\" add year=\"b\"", 11, Reason::TypeOf),
+    ("atomic \"a\" add genre=1", 11, Reason::TypeOf),
+    ("atomic \"a\" add genre=\"b\"", 11, Reason::TypeOf),
+    ("atomic \"a\" min genre=\"b\"", 11, Reason::TypeOf),
+    ("atomic \"a\" max genre=\"b\"", 11, Reason::TypeOf),
+    ("atomic \"a\" append year=\"b\"", 11, Reason::TypeOf),
+    ("atomic \"a\" append year=1", 11, Reason::TypeOf),
+];
+
+/// Behind the same.
 const NO_TOKENS: [Row; 11] = [
     ("get \"a\u{1}\"", 11, Reason::Token),
     ("get \"a\\r\"", 11, Reason::Token),
@@ -153,10 +179,11 @@ const NO_STEPS: [Row; 13] = [
 ];
 
 /// Lines that are read, behind the head of books, of their session or of their steps.
-const TAKEN: [(&str, &str); 6] = [
+const TAKEN: [(&str, &str); 7] = [
     (BOOKS, "tolerate 3"),
     (CALLS, "add 4 7"),
     (CALLS, "cput \"a\" if year=1 set year=2"),
+    (CALLS, "atomic \"a\" min year=-5 append genre=\"\""),
     (
         CALLS,
         "\tsearch\tyear=-9223372036854775808..9223372036854775807\t# ä\u{1}\r",
@@ -198,6 +225,7 @@ fn refuses_lines_of_the_head(rt: HostRuntime) {
 #[test]
 fn refuses_calls_and_steps(rt: HostRuntime) {
     assert_refused(&rt, CALLS, &NO_CALLS);
+    assert_refused(&rt, CALLS, &NO_EDITS);
     assert_refused(&rt, CALLS, &NO_TOKENS);
     assert_refused(&rt, STEPS, &NO_STEPS);
     for (head, line) in TAKEN {
@@ -224,12 +252,29 @@ type Long = (
     Option<(u64, Reason)>,
 );
 
-const LONG: [Long; 7] = [
+const LONG: [Long; 10] = [
     (CALLS, "put \"", "x", 1024, "\"", None),
     (CALLS, "put \"", "x", 1024, "y\"", Some((11, Reason::Limit))),
     (
         CALLS,
         "put \"a\" year=\"",
+        "x",
+        1024,
+        "y\"",
+        Some((11, Reason::TypeOf)),
+    ),
+    (CALLS, "atomic \"a\" append genre=\"", "x", 1024, "\"", None),
+    (
+        CALLS,
+        "atomic \"a\" append genre=\"",
+        "x",
+        1024,
+        "y\"",
+        Some((11, Reason::Limit)),
+    ),
+    (
+        CALLS,
+        "atomic \"a\" add year=\"",
         "x",
         1024,
         "y\"",

@@ -11,4 +11,4 @@ pub returns-clause-stamps : goal.returns-clause-stamps
 returns-clause-stamps c = search rules
 
 pub returns-clause-entries : goal.returns-clause-entries
-returns-clause-entries c whole = stamps-count _ (parts_of c.args.seat.view) (returns-clause-stamps c whole)
+returns-clause-entries c whole = stamps-count _ (parts_of c.args.seat.now.view) (returns-clause-stamps c whole)
