@@ -80,7 +80,8 @@ fn worn_by(fault: Option<Fault>) -> Result<Option<Actor>, Memory>
 ///
 /// # Errors
 ///
-/// [`Memory`] alone. Where several actors are worn, it is one of the lowest driver's that is told.
+/// [`Memory`] alone. Where several drivers met a worn actor, that of the lowest of them is told: the
+/// contract of `run_rounds` says so, and this one doesn't, which knows no drivers.
 pub fn run<R: Threads + Wait + Sync, G: Gate + Sync>(
     rt: &R,
     alloc: Global,
