@@ -1,7 +1,6 @@
 -- What the merge of all parts is.
 use Rattle.std.proofs.Common.{◌≡◌, List, [], ◌∷◌, map, refl, ap, sym, subst}
-use Rattle.std.specs.Prelude.{reverse, Result, IfOk, Ok, Err}
-use Rattle.hx_types.specs.declared.errors.Memory.{Memory}
+use Rattle.std.specs.Prelude.{reverse}
 use Rattle.hx_types.specs.declared.traces.Entry.{Entry}
 use Rattle.hx_types.specs.declared.traces.Script.{Script}
 use Rattle.hx_model.specs.Runs.{IsRun}
@@ -23,7 +22,7 @@ same_parts : (seated : List SeatedPart) → parts_in (parts_by seated) ≡ parts
 same_parts [] = refl
 same_parts (p ∷ seated) = ap (λ l. p.part ∷ l) (same_parts seated)
 
-gathered : (seated : List SeatedPart) (lists : List (List Stamped)) (trace : List Entry) → lists ≡ parts_of seated → AreWholeParts (parts_of seated)
+pub gathered : (seated : List SeatedPart) (lists : List (List Stamped)) (trace : List Entry) → lists ≡ parts_of seated → AreWholeParts (parts_of seated)
     → (merged : List Stamped) × IsMerged lists merged × HasStampsAsPlaces merged × (trace ≡ map (λ (x : Stamped). x.entry) merged) → IsGathered seated trace
 gathered seated lists trace same whole m =
     let merged : IsMerged (parts_of seated) m.0 = subst (λ l. IsMerged l m.0) same m.1 in
@@ -36,12 +35,3 @@ gathered seated lists trace same whole m =
       run = λ script own. subst (λ t. IsRun script (reverse t)) (sym m.3) (run script own).run;
       own = λ script own. subst (λ t. HasOwnParts (parts_by seated) (reverse t)) (sym m.3) (run script own).own;
     }
-
-pub gathers : (seated : List SeatedPart) (lists : List (List Stamped)) (result : Result (List Entry) Memory) → lists ≡ parts_of seated → AreWholeParts (parts_of seated)
-    → IfOk result (λ trace. (merged : List Stamped) × IsMerged lists merged × HasStampsAsPlaces merged × (trace ≡ map (λ (x : Stamped). x.entry) merged)) → IfOk result (IsGathered seated)
-gathers seated lists (Ok trace) same whole m = gathered seated lists trace same whole m
-gathers seated lists (Err e) same whole m = m
-
-pub part_of_it : (result : Result (List Entry) Memory) (P Q : List Entry → Type 0) → ((trace : List Entry) → P trace → Q trace) → IfOk result P → IfOk result Q
-part_of_it (Ok trace) P Q f h = f trace h
-part_of_it (Err e) P Q f h = h

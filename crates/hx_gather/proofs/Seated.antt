@@ -62,3 +62,17 @@ whole_parts clock seat seated given v drawn same seats counts carried count caus
       drawn = drawn;
       stamps = subst (HasStampsBelow drawn) parts (stamps whole);
     }
+
+-- the seat has all that was drawn, and what it carries are the parts
+pub whole_view : (clock : TableId) (seat : Seated) (seated given : List SeatedPart) (v : View) → given ≡ seated
+    → AllByRecursion (IsSeated clock) seated → CountsAll seat seated → v.carried ≡ flat_map (λ (p : SeatedPart). p.seat.view.carried) given → v.count ≡ seat.view.count
+    → IsWhole v × (a_view.parts_of v ≡ parts_of seated)
+whole_view clock seat seated given v same seats counts carried count =
+    let carries : v.carried ≡ flat_map (λ (p : SeatedPart). p.seat.view.carried) seated = carried ∙ ap (flat_map (λ (p : SeatedPart). p.seat.view.carried)) same in (
+      (
+        counts.0,
+        count ∙ counts.1,
+        λ k lt. let h = counts.2 k lt in subst (λ ps. 1 ≤ times k ps) (sym carries) (number_carried seated h.0 k h.1 h.2),
+      ),
+      ap (map (λ (p : NumberedPart). p.entries)) carries ∙ carried_parts clock seated seats,
+    )

@@ -3,8 +3,10 @@ ghost use Rattle.std.specs.List.{AllByRecursion};
 ghost use Rattle.hx_types.specs.declared.traces.Script.{Script};
 ghost use Rattle.hx_model.specs.Runs.{IsRun};
 ghost use Rattle.hx_clock.specs.declared.parts.Stamped.{Stamped};
+ghost use Rattle.hx_clock.specs.Views as a_view;
+ghost use Rattle.hx_clock.specs.Views.{IsWhole};
 ghost use Rattle.hx_law_threads.specs.Merged.{AreOwnParts, AreWholeParts, HasOwnParts, HasStampsAsPlaces, IsMerged};
-ghost use Rattle.hx_gather.specs.Gathered.{parts_by, parts_of, CountsAll, IsSeated};
+ghost use Rattle.hx_gather.specs.Gathered.{parts_by, parts_of, CountsAll, IsDrawn, IsSeated};
 
 use crate::arranging::arrange;
 use hx_clock::{Clock, Part, Parts, Seat};
@@ -21,8 +23,18 @@ pub struct SeatedPart {
     pub seat: Seat,
 }
 
+/// A trace, and its evidence: the clock's seat that has all its entries with their stamps. What a seat
+/// has grows by acts of its clock alone, each of which draws one stamp by one atomic addition. So the
+/// seat, which has no bytes, shows that the entries stand in the order in which they drew their stamps.
+#[derive(Drop)]
+pub struct Gathered {
+    pub trace: Trace,
+    pub seat: Seat,
+}
+
 /// The trace of all actors of a clock: the entries of their parts in the order of their stamps, so
-/// that an entry's number is its stamp plus 1. It closes the clock, whose counting seat it takes.
+/// that an entry's number is its stamp plus 1. It closes the clock, and gives back its counting seat,
+/// which has taken in those of all actors.
 ///
 /// Where the parts are what different actors of a script made on their own, the trace is a run of
 /// that script, and each actor's entries in it are its part: so its state at the end is the one that
@@ -35,32 +47,37 @@ pub fn gather(
     clock: Clock,
     seat: Seat,
     actors: Vec<SeatedPart>,
-) -> Result<Trace, Memory>
+) -> Result<Gathered, Memory>
     requires clock { seat.clock ≡ clock }
     requires counting { seat.view.carried ≡ [] }
     requires seats { AllByRecursion (IsSeated clock) actors.items }
     requires all { CountsAll seat actors.items }
-    ensures whole { IfOk result (λ trace. (merged : List Stamped) × IsMerged (parts_of actors.items) merged × HasStampsAsPlaces merged × (trace ≡ map (λ x. x.entry) merged)) }
+    ensures whole { IfOk result (λ made. (merged : List Stamped) × IsMerged (parts_of actors.items) merged × HasStampsAsPlaces merged × (made.trace ≡ map (λ x. x.entry) merged)) }
+    ensures clock { IfOk result (λ made. made.seat.clock ≡ clock) }
+    ensures drawn { IfOk result (λ made. IsDrawn made.seat.view made.trace) }
     ensures parts { IfOk result (λ _. AreWholeParts (parts_of actors.items)) }
-    ensures run { IfOk result (λ trace. (script : Script) → AreOwnParts script (parts_by actors.items) → IsRun script (reverse trace)) }
-    ensures own { IfOk result (λ trace. (script : Script) → AreOwnParts script (parts_by actors.items) → HasOwnParts (parts_by actors.items) (reverse trace)) }
+    ensures run { IfOk result (λ made. (script : Script) → AreOwnParts script (parts_by actors.items) → IsRun script (reverse made.trace)) }
+    ensures own { IfOk result (λ made. (script : Script) → AreOwnParts script (parts_by actors.items) → HasOwnParts (parts_by actors.items) (reverse made.trace)) }
 {
-    let parts = collect(alloc, clock, seat, actors)?;
-    arrange(alloc, parts)
+    let (parts, seat) = collect(alloc, clock, seat, actors)?;
+    let trace = arrange(alloc, parts)?;
+    Ok(Gathered { trace, seat })
 }
 
-/// The parts, once the counting seat has taken in the seats of all actors.
+/// The parts, and the counting seat, once it has taken in the seats of all actors.
 fn collect(
     alloc: Global,
     clock: Clock,
     mut seat: Seat,
     actors: Vec<SeatedPart>,
-) -> Result<Parts, Memory>
+) -> Result<(Parts, Seat), Memory>
     requires clock { seat.clock ≡ clock }
     requires counting { seat.view.carried ≡ [] }
     requires seats { AllByRecursion (IsSeated clock) actors.items }
     requires all { CountsAll seat actors.items }
-    ensures parts { IfOk result (λ parts. parts ≡ parts_of actors.items) }
+    ensures parts { IfOk result (λ made. made.0 ≡ parts_of actors.items) }
+    ensures clock { IfOk result (λ made. made.1.clock ≡ clock) }
+    ensures seat { IfOk result (λ made. IsWhole made.1.view × (a_view.parts_of made.1.view ≡ parts_of actors.items)) }
     ensures whole { IfOk result (λ _. AreWholeParts (parts_of actors.items)) }
 {
     let mut parts = Parts::new(alloc);
@@ -73,6 +90,6 @@ fn collect(
         clock.learn(&mut seat, other);
         parts.push(part)?;
     }
-    let _ = clock.close(seat);
-    Ok(parts)
+    let _ = clock.close(&mut seat);
+    Ok((parts, seat))
 }

@@ -7,6 +7,6 @@ mod arranging;
 mod gathering;
 mod merging;
 
-pub use gathering::{SeatedPart, gather};
+pub use gathering::{Gathered, SeatedPart, gather};
 pub use hx_clock::{Part, Parts, Stamped};
 pub use merging::merge;
