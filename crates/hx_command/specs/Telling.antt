@@ -1,8 +1,10 @@
 -- What the program tells of a call, whichever words it has.
-use Rattle.std.specs.Prelude.{◌≡◌, ◌⊎◌, List}
+use Rattle.std.specs.Prelude.{◌≡◌, ◌⊎◌, ℕ, List}
+use Rattle.std.specs.Io.KnownBytes.{Appends}
 use Rattle.std.specs.declared.string.String.{String}
 use Rattle.std.specs.declared.alloc.Global.{Global}
 use Rattle.hx_io.specs.Causes.{Rose}
+use Rattle.hx_io.specs.Pieces.{AppendsPrefix}
 use Rattle.hx_types.specs.declared.ids.Actor.{Actor}
 use Rattle.hx_types.specs.declared.traces.Script.{Script}
 use Rattle.hx_words.specs.declared.commands.Run.{Run}
@@ -10,7 +12,10 @@ use Rattle.hx_words.specs.declared.commands.Soak.{Soak}
 use Rattle.hx_words.specs.Saying.{SaysRun, SaysSoak}
 use Rattle.hx_replay.specs.declared.outcomes.Outcome.{Outcome}
 use Rattle.hx_replay.specs.declared.outcomes.Outcome.TheVariants as an_outcome
-use Rattle.hx_replay.specs.Calling.{Drawn, Ends, Filled, Writes}
+use Rattle.hx_replay.specs.Calling.{Drawn, Ends, Filled, Shows, Writes}
+use Rattle.hx_replay.specs.Commands.{Asks}
+use Rattle.hx_replay.specs.declared.words.Question.{Question}
+use Rattle.hx_command.specs.Showing.{shown_text}
 use Rattle.hx_command.specs.Threads.{EndsRun, EndsSoak, Handed, IsDecided, IsUnthreaded}
 
 -- the answer to words that start no threads was written
@@ -44,3 +49,18 @@ pub record Told (words : List (String Global)) (source : Drawn) (sink : Filled) 
   pub soak : (command : Soak) → SaysSoak words command → EndsSoak command sink h outcome
   pub soaked : (command : Soak) → SaysSoak words command → ¬ Rose sink.faults_before sink.faults_after
       → (outcome ≡ an_outcome.Fine) ⊎ (outcome ≡ an_outcome.Memory) ⊎ ((a : Actor) × (outcome ≡ an_outcome.Worn a))
+
+-- how the program ends with these words: what was asked was shown, or the call ended as its words have it
+pub record EndsProgram (words : List (String Global)) (source : Drawn) (sink : Filled) (outcome : Outcome) : Type 0 where
+  pub asked : (question : Question) → Asks words question → Shows sink (shown_text question) outcome
+  pub called : ((question : Question) → ¬ Asks words question) → Told words source sink outcome
+
+-- the words of the process couldn't be read: one of them is no text, or memory was wanting
+abbrev pub IsUnread : Outcome → Type 0
+IsUnread outcome = (outcome ≡ an_outcome.Memory) ⊎ (outcome ≡ an_outcome.Usage)
+
+-- the line was printed, or a prefix of it and a fault rose, or there was no room to make it and nothing was
+abbrev pub Prints : Filled → List ℕ → Type 0
+Prints errors line =
+    Appends errors.before errors.after line
+    ⊎ (Rose errors.faults_before errors.faults_after × AppendsPrefix errors.before errors.after line ⊎ (errors.after ≡ errors.before))

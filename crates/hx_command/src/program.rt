@@ -5,10 +5,10 @@ ghost use Rattle.std.specs.Io.KnownBytes.{Appends};
 ghost use Rattle.hx_io.specs.Causes.{Rose};
 ghost use Rattle.hx_io.specs.Pieces.{AppendsPrefix};
 ghost use Rattle.hx_replay.specs.Calling.{Shows};
-ghost use Rattle.hx_command.specs.Telling.{Answers, Told};
+ghost use Rattle.hx_command.specs.Telling.{Answers, EndsProgram, IsUnread, Prints, Told};
 ghost use Rattle.hx_command.specs.Threads.{Handed, HasEnough};
 ghost use Rattle.hx_replay.specs.Commands.{Asks};
-ghost use Rattle.hx_replay.specs.Outcomes.{IsSilent, fault_line};
+ghost use Rattle.hx_replay.specs.Outcomes.{IsSilent, fault_line, status_of};
 ghost use Rattle.hx_command.specs.Showing.{shown_text};
 ghost use Rattle.hx_replay.specs.declared.words.Question.{Question};
 
@@ -87,6 +87,15 @@ where
     S: Source,
     K: Sink,
     E: Sink,
+    // The status is that of the call with some words, or that of words that couldn't be read, with which
+    // nothing is read or written; and the line of that outcome was printed.
+    ensures told { (outcome : Outcome) × (result ≡ status_of outcome)
+        × (((words : List (String Global)) × EndsProgram words
+        (record { before = S.left source.old; after = S.left source.new; faults_before = S.faults source.old; faults_after = S.faults source.new })
+        (record { before = K.held sink.old; after = K.held sink.new; faults_before = K.faults sink.old; faults_after = K.faults sink.new }) outcome)
+        ⊎ (IsUnread outcome × (source.new ≡ source.old) × (sink.new ≡ sink.old)))
+        × Prints (record { before = E.held errors.old; after = E.held errors.new; faults_before = E.faults errors.old; faults_after = E.faults errors.new }) (fault_line outcome) }
+
     // With status 0 what was asked was shown, or the answer to the source's text was written.
     ensures fine { result ≡ 0 → (words : List (String Global)) × (
         ((question : Question) × Asks words question × Appends (K.held sink.old) (K.held sink.new) (shown_text question))
