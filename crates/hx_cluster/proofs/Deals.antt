@@ -26,7 +26,7 @@ use Rattle.hx_outbox.specs.declared.outboxes.Outbox.{Outbox}
 use Rattle.hx_outbox.specs.Outboxes.{AreGood, counts_of, kept_weight, out_weight, outs_of, IsOutPort}
 use Rattle.hx_outbox.specs.Places.{place_of}
 use Rattle.hx_outbox.specs.Zipped.{Both}
-use Rattle.hx_fate.specs.Counts.{FateCounts}
+use Rattle.hx_fate.specs.States.{untouched}
 use Rattle.hx_outbox.specs.Offers.{IsOffered, IsTotal}
 use Rattle.hx_outbox.proofs.Lists.{map-length}
 use Rattle.hx_outbox.proofs.Offering.{offered-none}
@@ -193,16 +193,13 @@ module _ (script : Script) (clock : TableId) (boxes : List Boxed) (w : ℕ) wher
   news-of [] n = tt
   news-of (d ∷ ds) n = ((n.0.part, n.0.kept), news-of ds n.1)
 
-  no_counts : FateCounts
-  no_counts = record { chosen = 0; lost = 0; doubled = 0 }
-
   booked-new : (i : ℕ) (c : Crew) → IsNewOutbox boxes i c.out → AllByRecursion (IsNewDesk script clock boxes w) c.desks.items → c.totals ≡ no_totals → IsBooked c
   booked-new i c o n t = record {
     posts = [];
-    before = no_counts;
-    after = no_counts;
-    offered = subst (λ s. IsOffered (λ h. 0) (λ h. weight_in h c.out c.desks.items) no_totals s no_counts no_counts []) (sym t)
-        (offered-none (λ h. 0) (λ h. weight_in h c.out c.desks.items) no_totals no_counts (λ h. let a = no-weight h c.out.ports.items o.new in let b = (kept-none h c.desks.items n).0 in omega (arith, a, b)));
+    before = untouched;
+    after = untouched;
+    offered = subst (λ s. IsOffered (λ h. 0) (λ h. weight_in h c.out c.desks.items) no_totals s untouched untouched []) (sym t)
+        (offered-none (λ h. 0) (λ h. weight_in h c.out c.desks.items) no_totals untouched (λ h. let a = no-weight h c.out.ports.items o.new in let b = (kept-none h c.desks.items n).0 in omega (arith, a, b)));
     made = λ h. sym (kept-none h c.desks.items n).1;
     few = let a = (kept-none (λ m. 1) c.desks.items n).1 in omega (arith, a);
   }

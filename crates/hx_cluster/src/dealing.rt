@@ -91,7 +91,7 @@ fn give_fates(
 ) -> Result<Vec<Driver>, Memory>
     requires { length crews.items ≤ length fates.items }
     ensures crews { IfOk result (λ drivers. map (λ d. d.crew) drivers.items ≡ crews.items) }
-    ensures fates { IfOk result (λ drivers. (i : ℕ) (d : _) (f : _) → slice_get drivers.items i ≡ Some d → slice_get fates.items i ≡ Some f → counts d.fate ≡ counts f) }
+    ensures fates { IfOk result (λ drivers. (i : ℕ) (d : _) (f : _) → slice_get drivers.items i ≡ Some d → slice_get fates.items i ≡ Some f → state d.fate ≡ state f) }
 {
     let mut drivers = Vec::with_capacity(alloc, crews.len())?;
     for (crew, fate) in crews.into_iter().zip(fates) {
@@ -119,7 +119,7 @@ pub fn deal(
     requires ports { ArePortsOf workers boxes.now ports.items }
     requires workers { (1 ≤ workers) × (workers ≤ 16) × (workers ≤ length fates.items) }
     ensures crews { IfOk result (λ drivers. AreNewCrews script.now clock.now boxes.now workers (map (λ d. d.crew) drivers.items)) }
-    ensures fates { IfOk result (λ drivers. (i : ℕ) (d : _) (f : _) → slice_get drivers.items i ≡ Some d → slice_get fates.items i ≡ Some f → counts d.fate ≡ counts f) }
+    ensures fates { IfOk result (λ drivers. (i : ℕ) (d : _) (f : _) → slice_get drivers.items i ≡ Some d → slice_get fates.items i ≡ Some f → state d.fate ≡ state f) }
 {
     let (desks, outs) = deal_out(alloc, script, clock, boxes, seats, ports, workers)?;
     let crews = new_crews(alloc, script, clock, boxes, desks, outs, workers)?;

@@ -11,9 +11,10 @@ use Rattle.hx_types.specs.Fitting.{IsScript}
 use Rattle.hx_types.specs.Words.{IsIn}
 use Rattle.hx_model.specs.Runs.{IsRun}
 use Rattle.hx_law_searches.specs.Headline.{RunsAreLinear, RunsSearchWell}
+use Rattle.hx_law_epochs.specs.Epochs.{RunsLoseReplicas}
 use Rattle.hx_law_order.specs.Headline.{RunsHaveOneOrder}
 use Rattle.hx_law_causes.specs.Causes.{RunsHaveCauses}
-use Rattle.hx_fate.specs.Counts.{FateCounts}
+use Rattle.hx_fate.specs.declared.fates.FateState.{FateState}
 use Rattle.hx_outbox.specs.Offers.{raised_by}
 use Rattle.hx_mail.specs.Boxes.{Ported}
 use Rattle.hx_soak.specs.Soaking.{script_drawn}
@@ -54,17 +55,18 @@ module _ (good : Handed → List ℕ → Type 0) (script : Script) (workers : �
   pub written_ends : (h h' : Handed) (bytes : List ℕ) (outcome : Outcome) → h' ≡ h → good h bytes → IsWritten sink bytes outcome → EndsOnThreads good script workers sink h' outcome
   written_ends h h' bytes outcome same g written = subst (λ (x : Handed). EndsOnThreads good script workers sink x outcome) (sym same) (by_outcome h bytes outcome g written)
 
--- ---- the counts of a fate
--- tuning a fate leaves what is said of its counts
-pub risen_from : (script : Script) (w : ℕ) (trace : List Entry) (i : ℕ) (t : Totals) (before tuned after : FateCounts) → tuned ≡ before → HasRisen script w trace i t tuned after → HasRisen script w trace i t before after
-risen_from script w trace i t before tuned after same risen = subst (λ (f : FateCounts). HasRisen script w trace i t f after) same risen
+-- ---- the state of a fate
+-- what is said of a fate from the state in which it was tuned
+pub risen_from : (script : Script) (w : ℕ) (trace : List Entry) (i : ℕ) (t : Totals) (before tuned after : FateState) → tuned ≡ before → HasRisen script w trace i t tuned after → HasRisen script w trace i t before after
+risen_from script w trace i t before tuned after same risen = subst (λ (f : FateState). HasRisen script w trace i t f after) same risen
 
-pub risen_same : (script drawn : Script) (w : ℕ) (trace : List Entry) (i : ℕ) (t : Totals) (f f' : FateCounts) → script ≡ drawn → HasRisen script w trace i t f f' → HasRisen drawn w trace i t f f'
+pub risen_same : (script drawn : Script) (w : ℕ) (trace : List Entry) (i : ℕ) (t : Totals) (f f' : FateState) → script ≡ drawn → HasRisen script w trace i t f f' → HasRisen drawn w trace i t f f'
 risen_same script drawn w trace i t f f' same risen = subst (λ (s : Script). HasRisen s w trace i t f f') same risen
 
 -- ---- what the laws say of a run
-pub is_lawful : (script : Script) (trace : List Entry) → IsScript script → IsRun script (reverse trace) → RunsAreLinear → RunsHaveOneOrder → RunsSearchWell → RunsHaveCauses → IsLawful script trace
-is_lawful script trace valid run linear orders searches causes =
+pub is_lawful : (script : Script) (trace : List Entry) → IsScript script → IsRun script (reverse trace) → RunsAreLinear → RunsHaveOneOrder → RunsSearchWell → RunsHaveCauses → RunsLoseReplicas
+    → IsLawful script trace
+is_lawful script trace valid run linear orders searches causes losses =
     record {
       linear = linear script valid (reverse trace) run;
       one_order = orders script valid (reverse trace) run;
@@ -72,6 +74,7 @@ is_lawful script trace valid run linear orders searches causes =
           let well = searches script valid (reverse trace) run caller s found in
           record { true_rows = well.0; whole = well.1 };
       causes = causes script valid (reverse trace) run;
+      lost = losses script valid (reverse trace) run;
     }
 
 -- ---- what the law on soaks asks for

@@ -16,8 +16,10 @@ use Rattle.hx_model.specs.Causes.{HasCauses}
 use Rattle.hx_model.specs.Searching.{FinishedSearch, search_of}
 use Rattle.hx_report.specs.Reporting.{IsReport}
 use Rattle.hx_mail.specs.Boxes.{Ported}
+use Rattle.hx_fate.specs.declared.fates.Tuning.{Tuning}
 use Rattle.hx_run.specs.Ran.{IsRan}
 use Rattle.hx_soak.specs.Soaking.{script_drawn, soak}
+use Rattle.hx_law_epochs.specs.Epochs.{LosesReplicas}
 use Rattle.hx_law_order.specs.Order.{HasOneOrder}
 use Rattle.hx_law_soak.specs.Sequence.{tally_in_order}
 use Rattle.hx_soak.specs.Summing.{tally_text}
@@ -30,6 +32,15 @@ use Rattle.hx_replay.specs.declared.words.Command.TheVariants as a_command
 use Rattle.hx_replay.specs.Calling.{Drawn, Filled}
 use Rattle.hx_replay.specs.Causes.{IsFaulty, IsJudged, IsRefused, IsSearchWell, IsTaken, ReadsText, limit}
 
+-- how the words of `run` tune a fate
+abbrev pub tuning_of : Run → Tuning
+tuning_of run = record { lose_every = run.lose; repeat_every = run.repeat }
+
+-- there are as many fates as the words start drivers
+pub record HasEnough (words : List (String Global)) (fates : ℕ) : Type 0 where
+  pub run : (run : Run) → SaysRun words run → run.workers ≤ fates
+  pub soak : (soak : Soak) → SaysSoak words soak → soak.workers ≤ fates
+
 -- what a call hands back beside its outcome; of the fates, how many
 pub record Handed : Type 0 where
   pub trace : List Entry
@@ -40,12 +51,13 @@ pub record Handed : Type 0 where
 abbrev pub nothing : Handed
 nothing = record { trace = []; totals = []; ports = []; fates = 0 }
 
--- each key's history is linear, all of them have one order, each finished search is whole and true, and every answer has its cause
+-- each key's history is linear, all of them have one order, each finished search is whole and true, every answer has its cause, and a lost region has lost its replicas
 pub record IsLawful (script : Script) (trace : List Entry) : Type 0 where
   pub linear : (key : List ℕ) → IsLinear script (reverse trace) key
   pub one_order : HasOneOrder script (reverse trace)
   pub searches : (c : Caller) (s : FinishedSearch) → search_of script (reverse trace) c ≡ Some s → IsSearchWell script (reverse trace) s
   pub causes : HasCauses script (reverse trace)
+  pub lost : LosesReplicas script (reverse trace)
 
 -- so many threads ran the script, to its end or until this actor was worn, and each has its fate
 pub record IsThreaded (script : Script) (workers : ℕ) (h : Handed) (worn : Option Actor) : Type 0 where

@@ -6,7 +6,7 @@ ghost use Rattle.hx_io.specs.Causes.{Rose};
 ghost use Rattle.hx_io.specs.Pieces.{AppendsPrefix};
 ghost use Rattle.hx_replay.specs.Calling.{Shows};
 ghost use Rattle.hx_command.specs.Telling.{Answers, Told};
-ghost use Rattle.hx_command.specs.Threads.{Handed};
+ghost use Rattle.hx_command.specs.Threads.{Handed, HasEnough};
 ghost use Rattle.hx_replay.specs.Commands.{Asks};
 ghost use Rattle.hx_replay.specs.Outcomes.{IsSilent, fault_line};
 ghost use Rattle.hx_command.specs.Showing.{shown_text};
@@ -15,10 +15,11 @@ ghost use Rattle.hx_replay.specs.declared.words.Question.{Question};
 use crate::finished::Finished;
 use crate::top::hyperstore;
 use hx_desk::Open;
-use hx_fate::{EveryNth, Fate};
+use hx_fate::{Fate, Losing};
 use hx_io::{Sink, Source, write_all};
 use hx_replay::{Done, Outcome, Question, fault_text, question_of, status};
 use hx_types::Memory;
+use hx_words::{run_of, soak_of};
 use std::alloc::Global;
 use std::mem::ManuallyDrop;
 use std::rt::Env;
@@ -30,7 +31,8 @@ use std::{env, io};
 const HELP: &[u8] = b"hx: a searchable key-value store whose histories are proved linear
 
 usage: hx replay [--trace] < SCRIPT
-       hx run [--workers W] [--lose N] [--repeat N] [--trace] < SCRIPT
+       hx run [--workers W] [--lose N] [--repeat N] [--seed S]
+              [--trace] < SCRIPT
        hx soak SEED CALLS [--workers W]
        hx plan < SCRIPT
 
@@ -40,7 +42,8 @@ Commands:
                with --trace every step of every actor too
   run          the same on W threads (1 to 16; 2 where it isn't said), losing
                and repeating one message in so many of each thread's
-               (0 to 1000000; never where it isn't said)
+               (0 to 1000000; never where it isn't said), which are counted,
+               or drawn from the seed S where it is said (any number of 64 bits)
   soak         run 1 to 16384 calls drawn from a seed on W threads, and write
                a summary that is the same for every W
   plan         write which regions each search of the script asks
@@ -55,9 +58,6 @@ Status: 0 fine, 2 usage, 3 a text that can't be run, 4 a fault of reading,
 
 /// What `hx --version` prints.
 const VERSION: &[u8] = b"hx 0.1.0\n";
-
-/// On how many threads a script is run at most.
-const MOST_WORKERS: u32 = 16;
 
 /// Why the line of an outcome wasn't printed.
 #[derive(Clone, Copy, PartialEq, Eq)]
@@ -134,7 +134,21 @@ fn command<R: Threads + Wait + Sync, S: Source, K: Sink>(
     }
 }
 
-/// Makes the call with fates that lose and repeat by number, and a gate that holds nobody.
+/// How many drivers the words start, and the seed that their fates draw from, where they say one.
+fn drivers_of(words: &[String]) -> (u32, Option<u64>)
+    ensures { HasEnough words.now result.0 }
+{
+    match run_of(words) {
+        Some(run) => (run.workers, run.seed),
+        None => match soak_of(words) {
+            Some(soak) => (soak.workers, None),
+            None => (0, None),
+        },
+    }
+}
+
+/// Makes the call with fates that lose and repeat by number, or by a draw where the words say a seed, and
+/// a gate that holds nobody.
 fn called<R: Threads + Wait + Sync, S: Source, K: Sink>(
     rt: &R,
     alloc: Global,
@@ -154,8 +168,9 @@ fn called<R: Threads + Wait + Sync, S: Source, K: Sink>(
     ensures silent { IsSilent result → sink.new ≡ sink.old }
 {
     let mut fates: Vec<Box<dyn Fate + Send>> = Vec::new(alloc);
-    for _driver in 0..MOST_WORKERS {
-        let Ok(fate) = Box::new(alloc, EveryNth::new()) else {
+    let (drivers, seed) = drivers_of(words);
+    for driver in 0..drivers {
+        let Ok(fate) = Box::new(alloc, Losing::new(seed, driver)) else {
             return Outcome::Memory;
         };
         let Ok(()) = fates.push(fate) else {

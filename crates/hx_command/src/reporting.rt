@@ -1,15 +1,16 @@
 ghost use Rattle.std.specs.Prelude.{◌≡◌, ◌≤◌, ◌⊎◌, ℕ, [], length, slice_get, None, Some};
 ghost use Rattle.hx_types.specs.declared.totals.Totals.{Totals as TotalsSeen};
 ghost use Rattle.hx_types.specs.Fitting.{IsScript};
+ghost use Rattle.hx_fate.specs.States.{tuned};
 ghost use Rattle.hx_run.specs.Ran.{HasRisen};
 ghost use Rattle.hx_replay.specs.Outcomes.{IsSilent, status_of};
-ghost use Rattle.hx_command.specs.Threads.{EndsOnThreads, IsReported, IsThreaded};
+ghost use Rattle.hx_command.specs.Threads.{EndsOnThreads, IsReported, IsThreaded, tuning_of};
 
 use crate::finished::{Finished, ended};
 use crate::threads::{Threading, run_threads};
 use crate::writing::{hand_worn, write_answer};
 use hx_desk::Gate;
-use hx_fate::Fate;
+use hx_fate::{Fate, Tuning};
 use hx_io::Sink;
 use hx_replay::Outcome;
 use hx_report::report;
@@ -37,15 +38,17 @@ pub fn answer_run<R: Threads + Wait + Sync, K: Sink, G: Gate + Sync>(
     requires workers { (1 ≤ command.workers) × (command.workers ≤ 16) × (command.workers ≤ length fates.items) }
     ensures ends { EndsOnThreads (IsReported command script.now) script.now command.workers (record { before = K.held sink.old; after = K.held sink.new; faults_before = K.faults sink.old; faults_after = K.faults sink.new }) (record { trace = result.done.trace; totals = result.totals.items; ports = result.ports.items; fates = length result.fates.items }) result.done.outcome }
     ensures status { result.done.status ≡ status_of result.done.outcome }
-    ensures risen { (i : ℕ) (f : _) (g : _) (t : TotalsSeen) → slice_get fates.items i ≡ Some f → slice_get result.fates.items i ≡ Some g → slice_get result.totals.items i ≡ Some t → HasRisen script.now command.workers result.done.trace i t (counts f) (counts g) }
+    ensures risen { (i : ℕ) (f : _) (g : _) (t : TotalsSeen) → slice_get fates.items i ≡ Some f → slice_get result.fates.items i ≡ Some g → slice_get result.totals.items i ≡ Some t → HasRisen script.now command.workers result.done.trace i t (tuned (tuning_of command) (state f)) (state g) }
     ensures silent { IsSilent result.done.outcome → sink.new ≡ sink.old }
     ensures faults { K.faults sink.old ≤ K.faults sink.new }
 {
     let threading = Threading {
         workers: command.workers,
         capacity: CAPACITY,
-        lose: command.lose,
-        repeat: command.repeat,
+        tuning: Tuning {
+            lose_every: command.lose,
+            repeat_every: command.repeat,
+        },
     };
     match run_threads(rt, alloc, script, threading, fates, gate) {
         Ok(ran) => report_run(alloc, command, script, sink, ran),

@@ -4,10 +4,11 @@ ghost use Rattle.hx_types.specs.declared.ids.Actor.{Actor};
 ghost use Rattle.hx_types.specs.declared.totals.Totals.{Totals as TotalsSeen};
 ghost use Rattle.hx_types.specs.declared.traces.Script.{Script as ScriptSeen};
 ghost use Rattle.hx_soak.specs.Soaking.{script_drawn};
+ghost use Rattle.hx_fate.specs.States.{never, tuned};
 ghost use Rattle.hx_run.specs.Ran.{HasRisen};
 ghost use Rattle.hx_words.specs.Limits.{IsRun, IsSoak};
 ghost use Rattle.hx_replay.specs.Outcomes.{IsSilent, status_of};
-ghost use Rattle.hx_command.specs.Threads.{EndsRun, EndsSoak, IsDecided};
+ghost use Rattle.hx_command.specs.Threads.{EndsRun, EndsSoak, IsDecided, tuning_of};
 ghost use Rattle.hx_replay.specs.declared.outcomes.Outcome.{Outcome as OutcomeSeen};
 
 use crate::finished::{Finished, ended};
@@ -34,7 +35,7 @@ pub fn run_words<R: Threads + Wait + Sync, S: Source, K: Sink, G: Gate + Sync>(
     fates: Vec<Box<dyn Fate + Send>>,
     gate: &G,
 ) -> Finished
-    requires fates { 16 ≤ length fates.items }
+    requires fates { command.workers ≤ length fates.items }
     requires limits { IsRun command }
     ensures status { result.done.status ≡ status_of result.done.outcome }
     ensures run { (script : ScriptSeen) × EndsRun command script
@@ -42,7 +43,7 @@ pub fn run_words<R: Threads + Wait + Sync, S: Source, K: Sink, G: Gate + Sync>(
         (record { before = K.held sink.old; after = K.held sink.new; faults_before = K.faults sink.old; faults_after = K.faults sink.new })
         (record { trace = result.done.trace; totals = result.totals.items; ports = result.ports.items; fates = length result.fates.items })
         result.done.outcome
-        × ((i : ℕ) (f : _) (g : _) (t : TotalsSeen) → slice_get fates.items i ≡ Some f → slice_get result.fates.items i ≡ Some g → slice_get result.totals.items i ≡ Some t → HasRisen script command.workers result.done.trace i t (counts f) (counts g)) }
+        × ((i : ℕ) (f : _) (g : _) (t : TotalsSeen) → slice_get fates.items i ≡ Some f → slice_get result.fates.items i ≡ Some g → slice_get result.totals.items i ≡ Some t → HasRisen script command.workers result.done.trace i t (tuned (tuning_of command) (state f)) (state g)) }
     ensures decided { IsDecided
         (record { before = S.left source.old; after = S.left source.new; faults_before = S.faults source.old; faults_after = S.faults source.new })
         (record { before = K.held sink.old; after = K.held sink.new; faults_before = K.faults sink.old; faults_after = K.faults sink.new })
@@ -66,14 +67,14 @@ pub fn soak_words<R: Threads + Wait + Sync, K: Sink, G: Gate + Sync>(
     fates: Vec<Box<dyn Fate + Send>>,
     gate: &G,
 ) -> Finished
-    requires fates { 16 ≤ length fates.items }
+    requires fates { command.workers ≤ length fates.items }
     requires limits { IsSoak command }
     ensures status { result.done.status ≡ status_of result.done.outcome }
     ensures soak { EndsSoak command
         (record { before = K.held sink.old; after = K.held sink.new; faults_before = K.faults sink.old; faults_after = K.faults sink.new })
         (record { trace = result.done.trace; totals = result.totals.items; ports = result.ports.items; fates = length result.fates.items })
         result.done.outcome }
-    ensures risen { (i : ℕ) (f : _) (g : _) (t : TotalsSeen) → slice_get fates.items i ≡ Some f → slice_get result.fates.items i ≡ Some g → slice_get result.totals.items i ≡ Some t → HasRisen (script_drawn command.seed command.calls) command.workers result.done.trace i t (counts f) (counts g) }
+    ensures risen { (i : ℕ) (f : _) (g : _) (t : TotalsSeen) → slice_get fates.items i ≡ Some f → slice_get result.fates.items i ≡ Some g → slice_get result.totals.items i ≡ Some t → HasRisen (script_drawn command.seed command.calls) command.workers result.done.trace i t (tuned never (state f)) (state g) }
     ensures soaked { ¬ Rose (K.faults sink.old) (K.faults sink.new)
         → (result.done.outcome ≡ OutcomeSeen.Fine) ⊎ (result.done.outcome ≡ OutcomeSeen.Memory) ⊎ ((a : Actor) × (result.done.outcome ≡ OutcomeSeen.Worn a)) }
     ensures silent { IsSilent result.done.outcome → sink.new ≡ sink.old }

@@ -4,6 +4,7 @@ ghost use Rattle.hx_types.specs.declared.ids.Actor.{Actor};
 ghost use Rattle.hx_types.specs.declared.totals.Totals.{Totals as TotalsSeen};
 ghost use Rattle.hx_types.specs.declared.traces.Script.{Script as ScriptSeen};
 ghost use Rattle.hx_soak.specs.Soaking.{script_drawn};
+ghost use Rattle.hx_fate.specs.States.{never, tuned};
 ghost use Rattle.hx_run.specs.Ran.{HasRisen};
 ghost use Rattle.hx_words.specs.Saying.{SaysRun, SaysSoak};
 ghost use Rattle.hx_words.specs.declared.commands.Run.{Run as RunSeen};
@@ -11,7 +12,7 @@ ghost use Rattle.hx_words.specs.declared.commands.Soak.{Soak as SoakSeen};
 ghost use Rattle.hx_replay.specs.Calling.{Ends};
 ghost use Rattle.hx_replay.specs.Outcomes.{HasNoTrace, IsSilent, status_of};
 ghost use Rattle.hx_command.specs.Telling.{Answers};
-ghost use Rattle.hx_command.specs.Threads.{EndsRun, EndsSoak, IsDecided, IsUnthreaded};
+ghost use Rattle.hx_command.specs.Threads.{EndsRun, EndsSoak, HasEnough, IsDecided, IsUnthreaded, tuning_of};
 ghost use Rattle.hx_replay.specs.declared.outcomes.Outcome.{Outcome};
 
 use crate::finished::{Finished, unthreaded};
@@ -26,7 +27,7 @@ use std::sync::Wait;
 use std::thread::Threads;
 
 /// The program with threads: it takes its words, the source of its script and the sink of its answer,
-/// a fate for each of up to 16 drivers, and a gate.
+/// a fate for each driver that the words start, and a gate.
 ///
 /// With the words of `run` it runs the script of the source on threads, and with those of `soak` a
 /// script that it draws itself; all other words it hands on to [`hyperstore_alone`]. Fates that no
@@ -45,7 +46,7 @@ pub fn hyperstore<R: Threads + Wait + Sync, S: Source, K: Sink, G: Gate + Sync>(
     fates: Vec<Box<dyn Fate + Send>>,
     gate: &G,
 ) -> Finished
-    requires { 16 ≤ length fates.items }
+    requires { HasEnough words.now (length fates.items) }
     ensures status { result.done.status ≡ status_of result.done.outcome }
 
     // With status 0 the answer to the words was written.
@@ -61,7 +62,8 @@ pub fn hyperstore<R: Threads + Wait + Sync, S: Source, K: Sink, G: Gate + Sync>(
         result.done.outcome result.done.trace }
     ensures empty { IsUnthreaded words.now → (result.totals.items ≡ []) × (result.fates.items ≡ []) × (result.ports.items ≡ []) }
 
-    // Under `run` the text that the source gave is that of a script. With status 0 the trace is a run of
+    // Under `run` the text that the source gave is that of a script. Each fate was tuned as the words
+    // say, and nothing tuned it otherwise. With status 0 the trace is a run of
     // it without halts in which every call has ended, paced by retries that come only where nothing else
     // is left but what was lost; all that the laws say of runs holds of it, and the report was written
     // and nothing else. A worn actor hands back the run up to there.
@@ -70,7 +72,7 @@ pub fn hyperstore<R: Threads + Wait + Sync, S: Source, K: Sink, G: Gate + Sync>(
         (record { before = K.held sink.old; after = K.held sink.new; faults_before = K.faults sink.old; faults_after = K.faults sink.new })
         (record { trace = result.done.trace; totals = result.totals.items; ports = result.ports.items; fates = length result.fates.items })
         result.done.outcome
-        × ((i : ℕ) (f : _) (g : _) (t : TotalsSeen) → slice_get fates.items i ≡ Some f → slice_get result.fates.items i ≡ Some g → slice_get result.totals.items i ≡ Some t → HasRisen script command.workers result.done.trace i t (counts f) (counts g)) }
+        × ((i : ℕ) (f : _) (g : _) (t : TotalsSeen) → slice_get fates.items i ≡ Some f → slice_get result.fates.items i ≡ Some g → slice_get result.totals.items i ≡ Some t → HasRisen script command.workers result.done.trace i t (tuned (tuning_of command) (state f)) (state g)) }
     ensures decided { (command : RunSeen) → SaysRun words.now command → IsDecided
         (record { before = S.left source.old; after = S.left source.new; faults_before = S.faults source.old; faults_after = S.faults source.new })
         (record { before = K.held sink.old; after = K.held sink.new; faults_before = K.faults sink.old; faults_after = K.faults sink.new })
@@ -82,7 +84,7 @@ pub fn hyperstore<R: Threads + Wait + Sync, S: Source, K: Sink, G: Gate + Sync>(
         (record { before = K.held sink.old; after = K.held sink.new; faults_before = K.faults sink.old; faults_after = K.faults sink.new })
         (record { trace = result.done.trace; totals = result.totals.items; ports = result.ports.items; fates = length result.fates.items })
         result.done.outcome
-        × ((i : ℕ) (f : _) (g : _) (t : TotalsSeen) → slice_get fates.items i ≡ Some f → slice_get result.fates.items i ≡ Some g → slice_get result.totals.items i ≡ Some t → HasRisen (script_drawn command.seed command.calls) command.workers result.done.trace i t (counts f) (counts g)) }
+        × ((i : ℕ) (f : _) (g : _) (t : TotalsSeen) → slice_get fates.items i ≡ Some f → slice_get result.fates.items i ≡ Some g → slice_get result.totals.items i ≡ Some t → HasRisen (script_drawn command.seed command.calls) command.workers result.done.trace i t (tuned never (state f)) (state g)) }
     ensures soaked { (command : SoakSeen) → SaysSoak words.now command → ¬ Rose (K.faults sink.old) (K.faults sink.new)
         → (result.done.outcome ≡ Outcome.Fine) ⊎ (result.done.outcome ≡ Outcome.Memory) ⊎ ((a : Actor) × (result.done.outcome ≡ Outcome.Worn a)) }
     ensures unread { (command : SoakSeen) → SaysSoak words.now command → source.new ≡ source.old }

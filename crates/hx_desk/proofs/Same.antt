@@ -20,7 +20,7 @@ use Rattle.hx_machine.specs.Machines.{entry_in, CanTake, IsMachine, IsPlanOn, Is
 use Rattle.hx_mail.specs.declared.views.Mailed.{Mailed}
 use Rattle.hx_mail.specs.Boxes.{Boxed}
 use Rattle.hx_outbox.specs.declared.outboxes.Outbox.{Outbox}
-use Rattle.hx_fate.specs.Counts.{FateCounts}
+use Rattle.hx_fate.specs.declared.fates.FateState.{FateState}
 use Rattle.hx_outbox.specs.Offers.{IsTotal}
 use Rattle.hx_outbox.specs.Outboxes.{kept_weight, IsOutbox}
 use Rattle.hx_desk.specs.declared.desks.Desk.{Desk}
@@ -59,14 +59,14 @@ desk-told script clock boxes w d d' input other s e h =
 pub desk-kept : (script : Script) (clock : TableId) (boxes : List Boxed) (w : ℕ) (rest : List Mailed) (d d' : Desk) → IsSame d d' → d'.machine ≡ d.machine → IsDesk script clock boxes w rest d → IsDesk script clock boxes w rest d'
 desk-kept script clock boxes w rest d d' s m h = desk-same script clock boxes w rest d d' s (subst (IsMachine script d.actor (entries_before d.part.items)) (sym m) h.machine) h
 
-pub turn-same : (boxes : List Boxed) (d d' : Desk) (o : Outbox) (t : Totals) (f : FateCounts) → IsSame d d' → IsOutbox boxes o → IsTotal t → IsTurn boxes d d' o o t t f f []
+pub turn-same : (boxes : List Boxed) (d d' : Desk) (o : Outbox) (t : Totals) (f : FateState) → IsSame d d' → IsOutbox boxes o → IsTotal t → IsTurn boxes d d' o o t t f f []
 turn-same boxes d d' o t f s out total = turn-none boxes d d' o t f s.actor s.part s.kept ([], append-nil (ins_of d.inbox) ∙ sym (ap ins_of s.inbox)) out total
 
 -- a turn from the same desk
-pub turn-after : (boxes : List Boxed) (d d' e : Desk) (o p : Outbox) (t u : Totals) (k l : FateCounts) (xs : List Stamped) → IsSame d d' → IsOutbox boxes o → IsTotal t → IsTurn boxes d' e o p t u k l xs → IsTurn boxes d e o p t u k l xs
+pub turn-after : (boxes : List Boxed) (d d' e : Desk) (o p : Outbox) (t u : Totals) (k l : FateState) (xs : List Stamped) → IsSame d d' → IsOutbox boxes o → IsTotal t → IsTurn boxes d' e o p t u k l xs → IsTurn boxes d e o p t u k l xs
 turn-after boxes d d' e o p t u k l xs s out total h = turn-both boxes d d' e o o p t u k l xs (turn-same boxes d d' o t k s out total) h
 
-pub turn-taken : (boxes : List Boxed) (d d' e : Desk) (o p : Outbox) (t u : Totals) (k l : FateCounts) (xs : List Stamped) → HasTaken d d' → IsOutbox boxes o → IsTotal t → IsTurn boxes d' e o p t u k l xs → IsTurn boxes d e o p t u k l xs
+pub turn-taken : (boxes : List Boxed) (d d' e : Desk) (o p : Outbox) (t u : Totals) (k l : FateState) (xs : List Stamped) → HasTaken d d' → IsOutbox boxes o → IsTotal t → IsTurn boxes d' e o p t u k l xs → IsTurn boxes d e o p t u k l xs
 turn-taken boxes d d' e o p t u k l xs s out total h = turn-both boxes d d' e o o p t u k l xs (turn-none boxes d d' o t k s.actor s.part s.kept s.ins out total) h
 
 -- the step of an input that makes something does so

@@ -7,7 +7,7 @@ use Rattle.hx_clock.proofs.Lists.{get-below, get-snoc}
 use Rattle.hx_law_threads.specs.Cuts.{is_retry}
 use Rattle.hx_mail.specs.Boxes.{Boxed}
 use Rattle.hx_outbox.specs.declared.outboxes.Outbox.{Outbox}
-use Rattle.hx_fate.specs.Counts.{FateCounts}
+use Rattle.hx_fate.specs.declared.fates.FateState.{FateState}
 use Rattle.hx_outbox.specs.Offers.{IsTotal}
 use Rattle.hx_outbox.specs.Outboxes.{kept_weight, out_weight, IsOutbox}
 use Rattle.hx_outbox.proofs.Lists.{begins-refl, begins-trans}
@@ -19,7 +19,7 @@ use Rattle.hx_desk.specs.Inboxes.{ins_of}
 use Rattle.hx_desk.specs.Turns.{weight_of, IsTurn}
 
 -- nothing was done but what was taken
-pub turn-none : (boxes : List Boxed) (d d' : Desk) (o : Outbox) (t : Totals) (f : FateCounts) → d'.actor ≡ d.actor → d'.part.items ≡ d.part.items → d'.kept.items ≡ d.kept.items → IsPrefix (ins_of d.inbox) (ins_of d'.inbox)
+pub turn-none : (boxes : List Boxed) (d d' : Desk) (o : Outbox) (t : Totals) (f : FateState) → d'.actor ≡ d.actor → d'.part.items ≡ d.part.items → d'.kept.items ≡ d.kept.items → IsPrefix (ins_of d.inbox) (ins_of d'.inbox)
     → IsOutbox boxes o → IsTotal t → IsTurn boxes d d' o o t t f f []
 turn-none boxes d d' o t f actor part kept ins out total = record {
   later = record { actor = actor; part = ([], append-nil d.part.items ∙ sym part); ins = ins };
@@ -33,7 +33,7 @@ turn-none boxes d d' o t f actor part kept ins out total = record {
 }
 
 -- a turn in two halves, of which the first makes no entry
-pub turn-both : (boxes : List Boxed) (d e f : Desk) (o p q : Outbox) (t u : Totals) (k l : FateCounts) (xs : List Stamped) → IsTurn boxes d e o p t t k k [] → IsTurn boxes e f p q t u k l xs → IsTurn boxes d f o q t u k l xs
+pub turn-both : (boxes : List Boxed) (d e f : Desk) (o p q : Outbox) (t u : Totals) (k l : FateState) (xs : List Stamped) → IsTurn boxes d e o p t t k k [] → IsTurn boxes e f p q t u k l xs → IsTurn boxes d f o q t u k l xs
 turn-both boxes d e f o p q t u k l xs a b = record {
   later = record {
     actor = b.later.actor ∙ a.later.actor;
@@ -63,5 +63,5 @@ pub no-retry-both : (d e f : Desk) → e.part.items ≡ d.part.items → HasNoRe
 no-retry-both d e f part h n y le at = h n y (subst (λ l. length l ≤ n) (sym part) le) at
 
 -- nothing was done
-pub turn-self : (boxes : List Boxed) (d : Desk) (o : Outbox) (t : Totals) (f : FateCounts) → IsOutbox boxes o → IsTotal t → IsTurn boxes d d o o t t f f []
+pub turn-self : (boxes : List Boxed) (d : Desk) (o : Outbox) (t : Totals) (f : FateState) → IsOutbox boxes o → IsTotal t → IsTurn boxes d d o o t t f f []
 turn-self boxes d o t f out total = turn-none boxes d d o t f refl refl refl (begins-refl (ins_of d.inbox)) out total

@@ -11,7 +11,7 @@ use Rattle.hx_mail.specs.declared.views.Mailed.{Mailed}
 use Rattle.hx_mail.specs.Boxes.{Boxed}
 use Rattle.hx_outbox.specs.declared.outboxes.Outbox.{Outbox}
 use Rattle.hx_outbox.specs.Outboxes.{IsOutbox, MorePut, kept_weight, out_weight}
-use Rattle.hx_fate.specs.Counts.{FateCounts}
+use Rattle.hx_fate.specs.declared.fates.FateState.{FateState}
 use Rattle.hx_outbox.specs.Offers.{IsOffered, IsTotal}
 use Rattle.hx_desk.specs.declared.desks.Desk.{Desk}
 use Rattle.hx_desk.specs.declared.faults.Fault.{Fault}
@@ -25,7 +25,7 @@ abbrev pub weight_of : (Mailed → ℕ) → Outbox → Desk → ℕ
 weight_of h out d = out_weight h out.ports.items + kept_weight h d.kept.items
 
 -- a turn in which these entries came: their posts were offered, each once
-pub record IsTurn (boxes : List Boxed) (d d' : Desk) (o o' : Outbox) (t t' : Totals) (f f' : FateCounts) (xs : List Stamped) : Type 0 where
+pub record IsTurn (boxes : List Boxed) (d d' : Desk) (o o' : Outbox) (t t' : Totals) (f f' : FateState) (xs : List Stamped) : Type 0 where
   pub later : IsLater d d'
   pub part : d'.part.items ≡ d.part.items ++ xs
   pub out : IsOutbox boxes o' × (o'.index ≡ o.index)

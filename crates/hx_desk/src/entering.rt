@@ -52,7 +52,7 @@ fn make<R: Wait, G: Gate>(
     requires out { IsOutbox boxes.now out.old }
     requires room { HasRoom out.old desk.old totals.old }
     ensures desk { (w : ℕ) → IsDesk script.now clock.now boxes.now w (told_by desk.old.actor (entry_in plan).input) desk.old → IsDesk script.now clock.now boxes.now w [] desk.new }
-    ensures turn { (x : Stamped) × (x.entry ≡ entry_in plan) × IsTurn boxes.now desk.old desk.new out.old out.new totals.old totals.new (counts fate.old) (counts fate.new) (x ∷ []) }
+    ensures turn { (x : Stamped) × (x.entry ≡ entry_in plan) × IsTurn boxes.now desk.old desk.new out.old out.new totals.old totals.new (state fate.old) (state fate.new) (x ∷ []) }
 {
     gate.before(desk.actor);
     let entry = desk.machine.apply(plan);
@@ -95,7 +95,7 @@ pub(crate) fn settle<R: Wait, G: Gate>(
     requires out { IsOutbox boxes.now out.old }
     requires room { HasRoom out.old desk.old totals.old }
     ensures desk { MatchResult result (λ _. (w : ℕ) → IsDesk script.now clock.now boxes.now w (told_by desk.old.actor (entry_in plan).input) desk.old → IsDesk script.now clock.now boxes.now w [] desk.new) (λ _. (w : ℕ) (rest : List Mailed) → IsDesk script.now clock.now boxes.now w rest desk.old → IsDesk script.now clock.now boxes.now w rest desk.new) }
-    ensures turn { MatchResult result (λ _. (x : Stamped) × (x.entry ≡ entry_in plan) × IsTurn boxes.now desk.old desk.new out.old out.new totals.old totals.new (counts fate.old) (counts fate.new) (x ∷ [])) (λ _. IsTurn boxes.now desk.old desk.new out.old out.new totals.old totals.new (counts fate.old) (counts fate.new) []) }
+    ensures turn { MatchResult result (λ _. (x : Stamped) × (x.entry ≡ entry_in plan) × IsTurn boxes.now desk.old desk.new out.old out.new totals.old totals.new (state fate.old) (state fate.new) (x ∷ [])) (λ _. IsTurn boxes.now desk.old desk.new out.old out.new totals.old totals.new (state fate.old) (state fate.new) []) }
     ensures fault { MatchResult result (λ _. ⊤) (λ fault. fault ≡ a_fault.Memory) }
 {
     match make_room(alloc, desk, &plan) {
@@ -136,7 +136,7 @@ fn step_on<R: Wait, G: Gate>(
     requires out { IsOutbox boxes.now out.old }
     requires room { HasRoom out.old desk.old totals.old }
     ensures desk { MatchResult result (λ _. (w : ℕ) → IsDesk script.now clock.now boxes.now w (told_by desk.old.actor input) desk.old → IsDesk script.now clock.now boxes.now w [] desk.new) (λ _. (w : ℕ) (rest : List Mailed) → IsDesk script.now clock.now boxes.now w rest desk.old → IsDesk script.now clock.now boxes.now w rest desk.new) }
-    ensures turn { MatchResult result (λ _. (x : Stamped) × IsMadeOf script.now desk.old input x × IsTurn boxes.now desk.old desk.new out.old out.new totals.old totals.new (counts fate.old) (counts fate.new) (x ∷ [])) (λ _. IsTurn boxes.now desk.old desk.new out.old out.new totals.old totals.new (counts fate.old) (counts fate.new) []) }
+    ensures turn { MatchResult result (λ _. (x : Stamped) × IsMadeOf script.now desk.old input x × IsTurn boxes.now desk.old desk.new out.old out.new totals.old totals.new (state fate.old) (state fate.new) (x ∷ [])) (λ _. IsTurn boxes.now desk.old desk.new out.old out.new totals.old totals.new (state fate.old) (state fate.new) []) }
     ensures fault { MatchResult result (λ _. ⊤) (λ fault. fault ≡ a_fault.Memory) }
 {
     match foresee(alloc, script, clock, desk, input) {
@@ -171,7 +171,7 @@ pub(crate) fn enter<R: Wait, G: Gate>(
     requires out { IsOutbox boxes.now out.old }
     requires room { HasRoom out.old desk.old totals.old }
     ensures desk { MatchResult result (λ _. (w : ℕ) → IsDesk script.now clock.now boxes.now w (told_by desk.old.actor input) desk.old → IsDesk script.now clock.now boxes.now w [] desk.new) (λ _. (w : ℕ) (rest : List Mailed) → IsDesk script.now clock.now boxes.now w rest desk.old → IsDesk script.now clock.now boxes.now w rest desk.new) }
-    ensures turn { MatchResult result (λ _. (x : Stamped) × IsMadeOf script.now desk.old input x × IsTurn boxes.now desk.old desk.new out.old out.new totals.old totals.new (counts fate.old) (counts fate.new) (x ∷ [])) (λ _. IsTurn boxes.now desk.old desk.new out.old out.new totals.old totals.new (counts fate.old) (counts fate.new) []) }
+    ensures turn { MatchResult result (λ _. (x : Stamped) × IsMadeOf script.now desk.old input x × IsTurn boxes.now desk.old desk.new out.old out.new totals.old totals.new (state fate.old) (state fate.new) (x ∷ [])) (λ _. IsTurn boxes.now desk.old desk.new out.old out.new totals.old totals.new (state fate.old) (state fate.new) []) }
     ensures fault { MatchResult result (λ _. ⊤) (λ fault. IsFaultOf script.now desk.new fault) }
 {
     if is_worn(desk) {

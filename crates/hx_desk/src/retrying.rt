@@ -69,7 +69,7 @@ fn finish<R: Wait, G: Gate>(
     ensures desk { (w : ℕ) → IsDesk script.now clock.now boxes.now w [] desk.old → IsDesk script.now clock.now boxes.now w [] desk.new }
     ensures retried { MatchResult result (λ _. HasRetried script.now desk.old desk.new) (λ _. desk.new.part.items ≡ desk.old.part.items) }
     ensures fault { MatchResult result (λ _. ⊤) (λ fault. IsFaultOf script.now desk.new fault) }
-    ensures turn { (xs : List Stamped) × IsTurn boxes.now desk.old desk.new out.old out.new totals.old totals.new (counts fate.old) (counts fate.new) xs }
+    ensures turn { (xs : List Stamped) × IsTurn boxes.now desk.old desk.new out.old out.new totals.old totals.new (state fate.old) (state fate.new) xs }
 {
     if !makes_anything(&plan) {
         drop(plan);
@@ -107,7 +107,7 @@ fn tick<R: Wait, G: Gate>(
     ensures desk { (w : ℕ) → IsDesk script.now clock.now boxes.now w [] desk.old → IsDesk script.now clock.now boxes.now w [] desk.new }
     ensures retried { MatchResult result (λ _. HasRetried script.now desk.old desk.new) (λ _. desk.new.part.items ≡ desk.old.part.items) }
     ensures fault { MatchResult result (λ _. ⊤) (λ fault. IsFaultOf script.now desk.new fault) }
-    ensures turn { (xs : List Stamped) × IsTurn boxes.now desk.old desk.new out.old out.new totals.old totals.new (counts fate.old) (counts fate.new) xs }
+    ensures turn { (xs : List Stamped) × IsTurn boxes.now desk.old desk.new out.old out.new totals.old totals.new (state fate.old) (state fate.new) xs }
 {
     match foresee(alloc, script, clock, desk, Input::Tick) {
         Ok(plan) => finish(
@@ -139,7 +139,7 @@ pub fn retry<R: Wait, G: Gate>(
     ensures desk { (w : ℕ) → IsWholeDesk script.now clock.now boxes.now w desk.old → IsWholeDesk script.now clock.now boxes.now w desk.new }
     ensures retried { MatchResult result (λ _. HasRetried script.now desk.old desk.new) (λ _. desk.new.part.items ≡ desk.old.part.items) }
     ensures fault { MatchResult result (λ _. ⊤) (λ fault. IsFaultOf script.now desk.new fault) }
-    ensures turn { (xs : List Stamped) × IsTurn boxes.now desk.old desk.new out.old out.new totals.old totals.new (counts fate.old) (counts fate.new) xs }
+    ensures turn { (xs : List Stamped) × IsTurn boxes.now desk.old desk.new out.old out.new totals.old totals.new (state fate.old) (state fate.new) xs }
 {
     if rests(&desk.machine) {
         Ok(())

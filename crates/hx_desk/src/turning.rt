@@ -4,7 +4,7 @@ ghost use Rattle.hx_types.specs.Fitting.{IsScript};
 ghost use Rattle.hx_model.specs.Runs.{has_halted};
 ghost use Rattle.hx_clock.specs.declared.parts.Stamped.{Stamped};
 ghost use Rattle.hx_mail.specs.declared.views.Mailed.{Mailed};
-ghost use Rattle.hx_fate.specs.Counts.{FateCounts};
+ghost use Rattle.hx_fate.specs.declared.fates.FateState.{FateState};
 ghost use Rattle.hx_outbox.specs.Outboxes.{IsOutbox};
 ghost use Rattle.hx_outbox.specs.Places.{AreBoxes};
 ghost use Rattle.hx_desk.specs.declared.faults.Fault.TheVariants as a_fault;
@@ -40,7 +40,7 @@ fn resend<R: Wait>(
     requires out { IsOutbox boxes.now out.old }
     requires room { HasRoom out.old desk.old totals.now }
     ensures desk { (w : ℕ) (rest : List Mailed) → IsDesk script.now clock.now boxes.now w rest desk.old → IsDesk script.now clock.now boxes.now w rest desk.new }
-    ensures turn { (f : FateCounts) → IsTurn boxes.now desk.old desk.new out.old out.new totals.now totals.now f f [] }
+    ensures turn { (f : FateState) → IsTurn boxes.now desk.old desk.new out.old out.new totals.now totals.now f f [] }
     ensures room { HasRoom out.new desk.new totals.now }
 {
     let _ = totals;
@@ -99,7 +99,7 @@ fn begin<R: Wait, G: Gate>(
     requires room { HasRoom out.old desk.old totals.old }
     ensures desk { MatchResult result (λ _. (w : ℕ) → IsDesk script.now clock.now boxes.now w [] desk.old → IsDesk script.now clock.now boxes.now w [] desk.new) (λ _. (w : ℕ) → IsDesk script.now clock.now boxes.now w [] desk.old → IsBrokenDesk script.now clock.now boxes.now w desk.new) }
     ensures fault { MatchResult result (λ _. ⊤) (λ fault. IsFaultOf script.now desk.new fault) }
-    ensures turn { (xs : List Stamped) × IsTurn boxes.now desk.old desk.new out.old out.new totals.old totals.new (counts fate.old) (counts fate.new) xs }
+    ensures turn { (xs : List Stamped) × IsTurn boxes.now desk.old desk.new out.old out.new totals.old totals.new (state fate.old) (state fate.new) xs }
     ensures retries { HasNoRetry desk.old desk.new }
 {
     if desk.machine.idle() {
@@ -143,7 +143,7 @@ fn answer<R: Wait, G: Gate>(
     requires room { HasRoom out.old desk.old totals.old }
     ensures desk { MatchResult result (λ _. (w : ℕ) → IsDesk script.now clock.now boxes.now w [] desk.old → IsDesk script.now clock.now boxes.now w [] desk.new) (λ _. (w : ℕ) → IsDesk script.now clock.now boxes.now w [] desk.old → IsBrokenDesk script.now clock.now boxes.now w desk.new) }
     ensures fault { MatchResult result (λ _. ⊤) (λ fault. IsFaultOf script.now desk.new fault) }
-    ensures turn { (xs : List Stamped) × IsTurn boxes.now desk.old desk.new out.old out.new totals.old totals.new (counts fate.old) (counts fate.new) xs }
+    ensures turn { (xs : List Stamped) × IsTurn boxes.now desk.old desk.new out.old out.new totals.old totals.new (state fate.old) (state fate.new) xs }
     ensures retries { HasNoRetry desk.old desk.new }
 {
     match receive(rt, script, clock, boxes, desk) {
@@ -178,7 +178,7 @@ pub fn turn<R: Wait, G: Gate>(
     requires room { HasRoom out.old desk.old totals.old }
     ensures desk { MatchResult result (λ _. (w : ℕ) → IsWholeDesk script.now clock.now boxes.now w desk.old → IsWholeDesk script.now clock.now boxes.now w desk.new) (λ _. (w : ℕ) → IsWholeDesk script.now clock.now boxes.now w desk.old → IsBrokenDesk script.now clock.now boxes.now w desk.new) }
     ensures fault { MatchResult result (λ _. ⊤) (λ fault. IsFaultOf script.now desk.new fault) }
-    ensures turn { (xs : List Stamped) × IsTurn boxes.now desk.old desk.new out.old out.new totals.old totals.new (counts fate.old) (counts fate.new) xs }
+    ensures turn { (xs : List Stamped) × IsTurn boxes.now desk.old desk.new out.old out.new totals.old totals.new (state fate.old) (state fate.new) xs }
     ensures retries { HasNoRetry desk.old desk.new }
 {
     resend(rt, script, clock, boxes, desk, out, totals);

@@ -12,7 +12,7 @@ use Rattle.hx_mail.specs.declared.views.Mailed.{Mailed}
 use Rattle.hx_mail.specs.Boxes.{Boxed}
 use Rattle.hx_outbox.specs.declared.outboxes.Outbox.{Outbox}
 use Rattle.hx_outbox.specs.Outboxes.{kept_weight}
-use Rattle.hx_fate.specs.Counts.{FateCounts}
+use Rattle.hx_fate.specs.declared.fates.FateState.{FateState}
 use Rattle.hx_outbox.specs.Offers.{asked_of, count_of, raised_by, IsOffered, Offer}
 use Rattle.hx_outbox.proofs.Lists.{at-total, set-total, total-one}
 use Rattle.hx_outbox.proofs.Offering.{offered-both, offered-few, offered-long, offered-none}
@@ -28,7 +28,7 @@ made-append [] ys = refl
 made-append (x ∷ xs) ys = ap (λ l. made_in x ++ l) (made-append xs ys) ∙ sym (append_assoc (made_in x) (made_by xs) (made_by ys))
 
 -- the same offers, beside what else was put or is kept
-offered-frame : (u v u' v' : (Mailed → ℕ) → ℕ) (t t' : Totals) (f f' : FateCounts) (ms : List Mailed) → IsOffered u v t t' f f' ms → ((h : Mailed → ℕ) → v' h + u h ≡ u' h + v h) → IsOffered u' v' t t' f f' ms
+offered-frame : (u v u' v' : (Mailed → ℕ) → ℕ) (t t' : Totals) (f f' : FateState) (ms : List Mailed) → IsOffered u v t t' f f' ms → ((h : Mailed → ℕ) → v' h + u h ≡ u' h + v h) → IsOffered u' v' t t' f f' ms
 offered-frame u v u' v' t t' f f' ms a e = record {
   offers = a.offers;
   are = a.are;
@@ -41,14 +41,15 @@ offered-frame u v u' v' t t' f f' ms a e = record {
   chosen = a.chosen;
   lost = a.lost;
   doubled = a.doubled;
+  tuning = a.tuning;
 }
 
--- a fate's counts after offers, whatever they were before
-abbrev counts-after : FateCounts → List Offer → FateCounts
-counts-after e offers =
-    record { chosen = raised_by (asked_of offers) e.chosen; lost = raised_by (count_of 0 offers) e.lost; doubled = raised_by (count_of 2 offers) e.doubled }
+-- a fate's state after offers, whatever it was before
+abbrev state-after : FateState → List Offer → FateState
+state-after e offers =
+    record { tuning = e.tuning; chosen = raised_by (asked_of offers) e.chosen; lost = raised_by (count_of 0 offers) e.lost; doubled = raised_by (count_of 2 offers) e.doubled }
 
-offered-from : (u v : (Mailed → ℕ) → ℕ) (t t' : Totals) (f f' e : FateCounts) (ms : List Mailed) (a : IsOffered u v t t' f f' ms) → IsOffered u v t t' e (counts-after e a.offers) ms
+offered-from : (u v : (Mailed → ℕ) → ℕ) (t t' : Totals) (f f' e : FateState) (ms : List Mailed) (a : IsOffered u v t t' f f' ms) → IsOffered u v t t' e (state-after e a.offers) ms
 offered-from u v t t' f f' e ms a = record {
   offers = a.offers;
   are = a.are;
@@ -61,16 +62,17 @@ offered-from u v t t' f f' e ms a = record {
   chosen = refl;
   lost = refl;
   doubled = refl;
+  tuning = refl;
 }
 
-pub posted-none : (c : Crew) (f : FateCounts) → IsPosted c c f f
+pub posted-none : (c : Crew) (f : FateState) → IsPosted c c f f
 posted-none c f = record {
   posts = [];
   offered = offered-none (λ h. weight_in h c.out c.desks.items) (λ h. weight_in h c.out c.desks.items) c.totals f (λ h. refl);
   made = λ h. omega arith;
 }
 
-pub posted-trans : (a b c : Crew) (e f g : FateCounts) → IsPosted a b e f → IsPosted b c f g → IsPosted a c e g
+pub posted-trans : (a b c : Crew) (e f g : FateState) → IsPosted a b e f → IsPosted b c f g → IsPosted a c e g
 posted-trans a b c e f g h k = record {
   posts = h.posts ++ k.posts;
   offered =
@@ -83,17 +85,17 @@ abbrev pub with_turn : Crew → ℕ → Desk → Outbox → Totals → Option Fa
 with_turn c at d out totals fault = record { desks = with_item c.desks at d; out = out; totals = totals; fault = fault }
 
 -- an actor of the crew had a turn, and the others are as they were
-pub record IsTurnIn (boxes : List Boxed) (c c' : Crew) (at : ℕ) (d d' : Desk) (f f' : FateCounts) (xs : List Stamped) : Type 0 where
+pub record IsTurnIn (boxes : List Boxed) (c c' : Crew) (at : ℕ) (d d' : Desk) (f f' : FateState) (xs : List Stamped) : Type 0 where
   pub within : at < length c.desks.items
   pub desk : d ≡ slice_index_or c.desks.items at d
   pub turn : IsTurn boxes d d' c.out c'.out c.totals c'.totals f f' xs
   pub desks : c'.desks.items ≡ slice_set c.desks.items at d'
 
-pub turn-in : (boxes : List Boxed) (c : Crew) (at : ℕ) (d d' : Desk) (out : Outbox) (totals : Totals) (fault : Option Fault) (f f' : FateCounts) (xs : List Stamped) → at < length c.desks.items → d ≡ slice_index_or c.desks.items at d
+pub turn-in : (boxes : List Boxed) (c : Crew) (at : ℕ) (d d' : Desk) (out : Outbox) (totals : Totals) (fault : Option Fault) (f f' : FateState) (xs : List Stamped) → at < length c.desks.items → d ≡ slice_index_or c.desks.items at d
     → IsTurn boxes d d' c.out out c.totals totals f f' xs → IsTurnIn boxes c (with_turn c at d' out totals fault) at d d' f f' xs
 turn-in boxes c at d d' out totals fault f f' xs within is turn = record { within = within; desk = is; turn = turn; desks = refl }
 
-module _ (boxes : List Boxed) (c c' : Crew) (at : ℕ) (d d' : Desk) (f f' : FateCounts) (xs : List Stamped) (k : IsTurnIn boxes c c' at d d' f f' xs) where
+module _ (boxes : List Boxed) (c c' : Crew) (at : ℕ) (d d' : Desk) (f f' : FateState) (xs : List Stamped) (k : IsTurnIn boxes c c' at d d' f f' xs) where
   offered-turn : IsOffered (λ h. weight_in h c.out c.desks.items) (λ h. weight_in h c'.out c'.desks.items) c.totals c'.totals f f' (made_by xs)
   offered-turn =
       offered-frame (λ h. weight_of h c.out d) (λ h. weight_of h c'.out d') (λ h. weight_in h c.out c.desks.items) (λ h. weight_in h c'.out c'.desks.items) c.totals c'.totals f f' (made_by xs) k.turn.offered
@@ -117,7 +119,7 @@ few-of : (xs : List Stamped) → length xs ≤ 1 → length (made_by xs) < 42949
 few-of [] one few = omega arith
 few-of (x ∷ xs) one few = omega (arith, few)
 
-entries-turn : (boxes : List Boxed) (c c' : Crew) (at : ℕ) (d d' : Desk) (f f' : FateCounts) (xs : List Stamped) → IsTurnIn boxes c c' at d d' f f' xs
+entries-turn : (boxes : List Boxed) (c c' : Crew) (at : ℕ) (d d' : Desk) (f f' : FateState) (xs : List Stamped) → IsTurnIn boxes c c' at d d' f f' xs
     → total (λ (e : Desk). length e.part.items) c.desks.items + length xs ≡ total (λ (e : Desk). length e.part.items) c'.desks.items
 entries-turn boxes c c' at d d' f f' xs k = omega (
   arith,
@@ -127,16 +129,16 @@ entries-turn boxes c c' at d d' f f' xs k = omega (
   length-append d.part.items xs,
 )
 
-pub booked-turn : (boxes : List Boxed) (c c' : Crew) (at : ℕ) (d d' : Desk) (f f' : FateCounts) (xs : List Stamped) → IsTurnIn boxes c c' at d d' f f' xs → IsBooked c → IsBooked c'
+pub booked-turn : (boxes : List Boxed) (c c' : Crew) (at : ℕ) (d d' : Desk) (f f' : FateState) (xs : List Stamped) → IsTurnIn boxes c c' at d d' f f' xs → IsBooked c → IsBooked c'
 booked-turn boxes c c' at d d' f f' xs k b =
     let offered = offered-turn boxes c c' at d d' f f' xs k in
     let few = b.few in
     record {
       posts = b.posts ++ made_by xs;
       before = b.before;
-      after = counts-after b.after offered.offers;
+      after = state-after b.after offered.offers;
       offered =
-          offered-both (λ h. 0) (λ h. weight_in h c.out c.desks.items) (λ h. weight_in h c'.out c'.desks.items) no_totals c.totals c'.totals b.before b.after (counts-after b.after offered.offers) b.posts (made_by xs) b.offered
+          offered-both (λ h. 0) (λ h. weight_in h c.out c.desks.items) (λ h. weight_in h c'.out c'.desks.items) no_totals c.totals c'.totals b.before b.after (state-after b.after offered.offers) b.posts (made_by xs) b.offered
           (offered-from (λ h. weight_in h c.out c.desks.items) (λ h. weight_in h c'.out c'.desks.items) c.totals c'.totals f f' b.after (made_by xs) offered);
       made = λ h. omega (arith, b.made h, made-turn boxes c c' at d d' f f' xs k h, total-append h b.posts (made_by xs));
       few = omega (arith, few, made-turn boxes c c' at d d' f f' xs k (λ m. 1), total-one (made_by xs), few-of xs k.turn.one k.turn.few, entries-turn boxes c c' at d d' f f' xs k);

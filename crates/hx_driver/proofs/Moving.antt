@@ -8,7 +8,7 @@ use Rattle.hx_types.specs.Words.{IsIn}
 use Rattle.hx_clock.specs.declared.parts.Stamped.{Stamped}
 use Rattle.hx_clock.proofs.Lists.{each_map}
 use Rattle.hx_mail.specs.Boxes.{Boxed}
-use Rattle.hx_fate.specs.Counts.{FateCounts}
+use Rattle.hx_fate.specs.declared.fates.FateState.{FateState}
 use Rattle.hx_outbox.specs.Zipped.{Both}
 use Rattle.hx_outbox.proofs.Lists.{begins-refl, begins-trans}
 use Rattle.hx_outbox.proofs.Outs.{more-refl, more-trans}
@@ -30,7 +30,7 @@ pub desk-at : (script : Script) (clock : TableId) (boxes : List Boxed) (w : ℕ)
 desk-at script clock boxes w c at d h calm within is = (each-at (IsDeskOf script clock boxes w c) c.desks.items at d h.desks within is).whole calm
 
 -- the crew after the turn: without a fault, or with one
-module _ (script : Script) (clock : TableId) (boxes : List Boxed) (w : ℕ) (c c' : Crew) (at : ℕ) (d d' : Desk) (f f' : FateCounts) (xs : List Stamped)
+module _ (script : Script) (clock : TableId) (boxes : List Boxed) (w : ℕ) (c c' : Crew) (at : ℕ) (d d' : Desk) (f f' : FateState) (xs : List Stamped)
     (k : IsTurnIn boxes c c' at d d' f f' xs) (calm : c.fault ≡ None) (h : IsCrew script clock boxes w c) where
   same-desk : (e : Desk) → IsDeskOf script clock boxes w c e → IsDeskOf script clock boxes w c' e
   same-desk e g = record { broken = g.broken; whole = λ n. g.whole calm }
@@ -76,12 +76,13 @@ later-trans d e f a b = record {
   ins = begins-trans (ins_of d.inbox) (ins_of e.inbox) (ins_of f.inbox) a.ins b.ins;
 }
 
-pub crew-later : (boxes : List Boxed) (c c' : Crew) (at : ℕ) (d d' : Desk) (f f' : FateCounts) (xs : List Stamped) → IsTurnIn boxes c c' at d d' f f' xs → c.fault ≡ None → IsLaterCrew c c'
+pub crew-later : (boxes : List Boxed) (c c' : Crew) (at : ℕ) (d d' : Desk) (f f' : FateState) (xs : List Stamped) → IsTurnIn boxes c c' at d d' f f' xs → c.fault ≡ None → IsLaterCrew c c'
 crew-later boxes c c' at d d' f f' xs k calm = record {
   index = k.turn.out.1;
   put = k.turn.more;
   desks = subst (Both IsLater c.desks.items) (sym k.desks) (both-set IsLater later-refl c.desks.items at d d' k.desk k.turn.later);
   calm = λ e. calm;
+  stays = λ fault e. absurd (none-some fault (sym calm ∙ e));
   lose = let lose = k.turn.offered.lose in omega (arith, lose);
   twice = let twice = k.turn.offered.twice in omega (arith, twice);
 }
@@ -92,6 +93,7 @@ crew-later-refl c = record {
   put = more-refl c.out.ports.items;
   desks = both-refl IsLater later-refl c.desks.items;
   calm = λ e. e;
+  stays = λ fault e. refl;
   lose = omega arith;
   twice = omega arith;
 }
@@ -102,6 +104,7 @@ crew-later-trans a b c h k = record {
   put = more-trans a.out.ports.items b.out.ports.items c.out.ports.items h.put k.put;
   desks = both-trans IsLater IsLater IsLater later-trans a.desks.items b.desks.items c.desks.items h.desks k.desks;
   calm = λ e. h.calm (k.calm e);
+  stays = λ fault e. let same = h.stays fault e in k.stays fault (ap (λ (c : Crew). c.fault) same ∙ e) ∙ same;
   lose = let one = h.lose in let two = k.lose in omega (arith, one, two);
   twice = let one = h.twice in let two = k.twice in omega (arith, one, two);
 }
@@ -127,7 +130,7 @@ no-retry-trans d e f h later k n x le at =
     (λ (ge : length e.part.items ≤ n). k n x ge at)
     (below-or-not n (length e.part.items))
 
-pub none-retried : (boxes : List Boxed) (c c' : Crew) (at : ℕ) (d d' : Desk) (f f' : FateCounts) (xs : List Stamped) → IsTurnIn boxes c c' at d d' f f' xs → HasNoRetry d d' → HaveNoRetry c c'
+pub none-retried : (boxes : List Boxed) (c c' : Crew) (at : ℕ) (d d' : Desk) (f f' : FateState) (xs : List Stamped) → IsTurnIn boxes c c' at d d' f f' xs → HasNoRetry d d' → HaveNoRetry c c'
 none-retried boxes c c' at d d' f f' xs k h =
     subst (Both HasNoRetry c.desks.items) (sym k.desks) (both-set HasNoRetry no-retry-refl c.desks.items at d d' k.desk h)
 
@@ -154,7 +157,7 @@ done-set R (suc n) (d ∷ ds) (x ∷ es) e e' h lt is k =
     let next : suc (n + 1) ≡ suc n + 1 = omega arith in
     subst (λ m. DoneTo R m (d ∷ ds) (x ∷ slice_set es n e')) next (h.0, done-set R n ds es e e' h.1 (omega (arith, lt)) is k)
 
-pub done-turn : (R : Desk → Desk → Type 0) (boxes : List Boxed) (c c' : Crew) (at : ℕ) (d d' : Desk) (f f' : FateCounts) (xs : List Stamped) → IsTurnIn boxes c c' at d d' f f' xs → R d d'
+pub done-turn : (R : Desk → Desk → Type 0) (boxes : List Boxed) (c c' : Crew) (at : ℕ) (d d' : Desk) (f f' : FateState) (xs : List Stamped) → IsTurnIn boxes c c' at d d' f f' xs → R d d'
     → (before : List Desk) → DoneTo R at before c.desks.items → DoneTo R (at + 1) before c'.desks.items
 done-turn R boxes c c' at d d' f f' xs k r before h = subst (DoneTo R (at + 1) before) (sym k.desks) (done-set R at before c.desks.items d d' h k.within k.desk r)
 

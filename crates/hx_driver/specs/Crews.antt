@@ -11,7 +11,7 @@ use Rattle.hx_mail.specs.declared.views.Mailed.{Mailed}
 use Rattle.hx_mail.specs.Boxes.{Boxed}
 use Rattle.hx_outbox.specs.declared.outboxes.Outbox.{Outbox}
 use Rattle.hx_outbox.specs.Outboxes.{IsOutbox, kept_weight, out_weight}
-use Rattle.hx_fate.specs.Counts.{FateCounts}
+use Rattle.hx_fate.specs.declared.fates.FateState.{FateState}
 use Rattle.hx_outbox.specs.Offers.{IsOffered, IsTotal}
 use Rattle.hx_desk.specs.declared.desks.Desk.{Desk}
 use Rattle.hx_desk.specs.declared.faults.Fault.TheVariants as a_fault
@@ -31,16 +31,16 @@ abbrev pub no_totals : Totals
 no_totals = record { posts = 0; deliver = 0; lose = 0; twice = 0 }
 
 -- the posts that the actors made between two moments were offered, each once, and what was put or is kept comes from there
-pub record IsPosted (c c' : Crew) (f f' : FateCounts) : Type 0 where
+pub record IsPosted (c c' : Crew) (f f' : FateState) : Type 0 where
   pub posts : List Mailed
   pub offered : IsOffered (λ h. weight_in h c.out c.desks.items) (λ h. weight_in h c'.out c'.desks.items) c.totals c'.totals f f' posts
   pub made : (h : Mailed → ℕ) → made_weight h c.desks.items + total h posts ≡ made_weight h c'.desks.items
 
--- the same from the beginning, with some counts of a fate
+-- the same from the beginning, with some state of a fate
 pub record IsBooked (c : Crew) : Type 0 where
   pub posts : List Mailed
-  pub before : FateCounts
-  pub after : FateCounts
+  pub before : FateState
+  pub after : FateState
   pub offered : IsOffered (λ h. 0) (λ h. weight_in h c.out c.desks.items) no_totals c.totals before after posts
   pub made : (h : Mailed → ℕ) → total h posts ≡ made_weight h c.desks.items
   -- no entry made more posts than can be numbered

@@ -1,9 +1,10 @@
 -- What a slice and a retry of a driver leave.
-use Rattle.std.specs.Prelude.{ℕ, zero, suc, ◌≡◌, ◌⊎◌, ◌≤◌, List, [], ◌∷◌, None, ⊤}
+use Rattle.std.specs.Prelude.{ℕ, zero, suc, ◌≡◌, ◌⊎◌, ◌≤◌, List, [], ◌∷◌, None, Some, ⊤}
 use Rattle.hx_types.specs.declared.traces.Script.{Script}
 use Rattle.hx_outbox.specs.Outboxes.{MorePut}
 use Rattle.hx_outbox.specs.Zipped.{Both}
 use Rattle.hx_desk.specs.declared.desks.Desk.{Desk}
+use Rattle.hx_desk.specs.declared.faults.Fault.{Fault}
 use Rattle.hx_desk.specs.Desks.{HasNoRetry, HasRetried, IsLater}
 use Rattle.hx_driver.specs.declared.crews.Crew.{Crew}
 
@@ -13,6 +14,8 @@ pub record IsLaterCrew (c c' : Crew) : Type 0 where
   pub put : MorePut c.out.ports.items c'.out.ports.items
   pub desks : Both IsLater c.desks.items c'.desks.items
   pub calm : c'.fault ≡ None → c.fault ≡ None
+  -- after a fault nothing changes
+  pub stays : (fault : Fault) → c.fault ≡ Some fault → c' ≡ c
   pub lose : c.totals.lose ≤ c'.totals.lose
   pub twice : c.totals.twice ≤ c'.totals.twice
 

@@ -48,7 +48,7 @@ impl Driver {
         requires crew { (w : ℕ) × IsCrew script.now clock.now boxes.now w self.old.crew }
         ensures crew { (w : ℕ) → IsCrew script.now clock.now boxes.now w self.old.crew → IsCrew script.now clock.now boxes.now w self.new.crew }
         ensures later { IsLaterCrew self.old.crew self.new.crew }
-        ensures posted { IsPosted self.old.crew self.new.crew (counts self.old.fate) (counts self.new.fate) }
+        ensures posted { IsPosted self.old.crew self.new.crew (state self.old.fate) (state self.new.fate) }
         ensures retries { HaveNoRetry self.old.crew self.new.crew }
     {
         rounds(
@@ -80,7 +80,7 @@ impl Driver {
         requires crew { (w : ℕ) × IsCrew script.now clock.now boxes.now w self.old.crew }
         ensures crew { (w : ℕ) → IsCrew script.now clock.now boxes.now w self.old.crew → IsCrew script.now clock.now boxes.now w self.new.crew }
         ensures later { IsLaterCrew self.old.crew self.new.crew }
-        ensures posted { IsPosted self.old.crew self.new.crew (counts self.old.fate) (counts self.new.fate) }
+        ensures posted { IsPosted self.old.crew self.new.crew (state self.old.fate) (state self.new.fate) }
         ensures retried { HaveRetried script.now self.old.crew self.new.crew }
     {
         retry_each(

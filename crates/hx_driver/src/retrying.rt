@@ -34,7 +34,7 @@ fn retry_of<R: Wait, G: Gate>(
     requires at { at < length crew.old.desks.items }
     ensures crew { (w : ℕ) → IsCrew script.now clock.now boxes.now w crew.old → IsCrew script.now clock.now boxes.now w crew.new }
     ensures later { IsLaterCrew crew.old crew.new }
-    ensures posted { IsPosted crew.old crew.new (counts fate.old) (counts fate.new) }
+    ensures posted { IsPosted crew.old crew.new (state fate.old) (state fate.new) }
     ensures calm { crew.new.fault ≡ None → (before : List Desk) → DoneTo (HasRetried script.now) at before crew.old.desks.items → DoneTo (HasRetried script.now) (at + 1) before crew.new.desks.items }
     ensures some { (before : List Desk) → DoneTo (MayHaveRetried script.now) at before crew.old.desks.items → DoneTo (MayHaveRetried script.now) (at + 1) before crew.new.desks.items }
 {
@@ -74,7 +74,7 @@ fn retry_unless_fault<R: Wait, G: Gate>(
     requires at { at < length crew.old.desks.items }
     ensures crew { (w : ℕ) → IsCrew script.now clock.now boxes.now w crew.old → IsCrew script.now clock.now boxes.now w crew.new }
     ensures later { IsLaterCrew crew.old crew.new }
-    ensures posted { IsPosted crew.old crew.new (counts fate.old) (counts fate.new) }
+    ensures posted { IsPosted crew.old crew.new (state fate.old) (state fate.new) }
     ensures calm { crew.new.fault ≡ None → (crew.old.fault ≡ None) × ((before : List Desk) → DoneTo (HasRetried script.now) at before crew.old.desks.items → DoneTo (HasRetried script.now) (at + 1) before crew.new.desks.items) }
     ensures some { (before : List Desk) → DoneTo (MayHaveRetried script.now) at before crew.old.desks.items → DoneTo (MayHaveRetried script.now) (at + 1) before crew.new.desks.items }
 {
@@ -100,7 +100,7 @@ pub fn retry_each<R: Wait, G: Gate>(
     requires crew { (w : ℕ) × IsCrew script.now clock.now boxes.now w crew.old }
     ensures crew { (w : ℕ) → IsCrew script.now clock.now boxes.now w crew.old → IsCrew script.now clock.now boxes.now w crew.new }
     ensures later { IsLaterCrew crew.old crew.new }
-    ensures posted { IsPosted crew.old crew.new (counts fate.old) (counts fate.new) }
+    ensures posted { IsPosted crew.old crew.new (state fate.old) (state fate.new) }
     ensures retried { HaveRetried script.now crew.old crew.new }
 {
     for at in 0..crew.desks.len() {

@@ -36,7 +36,7 @@ fn turn_of<R: Wait, G: Gate>(
     requires at { at < length crew.old.desks.items }
     ensures crew { (w : ℕ) → IsCrew script.now clock.now boxes.now w crew.old → IsCrew script.now clock.now boxes.now w crew.new }
     ensures later { IsLaterCrew crew.old crew.new }
-    ensures posted { IsPosted crew.old crew.new (counts fate.old) (counts fate.new) }
+    ensures posted { IsPosted crew.old crew.new (state fate.old) (state fate.new) }
     ensures retries { HaveNoRetry crew.old crew.new }
 {
     let turned = turn(
@@ -75,7 +75,7 @@ fn turn_unless_fault<R: Wait, G: Gate>(
     requires at { at < length crew.old.desks.items }
     ensures crew { (w : ℕ) → IsCrew script.now clock.now boxes.now w crew.old → IsCrew script.now clock.now boxes.now w crew.new }
     ensures later { IsLaterCrew crew.old crew.new }
-    ensures posted { IsPosted crew.old crew.new (counts fate.old) (counts fate.new) }
+    ensures posted { IsPosted crew.old crew.new (state fate.old) (state fate.new) }
     ensures retries { HaveNoRetry crew.old crew.new }
 {
     match crew.fault {
@@ -121,7 +121,7 @@ fn works<R: Wait, G: Gate>(
     requires at { at < length crew.old.desks.items }
     ensures crew { (w : ℕ) → IsCrew script.now clock.now boxes.now w crew.old → IsCrew script.now clock.now boxes.now w crew.new }
     ensures later { IsLaterCrew crew.old crew.new }
-    ensures posted { IsPosted crew.old crew.new (counts fate.old) (counts fate.new) }
+    ensures posted { IsPosted crew.old crew.new (state fate.old) (state fate.new) }
     ensures retries { HaveNoRetry crew.old crew.new }
 {
     let before = done_by(crew, at);
@@ -147,7 +147,7 @@ fn turns_of<R: Wait, G: Gate>(
     requires at { at < length crew.old.desks.items }
     ensures crew { (w : ℕ) → IsCrew script.now clock.now boxes.now w crew.old → IsCrew script.now clock.now boxes.now w crew.new }
     ensures later { IsLaterCrew crew.old crew.new }
-    ensures posted { IsPosted crew.old crew.new (counts fate.old) (counts fate.new) }
+    ensures posted { IsPosted crew.old crew.new (state fate.old) (state fate.new) }
     ensures retries { HaveNoRetry crew.old crew.new }
 {
     for turn in 0..MOST_TURNS_TOGETHER {
@@ -174,7 +174,7 @@ fn round<R: Wait, G: Gate>(
     requires crew { (w : ℕ) × IsCrew script.now clock.now boxes.now w crew.old }
     ensures crew { (w : ℕ) → IsCrew script.now clock.now boxes.now w crew.old → IsCrew script.now clock.now boxes.now w crew.new }
     ensures later { IsLaterCrew crew.old crew.new }
-    ensures posted { IsPosted crew.old crew.new (counts fate.old) (counts fate.new) }
+    ensures posted { IsPosted crew.old crew.new (state fate.old) (state fate.new) }
     ensures retries { HaveNoRetry crew.old crew.new }
 {
     let mut worked = false;
@@ -201,7 +201,7 @@ pub fn rounds<R: Wait, G: Gate>(
     requires crew { (w : ℕ) × IsCrew script.now clock.now boxes.now w crew.old }
     ensures crew { (w : ℕ) → IsCrew script.now clock.now boxes.now w crew.old → IsCrew script.now clock.now boxes.now w crew.new }
     ensures later { IsLaterCrew crew.old crew.new }
-    ensures posted { IsPosted crew.old crew.new (counts fate.old) (counts fate.new) }
+    ensures posted { IsPosted crew.old crew.new (state fate.old) (state fate.new) }
     ensures retries { HaveNoRetry crew.old crew.new }
 {
     let mut lull = Lull::new();

@@ -1,2 +1,3 @@
-pub mod Counts
-pub mod Patterns
+pub mod States
+pub mod Choices
+pub mod Losing

@@ -1,59 +1,57 @@
-ghost use Rattle.std.specs.Prelude.{ℕ, ◌≡◌, true};
+ghost use Rattle.std.specs.Prelude.{◌≡◌};
 ghost use Rattle.hx_fate.specs.declared.fates.Choice.TheVariants.{Deliver};
-ghost use Rattle.hx_fate.specs.Counts.{is_lose, is_twice, raised_if};
+ghost use Rattle.hx_fate.specs.States.{after_choice, tuned, untouched};
 
-use crate::fates::{Choice, Fate};
+use crate::fates::{Choice, Fate, FateState, Tuning};
 use hx_types::Actor;
 use std::marker::Model;
 
-/// Delivers every post once. Contracts see it as the number of its choices.
+/// Delivers every post once, however it is tuned. Contracts see it as its state.
 #[derive(Drop)]
 pub struct Faithful {
-    chosen: u64,
+    state: FateState,
 }
 
 impl Model for Faithful {
-    ghost use Rattle.std.specs.Prelude.{ℕ};
+    ghost use Rattle.hx_fate.specs.declared.fates.FateState.{FateState};
 
-    ghost Value = { ℕ };
+    ghost Value = { FateState };
 
-    ghost view = { λ f. f.chosen };
+    ghost view = { λ f. f.state };
 }
 
 impl Faithful {
     /// One that has made no choice.
     pub fn new() -> Faithful
-        ensures { result ≡ 0 }
+        ensures { result ≡ untouched }
     {
-        Faithful { chosen: 0 }
+        Faithful {
+            state: FateState::new(),
+        }
     }
 }
 
 impl Fate for Faithful {
-    ghost counts = { λ f. record { chosen = f; lost = 0; doubled = 0 } };
+    ghost state = { λ f. f };
 
     /// Always delivers.
     fn choose(&mut self, _from: Actor, _to: Actor) -> Choice
         ensures choice { result ≡ Deliver }
-        ensures chosen { self.new ≡ raised_if true self.old }
-        ensures lost { 0 ≡ raised_if (is_lose result) 0 }
-        ensures doubled { 0 ≡ raised_if (is_twice result) 0 }
+        ensures new { self.new ≡ after_choice result self.old }
     {
-        self.chosen = self.chosen.saturating_add(1);
+        self.state.count(Choice::Deliver);
         Choice::Deliver
     }
 
-    fn tune(&mut self, _lose_every: u32, _repeat_every: u32) {}
-
-    fn chosen(&self) -> u64 {
-        self.chosen
+    fn tune(&mut self, tuning: Tuning)
+        ensures { self.new ≡ tuned tuning self.old }
+    {
+        self.state.tuning = tuning;
     }
 
-    fn lost(&self) -> u64 {
-        0
-    }
-
-    fn doubled(&self) -> u64 {
-        0
+    fn state(&self) -> FateState
+        ensures { result ≡ self.now }
+    {
+        self.state
     }
 }

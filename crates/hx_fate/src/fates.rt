@@ -1,5 +1,5 @@
-ghost use Rattle.std.specs.Prelude.{◌≡◌, true};
-ghost use Rattle.hx_fate.specs.Counts.{is_lose, is_twice, raised_if, FateCounts};
+ghost use Rattle.std.specs.Prelude.{◌≡◌};
+ghost use Rattle.hx_fate.specs.States.{after_choice, never, tuned, untouched};
 
 use hx_types::Actor;
 
@@ -14,31 +14,81 @@ pub enum Choice {
     Twice,
 }
 
-/// Chooses what becomes of each post, and counts its choices. A count stops at the greatest `u64`.
-pub trait Fate: Drop {
-    /// How many choices were made, how many of them were Lose, and how many Twice.
-    ghost counts: { Self → FateCounts };
+/// How often posts are to be lost and repeated: one of so many, and none where that is 0.
+#[derive(Clone, Copy, PartialEq, Eq)]
+pub struct Tuning {
+    pub lose_every: u32,
+    pub repeat_every: u32,
+}
 
-    /// What becomes of the next post, which goes from one actor to another.
-    fn choose(&mut self, from: Actor, to: Actor) -> Choice
-        ensures chosen { (counts self.new).chosen ≡ raised_if true (counts self.old).chosen }
-        ensures lost { (counts self.new).lost ≡ raised_if (is_lose result) (counts self.old).lost }
-        ensures doubled { (counts self.new).doubled ≡ raised_if (is_twice result) (counts self.old).doubled };
+impl Tuning {
+    /// Nothing is to be lost or repeated.
+    pub fn never() -> Tuning
+        ensures { result ≡ never }
+    {
+        Tuning {
+            lose_every: 0,
+            repeat_every: 0,
+        }
+    }
+}
 
-    /// How often posts are to be lost and repeated from now on, from one in so many; 0 stands for
-    /// never. A fate may do otherwise. The counts stay.
-    fn tune(&mut self, lose_every: u32, repeat_every: u32)
-        ensures { counts self.new ≡ counts self.old };
-
+/// How a fate is tuned, and what it has chosen. A count stops at the greatest `u64`.
+#[derive(Clone, Copy, PartialEq, Eq)]
+pub struct FateState {
+    pub tuning: Tuning,
     /// How many choices were made.
-    fn chosen(&self) -> u64
-        ensures { result ≡ (counts self.now).chosen };
-
+    pub chosen: u64,
     /// How many of them were Lose.
-    fn lost(&self) -> u64
-        ensures { result ≡ (counts self.now).lost };
-
+    pub lost: u64,
     /// How many of them were Twice.
-    fn doubled(&self) -> u64
-        ensures { result ≡ (counts self.now).doubled };
+    pub doubled: u64,
+}
+
+impl FateState {
+    /// No choice was made, and nothing is to be lost or repeated.
+    pub fn new() -> FateState
+        ensures { result ≡ untouched }
+    {
+        FateState {
+            tuning: Tuning::never(),
+            chosen: 0,
+            lost: 0,
+            doubled: 0,
+        }
+    }
+
+    /// Counts one more choice.
+    pub fn count(&mut self, choice: Choice)
+        ensures { self.new ≡ after_choice choice self.old }
+    {
+        self.chosen = self.chosen.saturating_add(1);
+        match choice {
+            Choice::Deliver => {}
+            Choice::Lose => self.lost = self.lost.saturating_add(1),
+            Choice::Twice => self.doubled = self.doubled.saturating_add(1),
+        }
+    }
+}
+
+/// Chooses what becomes of each post, and counts its choices.
+pub trait Fate: Drop {
+    ghost use Rattle.hx_fate.specs.declared.fates.FateState.{FateState};
+
+    /// How it is tuned, and what it has chosen.
+    ghost state: { Self → FateState };
+
+    /// What becomes of the next post, which goes from one actor to another. It is counted, and the
+    /// tuning stays.
+    fn choose(&mut self, from: Actor, to: Actor) -> Choice
+        ensures { state self.new ≡ after_choice result (state self.old) };
+
+    /// How often posts are to be lost and repeated from now on. A fate may do otherwise, but keeps what
+    /// it was told. The counts stay.
+    fn tune(&mut self, tuning: Tuning)
+        ensures { state self.new ≡ tuned tuning (state self.old) };
+
+    /// How it is tuned, and what it has chosen.
+    fn state(&self) -> FateState
+        ensures { result ≡ state self.now };
 }

@@ -20,7 +20,7 @@ use Rattle.hx_types.specs.declared.updates.Update.{Update}
 use Rattle.hx_types.specs.declared.values.Value.{Value}
 use Rattle.hx_types.specs.declared.ids.Version.{Version}
 use Rattle.hx_types.specs.declared.traces.Note.TheVariants as a_note
-use Rattle.hx_types.specs.declared.calls.Op.TheVariants.{Put, Get, Del, Cput, Search, Stop, Add}
+use Rattle.hx_types.specs.declared.calls.Op.TheVariants.{Get}
 use Rattle.hx_types.specs.declared.ids.Actor.TheVariants.{Coordinator, Server, Session}
 use Rattle.hx_types.specs.Words.{list_of, provided, same_text, when_some}
 use Rattle.hx_types.specs.Fitting.{call_of, is_refused}
@@ -137,14 +137,9 @@ by_op : (key : List ℕ) (low : ℕ) (high : Option ℕ) (object : Option (List 
     → placed_by key low high object (list_of (option_map End (read_at c version answer op)))
     ≡ provided (is_get_of key op && not (is_refused answer) && in_place low high version.0)
     (record { version = version; caller = c; op = op; answer = answer; object = object } ∷ [])
-by_op key low high object c version answer (Put k sets) = refl
 by_op key low high object c version answer (Get k) =
     by_refusal (is_refused answer) key low high object (record { key = k; caller = c; version = version; op = Get k; answer = answer })
-by_op key low high object c version answer (Del k) = refl
-by_op key low high object c version answer (Cput k tests sets) = refl
-by_op key low high object c version answer (Search terms) = refl
-by_op key low high object c version answer (Stop server) = refl
-by_op key low high object c version answer (Add server region) = refl
+by_op key low high object c version answer other = refl
 
 by_call : (key : List ℕ) (low : ℕ) (high : Option ℕ) (object : Option (List Value)) (c : Caller) (version : Version) (answer : Answer) (call : Option Op)
     → placed_by key low high object (list_of (option_map End (option_and_then (read_at c version answer) call)))

@@ -16,7 +16,7 @@ use Rattle.hx_types.specs.declared.updates.Update.{Update}
 use Rattle.hx_types.specs.declared.values.Value.{Value}
 use Rattle.hx_types.specs.declared.ids.Version.{Version}
 use Rattle.hx_types.specs.declared.traces.Note.TheVariants as a_note
-use Rattle.hx_types.specs.declared.calls.Op.TheVariants.{Put, Get, Del, Cput, Search, Stop, Add}
+use Rattle.hx_types.specs.declared.calls.Op.TheVariants.{Get}
 use Rattle.hx_types.specs.declared.ids.Actor.TheVariants.{Coordinator, Server, Session}
 use Rattle.hx_types.specs.Words.{list_of, same_text}
 use Rattle.hx_types.specs.Fitting.{call_of, is_refused}
@@ -52,14 +52,9 @@ event_view (an_event.Read r) = End (read_view r)
 
 -- the end of a get, unless it was refused
 abbrev pub read_at : Caller → Version → Answer → Op → Option ReadEnd
-read_at c version answer (Put k sets) = None
 read_at c version answer (Get k) =
     if is_refused answer then None else Some (record { key = k; caller = c; version = version; op = Get k; answer = answer })
-read_at c version answer (Del k) = None
-read_at c version answer (Cput k tests sets) = None
-read_at c version answer (Search terms) = None
-read_at c version answer (Stop server) = None
-read_at c version answer (Add server region) = None
+read_at c version answer other = None
 
 -- the end of a caller's get
 abbrev pub read_of : Script → Caller → Version → Answer → Option ReadEnd

@@ -136,21 +136,7 @@ module _ (script : Script) (valid : IsScript script) (older : List Entry) (befor
   asks-still : (from : Actor) (m : Message) → AsksFor (Asked script older) (OutcomeCause script older) from m → AsksFor (Asked script (x ∷ older)) (OutcomeCause script (x ∷ older)) from m
   asks-still from (a_message.StopServer number server) h = to-session from _ _ (λ u. asked-still (record { session = u; number = number }) (Stop server)) h
   asks-still from (a_message.AddReplica number server g) h = to-session from _ _ (λ u. asked-still (record { session = u; number = number }) (Add server g)) h
-  asks-still from (a_message.Call epoch number op) h = tt
-  asks-still from (a_message.Reply number version answer) h = tt
-  asks-still from (a_message.Update epoch g u) h = tt
-  asks-still from (a_message.Ack epoch g key version) h = tt
-  asks-still from (a_message.Ask epoch number g terms) h = tt
-  asks-still from (a_message.Found epoch number g rows) h = tt
-  asks-still from (a_message.Seal epoch) h = tt
-  asks-still from (a_message.Sealed epoch) h = tt
-  asks-still from (a_message.Install config) h = tt
-  asks-still from a_message.Die h = tt
-  asks-still from a_message.Gone h = tt
-  asks-still from (a_message.Outcome number answer) h = tt
-  asks-still from (a_message.Snap epoch g snapshot pending) h = tt
-  asks-still from (a_message.Ready epoch g) h = tt
-  asks-still from (a_message.Poll epoch) h = tt
+  asks-still from other h = tt
 
   -- what is judged now has its cause
   now-passes : (c : Caller) (op : Op) → Asked script older c op → (config : Config) → IsKnown script (x ∷ older) config → (epoch : Epoch) (test : Op → Config → Bool) → epoch ≡ config.epoch → test op config ≡ true → Passes script (x ∷ older) c epoch test
@@ -197,20 +183,7 @@ module _ (script : Script) (valid : IsScript script) (older : List Entry) (befor
   server-asks (a_message.StopServer number server) h from to = absurd h
   server-asks (a_message.AddReplica number server g) h from to = absurd h
   server-asks (a_message.Outcome number answer) h from to = absurd h
-  server-asks (a_message.Call epoch number op) h from to = (tt, tt)
-  server-asks (a_message.Reply number version answer) h from to = (tt, tt)
-  server-asks (a_message.Update epoch g u) h from to = (tt, tt)
-  server-asks (a_message.Ack epoch g key version) h from to = (tt, tt)
-  server-asks (a_message.Ask epoch number g terms) h from to = (tt, tt)
-  server-asks (a_message.Found epoch number g rows) h from to = (tt, tt)
-  server-asks (a_message.Seal epoch) h from to = (tt, tt)
-  server-asks (a_message.Sealed epoch) h from to = (tt, tt)
-  server-asks (a_message.Install config) h from to = (tt, tt)
-  server-asks a_message.Die h from to = (tt, tt)
-  server-asks a_message.Gone h from to = (tt, tt)
-  server-asks (a_message.Snap epoch g snapshot pending) h from to = (tt, tt)
-  server-asks (a_message.Ready epoch g) h from to = (tt, tt)
-  server-asks (a_message.Poll epoch) h from to = (tt, tt)
+  server-asks other h from to = (tt, tt)
 
   of-server : (i : _) → x.actor ≡ Server i → Administers script (x ∷ older)
   of-server i acts =
@@ -229,20 +202,7 @@ module _ (script : Script) (valid : IsScript script) (older : List Entry) (befor
   session-asks u s e b (a_message.AddReplica number server g) h to =
       (subst (λ k. Asked script (x ∷ older) (record { session = u; number = k }) (Add server g)) (sym h.0) (ap (λ (l : List Op). numbered l s.begun) (sym e) ∙ h.1, b), tt)
   session-asks u s e b (a_message.Outcome number answer) h to = absurd h
-  session-asks u s e b (a_message.Call epoch number op) h to = (tt, tt)
-  session-asks u s e b (a_message.Reply number version answer) h to = (tt, tt)
-  session-asks u s e b (a_message.Update epoch g w) h to = (tt, tt)
-  session-asks u s e b (a_message.Ack epoch g key version) h to = (tt, tt)
-  session-asks u s e b (a_message.Ask epoch number g terms) h to = (tt, tt)
-  session-asks u s e b (a_message.Found epoch number g rows) h to = (tt, tt)
-  session-asks u s e b (a_message.Seal epoch) h to = (tt, tt)
-  session-asks u s e b (a_message.Sealed epoch) h to = (tt, tt)
-  session-asks u s e b (a_message.Install config) h to = (tt, tt)
-  session-asks u s e b a_message.Die h to = (tt, tt)
-  session-asks u s e b a_message.Gone h to = (tt, tt)
-  session-asks u s e b (a_message.Snap epoch g snapshot pending) h to = (tt, tt)
-  session-asks u s e b (a_message.Ready epoch g) h to = (tt, tt)
-  session-asks u s e b (a_message.Poll epoch) h to = (tt, tt)
+  session-asks u s e b other h to = (tt, tt)
 
   -- what the step of the session does, with the posts and notes of the entry
   does-here : (u : SessionId) → x.actor ≡ Session u → SessionDoes script.space x.input (session_of script u older) (record { state = session_of script u (x ∷ older); posts = x.outputs; notes = x.notes })
@@ -274,21 +234,7 @@ module _ (script : Script) (valid : IsScript script) (older : List Entry) (befor
   coordinator-asks : (m : Message) → OfCoordinator m → (from : Actor) → AsksFor (Asked script (x ∷ older)) (OutcomeCause script (x ∷ older)) from m
   coordinator-asks (a_message.StopServer number server) h from = absurd h
   coordinator-asks (a_message.AddReplica number server g) h from = absurd h
-  coordinator-asks (a_message.Outcome number answer) h from = tt
-  coordinator-asks (a_message.Call epoch number op) h from = tt
-  coordinator-asks (a_message.Reply number version answer) h from = tt
-  coordinator-asks (a_message.Update epoch g u) h from = tt
-  coordinator-asks (a_message.Ack epoch g key version) h from = tt
-  coordinator-asks (a_message.Ask epoch number g terms) h from = tt
-  coordinator-asks (a_message.Found epoch number g rows) h from = tt
-  coordinator-asks (a_message.Seal epoch) h from = tt
-  coordinator-asks (a_message.Sealed epoch) h from = tt
-  coordinator-asks (a_message.Install config) h from = tt
-  coordinator-asks a_message.Die h from = tt
-  coordinator-asks a_message.Gone h from = tt
-  coordinator-asks (a_message.Snap epoch g snapshot pending) h from = tt
-  coordinator-asks (a_message.Ready epoch g) h from = tt
-  coordinator-asks (a_message.Poll epoch) h from = tt
+  coordinator-asks other h from = tt
 
   of-coordinator : x.actor ≡ Coordinator → Administers script (x ∷ older)
   of-coordinator acts =

@@ -54,10 +54,8 @@ end-found entry number v a (n ∷ notes) (inl e) =
 end-found entry number v a (n ∷ notes) (inr i) = by n (end-found entry number v a notes i)
   where
     by : (n : Note) → (e : CallEnd) × (ends_in entry number notes ≡ Some e) → (e : CallEnd) × (ends_in entry number (n ∷ notes) ≡ Some e)
-    by (a_note.Began k) r = r
-    by (a_note.Assigned u) r = r
-    by (a_note.Issued c) r = r
     by (a_note.Ended k w b) r = cond_both (eqb k number) (Some (record { entry = entry; version = w; answer = b })) (ends_in entry number notes) (λ o. (e : CallEnd) × (o ≡ Some e)) (λ t. (record { entry = entry; version = w; answer = b }, refl)) (λ t. r)
+    by other r = r
 
 -- so is the end of a call
 note-found : (c : Caller) (t : List Entry) (v : Version) (a : Answer) (n : ℕ) → EndedAt t c v a n → (e : CallEnd) × (note_of_end c t ≡ Some e)

@@ -20,9 +20,10 @@ use Rattle.hx_types.specs.declared.messages.Message.TheVariants as a_message
 use Rattle.hx_types.specs.declared.ids.Actor.TheVariants.{Coordinator, Server, Session}
 use Rattle.hx_types.specs.declared.traces.Input.TheVariants.{Tick, Halt, Deliver}
 use Rattle.hx_types.specs.declared.traces.Note.TheVariants as a_note
-use Rattle.hx_types.specs.Words.{IsIn, below, post, provided, same_session, server_in, without_server}
+use Rattle.hx_types.specs.Words.{IsIn, below, post, provided, server_in, without_server}
 use Rattle.hx_types.specs.Configs.{is_lost, lists_joining}
 use Rattle.hx_model.specs.CoordinatorSteps.{Answered, CoordinatorState, CoordinatorStep, Newest, Phase, Sealing, Steady, Task, add_step, adds, adds_steady, again, by_number, coordinator_message, coordinator_step, coordinator_tick, die_for, die_posts, gone_step, goes, is_newest_call, is_out, issue, issuing, judged, newest_answered, newest_of, outcome, ready_now, ready_step, remaining, resting, seal, sealed_now, sealed_step, sealing_or_issue, session_posts, still_sealing, stop_step, stops, telling, to_server, waits_less, with_answer, with_newest, with_number, with_server, with_task}
+use Rattle.hx_law_lemmas.proofs.Newest.{in-with_newest, newest-in}
 use Rattle.hx_law_lemmas.proofs.Lists.{in-append, in-flat_map, in-map, in-provided}
 use Rattle.hx_law_causes.proofs.Outcomes.{Judged, issuing-well, judged-is}
 
@@ -45,22 +46,6 @@ to-session (Session u) P Q f h = f u h
 pub spoken-map : (G H : Caller → Answer → Type 0) → ((c : Caller) (a : Answer) → G c a → H c a) → (to : Actor) (m : Message) → Spoken G to m → Spoken H to m
 spoken-map G H f to (a_message.Outcome number a) h = to-session to (λ u. G (record { session = u; number = number }) a) (λ u. H (record { session = u; number = number }) a) (λ u. f (record { session = u; number = number }) a) h
 spoken-map G H f to other h = tt
-
--- a newest call of a changed list is the new one or an old one
-in-with_newest : (n : Newest) (ns : List Newest) (x : Newest) → IsIn x (with_newest n ns) → (x ≡ n) ⊎ IsIn x ns
-in-with_newest n [] x = λ i. elim i [ inl e ↦ inl e | inr j ↦ absurd j ]
-in-with_newest n (y ∷ ns) x =
-    cond_both (same_session y.session n.session) (n ∷ ns) (y ∷ with_newest n ns) (λ (l : List Newest). IsIn x l → (x ≡ n) ⊎ IsIn x (y ∷ ns))
-    (λ t i. elim i [ inl e ↦ inl e | inr j ↦ inr (inr j) ])
-    (λ t i. elim i [ inl e ↦ inr (inl e) | inr j ↦ elim (in-with_newest n ns x j) [ inl e ↦ inl e | inr k ↦ inr (inr k) ] ])
-
--- the newest call of a session stands in the list, with the session
-newest-in : (u : SessionId) (ns : List Newest) (x : Newest) → newest_of u ns ≡ Some x → IsIn x ns × (x.session ≡ u)
-newest-in u [] x = λ e. absurd (cc)
-newest-in u (y ∷ ns) x =
-    cond_both (same_session y.session u) (Some y) (newest_of u ns) (λ o. o ≡ Some x → IsIn x (y ∷ ns) × (x.session ≡ u))
-    (λ t e. let q : x ≡ y = cc in (inl q, ap (λ (z : Newest). z.session) q ∙ (let e = eqb-true y.session.0 u.0 t in λ j. record { 0 = e j })))
-    (λ t e. let r = newest-in u ns x e in (inr r.0, r.1))
 
 -- the caller of a newest call
 abbrev pub caller_of : Newest → Caller
@@ -115,23 +100,8 @@ module _ (Asked : Caller → Op → Type 0) (Old : Caller → Answer → Type 0)
   to-each G m servers p i = let r = in-map (to_server m) servers p i in subst (λ (q : Post). Spoken G q.to q.message) (sym r.2) (at r.0 m)
     where
       at : (s : ServerId) (m : Message) → Spoken G (Server s) m
-      at s (a_message.Outcome number a) = tt
-      at s (a_message.Call epoch number op) = tt
-      at s (a_message.Reply number version answer) = tt
-      at s (a_message.Update epoch g u) = tt
-      at s (a_message.Ack epoch g key version) = tt
-      at s (a_message.Ask epoch number g terms) = tt
-      at s (a_message.Found epoch number g rows) = tt
-      at s (a_message.Seal epoch) = tt
-      at s (a_message.Sealed epoch) = tt
-      at s (a_message.Install config) = tt
-      at s a_message.Die = tt
-      at s a_message.Gone = tt
-      at s (a_message.StopServer number server) = tt
-      at s (a_message.AddReplica number server g) = tt
-      at s (a_message.Snap epoch g snapshot pending) = tt
-      at s (a_message.Ready epoch g) = tt
-      at s (a_message.Poll epoch) = tt
+      at s (a_message.Outcome number answer) = tt
+      at s other = tt
 
   -- one post
   one : (G : Caller → Answer → Type 0) (p : Post) → Spoken G p.to p.message → (q : Post) → IsIn q (p ∷ []) → Spoken G q.to q.message
@@ -338,16 +308,7 @@ module _ (Asked : Caller → Op → Type 0) (Old : Caller → Answer → Type 0)
   AsksFor from other = ⊤
 
   hears : (d : CoordinatorState) (from : Actor) (m : Message) → Answers d → AsksFor from m → Coordinated d (coordinator_message d from m)
-  hears d from (a_message.Call epoch number op) h v = rests d h
-  hears d from (a_message.Reply number version answer) h v = rests d h
-  hears d from (a_message.Update epoch g u) h v = rests d h
-  hears d from (a_message.Ack epoch g key version) h v = rests d h
-  hears d from (a_message.Ask epoch number g terms) h v = rests d h
-  hears d from (a_message.Found epoch number g rows) h v = rests d h
-  hears d from (a_message.Seal epoch) h v = rests d h
   hears d from (a_message.Sealed epoch) h v = hears-sealed d epoch from h
-  hears d from (a_message.Install config) h v = rests d h
-  hears d from a_message.Die h v = rests d h
   hears d from a_message.Gone h v = hears-gone d from h
   hears d Coordinator (a_message.StopServer number server) h v = rests d h
   hears d (Server s) (a_message.StopServer number server) h v = rests d h
@@ -355,13 +316,12 @@ module _ (Asked : Caller → Op → Type 0) (Old : Caller → Answer → Type 0)
   hears d Coordinator (a_message.AddReplica number server g) h v = rests d h
   hears d (Server s) (a_message.AddReplica number server g) h v = rests d h
   hears d (Session u) (a_message.AddReplica number server g) h v = hears-add d number server g u h v
-  hears d from (a_message.Outcome number answer) h v = rests d h
-  hears d from (a_message.Snap epoch g snapshot pending) h v = rests d h
   hears d from (a_message.Ready epoch g) h v = hears-ready d epoch g from h
   hears d from (a_message.Poll epoch) h v =
       cond_both (ltb epoch.0 d.config.epoch.0) (telling d (post Coordinator from (a_message.Install d.config) ∷ [])) (resting d) (Coordinated d)
       (λ t. keeps d h (post Coordinator from (a_message.Install d.config) ∷ []) (one (Now d) (post Coordinator from (a_message.Install d.config)) tt))
       (λ t. rests d h)
+  hears d from other h v = rests d h
 
   -- each step
   pub coordinated : (d : CoordinatorState) (input : Input) → Answers d → ((id : _) (from : Actor) (m : Message) → input ≡ Deliver id from m → AsksFor from m) → Coordinated d (coordinator_step d input)

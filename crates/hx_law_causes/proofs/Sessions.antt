@@ -397,23 +397,11 @@ module _ (space : Space) (s : SessionState) where
 
   -- each message to a session
   messages : (id : PostId) (from : Actor) (m : Message) → SessionDoes space (Deliver id from m) s (session_message space s m)
-  messages id from (a_message.Call epoch number op) = on _ (staying s) (stays space _ s)
   messages id from (a_message.Reply number version answer) = replies id from number version answer
-  messages id from (a_message.Update epoch g u) = on _ (staying s) (stays space _ s)
-  messages id from (a_message.Ack epoch g key version) = on _ (staying s) (stays space _ s)
-  messages id from (a_message.Ask epoch number g terms) = on _ (staying s) (stays space _ s)
   messages id from (a_message.Found epoch number g rows) = founds id from epoch number g rows
-  messages id from (a_message.Seal epoch) = on _ (staying s) (stays space _ s)
-  messages id from (a_message.Sealed epoch) = on _ (staying s) (stays space _ s)
   messages id from (a_message.Install config) = installs id from config
-  messages id from a_message.Die = on _ (staying s) (stays space _ s)
-  messages id from a_message.Gone = on _ (staying s) (stays space _ s)
-  messages id from (a_message.StopServer number server) = on _ (staying s) (stays space _ s)
-  messages id from (a_message.AddReplica number server g) = on _ (staying s) (stays space _ s)
   messages id from (a_message.Outcome number answer) = outcomes id from number answer
-  messages id from (a_message.Snap epoch g snapshot pending) = on _ (staying s) (stays space _ s)
-  messages id from (a_message.Ready epoch g) = on _ (staying s) (stays space _ s)
-  messages id from (a_message.Poll epoch) = on _ (staying s) (stays space _ s)
+  messages id from other = on _ (staying s) (stays space _ s)
 
   -- each step
   pub session-does : (input : Input) → SessionDoes space input s (session_step space s input)

@@ -190,25 +190,15 @@ dying test todo p i = let r = in-flat_map (λ (t : Task). die_for test t.op) tod
 
 -- each message
 messages : (c : CoordinatorState) (from : Actor) (m : Message) → Plain (coordinator_message c from m)
-messages c from (a_message.Call epoch number op) = rests c
-messages c from (a_message.Reply number version answer) = rests c
-messages c from (a_message.Update epoch g u) = rests c
-messages c from (a_message.Ack epoch g key version) = rests c
-messages c from (a_message.Ask epoch number g terms) = rests c
-messages c from (a_message.Found epoch number g rows) = rests c
-messages c from (a_message.Seal epoch) = rests c
 messages c from (a_message.Sealed epoch) = sealed c epoch from
-messages c from (a_message.Install config) = rests c
-messages c from a_message.Die = rests c
 messages c from a_message.Gone = going c from
 messages c from (a_message.StopServer number server) =
     administered c from (stop_step c number server) (λ u. by-number c (record { session = u; number = number }) (newest_of u c.newest) _ (stopping c (record { session = u; number = number }) server))
 messages c from (a_message.AddReplica number server g) =
     administered c from (add_step c number server g) (λ u. by-number c (record { session = u; number = number }) (newest_of u c.newest) _ (adding c (record { session = u; number = number }) server g c.phase))
-messages c from (a_message.Outcome number answer) = rests c
-messages c from (a_message.Snap epoch g snapshot pending) = rests c
 messages c from (a_message.Ready epoch g) = readied c epoch g from
 messages c from (a_message.Poll epoch) = polled c epoch from
+messages c from other = rests c
 
 -- each input
 pub coordinator-plain : (c : CoordinatorState) (input : Input) → Plain (coordinator_step c input)

@@ -174,22 +174,11 @@ coordinator-quiet script w from to other h = absurd h
 session-quiet : (script : Script) (w : World) (u : SessionId) (s : SessionState) (sent way : _) → s.calls ≡ calls_of script u → (to : Actor) (m : Message) → SaysOf s sent way m → NoSnap m × Valid script w (Session u) to m
 session-quiet script w u s sent way e to (a_message.Call epoch number op) h =
     (tt, subst (λ k. call_of script (record { session = u; number = k }) ≡ Some op) (sym h.0) (ap (λ (l : List Op). numbered l s.begun) (sym e) ∙ h.2))
-session-quiet script w u s sent way e to (a_message.Reply number version answer) h = absurd h
-session-quiet script w u s sent way e to (a_message.Update epoch g x) h = absurd h
-session-quiet script w u s sent way e to (a_message.Ack epoch g key version) h = absurd h
 session-quiet script w u s sent way e to (a_message.Ask epoch number g terms) h = (tt, tt)
-session-quiet script w u s sent way e to (a_message.Found epoch number g rows) h = absurd h
-session-quiet script w u s sent way e to (a_message.Seal epoch) h = absurd h
-session-quiet script w u s sent way e to (a_message.Sealed epoch) h = absurd h
-session-quiet script w u s sent way e to (a_message.Install config) h = absurd h
-session-quiet script w u s sent way e to a_message.Die h = absurd h
-session-quiet script w u s sent way e to a_message.Gone h = absurd h
 session-quiet script w u s sent way e to (a_message.StopServer number server) h = (tt, tt)
 session-quiet script w u s sent way e to (a_message.AddReplica number server g) h = (tt, tt)
-session-quiet script w u s sent way e to (a_message.Outcome number answer) h = absurd h
-session-quiet script w u s sent way e to (a_message.Snap epoch g snapshot pending) h = absurd h
-session-quiet script w u s sent way e to (a_message.Ready epoch g) h = absurd h
 session-quiet script w u s sent way e to (a_message.Poll epoch) h = (tt, tt)
+session-quiet script w u s sent way e to other h = absurd h
 
 -- where configurations alone are noted each line stays
 pub issued-line : (key : List ℕ) (line : List Update) (notes : List Note) → Issues notes → line_notes key line notes ≡ line

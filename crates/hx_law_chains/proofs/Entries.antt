@@ -298,22 +298,14 @@ module _ (e : Scene) (asks : Asked) (valid : IsSpace e.script.space) (gone : Lis
       → ((epoch : Epoch) (number : ℕ) (g : RegionId) (terms : List Term) → m ≡ a_message.Ask epoch number g terms → asks.ask from epoch number g terms)
       → Fine (message_step e.script.space st0 from m)
   message-fine from (a_message.Call epoch number op) j v s a b = called-fine from epoch number op v (λ u z. a u epoch number op z refl)
-  message-fine from (a_message.Reply number version answer) j v s a b = still
   message-fine from (a_message.Update epoch g u) j v s a b = update-fine epoch g u v (if_installed (replica_in_epoch st0 epoch g)) refl
   message-fine from (a_message.Ack epoch g key version) j v s a b = ack-fine epoch g key version.0 v (if_installed (replica_in_epoch st0 epoch g)) refl
   message-fine from (a_message.Ask epoch number g terms) j v s a b = ask-fine from epoch number g terms (b epoch number g terms refl) (if_installed (replica_in_epoch st0 epoch g)) refl
-  message-fine from (a_message.Found epoch number g rows) j v s a b = still
   message-fine from (a_message.Seal epoch) j v s a b = seal-fine epoch
-  message-fine from (a_message.Sealed epoch) j v s a b = still
   message-fine from (a_message.Install config) j v s a b = install-fine config (epochs.says (post from (Server i) (a_message.Install config)) j)
   message-fine from a_message.Die j v s a b = halt-fine
-  message-fine from a_message.Gone j v s a b = still
-  message-fine from (a_message.StopServer number server) j v s a b = still
-  message-fine from (a_message.AddReplica number server g) j v s a b = still
-  message-fine from (a_message.Outcome number answer) j v s a b = still
   message-fine from (a_message.Snap epoch g snapshot pending) j v s a b = snap-fine from epoch g snapshot pending j s (replica_in_epoch st0 epoch g) refl
-  message-fine from (a_message.Ready epoch g) j v s a b = still
-  message-fine from (a_message.Poll epoch) j v s a b = still
+  message-fine from other j v s a b = still
 
   -- each input
   pub input-served : (input : Input) → ((p : Post) → IsIn p e.posts → Valid e.script (world e) p.from p.to p.message × Sends e.script.space p.message)

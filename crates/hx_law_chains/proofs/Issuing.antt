@@ -9,8 +9,8 @@ use Rattle.hx_types.specs.declared.updates.Update.{Update}
 use Rattle.hx_types.specs.Words.{IsBefore, IsIn}
 use Rattle.hx_model.specs.Regions.{key_region}
 use Rattle.hx_model.specs.Slots.{Forget, KeyState, moved, top_of}
+use Rattle.hx_law_epochs.specs.Epochs.{order}
 use Rattle.hx_law_lemmas.proofs.Cuts.{More, more_same}
-use Rattle.hx_law_epochs.proofs.Members.{order}
 use Rattle.hx_law_epochs.proofs.Positions.{PrecedesInChain}
 use Rattle.hx_law_chains.proofs.Keys.{told_up, valid_up}
 use Rattle.hx_law_chains.proofs.Moves.{Own, own_forget}

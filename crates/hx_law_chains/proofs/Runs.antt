@@ -24,12 +24,12 @@ use Rattle.hx_model.specs.Histories.{line_notes, line_of}
 use Rattle.hx_model.specs.Runs.{IsRun, Output, MayTake, coordinator_of, has_halted, is_actor, made_of, server_after, server_of}
 use Rattle.hx_model.specs.ServerSteps.{Replica, ServerState, ServerStep, listed_regions, server_at_start, server_step, state_in}
 use Rattle.hx_model.specs.Slots.{Forget, KeyState, moved, new_state, state_among}
+use Rattle.hx_law_epochs.specs.Epochs.{order}
 use Rattle.hx_law_lemmas.specs.Words.{noted, posts_of, view}
 use Rattle.hx_law_lemmas.proofs.Lists.{in-append, in-map}
 use Rattle.hx_law_lemmas.proofs.Replicas.{replica-found}
 use Rattle.hx_law_lemmas.proofs.Order.{listed-in}
 use Rattle.hx_law_lemmas.specs.Facts.{DeliversCall}
-use Rattle.hx_law_epochs.proofs.Members.{order}
 use Rattle.hx_law_epochs.proofs.Runs.{EpochsRun, IsKnown, Real, epochs-run, known-still}
 use Rattle.hx_law_lemmas.proofs.Traces.{arrived}
 use Rattle.hx_law_chains.proofs.Entries.{input-served}

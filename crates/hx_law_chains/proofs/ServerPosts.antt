@@ -306,22 +306,14 @@ module _ (Sent : RegionId → List Kept → List Update → Type 0) where
   -- each message
   messages : (space : Space) (s : ServerState) → ((r : Replica) → IsIn r s.replicas → MaySend r) → ((g : RegionId) → MaySend (record { region = g; installed = false; states = [] })) → (from : Actor) (m : Message) → Plain (message_step space s from m)
   messages space s may new from (a_message.Call epoch number op) = calls space s from epoch number op
-  messages space s may new from (a_message.Reply number version answer) = rests s
   messages space s may new from (a_message.Update epoch g u) = updates space s u (if_installed (replica_in_epoch s epoch g))
   messages space s may new from (a_message.Ack epoch g key version) = acknowledges space s key version.0 (if_installed (replica_in_epoch s epoch g))
   messages space s may new from (a_message.Ask epoch number g terms) = asks s from epoch number terms (if_installed (replica_in_epoch s epoch g))
-  messages space s may new from (a_message.Found epoch number g rows) = rests s
   messages space s may new from (a_message.Seal epoch) = seals s epoch
-  messages space s may new from (a_message.Sealed epoch) = rests s
   messages space s may new from (a_message.Install config) = installs space s config may new
   messages space s may new from a_message.Die = halts s
-  messages space s may new from a_message.Gone = rests s
-  messages space s may new from (a_message.StopServer number server) = rests s
-  messages space s may new from (a_message.AddReplica number server g) = rests s
-  messages space s may new from (a_message.Outcome number answer) = rests s
   messages space s may new from (a_message.Snap epoch g snapshot pending) = snapshots space s snapshot pending (replica_in_epoch s epoch g)
-  messages space s may new from (a_message.Ready epoch g) = rests s
-  messages space s may new from (a_message.Poll epoch) = rests s
+  messages space s may new from other = rests s
 
   -- each input
   pub server-plain : (space : Space) (s : ServerState) (input : Input) → ((r : Replica) → IsIn r s.replicas → MaySend r) → ((g : RegionId) → MaySend (record { region = g; installed = false; states = [] }))

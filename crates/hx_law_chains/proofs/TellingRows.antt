@@ -463,22 +463,14 @@ module _ (e : Scene) (valid : IsSpace e.script.space) (gone : List ServerId) (ph
   -- each message
   message-fine : (from : Actor) (m : Message) → IsIn (post from (Server i) m) e.posts → Valid e.script (world e) from (Server i) m → Sends e.script.space m → Fine (message_step e.script.space st0 from m)
   message-fine from (a_message.Call epoch number op) j v s = called-fine from epoch number op v
-  message-fine from (a_message.Reply number version answer) j v s = λ p k. absurd k
   message-fine from (a_message.Update epoch g u) j v s = update-fine epoch g u v (if_installed (replica_in_epoch st0 epoch g)) refl
   message-fine from (a_message.Ack epoch g key version) j v s = ack-fine epoch g key version.0 (if_installed (replica_in_epoch st0 epoch g)) refl
   message-fine from (a_message.Ask epoch number g terms) j v s = ask-fine from epoch number terms (if_installed (replica_in_epoch st0 epoch g))
-  message-fine from (a_message.Found epoch number g rows) j v s = λ p k. absurd k
   message-fine from (a_message.Seal epoch) j v s = seal-fine epoch
-  message-fine from (a_message.Sealed epoch) j v s = λ p k. absurd k
   message-fine from (a_message.Install config) j v s = install-fine config (epochs.says (post from (Server i) (a_message.Install config)) j)
   message-fine from a_message.Die j v s = halt-fine
-  message-fine from a_message.Gone j v s = λ p k. absurd k
-  message-fine from (a_message.StopServer number server) j v s = λ p k. absurd k
-  message-fine from (a_message.AddReplica number server g) j v s = λ p k. absurd k
-  message-fine from (a_message.Outcome number answer) j v s = λ p k. absurd k
   message-fine from (a_message.Snap epoch g snapshot pending) j v s = snap-fine from epoch g snapshot pending j s (replica_in_epoch st0 epoch g) refl
-  message-fine from (a_message.Ready epoch g) j v s = λ p k. absurd k
-  message-fine from (a_message.Poll epoch) j v s = λ p k. absurd k
+  message-fine from other j v s = λ p k. absurd k
 
   -- each input
   pub input-tells : (input : Input) → ((p : Post) → IsIn p e.posts → Valid e.script (world e) p.from p.to p.message × Sends e.script.space p.message)

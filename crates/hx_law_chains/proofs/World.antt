@@ -32,11 +32,11 @@ use Rattle.hx_model.specs.Leading.{first_lost}
 use Rattle.hx_model.specs.Neighbours.{region_at}
 use Rattle.hx_model.specs.Slots.{KeyState, has_place, top_of, touches_after}
 use Rattle.hx_model.specs.ServerSteps.{SlotContext, get_answer, next_at}
+use Rattle.hx_law_epochs.specs.Epochs.{order}
 use Rattle.hx_law_lemmas.proofs.Numbered.{Numbered}
 use Rattle.hx_law_lemmas.proofs.Lines.{Sorted, numbered-sorted}
 use Rattle.hx_law_lemmas.proofs.Placed.{AllMade, Made}
 use Rattle.hx_law_lemmas.proofs.Lawful.{at_server, at_session}
-use Rattle.hx_law_epochs.proofs.Members.{order}
 use Rattle.hx_law_epochs.proofs.Positions.{PrecedesInChain}
 use Rattle.hx_law_chains.proofs.Moves.{Around, Own}
 
@@ -215,19 +215,7 @@ module _ (script : Script) (w : World) where
   Valid from to (a_message.Reply number version answer) = at_session to (ReplyOk number version answer)
   Valid from to (a_message.Update epoch g u) = at_server to (UpdateOk epoch g u)
   Valid from to (a_message.Ack epoch g key version) = at_server to (AckOk epoch g key version.0)
-  Valid from to (a_message.Ask epoch number g terms) = ⊤
-  Valid from to (a_message.Found epoch number g rows) = ⊤
-  Valid from to (a_message.Seal epoch) = ⊤
-  Valid from to (a_message.Sealed epoch) = ⊤
-  Valid from to (a_message.Install config) = ⊤
-  Valid from to a_message.Die = ⊤
-  Valid from to a_message.Gone = ⊤
-  Valid from to (a_message.StopServer number server) = ⊤
-  Valid from to (a_message.AddReplica number server g) = ⊤
-  Valid from to (a_message.Outcome number answer) = ⊤
-  Valid from to (a_message.Snap epoch g snapshot pending) = ⊤
-  Valid from to (a_message.Ready epoch g) = ⊤
-  Valid from to (a_message.Poll epoch) = ⊤
+  Valid from to other = ⊤
 
   -- what holds of all keys and posts
   pub record Chained (posts : List Post) : Type 0 where

@@ -37,6 +37,7 @@ crew_self c = record {
   put = more-refl c.out.ports.items;
   desks = both_self IsLater later_self c.desks.items;
   calm = λ e. e;
+  stays = λ fault e. refl;
   lose = omega arith;
   twice = omega arith;
 }
@@ -52,6 +53,7 @@ crew_then x y z h k =
       put = more-trans x.out.ports.items y.out.ports.items z.out.ports.items h.put k.put;
       desks = both_then IsLater IsLater IsLater later_then x.desks.items y.desks.items z.desks.items h.desks k.desks;
       calm = λ e. h.calm (k.calm e);
+      stays = λ fault e. let same = h.stays fault e in k.stays fault (ap (λ (c : Crew). c.fault) same ∙ e) ∙ same;
       lose = omega (arith, hl, kl);
       twice = omega (arith, ht, kt);
     }

@@ -41,20 +41,12 @@ from-map (Session u) P Q f h = absurd h
 pub older-says : (S : ServerId → ServerState) (c n : Config) → n.epoch.0 ≡ c.epoch.0 + 1 → (from to : Actor) (m : Message) → Says S c from to m → Says S n from to m
 older-says S c n e from to (a_message.Seal epoch) h = omega (arith, e, h)
 older-says S c n e from to (a_message.Install config) h = (let l = h.0 in (omega (arith, e, l), λ q. absurd (omega (arith, e, l, q))))
-older-says S c n e from to a_message.Die h = tt
-older-says S c n e from to (a_message.Outcome number answer) h = tt
 older-says S c n e from to (a_message.Sealed epoch) h = h
 older-says S c n e from to a_message.Gone h = h
-older-says S c n e from to (a_message.Call epoch number op) h = tt
-older-says S c n e from to (a_message.Reply number version answer) h = tt
 older-says S c n e from to (a_message.Update epoch g u) h = from-map from (λ s. NoLater c (S s) epoch) (λ s. NoLater n (S s) epoch) (λ s l. (l.0, (let b = l.1 in omega (arith, e, b)))) h
 older-says S c n e from to (a_message.Ack epoch g key version) h = from-map from (λ s. NoLater c (S s) epoch) (λ s. NoLater n (S s) epoch) (λ s l. (l.0, (let b = l.1 in omega (arith, e, b)))) h
-older-says S c n e from to (a_message.Ask epoch number g terms) h = tt
-older-says S c n e from to (a_message.Found epoch number g rows) h = tt
-older-says S c n e from to (a_message.StopServer number server) h = tt
-older-says S c n e from to (a_message.AddReplica number server g) h = tt
 older-says S c n e from to (a_message.Snap epoch g snapshot pending) h =
     from-map from _ _ (λ s l. ((l.0.0, (let b = l.0.1 in omega (arith, e, b))), (λ q. absurd (let b = l.0.1 in omega (arith, e, b, q))))) h
 older-says S c n e from to (a_message.Ready epoch g) h =
     from-map from _ _ (λ s l. ((l.0.0, (let b = l.0.1 in omega (arith, e, b))), (λ q. absurd (let b = l.0.1 in omega (arith, e, b, q))))) h
-older-says S c n e from to (a_message.Poll epoch) h = tt
+older-says S c n e from to other h = tt

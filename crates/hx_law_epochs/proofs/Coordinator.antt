@@ -373,16 +373,7 @@ module _ (Real : ServerId → Type 0) (S : ServerId → ServerState) (posts : Li
 
   -- each message to the coordinator
   hears : (d : CoordinatorState) (from to : Actor) (m : Message) → KeptBy Real S d posts → Says S d.config from to m → Coordinates d (coordinator_message d from m)
-  hears d from to (a_message.Call epoch number op) k v = rests d k
-  hears d from to (a_message.Reply number version answer) k v = rests d k
-  hears d from to (a_message.Update epoch h u) k v = rests d k
-  hears d from to (a_message.Ack epoch h key version) k v = rests d k
-  hears d from to (a_message.Ask epoch number h terms) k v = rests d k
-  hears d from to (a_message.Found epoch number h rows) k v = rests d k
-  hears d from to (a_message.Seal epoch) k v = rests d k
   hears d from to (a_message.Sealed epoch) k v = hears-sealed d epoch from to k v
-  hears d from to (a_message.Install config) k v = rests d k
-  hears d from to a_message.Die k v = rests d k
   hears d from to a_message.Gone k v = hears-gone d from to k v
   hears d Coordinator to (a_message.StopServer number server) k v = rests d k
   hears d (Server s) to (a_message.StopServer number server) k v = rests d k
@@ -390,13 +381,12 @@ module _ (Real : ServerId → Type 0) (S : ServerId → ServerState) (posts : Li
   hears d Coordinator to (a_message.AddReplica number server h) k v = rests d k
   hears d (Server s) to (a_message.AddReplica number server h) k v = rests d k
   hears d (Session u) to (a_message.AddReplica number server h) k v = hears-add d number server h u k
-  hears d from to (a_message.Outcome number answer) k v = rests d k
-  hears d from to (a_message.Snap epoch h snapshot pending) k v = rests d k
   hears d from to (a_message.Ready epoch h) k v = hears-ready d epoch h from to k v
   hears d from to (a_message.Poll epoch) k v =
       cond_both (ltb epoch.0 d.config.epoch.0) (telling d (post Coordinator from (a_message.Install d.config) ∷ [])) (resting d) (Coordinates d)
       (λ t. tells d d refl k (post Coordinator from (a_message.Install d.config) ∷ []) (one d.config (post Coordinator from (a_message.Install d.config)) (refl, refl)))
       (λ t. rests d k)
+  hears d from to other k v = rests d k
 
   -- each step of the coordinator
   pub coordinates : (d : CoordinatorState) (input : Input) → KeptBy Real S d posts

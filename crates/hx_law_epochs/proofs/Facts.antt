@@ -65,15 +65,7 @@ module _ (S : ServerId → ServerState) where
   Says newest from to (a_message.Update epoch g u) = FromServer from (λ s. NoLater newest (S s) epoch)
   Says newest from to (a_message.Ack epoch g key version) = FromServer from (λ s. NoLater newest (S s) epoch)
   Says newest from to (a_message.Seal epoch) = epoch.0 ≤ newest.epoch.0
-  Says newest from to a_message.Die = ⊤
-  Says newest from to (a_message.Outcome number answer) = ⊤
-  Says newest from to (a_message.Call epoch number op) = ⊤
-  Says newest from to (a_message.Reply number version answer) = ⊤
-  Says newest from to (a_message.Ask epoch number g terms) = ⊤
-  Says newest from to (a_message.Found epoch number g rows) = ⊤
-  Says newest from to (a_message.StopServer number server) = ⊤
-  Says newest from to (a_message.AddReplica number server g) = ⊤
-  Says newest from to (a_message.Poll epoch) = ⊤
+  Says newest from to other = ⊤
 
 -- a joiner that became ready is listed as not ready in a region that isn't lost, and installed there
 pub record BecameReady (S : ServerId → ServerState) (c : Config) (j : Joined) : Type 0 where

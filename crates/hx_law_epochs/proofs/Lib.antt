@@ -13,3 +13,4 @@ pub mod Serving
 pub mod Sessions
 pub mod Runs
 pub mod Headline
+pub mod Losing

@@ -5,6 +5,7 @@ use Rattle.hx_types.specs.declared.configs.Config.{Config}
 use Rattle.hx_types.specs.declared.configs.Member.{Member}
 use Rattle.hx_types.specs.declared.ids.Actor.{Actor}
 use Rattle.hx_types.specs.declared.ids.Epoch.{Epoch}
+use Rattle.hx_types.specs.declared.ids.RegionId.{RegionId}
 use Rattle.hx_types.specs.declared.ids.ServerId.{ServerId}
 use Rattle.hx_types.specs.declared.ids.SessionId.{SessionId}
 use Rattle.hx_types.specs.declared.messages.Message.{Message}
@@ -20,7 +21,7 @@ use Rattle.hx_types.specs.declared.ids.Actor.TheVariants.{Coordinator, Server, S
 use Rattle.hx_types.specs.declared.traces.Input.TheVariants.{Deliver}
 use Rattle.hx_types.specs.declared.traces.Note.TheVariants as a_note
 use Rattle.hx_types.specs.Words.{IsBefore, IsIn, below, first_some, post, same_server}
-use Rattle.hx_types.specs.Configs.{first_config, members_of}
+use Rattle.hx_types.specs.Configs.{first_config, is_lost, lists_ready, members_of}
 use Rattle.hx_types.specs.Spaces.{IsServerOf}
 use Rattle.hx_types.specs.Fitting.{IsScript}
 use Rattle.hx_model.specs.Causes.{config_noted, config_of}
@@ -401,10 +402,8 @@ issued-well script valid x older run next i =
     noted (n ∷ ns) (inr i) = λ q. noted ns i (later n q)
       where
         later : (n : Note) → config_noted next.epoch (n ∷ ns) ≡ None → config_noted next.epoch ns ≡ None
-        later (a_note.Began number) = λ q. q
-        later (a_note.Ended number version answer) = λ q. q
-        later (a_note.Assigned u) = λ q. q
         later (a_note.Issued c) = cond_both (eqb c.epoch.0 next.epoch.0) (Some c) (config_noted next.epoch ns) (λ o. o ≡ None → config_noted next.epoch ns ≡ None) (λ t e. absurd (cc)) (λ t e. e)
+        later other = λ q. q
 
     by : (kept : EpochsRun script older) → Notes script valid older kept (coordinator_of script (x ∷ older)).config x.notes → WasIssued script older next
     by kept (inl (e, f)) = absurd (noted x.notes i (f next.epoch))
@@ -419,3 +418,49 @@ issued-well script valid x older run next i =
 -- and the epochs are numbered
 pub numbered-well : (script : Script) → IsScript script → (t : List Entry) → IsRun script t → RunsOn script t
 numbered-well script valid t run = (epochs-run script valid t run).known.on
+
+-- ---- earlier configurations and the newest
+
+-- from one configuration to a later one servers only leave, who is ready stays so, and what is lost stays lost
+pub record ComesTo (c n : Config) : Type 0 where
+  pub servers : (s : ServerId) → IsIn s n.servers → IsIn s c.servers
+  pub ready : (g : RegionId) (s : ServerId) → IsIn s n.servers → lists_ready c g s ≡ true → lists_ready n g s ≡ true
+  pub lost : (g : RegionId) → is_lost c g ≡ true → is_lost n g ≡ true
+
+stays : (c : Config) → ComesTo c c
+stays c = record { servers = λ s i. i; ready = λ g s i t. t; lost = λ g t. t }
+
+comes-on : (c d n : Config) → ComesTo c d → FollowsOn d n → ComesTo c n
+comes-on c d n k f = record {
+  servers = λ s i. k.servers s (f.servers s i);
+  ready = λ g s i t. f.ready g s i (k.ready g s (f.servers s i) t);
+  lost = λ g t. f.lost g (k.lost g t);
+}
+
+-- each configuration of a run comes to the newest
+pub comes : (script : Script) → IsScript script → (t : List Entry) → IsRun script t → (epoch : Epoch) (c : Config) → config_of script epoch t ≡ Some c
+    → ComesTo c (coordinator_of script t).config
+comes script valid [] run epoch c e =
+    let first = first_config script.space in
+    cond_both (eqb epoch.0 1) (Some first) None (λ o. o ≡ Some c → ComesTo c first)
+    (λ t q. let same : first ≡ c = cc in subst (λ (y : Config). ComesTo y first) same (stays first))
+    (λ t q. absurd (cc))
+    e
+comes script valid (x ∷ older) run epoch c e = by (λ q. comes script valid older run.1 epoch c q) (keeps-entry script valid older kept x run.0).notes
+  where
+    kept : EpochsRun script older
+    kept = epochs-run script valid older run.1
+
+    before : Config
+    before = (coordinator_of script older).config
+
+    now : Config
+    now = (coordinator_of script (x ∷ older)).config
+
+    by : (config_of script epoch older ≡ Some c → ComesTo c before) → Notes script valid older kept now x.notes → ComesTo c now
+    by earlier (inl (same, f)) =
+        subst (ComesTo c) (sym same) (earlier (sym (ap (λ (o : Option Config). first_some o (config_of script epoch older)) (f epoch)) ∙ e))
+    by earlier (inr i) = elim (after-is script valid older kept x run.0 now (inr i) epoch) [
+      | inl same ↦ comes-on c before now (earlier (sym same ∙ e)) i.follows
+      | inr (p, q, r) ↦ (let issued : Some now ≡ Some c = sym r ∙ e in let same : now ≡ c = cc in subst (λ (w : Config). ComesTo w now) same (stays now))
+    ]

@@ -210,15 +210,7 @@ module _ (Real : ServerId → Type 0) (S : ServerId → ServerState) (c : Config
     older-after from to (a_message.Update epoch g u) h = from-map from (λ s. NoLater c (S s) epoch) (λ s. NoLater c (S' s) epoch) (each (λ j st. NoLater c st epoch) (λ j st. NoLater c st epoch) (later-after epoch) (λ j st x. x)) h
     older-after from to (a_message.Ack epoch g key version) h = from-map from (λ s. NoLater c (S s) epoch) (λ s. NoLater c (S' s) epoch) (each (λ j st. NoLater c st epoch) (λ j st. NoLater c st epoch) (later-after epoch) (λ j st x. x)) h
     older-after from to (a_message.Seal epoch) h = h
-    older-after from to a_message.Die h = tt
-    older-after from to (a_message.Outcome number answer) h = tt
-    older-after from to (a_message.Call epoch number op) h = tt
-    older-after from to (a_message.Reply number version answer) h = tt
-    older-after from to (a_message.Ask epoch number g terms) h = tt
-    older-after from to (a_message.Found epoch number g rows) h = tt
-    older-after from to (a_message.StopServer number server) h = tt
-    older-after from to (a_message.AddReplica number server g) h = tt
-    older-after from to (a_message.Poll epoch) h = tt
+    older-after from to other h = tt
 
     -- each new one, of the state that the server has now
     own-says : (T : ServerId → ServerState) → T i ≡ step.state → (to : Actor) (m : Message) → Tells i step.state to m → Says T c (Server i) to m
@@ -236,15 +228,7 @@ module _ (Real : ServerId → Type 0) (S : ServerId → ServerState) (c : Config
           (let q = ap (λ (x : Epoch). x.0) h.0 in let l = low-after (kept.low i) in (omega (arith, q), omega (arith, q, l))),
           λ q. subst (λ (x : Config). FromServer to (SendsSnapshot x step.state g i)) (newest-after (sym (ap (λ (x : Epoch). x.0) h.0) ∙ q)) h.1,
         )
-    own-says T e to (a_message.Install config) h = absurd h
-    own-says T e to (a_message.Seal epoch) h = absurd h
-    own-says T e to a_message.Die h = absurd h
-    own-says T e to (a_message.Outcome number answer) h = absurd h
-    own-says T e to (a_message.Call epoch number op) h = absurd h
-    own-says T e to (a_message.Ask epoch number g terms) h = absurd h
-    own-says T e to (a_message.StopServer number server) h = absurd h
-    own-says T e to (a_message.AddReplica number server g) h = absurd h
-    own-says T e to (a_message.Poll epoch) h = absurd h
+    own-says T e to other h = absurd h
 
     -- where servers are waited for
     waits-after : (ph : Phase) → Waits S c ph → Waits S' c ph

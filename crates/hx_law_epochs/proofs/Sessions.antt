@@ -111,14 +111,8 @@ session-config space s Halt = inl refl
 session-config space s (Deliver id from m) = by m
   where
     by : (m : Message) → ConfigBy (Deliver id from m) s (session_message space s m).state
-    by (a_message.Call epoch number op) = inl refl
     by (a_message.Reply number version answer) = inl (cond_both (awaits s number is_key_call) (ending s version answer) (staying s) (λ (x : SessionStep). x.state.config ≡ s.config) (λ t. refl) (λ t. refl))
-    by (a_message.Update epoch g u) = inl refl
-    by (a_message.Ack epoch g key version) = inl refl
-    by (a_message.Ask epoch number g terms) = inl refl
     by (a_message.Found epoch number g rows) = inl (found-config s epoch number g rows)
-    by (a_message.Seal epoch) = inl refl
-    by (a_message.Sealed epoch) = inl refl
     by (a_message.Install config) =
         cond_both (ltb s.config.epoch.0 config.epoch.0) _ (staying s) (λ (x : SessionStep). ConfigBy (Deliver id from (a_message.Install config)) s x.state)
         (λ t. inr (id, from, config, refl, installs (call_under_way s), ltb-true s.config.epoch.0 config.epoch.0 t))
@@ -128,11 +122,5 @@ session-config space s (Deliver id from m) = by m
             → (when_some o (staying (record s { config = config })) (λ (op : Op). if is_administrative op then staying (record s { config = config }) else send space (record s { config = config }) op)).state.config ≡ config
         installs None = refl
         installs (Some op) = cond_both (is_administrative op) _ _ (λ (x : SessionStep). x.state.config ≡ config) (λ u. refl) (λ u. send-config space (record s { config = config }) op)
-    by a_message.Die = inl refl
-    by a_message.Gone = inl refl
-    by (a_message.StopServer number server) = inl refl
-    by (a_message.AddReplica number server g) = inl refl
     by (a_message.Outcome number answer) = inl (cond_both (awaits s number is_administrative) (ending s _ answer) (staying s) (λ (x : SessionStep). x.state.config ≡ s.config) (λ t. refl) (λ t. refl))
-    by (a_message.Snap epoch g snapshot pending) = inl refl
-    by (a_message.Ready epoch g) = inl refl
-    by (a_message.Poll epoch) = inl refl
+    by other = inl refl

@@ -100,3 +100,15 @@ pub record EpochsHold (script : Script) (trace : List Entry) : Type 0 where
 -- in every run
 abbrev pub RunsKeepEpochs : Type 0
 RunsKeepEpochs = (script : Script) → IsScript script → (trace : List Entry) → IsRun script trace → EpochsHold script trace
+
+-- where a configuration has lost a region, each server that any configuration had as a ready member of it has halted
+abbrev pub LosesReplicas : Script → List Entry → Type 0
+LosesReplicas script trace =
+    (of_lost of_listed : Epoch) (lost listed : Config) → config_of script of_lost trace ≡ Some lost → config_of script of_listed trace ≡ Some listed
+    → (g : RegionId) → is_lost lost g ≡ true
+    → (s : ServerId) → is_actor script (Server s) ≡ true → lists_ready listed g s ≡ true
+    → (server_of script s trace).halted ≡ true
+
+-- in every run a lost region has lost its replicas
+abbrev pub RunsLoseReplicas : Type 0
+RunsLoseReplicas = (script : Script) → IsScript script → (trace : List Entry) → IsRun script trace → LosesReplicas script trace

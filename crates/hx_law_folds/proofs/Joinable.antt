@@ -244,22 +244,13 @@ module _ (space : Space) (s : ServerState) (h : IsJoinableServer space s) where
 
   message-stays : (from : Actor) (m : Message) → MessageJoins m → IsJoinableServer space (message_step space s from m).state
   message-stays from (a_message.Call epoch number op) f = called_by-stays space s h from epoch number op
-  message-stays from (a_message.Reply number version answer) f = h
   message-stays from (a_message.Update epoch g u) f = updated-stays space s h u f g (if_installed (replica_in_epoch s epoch g)) (installed-heard (IsHeard space g) (replica_in_epoch s epoch g) (heard space s h epoch g))
   message-stays from (a_message.Ack epoch g key version) f = acked-stays space s h key version.0 g (if_installed (replica_in_epoch s epoch g)) (installed-heard (IsHeard space g) (replica_in_epoch s epoch g) (heard space s h epoch g))
   message-stays from (a_message.Ask epoch number g terms) f = asked-stays space s h from epoch number terms (if_installed (replica_in_epoch s epoch g))
-  message-stays from (a_message.Found epoch number g rows) f = h
   message-stays from (a_message.Seal epoch) f = seal-stays epoch
-  message-stays from (a_message.Sealed epoch) f = h
   message-stays from (a_message.Install config) f = install-stays config
-  message-stays from a_message.Die f = h
-  message-stays from a_message.Gone f = h
-  message-stays from (a_message.StopServer number server) f = h
-  message-stays from (a_message.AddReplica number server g) f = h
-  message-stays from (a_message.Outcome number answer) f = h
   message-stays from (a_message.Snap epoch g snapshot pending) f = snapped-stays space s h snapshot pending f.0 f.1 f.2 (replica_in_epoch s epoch g)
-  message-stays from (a_message.Ready epoch g) f = h
-  message-stays from (a_message.Poll epoch) f = h
+  message-stays from other f = h
 
   input-stays : (input : Input) → InputJoins input → IsJoinableServer space (input_step space s input).state
   input-stays Tick f = h

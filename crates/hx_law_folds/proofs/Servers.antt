@@ -315,7 +315,6 @@ install-folds space s h config =
 -- the rows of the table
 message-folds : (space : Space) (s : ServerState) → IsServerOf space s → (from : Actor) (m : Message) → MessageFits m → folded_step (message_step space (folded_server s) from m) ≡ folded_step (message_step space s from m)
 message-folds space s h from (a_message.Call epoch number op) f = called_by-folds space s h from epoch number op
-message-folds space s h from (a_message.Reply number version answer) f = unmoved-folds s
 message-folds space s h from (a_message.Update epoch g u) f =
     ap (λ (o : Option Replica). folded_step (updated space (folded_server s) u o)) (ap if_installed (replica_in_epoch-folded s epoch g) ∙ installed-folded (replica_in_epoch s epoch g))
     ∙ updated-folds space s u f g (if_installed (replica_in_epoch s epoch g)) (installed-heard (IsHeard space g) (replica_in_epoch s epoch g) (heard space s h epoch g))
@@ -325,20 +324,13 @@ message-folds space s h from (a_message.Ack epoch g key version) f =
 message-folds space s h from (a_message.Ask epoch number g terms) f =
     ap (λ (o : Option Replica). folded_step (asked (folded_server s) from epoch number terms o)) (ap if_installed (replica_in_epoch-folded s epoch g) ∙ installed-folded (replica_in_epoch s epoch g))
     ∙ asked-folds s from epoch number terms (if_installed (replica_in_epoch s epoch g))
-message-folds space s h from (a_message.Found epoch number g rows) f = unmoved-folds s
 message-folds space s h from (a_message.Seal epoch) f = seal-folds s epoch
-message-folds space s h from (a_message.Sealed epoch) f = unmoved-folds s
 message-folds space s h from (a_message.Install config) f = install-folds space s h config
 message-folds space s h from a_message.Die f = halting-folds s
-message-folds space s h from a_message.Gone f = unmoved-folds s
-message-folds space s h from (a_message.StopServer number server) f = unmoved-folds s
-message-folds space s h from (a_message.AddReplica number server g) f = unmoved-folds s
-message-folds space s h from (a_message.Outcome number answer) f = unmoved-folds s
 message-folds space s h from (a_message.Snap epoch g snapshot pending) f =
     ap (λ (o : Option Replica). folded_step (snapped space (folded_server s) snapshot pending o)) (replica_in_epoch-folded s epoch g)
     ∙ snapped-folds space s snapshot pending (replica_in_epoch s epoch g)
-message-folds space s h from (a_message.Ready epoch g) f = unmoved-folds s
-message-folds space s h from (a_message.Poll epoch) f = unmoved-folds s
+message-folds space s h from other f = unmoved-folds s
 
 input-folds : (space : Space) (s : ServerState) → IsServerOf space s → (input : Input) → InputFits input → folded_step (input_step space (folded_server s) input) ≡ folded_step (input_step space s input)
 input-folds space s h Tick f = tick-folds space s

@@ -1,5 +1,5 @@
 -- Slots that differ in their past alone show the same.
-use Rattle.std.proofs.Common.{◌≡◌, ℕ, not, List, [], ◌∷◌, ◌++◌, length, refl, ap, sym, ◌∙◌, subst, cond, eqb, leb}
+use Rattle.std.proofs.Common.{◌≡◌, ℕ, not, List, [], ◌∷◌, ◌++◌, length, ap, sym, ◌∙◌, subst, cond, eqb, leb}
 use Rattle.std.specs.List.{list_any}
 use Rattle.hx_types.specs.declared.configs.Config.{Config}
 use Rattle.hx_types.specs.declared.ids.RegionId.{RegionId}
@@ -8,10 +8,9 @@ use Rattle.hx_types.specs.declared.outcomes.Offer.TheVariants.{Accepted, Known, 
 use Rattle.hx_types.specs.declared.updates.Update.{Update}
 use Rattle.hx_types.specs.Words.{provided}
 use Rattle.hx_model.specs.Leading.{stuck_among, stuck_of}
-use Rattle.hx_model.specs.ServerSteps.{SlotContext, accepting, tail_acks, offered_all, resumed, with_commits}
+use Rattle.hx_model.specs.ServerSteps.{SlotContext, accepting, tail_acks, resumed, with_commits}
 use Rattle.hx_model.specs.Slots.{Acknowledge, Forget, Hold, KeyState, Move, Take, ack_answer, acknowledged, commits, follows, is_pending, latest_of, mark_of, moved, moved_all, object_of, offer_answer, offered, pending_of, settled, taken, top_of, touches_of, turns, waits_below}
 use Rattle.hx_law_folds.specs.Folding.{AreAlike, IsLater, IsSlotOf, ShowSame, folded}
-use Rattle.std.specs.List.{AllByRecursion}
 use Rattle.hx_law_folds.proofs.Folds.{folded-twice, latest-folded, mark-folded, object-folded, pending-folded, top-folded, touches-folded}
 use Rattle.hx_law_folds.proofs.Slots.{AllFit, alike-moved_all, tail_acks-fit, fits-append, offered-fit, slot-moved_all}
 
@@ -100,16 +99,3 @@ module _ (g : RegionId) where
       let ms = Forget ∷ tail_acks context (pending_of s) in
       with_commits-same s t h k e ms (tt, tail_acks-fit g context (pending_of s) (moved Forget s)) (tt, tail_acks-fit g context (pending_of s) (moved Forget t))
       ∙ ap (λ (us : List Update). with_commits t (Forget ∷ tail_acks context us)) (alike-show s t h k e).pending
-
-  -- updates offered one after another
-  pub offered_all-same : (s t : KeyState) → IsSlotOf g s → IsSlotOf g t → AreAlike g s t → (us : List Update) → AllByRecursion (IsLater g) us → offered_all g s us ≡ offered_all g t us
-  offered_all-same s t h k e [] l = refl
-  offered_all-same s t h k e (u ∷ us) l =
-      let same = offered-same s t (alike-show s t h k e) u in
-      let a = offered-fit g s u h l.0 in
-      let b = subst (AllFit g t) (sym same) (offered-fit g t u k l.0) in
-      ap (λ (ns : List Move). offered g s u ++ ns)
-      (
-      offered_all-same (moved_all (offered g s u) s) (moved_all (offered g s u) t) (slot-moved_all g (offered g s u) s h a) (slot-moved_all g (offered g s u) t k b) (alike-moved_all g (offered g s u) s t e a b) us l.1
-      )
-      ∙ ap (λ (ms : List Move). ms ++ offered_all g (moved_all ms t) us) same

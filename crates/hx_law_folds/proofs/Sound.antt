@@ -13,24 +13,10 @@ use Rattle.hx_types.specs.Words.{text_below}
 use Rattle.hx_law_folds.specs.Folding.{HasFloors, IsAfter, KeptsAscend, MessageFits, MessageJoins}
 
 pub sound-fits : (b : Bounds) (m : Message) → IsSoundMessage b m → MessageFits m
-sound-fits b (a_message.Call epoch number op) h = tt
-sound-fits b (a_message.Reply number version answer) h = tt
 sound-fits b (a_message.Update epoch g u) h = h.2.of_space.after
-sound-fits b (a_message.Ack epoch g key version) h = tt
-sound-fits b (a_message.Ask epoch number g terms) h = tt
-sound-fits b (a_message.Found epoch number g rows) h = tt
-sound-fits b (a_message.Seal epoch) h = tt
-sound-fits b (a_message.Sealed epoch) h = tt
-sound-fits b (a_message.Install config) h = tt
-sound-fits b a_message.Die h = tt
-sound-fits b a_message.Gone h = tt
-sound-fits b (a_message.StopServer number s) h = tt
-sound-fits b (a_message.AddReplica number s g) h = tt
-sound-fits b (a_message.Outcome number answer) h = tt
 sound-fits b (a_message.Snap epoch g snapshot pending) h =
     recursion_from_All IsAfter pending (All-weaker (λ (u : Update). IsSoundUpdate b u × IsTrue (has_place_in g u.places)) IsAfter (λ u k. k.0.of_space.after) pending h.4)
-sound-fits b (a_message.Ready epoch g) h = tt
-sound-fits b (a_message.Poll epoch) h = tt
+sound-fits b other h = tt
 
 -- keys that pass the test ascend
 all-pass : (test : List ℕ → Bool) (ks : List Kept) → list_all test (map (λ (k : Kept). k.key) ks) ≡ true → AllByRecursion (λ (k : Kept). test k.key ≡ true) ks
@@ -45,21 +31,7 @@ keys-pass (k ∷ ks) e =
 
 -- a sound message whose snapshot has no floor 0 keeps slots joinable
 pub sound-joins : (b : Bounds) (m : Message) → IsSoundMessage b m → HasFloors m → MessageJoins m
-sound-joins b (a_message.Call epoch number op) h f = tt
-sound-joins b (a_message.Reply number version answer) h f = tt
 sound-joins b (a_message.Update epoch g u) h f = h.2.of_space.after
-sound-joins b (a_message.Ack epoch g key version) h f = tt
-sound-joins b (a_message.Ask epoch number g terms) h f = tt
-sound-joins b (a_message.Found epoch number g rows) h f = tt
-sound-joins b (a_message.Seal epoch) h f = tt
-sound-joins b (a_message.Sealed epoch) h f = tt
-sound-joins b (a_message.Install config) h f = tt
-sound-joins b a_message.Die h f = tt
-sound-joins b a_message.Gone h f = tt
-sound-joins b (a_message.StopServer number s) h f = tt
-sound-joins b (a_message.AddReplica number s g) h f = tt
-sound-joins b (a_message.Outcome number answer) h f = tt
 sound-joins b (a_message.Snap epoch g snapshot pending) h f =
     (f, keys-pass snapshot h.3, recursion_from_All IsAfter pending (All-weaker (λ (u : Update). IsSoundUpdate b u × IsTrue (has_place_in g u.places)) IsAfter (λ u k. k.0.of_space.after) pending h.4))
-sound-joins b (a_message.Ready epoch g) h f = tt
-sound-joins b (a_message.Poll epoch) h f = tt
+sound-joins b other h f = tt

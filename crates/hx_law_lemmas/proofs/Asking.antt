@@ -327,23 +327,11 @@ module _ (space : Space) (Known : ℕ → RegionId → List Row → Type 0) wher
   -- each message
   messages : (s : SessionState) → HasParts s → (m : Message) → ((epoch : Epoch) (number : ℕ) (g : RegionId) (rows : List Row) → m ≡ a_message.Found epoch number g rows → Known number g rows)
       → SearchTurn s (session_message space s m)
-  messages s k (a_message.Call epoch number op) f = stays s k
   messages s k (a_message.Reply number version answer) f = replies s k number version answer
-  messages s k (a_message.Update epoch g w) f = stays s k
-  messages s k (a_message.Ack epoch g key version) f = stays s k
-  messages s k (a_message.Ask epoch number g terms) f = stays s k
   messages s k (a_message.Found epoch number g rows) f = finds s k epoch number g rows (f epoch number g rows refl)
-  messages s k (a_message.Seal epoch) f = stays s k
-  messages s k (a_message.Sealed epoch) f = stays s k
   messages s k (a_message.Install config) f = installs s k config
-  messages s k a_message.Die f = stays s k
-  messages s k a_message.Gone f = stays s k
-  messages s k (a_message.StopServer number server) f = stays s k
-  messages s k (a_message.AddReplica number server g) f = stays s k
   messages s k (a_message.Outcome number answer) f = outcomes s k number answer
-  messages s k (a_message.Snap epoch g snapshot pending) f = stays s k
-  messages s k (a_message.Ready epoch g) f = stays s k
-  messages s k (a_message.Poll epoch) f = stays s k
+  messages s k other f = stays s k
 
   -- each input of a session
   pub search-turn : (s : SessionState) → HasParts s → (input : Input)

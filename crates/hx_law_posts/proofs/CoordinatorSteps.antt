@@ -1,5 +1,5 @@
 -- Each step of the coordinator posts what is sound, and leaves it with a configuration of the space.
-use Rattle.std.proofs.Common.{◌≡◌, ℕ, ◌+◌, ◌≤◌, ◌⊎◌, inl, inr, Bool, true, not, ◌&&◌, List, [], ◌∷◌, ◌++◌, map, Option, Some, None, refl, sym, subst, arith, cond, eqb, ltb}
+use Rattle.std.proofs.Common.{◌≡◌, ℕ, ◌+◌, ◌≤◌, inl, inr, Bool, true, not, ◌&&◌, List, [], ◌∷◌, ◌++◌, map, Option, Some, None, refl, sym, subst, arith, cond, eqb, ltb}
 use Rattle.std.specs.Prelude.{⊤}
 use Rattle.std.proofs.lemmas.Bool.{and_parts, cond_both, false≢true}
 use Rattle.hx_types.specs.declared.calls.Answer.{Answer}
@@ -20,11 +20,12 @@ use Rattle.hx_types.specs.declared.calls.Op.TheVariants.{Stop, Add}
 use Rattle.hx_types.specs.declared.messages.Message.TheVariants as a_message
 use Rattle.hx_types.specs.declared.ids.Actor.TheVariants.{Coordinator, Server, Session}
 use Rattle.hx_types.specs.declared.traces.Input.TheVariants.{Tick, Halt, Deliver}
-use Rattle.hx_types.specs.Words.{IsIn, below, post, same_server, same_session, server_in, without_server}
+use Rattle.hx_types.specs.Words.{IsIn, below, post, same_server, server_in, without_server}
 use Rattle.hx_types.specs.Configs.{is_lost, lists_joining}
 use Rattle.hx_types.specs.Spaces.{Fits, IsServerOf}
 use Rattle.hx_types.specs.Posts.{ActorExists, IsSessionOf, IsSoundAnswer, IsSoundMessage, IsSoundPost, goes_between, is_session_actor}
 use Rattle.hx_model.specs.CoordinatorSteps.{Answered, CoordinatorState, CoordinatorStep, Issuing, Newest, Phase, Sealing, Steady, Task, adds, adds_steady, administers, again, by_number, coordinator_message, coordinator_step, coordinator_tick, die_for, die_posts, gone_step, goes, is_out, issue, issued, issuing, judged, newest_answered, newest_of, outcome, poll_step, ready_now, ready_step, remaining, resting, seal, sealed_now, sealed_step, sealing_or_issue, session_posts, still_sealing, stops, telling, to_server, waits_less, with_newest, with_number, with_server, with_task, add_step, stop_step, is_newest_call, with_answer}
+use Rattle.hx_law_lemmas.proofs.Newest.{in-with_newest, newest-in}
 use Rattle.hx_law_lemmas.proofs.Lists.{all-in, in-append, in-below, in-filter, in-flat_map, in-map, in-provided}
 use Rattle.hx_law_posts.proofs.Bounds.{IsSoundConfig, bounds, config-up, exists-up, sound_answer-up}
 use Rattle.hx_law_posts.proofs.Issuing.{IsSoundAnswered, IsSoundIssuing, IsSoundTask, JudgedWell, issuing-sound, judged-sound}
@@ -60,22 +61,6 @@ coordinator-up space sessions m n l c h = record {
     up : (o : Option Answer) → IsMaybeSound space sessions m o → IsMaybeSound space sessions n o
     up None a = tt
     up (Some x) a = sound_answer-up space sessions m n l x a
-
--- a newest call of a changed list is the new one or an old one
-in-with_newest : (n : Newest) (ns : List Newest) (x : Newest) → IsIn x (with_newest n ns) → (x ≡ n) ⊎ IsIn x ns
-in-with_newest n [] x = λ i. elim i [ inl e ↦ inl e | inr j ↦ absurd j ]
-in-with_newest n (y ∷ ns) x =
-    cond_both (same_session y.session n.session) (n ∷ ns) (y ∷ with_newest n ns) (λ (l : List Newest). IsIn x l → (x ≡ n) ⊎ IsIn x (y ∷ ns))
-    (λ t i. elim i [ inl e ↦ inl e | inr j ↦ inr (inr j) ])
-    (λ t i. elim i [ inl e ↦ inr (inl e) | inr j ↦ elim (in-with_newest n ns x j) [ inl e ↦ inl e | inr k ↦ inr (inr k) ] ])
-
--- the newest call of a session stands in the list
-newest-in : (u : SessionId) (ns : List Newest) (x : Newest) → newest_of u ns ≡ Some x → IsIn x ns
-newest-in u [] x = λ e. absurd (cc)
-newest-in u (y ∷ ns) x =
-    cond_both (same_session y.session u) (Some y) (newest_of u ns) (λ o. o ≡ Some x → IsIn x (y ∷ ns))
-    (λ t e. let q : x ≡ y = cc in inl q)
-    (λ t e. inr (newest-in u ns x e))
 
 module _ (space : Space) (sessions n : ℕ) where
   -- a post of the entry that is sound
@@ -260,7 +245,7 @@ module _ (space : Space) (sessions n : ℕ) where
       (λ t. resting-good c h.sound)
       (
       λ t. cond_both (eqb caller.number x.number) (again c caller x.answer) new DoesWell
-      (λ b. again-good c h caller session x.answer (h.sound.newest x (newest-in caller.session c.newest x e)))
+      (λ b. again-good c h caller session x.answer (h.sound.newest x (newest-in caller.session c.newest x e).0))
       (λ b. a)
       )
 
@@ -370,23 +355,13 @@ module _ (space : Space) (sessions n : ℕ) where
 
   -- each message, where its post is sound
   message-good : (c : CoordinatorState) → Relies c → (from : Actor) → ActorExists (bounds space sessions n) from → (m : Message) → goes_between from Coordinator m ≡ true → (j : ℕ) → IsSoundMessage (bounds space sessions j) m → DoesWell (coordinator_message c from m)
-  message-good c h from x (a_message.Call epoch number op) b j k = resting-good c h.sound
-  message-good c h from x (a_message.Reply number version answer) b j k = resting-good c h.sound
-  message-good c h from x (a_message.Update epoch g u) b j k = resting-good c h.sound
-  message-good c h from x (a_message.Ack epoch g key version) b j k = resting-good c h.sound
-  message-good c h from x (a_message.Ask epoch number g terms) b j k = resting-good c h.sound
-  message-good c h from x (a_message.Found epoch number g rows) b j k = resting-good c h.sound
-  message-good c h from x (a_message.Seal epoch) b j k = resting-good c h.sound
   message-good c h from x (a_message.Sealed epoch) b j k = sealed-good c h epoch from x
-  message-good c h from x (a_message.Install config) b j k = resting-good c h.sound
-  message-good c h from x a_message.Die b j k = resting-good c h.sound
   message-good c h from x a_message.Gone b j k = gone-good c h from
   message-good c h from x (a_message.StopServer number server) b j k = administers-good c h from x (stop_step c number server) (stop-good c h number server k)
   message-good c h from x (a_message.AddReplica number server g) b j k = administers-good c h from x (add_step c number server g) (add-good c h number server g k)
-  message-good c h from x (a_message.Outcome number answer) b j k = resting-good c h.sound
-  message-good c h from x (a_message.Snap epoch g snapshot pending) b j k = resting-good c h.sound
   message-good c h from x (a_message.Ready epoch g) b j k = ready-good c h epoch g from
   message-good c h from x (a_message.Poll epoch) b j k = poll-good c h epoch from x (and_parts (is_session_actor from) true b).0
+  message-good c h from x other b j k = resting-good c h.sound
 
   -- each input of the coordinator
   pub coordinator-good : (c : CoordinatorState) → Relies c → (input : Input)

@@ -19,7 +19,7 @@ use Rattle.hx_model.proofs.Laws.{base-moved_all}
 use Rattle.hx_law_lemmas.proofs.Lists.{in-append, in-below, in-filter, in-flat_map, in-map, in-provided, when_some_both}
 use Rattle.hx_law_lemmas.proofs.KnownUpdates.{AllKnown, Known, marks-known, with_commits-known}
 use Rattle.hx_law_lemmas.proofs.Replicas.{replica-found}
-use Rattle.hx_law_posts.proofs.Texts.{state_key}
+use Rattle.hx_law_lemmas.proofs.Texts.{state_key}
 use Rattle.hx_law_posts.proofs.Bounds.{IsSoundConfig}
 use Rattle.hx_law_posts.proofs.Moves.{resumed-rise}
 use Rattle.hx_law_posts.proofs.Slots.{IsSoundSlot, held-together, pending-sound, slot-moved, together, together-sound}

@@ -1,5 +1,5 @@
 -- The next configuration: it is of the space, and what is answered and left of the calls is sound.
-use Rattle.std.proofs.Common.{◌≡◌, ℕ, zero, suc, ◌+◌, ◌≤◌, ◌≢◌, ◌⊎◌, inl, inr, Bool, true, false, List, [], ◌∷◌, ◌++◌, map, length, Option, Some, None, refl, sym, ap, ◌∙◌, subst, arith, cond}
+use Rattle.std.proofs.Common.{◌≡◌, ℕ, zero, suc, ◌+◌, ◌≤◌, ◌≢◌, inl, inr, Bool, true, false, List, [], ◌∷◌, ◌++◌, map, length, Option, Some, None, refl, sym, ap, ◌∙◌, subst, arith, cond}
 use Rattle.std.specs.Prelude.{not, ◌&&◌}
 use Rattle.std.specs.List.{filter, slice_get, slice_set}
 use Rattle.std.proofs.lemmas.Bool.{and_from, cond_both, eq-eqb, false≢true}
@@ -19,7 +19,7 @@ use Rattle.hx_types.specs.Configs.{is_lost, lists_ready, members_of}
 use Rattle.hx_types.specs.Spaces.{AllDiffer, Fits, IsConfigOf, IsListOf, IsServerOf}
 use Rattle.hx_types.specs.Posts.{IsSessionOf, IsSoundAnswer}
 use Rattle.hx_model.specs.CoordinatorSteps.{Answered, CoordinatorState, Issuing, Joined, Task, adds_by, answers_with, any_joining, appended, config_without, does, does_all, is_out, issuing, judged, leaves, lists_without, made_ready, remaining}
-use Rattle.hx_law_lemmas.proofs.Lists.{all-in, all-of, differ-append, in-append, in-filter, in-map, in-slice_get, map-in, when_some_both}
+use Rattle.hx_law_lemmas.proofs.Lists.{all-in, all-of, differ-append, in-append, in-filter, in-map, in-slice_get, map-in, when_some_both, in-slice_set}
 use Rattle.hx_law_posts.proofs.Bounds.{IsSoundConfig, bounds}
 use Rattle.hx_law_posts.proofs.Configs.{server_number}
 use Rattle.hx_law_posts.proofs.SlotPosts.{any-of}
@@ -74,15 +74,7 @@ without-sound space c h = record {
 
 -- ---- a server is appended
 
--- what stands in a list of which an item is set
-in-slice_set : {A : Type 0} (xs : List A) (i : ℕ) (y : A) (x : A) → IsIn x (slice_set xs i y) → (x ≡ y) ⊎ IsIn x xs
-in-slice_set [] i y x j = absurd j
-in-slice_set (a ∷ xs) zero y x (inl e) = inl e
-in-slice_set (a ∷ xs) zero y x (inr j) = inr (inr j)
-in-slice_set (a ∷ xs) (suc i) y x (inl e) = inr (inl e)
-in-slice_set (a ∷ xs) (suc i) y x (inr j) = elim (in-slice_set xs i y x j) [ inl e ↦ inl e | inr k ↦ inr (inr k) ]
-
--- and as many items as before
+-- a list with an item set has as many items as before
 count-slice_set : {A : Type 0} (xs : List A) (i : ℕ) (y : A) → length (slice_set xs i y) ≡ length xs
 count-slice_set [] i y = refl
 count-slice_set (a ∷ xs) zero y = refl

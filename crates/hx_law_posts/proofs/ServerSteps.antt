@@ -58,27 +58,19 @@ module _ (space : Space) (sessions n : ℕ) (s : ServerId) (st : ServerState) (r
   -- each message of a sound post of an earlier entry
   message-good : (k : ℕ) → k ≤ m → (from : Actor) (message : Message) → IsSoundPost space sessions k (post from (Server s) message) → IsGood (message_step space st from message)
   message-good k l from (a_message.Call epoch number op) h = called_by-good space sessions n s st relies m before less from (exists-up space sessions k n from h.from) epoch number op h.message.1
-  message-good k l from (a_message.Reply number version answer) h = stays
   message-good k l from (a_message.Update epoch g u) h =
       updated-good space sessions n s st relies g u (received space sessions k n (omega (arith, l, less)) g u h.message.2 h.message.3) (if_installed (replica_in_epoch st epoch g)) (λ r e. installed-found st epoch g r e)
   message-good k l from (a_message.Ack epoch g key version) h = acked-good space sessions n s st relies g key h.message.2 version.0 (if_installed (replica_in_epoch st epoch g)) (λ r e. installed-found st epoch g r e)
   message-good k l from (a_message.Ask epoch number g terms) h =
       asked-good space sessions n s st relies from (exists-up space sessions k n from h.from) (and_parts (is_session_actor from) true h.between).0 epoch (let e = h.message.0 in omega (arith, e, l, less)) number g terms
       (if_installed (replica_in_epoch st epoch g)) (λ r e. installed-found st epoch g r e)
-  message-good k l from (a_message.Found epoch number g rows) h = stays
   message-good k l from (a_message.Seal epoch) h = seal-good epoch (let e = h.message in omega (arith, e, l, less))
-  message-good k l from (a_message.Sealed epoch) h = stays
   message-good k l from (a_message.Install config) h = install-good space sessions n s st relies config (record { of_space = h.message.1; epoch = (let e = h.message.0 in omega (arith, e, l, less)) })
   message-good k l from a_message.Die h = halt-good
-  message-good k l from a_message.Gone h = stays
-  message-good k l from (a_message.StopServer number server) h = stays
-  message-good k l from (a_message.AddReplica number server g) h = stays
-  message-good k l from (a_message.Outcome number answer) h = stays
   message-good k l from (a_message.Snap epoch g snapshot pending) h =
       snapped-good space sessions n s st relies k (omega (arith, l, less)) g snapshot (λ x i. all-in (IsSoundKept (bounds space sessions k)) snapshot x h.message.2 i) h.message.3
       pending (λ u i. all-in (λ (w : Update). IsSoundUpdate (bounds space sessions k) w × (has_place_in g w.places ≡ true)) pending u h.message.4 i) (replica_in_epoch st epoch g) (λ r e. replica_in_epoch-found st epoch g r e)
-  message-good k l from (a_message.Ready epoch g) h = stays
-  message-good k l from (a_message.Poll epoch) h = stays
+  message-good k l from other h = stays
 
   -- each input of a server
   input-good : (input : Input) → ((id : PostId) (from : Actor) (message : Message) → input ≡ Deliver id from message → (k : ℕ) × (k ≤ m) × IsSoundPost space sessions k (post from (Server s) message)) → IsGood (input_step space st input)

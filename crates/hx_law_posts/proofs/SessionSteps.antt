@@ -218,23 +218,11 @@ module _ (script : Script) (valid : IsScript script) (n : ℕ) (u : SessionId) (
 
   -- each message of a sound post of an earlier entry
   message-good : (k : ℕ) → k ≤ n → (st : SessionState) → IsOwn script n u st → (m : Message) → IsSoundMessage (bounds script.space (length script.sessions) k) m → DoesWell (session_message script.space st m)
-  message-good j l st k (a_message.Call epoch number op) h = staying-good st k
   message-good j l st k (a_message.Reply number version answer) h = end_or_stay (awaits st number is_key_call) st version answer k
-  message-good j l st k (a_message.Update epoch g w) h = staying-good st k
-  message-good j l st k (a_message.Ack epoch g key version) h = staying-good st k
-  message-good j l st k (a_message.Ask epoch number g terms) h = staying-good st k
   message-good j l st k (a_message.Found epoch number g rows) h = found-good _ st (map (with_part g rows) st.parts) k
-  message-good j l st k (a_message.Seal epoch) h = staying-good st k
-  message-good j l st k (a_message.Sealed epoch) h = staying-good st k
   message-good j l st k (a_message.Install config) h = install-good st k config (record { of_space = h.1; epoch = (let e = h.0 in omega (arith, e, l)) })
-  message-good j l st k a_message.Die h = staying-good st k
-  message-good j l st k a_message.Gone h = staying-good st k
-  message-good j l st k (a_message.StopServer number server) h = staying-good st k
-  message-good j l st k (a_message.AddReplica number server g) h = staying-good st k
   message-good j l st k (a_message.Outcome number answer) h = end_or_stay (awaits st number is_administrative) st no_version answer k
-  message-good j l st k (a_message.Snap epoch g snapshot pending) h = staying-good st k
-  message-good j l st k (a_message.Ready epoch g) h = staying-good st k
-  message-good j l st k (a_message.Poll epoch) h = staying-good st k
+  message-good j l st k other h = staying-good st k
 
   -- each input of a session
   pub session-good : (st : SessionState) → IsOwn script n u st → (input : Input)

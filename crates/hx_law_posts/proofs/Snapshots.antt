@@ -20,7 +20,8 @@ use Rattle.hx_model.specs.ServerSteps.{Replica, ServerState, Slots, SlotContext,
 use Rattle.hx_law_lemmas.proofs.Lists.{all-of, in-append, in-filter, in-flat_map, in-map, in-provided, in_left}
 use Rattle.hx_law_lemmas.proofs.KnownUpdates.{accepting-known}
 use Rattle.hx_law_lemmas.proofs.Replicas.{in-with_state, replica-found, state-from}
-use Rattle.hx_law_posts.proofs.Texts.{Ascend, ascend-test, state_key, with_state-ascends}
+use Rattle.hx_law_lemmas.proofs.Texts.{Ascend, ascend-test, state_key}
+use Rattle.hx_law_posts.proofs.Texts.{with_state-ascends}
 use Rattle.hx_law_posts.proofs.Bounds.{IsSoundAt, bounds, kept-up, received}
 use Rattle.hx_law_posts.proofs.Configs.{member-server}
 use Rattle.hx_law_posts.proofs.Moves.{accepting-rise, offered_all-known, offered_all-rise}

@@ -162,10 +162,6 @@ module _ (script : Script) (older : List Entry) (named : AreNamed script older) 
       (r.0, subst (λ (k : ℕ). BeganAt (x ∷ older) (record { session = u; number = k }) r.0) (sym begun_is) r.1)))
       (λ v ne w. (let r = calls.running v w in (r.0, inr r.1)))
 
-  -- the caller of what is under way
-  abbrev current : Caller
-  current = record { session = u; number = mid.begun }
-
   -- a call that is posted now is the one under way, which is sent and doesn't end
   now-called : (v : SessionId) (to : Actor) (epoch : Epoch) (number : ℕ) (op : Op) → IsIn (post (Session v) to (a_message.Call epoch number op)) x.outputs
       → (v ≡ u) × (number ≡ mid.begun) × (mid.under_way ≡ true) × (numbered mid.calls mid.begun ≡ Some op) × (after.sent ≡ true) × (after.under_way ≡ true)

@@ -111,16 +111,12 @@ now-in x m i =
 -- a begin that is noted began
 begin-number : (c : Caller) (n : Note) → is_begin_of c.number n ≡ true → n ≡ a_note.Began c.number
 begin-number c (a_note.Began k) e = let q = eqb-true k c.number e in ap a_note.Began q
-begin-number c (a_note.Ended k v a) e = absurd (false≢true e)
-begin-number c (a_note.Assigned u) e = absurd (false≢true e)
-begin-number c (a_note.Issued config) e = absurd (false≢true e)
+begin-number c other e = absurd (false≢true e)
 
 -- an end that is noted ended
 end-number : (c : Caller) (n : Note) → is_end_of c.number n ≡ true → (v : Version) × (a : Answer) × (n ≡ a_note.Ended c.number v a)
 end-number c (a_note.Ended k v a) e = let q = eqb-true k c.number e in (v, a, ap (λ m. a_note.Ended m v a) q)
-end-number c (a_note.Began k) e = absurd (false≢true e)
-end-number c (a_note.Assigned u) e = absurd (false≢true e)
-end-number c (a_note.Issued config) e = absurd (false≢true e)
+end-number c other e = absurd (false≢true e)
 
 -- who was noted as begun began
 has-begun : (t : List Entry) (c : Caller) → has_begun c (noted_in t) ≡ true → (n : ℕ) × BeganAt t c n

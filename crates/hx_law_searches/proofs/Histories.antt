@@ -68,9 +68,6 @@ ended_early c t n q = by (end_of c t) refl q
 module _ (script : Script) (key : List ℕ) (low : ℕ) (high : Option ℕ) (object : Option (List Value)) where
   -- of a note
   note-well : (u : SessionId) (note : Note) (x : Item) → IsIn x (get_item script key low high object u note) → is_refused x.answer ≡ false
-  note-well u (a_note.Began number) x i = absurd i
-  note-well u (a_note.Assigned w) x i = absurd i
-  note-well u (a_note.Issued config) x i = absurd i
   note-well u (a_note.Ended number version answer) x i = by (call_of script (record { session = u; number = number })) i
     where
       well : (b : Bool) → not b ≡ true → b ≡ false
@@ -86,6 +83,7 @@ module _ (script : Script) (key : List ℕ) (low : ℕ) (high : Option ℕ) (obj
           let b = and_parts (is_get_of key op && not (is_refused answer)) (in_place low high version.0) r.0 in
           let c = and_parts (is_get_of key op) (not (is_refused answer)) b.0 in
           elim r.1 [ inl e ↦ ap (λ (y : Item). is_refused y.answer) e ∙ well (is_refused answer) c.1 | inr j ↦ absurd j ]
+  note-well u other x i = absurd i
 
   -- of a trace
   gets-well : (t : List Entry) (x : Item) → IsIn x (gets_of script key low high object t) → is_refused x.answer ≡ false

@@ -132,19 +132,7 @@ module _ (script : Script) (facts : Facts script) (older : List Entry) (x : Entr
       quiet from to (a_message.Install config) h = tt
       quiet from to a_message.Die h = tt
       quiet from to (a_message.Outcome number answer) h = tt
-      quiet from to (a_message.Call epoch number op) h = absurd h
-      quiet from to (a_message.Reply number version answer) h = absurd h
-      quiet from to (a_message.Update epoch g u) h = absurd h
-      quiet from to (a_message.Ack epoch g key version) h = absurd h
-      quiet from to (a_message.Ask epoch number g terms) h = absurd h
-      quiet from to (a_message.Found epoch number g rows) h = absurd h
-      quiet from to (a_message.Sealed epoch) h = absurd h
-      quiet from to a_message.Gone h = absurd h
-      quiet from to (a_message.StopServer number server) h = absurd h
-      quiet from to (a_message.AddReplica number server g) h = absurd h
-      quiet from to (a_message.Snap epoch g snapshot pending) h = absurd h
-      quiet from to (a_message.Ready epoch g) h = absurd h
-      quiet from to (a_message.Poll epoch) h = absurd h
+      quiet from to other h = absurd h
 
   -- an entry of a server
   of-server : (i : ServerId) → x.actor ≡ Server i → Searched script (x ∷ older)
@@ -173,15 +161,7 @@ module _ (script : Script) (facts : Facts script) (older : List Entry) (x : Entr
       says from to a_message.Gone j h = tt
       says from to (a_message.Snap epoch g snapshot pending) j h = tt
       says from to (a_message.Ready epoch g) j h = tt
-      says from to (a_message.Call epoch number op) j h = absurd h
-      says from to (a_message.Ask epoch number g terms) j h = absurd h
-      says from to (a_message.Seal epoch) j h = absurd h
-      says from to (a_message.Install config) j h = absurd h
-      says from to a_message.Die j h = absurd h
-      says from to (a_message.StopServer number server) j h = absurd h
-      says from to (a_message.AddReplica number server g) j h = absurd h
-      says from to (a_message.Outcome number answer) j h = absurd h
-      says from to (a_message.Poll epoch) j h = absurd h
+      says from to other j h = absurd h
 
   -- what a session's step does
   pub turn-of : (v : SessionId) → x.actor ≡ Session v
@@ -225,21 +205,7 @@ module _ (script : Script) (facts : Facts script) (older : List Entry) (x : Entr
       asks : (from to : Actor) (m : Message) → from ≡ Session (session_of script v older).id → Asks (session_of script v (x ∷ older)) m → TellsOf script (x ∷ older) from to m
       asks from to (a_message.Ask epoch number g terms) f h = subst (λ (a : Actor). AskedBy script (x ∷ older) a number terms) (sym (f ∙ ap Session (named script older v).0)) (asked-now number terms h.0 h.1 h.2)
       asks from to (a_message.Found epoch number g rows) f h = absurd h
-      asks from to (a_message.Call epoch number op) f h = tt
-      asks from to (a_message.Reply number version answer) f h = tt
-      asks from to (a_message.Update epoch g u) f h = tt
-      asks from to (a_message.Ack epoch g key version) f h = tt
-      asks from to (a_message.Seal epoch) f h = tt
-      asks from to (a_message.Sealed epoch) f h = tt
-      asks from to (a_message.Install config) f h = tt
-      asks from to a_message.Die f h = tt
-      asks from to a_message.Gone f h = tt
-      asks from to (a_message.StopServer number server) f h = tt
-      asks from to (a_message.AddReplica number server g) f h = tt
-      asks from to (a_message.Outcome number answer) f h = tt
-      asks from to (a_message.Snap epoch g snapshot pending) f h = tt
-      asks from to (a_message.Ready epoch g) f h = tt
-      asks from to (a_message.Poll epoch) f h = tt
+      asks from to other f h = tt
 
   -- an entry of whoever
   entry-searched : Searched script (x ∷ older)

@@ -87,7 +87,7 @@ of_kind kinds.Text (values.Int n) is = absurd is
 of_kind (kinds.Int lo hi) (values.Text t) is = absurd is
 of_kind (kinds.Int lo hi) (values.Int n) is = (refl, refl)
 
-below : {A : Type 0} (xs : List A) (i : ℕ) (x : A) → slice_get xs i ≡ Some x → i < length xs
+pub below : {A : Type 0} (xs : List A) (i : ℕ) (x : A) → slice_get xs i ≡ Some x → i < length xs
 below [] i x e = absurd cc
 below (y ∷ xs) zero x e = omega arith
 below (y ∷ xs) (suc i) x e = omega (arith, below xs i x e)

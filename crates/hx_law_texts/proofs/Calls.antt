@@ -3,39 +3,43 @@ use Rattle.std.proofs.Common.{◌≡◌, ℕ, pos, ◌+◌, ◌-◌, ◌<◌, �
 use Rattle.std.specs.Prelude.{codes}
 use Rattle.std.specs.List.{All, flat_map}
 use Rattle.std.specs.Fmt.{decimal}
-use Rattle.std.proofs.lemmas.Bool.{le-leb, lt-ltb}
+use Rattle.std.proofs.lemmas.Bool.{le-leb}
 use Rattle.std.proofs.lemmas.List.{append-nil}
 use Rattle.std.proofs.lemmas.List.Concat.{flat_map-cons}
 use Rattle.std.proofs.lemmas.List.Elements.{All-head, All-tail}
 use Rattle.hx_lex.specs.Letters.{is_word_part}
 use Rattle.hx_types.specs.declared.calls.Op.{Op}
-use Rattle.hx_types.specs.declared.calls.Op.TheVariants.{Put, Get, Del, Cput, Search, Stop, Add}
+use Rattle.hx_types.specs.declared.calls.Op.TheVariants.{Put, Get, Del, Cput, Search, Stop, Add, Atomic}
 use Rattle.hx_types.specs.declared.ids.RegionId.{RegionId}
 use Rattle.hx_types.specs.declared.ids.ServerId.{ServerId}
 use Rattle.hx_types.specs.declared.spaces.Space.{Space}
 use Rattle.hx_types.specs.declared.traces.Script.{Script}
 use Rattle.hx_types.specs.declared.values.Assign.{Assign}
+use Rattle.hx_types.specs.declared.values.Edit.{Edit}
 use Rattle.hx_types.specs.declared.values.Term.{Term}
-use Rattle.hx_types.specs.Spaces.{KeyFits, AssignsFit, TermsFit, IsServerOf, IsRegionOf, Fits, IsSpace}
+use Rattle.hx_types.specs.Spaces.{KeyFits, AssignsFit, EditsFit, TermsFit, IsServerOf, IsRegionOf, Fits, IsSpace}
 use Rattle.hx_types.specs.Subspaces.{region_count}
 use Rattle.hx_lex.specs.Spelling.{IsText}
-use Rattle.hx_print.specs.Printing.{quoted, assigns_text, terms_text, cput_text, add_text, op_text, call_line as call_text}
+use Rattle.hx_print.specs.Printing.{quoted, assigns_text, edits_text, terms_text, cput_text, add_text, op_text, call_line as call_text}
 use Rattle.hx_script.specs.declared.draft.Section.TheVariants as sections
 use Rattle.hx_script.specs.declared.line.Until.TheVariants as until
-use Rattle.hx_script.specs.Calls.{put, get, del, cput, search_call, stop, add}
-use Rattle.hx_script.specs.Grammar.{line_of_toks, command, push_to_last, call_line}
+use Rattle.hx_script.specs.Calls.{put, get, del, cput, search_call, stop, add, atomic}
+use Rattle.hx_script.specs.Grammar.{line_of_toks, push_to_last}
+use Rattle.hx_script.specs.LoneCalls.{lone_call, op_of_toks, op_of_line}
 use Rattle.hx_script.specs.Readers.{number_in}
 use Rattle.hx_script.specs.Toks.{Tok, Word, Number, Text}
 use Rattle.hx_script.specs.Values.{short_text}
 use Rattle.hx_script.proofs.Lists.{push_to_last_is}
-use Rattle.hx_law_texts.specs.Sayable.{ValuesAreSayable, TermIsSayable, CallIsSayable}
+use Rattle.hx_script.proofs.LoneCalls.{toks_take}
+use Rattle.hx_law_texts.specs.Sayable.{ValuesAreSayable, EditsAreSayable, TermIsSayable, CallIsSayable}
 use Rattle.hx_law_texts.proofs.Assignments.{assigns_toks, all_left, assigns_say, assigns_again, some_again, goes_no_further}
 use Rattle.hx_law_texts.proofs.Drafts.{calling}
+use Rattle.hx_law_texts.proofs.Edits.{edits_toks, edits_say, edits_again}
 use Rattle.hx_law_texts.proofs.Heads.{word_number}
 use Rattle.hx_law_texts.proofs.Numbers.{number_says}
 use Rattle.hx_law_texts.proofs.Quotes.{text_says}
 use Rattle.hx_law_texts.proofs.Reading.{ReadsTo, line_reads}
-use Rattle.hx_law_texts.proofs.Says.{Says, nil_says, blank_says, word_says, word_and_blank}
+use Rattle.hx_law_texts.proofs.Says.{Says, nil_says, blank_says, word_says, word_and_blank, line_toks}
 use Rattle.hx_law_texts.proofs.Terms.{terms_toks, terms_say, terms_again, goes_no_further as terms_go_no_further}
 
 -- ---- what a call says
@@ -51,6 +55,7 @@ call_toks s (Cput key tests sets) = cput_toks s key tests sets
 call_toks s (Search terms) = Word (codes "search") ∷ terms_toks s terms
 call_toks s (Stop server) = Word (codes "stop") ∷ Number (pos server.0) ∷ []
 call_toks s (Add server region) = Word (codes "add") ∷ Number (pos server.0) ∷ Number (pos region.0) ∷ []
+call_toks s (Atomic key edits) = Word (codes "atomic") ∷ Text key ∷ edits_toks s edits
 
 put_parts : (p q t : List ℕ) → (p ++ q ++ t) ++ [] ≡ p ++ (q ++ (t ++ []))
 put_parts p q t = simp append_assoc
@@ -93,6 +98,15 @@ add_says s server region few below =
     (word_and_blank (codes "add") (Number (pos server.0) ∷ Number (pos region.0) ∷ []) (decimal server.0 ++ (32 ∷ tail)) (record { letter = refl; parts = refl })
     (number_says server.0 (Number (pos region.0) ∷ []) (32 ∷ tail) (omega (arith, few)) refl (blank_says (Number (pos region.0) ∷ []) tail (number_says region.0 [] [] (omega (arith, below)) refl nil_says))))
 
+atomic_says : (s : Space) (key : List ℕ) (edits : List Edit) → IsSpace s → EditsFit s edits → IsText key → EditsAreSayable edits → Says (call_toks s (Atomic key edits)) (op_text s (Atomic key edits) ++ [])
+unfolding op_text
+atomic_says s key edits is fit text said =
+    let ts : List Tok = edits_toks s edits in
+    let tail : List ℕ = edits_text s edits ++ [] in
+    subst (λ (x : List ℕ). Says (Word (codes "atomic") ∷ Text key ∷ ts) x) (sym (put_parts (codes "atomic ") (quoted key) (edits_text s edits)))
+    (word_and_blank (codes "atomic") (Text key ∷ ts) (quoted key ++ tail) (record { letter = refl; parts = refl })
+    (text_says key ts tail text (edits_say s edits is fit said)))
+
 few_servers : (s : Space) (server : ServerId) → IsSpace s → IsServerOf s server → server.0 ≤ 16
 few_servers s server is of =
     let high : s.servers ≤ 16 = is.servers.1 in
@@ -114,6 +128,7 @@ call_says s (Cput key tests sets) is fits said = cput_says s key tests sets is f
 call_says s (Search terms) is fits said = word_says (codes "search") (terms_toks s terms) (terms_text s terms ++ []) (record { letter = refl; parts = refl }) (terms_go_no_further is_word_part s terms refl) (terms_say s terms is fits said)
 call_says s (Stop server) is fits said = let few : server.0 ≤ 16 = few_servers s server is fits in word_number (codes "stop") server.0 (record { letter = refl; parts = refl }) (omega (arith, few))
 call_says s (Add server region) is fits said = add_says s server region (few_servers s server is fits.0) (few_regions s region is fits.1)
+call_says s (Atomic key edits) is fits said = atomic_says s key edits is fits.1 said.0 said.1
 
 -- ---- it is read
 
@@ -146,16 +161,31 @@ add_again : (s : Space) (regions : ℕ) (server : ServerId) (region : RegionId) 
 unfolding add number_in
 add_again s regions server region of below = rw (le-leb 1 server.0 of.0, le-leb server.0 s.servers of.1, le-leb 0 region.0 (omega arith), le-leb region.0 (regions - 1) (omega (arith, below))) refl
 
+atomic_again : (s : Space) (key : List ℕ) (edits : List Edit) → IsSpace s → Fits s (Atomic key edits) → EditsAreSayable edits → atomic s (Text key ∷ edits_toks s edits) ≡ Ok (Atomic key edits, [])
+unfolding atomic short_text
+atomic_again s key edits is fits said = rw (le-leb (length key) 1024 fits.0, edits_again edits s is fits.1 said fits.2) refl
+
+lone_again : (s : Space) (op : Op) → IsSpace s → Fits s op → CallIsSayable op → op_of_toks s (call_toks s op) ≡ Ok op
+unfolding lone_call
+lone_again s (Put key sets) is fits said = rw (put_again s key sets is fits.0 fits.1 said.1) refl
+lone_again s (Get key) is fits said = rw (get_again key fits) refl
+lone_again s (Del key) is fits said = rw (del_again key fits) refl
+lone_again s (Cput key tests sets) is fits said = rw (cput_again s key tests sets is fits said.1 said.2) refl
+lone_again s (Search terms) is fits said = rw (search_again s terms is fits said) refl
+lone_again s (Stop server) is fits said = rw (stop_again s server fits) refl
+lone_again s (Add server region) is fits said = rw (add_again s (region_count s) server region fits.0 fits.1) refl
+lone_again s (Atomic key edits) is fits said = rw (atomic_again s key edits is fits said.1) refl
+
 call_again : (n : ℕ) (s : Space) (regions : ℕ) (sessions : List (List Op)) (calls : ℕ) (op : Op) → IsSpace s → regions ≡ region_count s → Fits s op → CallIsSayable op → calls < 16384
     → line_of_toks n (calling sections.Calls s regions sessions calls) (call_toks s op) ≡ Ok (calling sections.Calls s regions (push_to_last sessions op) (calls + 1))
-unfolding command call_line
-call_again n s regions sessions calls (Put key sets) is all fits said room = rw (lt-ltb calls 16384 room, put_again s key sets is fits.0 fits.1 said.1) refl
-call_again n s regions sessions calls (Get key) is all fits said room = rw (lt-ltb calls 16384 room, get_again key fits) refl
-call_again n s regions sessions calls (Del key) is all fits said room = rw (lt-ltb calls 16384 room, del_again key fits) refl
-call_again n s regions sessions calls (Cput key tests sets) is all fits said room = rw (lt-ltb calls 16384 room, cput_again s key tests sets is fits said.1 said.2) refl
-call_again n s regions sessions calls (Search terms) is all fits said room = rw (lt-ltb calls 16384 room, search_again s terms is fits said) refl
-call_again n s regions sessions calls (Stop server) is all fits said room = rw (lt-ltb calls 16384 room, stop_again s server fits) refl
-call_again n s regions sessions calls (Add server region) is all fits said room = rw (lt-ltb calls 16384 room, add_again s regions server region fits.0 (subst (λ r. region.0 < r) (sym all) fits.1)) refl
+call_again n s regions sessions calls op is all fits said room =
+    toks_take n (calling sections.Calls s regions sessions calls) (call_toks s op) op (record { section = refl; regions = all; room = room }) (lone_again s op is fits said)
+
+-- the text of a call, with no newline, is read as that call
+pub lone_reads : (s : Space) (op : Op) → IsSpace s → Fits s op → CallIsSayable op → op_of_line s (op_text s op) ≡ Ok op
+lone_reads s op is fits said =
+    let says : Says (call_toks s op) (op_text s op) = subst (λ (x : List ℕ). Says (call_toks s op) x) (append-nil (op_text s op)) (call_says s op is fits said) in
+    rw (line_toks (op_text s op) (call_toks s op) says) (lone_again s op is fits said)
 
 -- ---- the calls of a session
 

@@ -8,6 +8,7 @@ pub mod Heads
 pub mod Attributes
 pub mod Subspaces
 pub mod Assignments
+pub mod Edits
 pub mod Terms
 pub mod Calls
 pub mod Steps
@@ -18,4 +19,5 @@ pub mod ToldCalls
 pub mod ToldLines
 pub mod ToldTexts
 pub mod Only
+pub mod LoneCalls
 mod Examples

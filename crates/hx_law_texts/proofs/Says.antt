@@ -190,7 +190,8 @@ toks_are line (Ok xs) ts e = ap Ok (ok_toks (map (meaning line) xs) ts e)
     ok_toks xs ys e = cc
 toks_are line (Err d) ts e = absurd cc
 
+pub line_toks : (line : List ℕ) (ts : List Tok) → Says ts line → toks_from line (tokens_of line) ≡ Ok ts
+line_toks line ts h = toks_are line (tokens_of line) ts (says_meant line [] line 0 0 refl refl ∙ h.said 0)
+
 pub line_says : (n : ℕ) (d : Draft) (line : List ℕ) (ts : List Tok) → Says ts line → line_of n d line ≡ line_of_toks n d ts
-line_says n d line ts h =
-    let e : toks_from line (tokens_of line) ≡ Ok ts = toks_are line (tokens_of line) ts (says_meant line [] line 0 0 refl refl ∙ h.said 0) in
-    rw e refl
+line_says n d line ts h = rw (line_toks line ts h) refl

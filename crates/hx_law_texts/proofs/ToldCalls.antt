@@ -8,13 +8,15 @@ use Rattle.std.proofs.lemmas.List.Elements.{All-nil, All-push}
 use Rattle.hx_lex.specs.Numbers.{value as value_of}
 use Rattle.hx_lex.specs.Spelling.{IsText}
 use Rattle.hx_lex.proofs.Content.{and_left, and_right}
-use Rattle.hx_types.specs.declared.calls.Op.TheVariants.{Put, Get, Del, Cput, Search, Stop, Add}
+use Rattle.hx_types.specs.declared.calls.Op.TheVariants.{Put, Get, Del, Cput, Search, Stop, Add, Atomic}
 use Rattle.hx_types.specs.declared.ids.Actor.{Actor}
 use Rattle.hx_types.specs.declared.ids.Actor.TheVariants.{Coordinator, Server, Session}
 use Rattle.hx_types.specs.declared.spaces.Kind.{Kind}
 use Rattle.hx_types.specs.declared.spaces.Space.{Space}
 use Rattle.hx_types.specs.declared.traces.Step.TheVariants.{Deliver, Tick, Halt}
 use Rattle.hx_types.specs.declared.values.Assign.{Assign}
+use Rattle.hx_types.specs.declared.values.Edit.{Edit}
+use Rattle.hx_types.specs.declared.values.EditKind.{EditKind}
 use Rattle.hx_types.specs.declared.values.Term.{Term}
 use Rattle.hx_types.specs.declared.values.Term.TheVariants.{Equal, Range}
 use Rattle.hx_types.specs.declared.values.Value.{Value}
@@ -29,13 +31,14 @@ use Rattle.hx_script.specs.declared.keyword.StepWord.TheVariants as step_words
 use Rattle.hx_script.specs.declared.line.Until.{Until}
 use Rattle.hx_script.specs.declared.line.Until.TheVariants as until
 use Rattle.hx_script.specs.Actors.{is_decimal, number_word, actor_word, actor}
-use Rattle.hx_script.specs.Calls.{put, get, del, cput, search_call, stop, add, call, deliver, tick, halt, step}
+use Rattle.hx_script.specs.Calls.{put, get, del, cput, search_call, stop, add, atomic, call, deliver, tick, halt, step}
+use Rattle.hx_script.specs.Edits.{edit_kind, edit_word, has_edit, unedited_attribute, is_edit_of, edit_value, edit, one_more_edit, some_edits}
 use Rattle.hx_script.specs.Readers.{on_ok}
 use Rattle.hx_script.specs.Toks.{Tok, Word, Number, Text, Sign}
 use Rattle.hx_script.specs.Values.{short_text, is_of, is_short, any_value, value, has_assign, free_attribute, assign, one_more, more_assigns, some_assigns, has_term, free_known, range, is_dots, range_or_equal, rest_of_term, term, one_more_term, all_terms}
 use Rattle.hx_script.specs.Words.{may_name, named, declared_number, known_number}
 use Rattle.hx_script.proofs.Takes.{on_ok_ok, ok_is}
-use Rattle.hx_law_texts.specs.Sayable.{IsSayable, ValuesAreSayable, TermIsSayable, CallIsSayable, IsUpTo, IsActorOf, StepIsSayable}
+use Rattle.hx_law_texts.specs.Sayable.{IsSayable, ValuesAreSayable, EditsAreSayable, TermIsSayable, CallIsSayable, IsUpTo, IsActorOf, StepIsSayable}
 use Rattle.hx_law_texts.proofs.Told.{AllTold, Tells, Any, tells_then, tells_give, tells_check, tells_judged, tells_word, tells_text, tells_end, tells_sign, tells_fixed, tells_number_in, tells_natural, tells_number_from, tells_repeat}
 
 pub tells_named : Tells named Any
@@ -113,6 +116,47 @@ tells_one_more_term space terms said = tells_then TermIsSayable (tells_term spac
 tells_terms : (space : Space) → Tells (all_terms space) (All TermIsSayable)
 tells_terms space = tells_repeat (All TermIsSayable) until.End (one_more_term space) (λ b q. tells_one_more_term space b q) [] (All-nil TermIsSayable)
 
+-- ---- edits
+
+abbrev EditIsSaid : Edit → Type 0
+EditIsSaid e = IsSayable e.value
+
+tells_edit_word : Tells edit_word Any
+unfolding edit_word
+tells_edit_word = tells_then Any tells_word (λ w u. record { at = λ ts x all e. (tt, ((tells_judged (edit_kind w)).at ts x all e).1) })
+
+tells_unedited : (space : Space) (edits : List Edit) → Tells (unedited_attribute space edits) Any
+unfolding unedited_attribute
+tells_unedited space edits =
+    tells_then Any tells_named (λ w m.
+    tells_then (λ a. declared_number space w ≡ Ok a) (tells_judged (declared_number space w)) (λ a d.
+    tells_then Any (tells_check (not (has_edit edits a)) Twice) (λ u n. tells_give a tt)))
+
+tells_edit_value : (what : EditKind) (kind : Kind) → Tells (edit_value what kind) IsSayable
+unfolding edit_value
+tells_edit_value what kind =
+    tells_then IsSayable tells_any_value (λ v is.
+    tells_then Any (tells_check (is_edit_of what kind && is_of kind v) TypeOf) (λ u k.
+    tells_then Any (tells_check (is_short v) Limit) (λ u s. tells_give v is)))
+
+tells_edit : (space : Space) (edits : List Edit) → Tells (edit space edits) EditIsSaid
+unfolding edit
+tells_edit space edits =
+    tells_then Any tells_edit_word (λ what w.
+    tells_then Any (tells_unedited space edits) (λ a f.
+    tells_then Any (tells_sign (codes "=")) (λ u t.
+    tells_then IsSayable (tells_edit_value what (kind_at space a)) (λ v s. tells_give (record { what = what; attribute = a; value = v }) s))))
+
+tells_one_more_edit : (space : Space) (edits : List Edit) → EditsAreSayable edits → Tells (one_more_edit space edits) EditsAreSayable
+unfolding one_more_edit
+tells_one_more_edit space edits said = tells_then EditIsSaid (tells_edit space edits) (λ e s. tells_give (edits ++ e ∷ []) (All-push EditIsSaid edits e said s))
+
+tells_some_edits : (space : Space) → Tells (some_edits space) EditsAreSayable
+unfolding some_edits
+tells_some_edits space =
+    tells_then EditsAreSayable (tells_one_more_edit space [] (All-nil EditIsSaid)) (λ first s.
+    tells_repeat EditsAreSayable until.End (one_more_edit space) (λ b q. tells_one_more_edit space b q) first s)
+
 -- ---- calls
 
 tells_put : (space : Space) → Tells (put space) CallIsSayable
@@ -143,6 +187,10 @@ tells_add : (space : Space) (regions : ℕ) → Tells (add space regions) CallIs
 unfolding add
 tells_add space regions = tells_then (λ n. n ≤ space.servers) (tells_number_in 1 space.servers) (λ n h. tells_then (λ g. g ≤ regions - 1) (tells_number_in 0 (regions - 1)) (λ g k. tells_then Any tells_end (λ u t. tells_give (Add (record { 0 = n }) (record { 0 = g })) tt)))
 
+tells_atomic : (space : Space) → Tells (atomic space) CallIsSayable
+unfolding atomic
+tells_atomic space = tells_then IsText tells_short_text (λ key k. tells_then EditsAreSayable (tells_some_edits space) (λ edits s. tells_give (Atomic key edits) (k, s)))
+
 pub tells_call : (space : Space) (regions : ℕ) (w : CallWord) → Tells (call space regions w) CallIsSayable
 tells_call space regions calls.Put = tells_put space
 tells_call space regions calls.Get = tells_get
@@ -151,6 +199,7 @@ tells_call space regions calls.Cput = tells_cput space
 tells_call space regions calls.Search = tells_search space
 tells_call space regions calls.Stop = tells_stop space
 tells_call space regions calls.Add = tells_add space regions
+tells_call space regions calls.Atomic = tells_atomic space
 
 -- ---- steps
 

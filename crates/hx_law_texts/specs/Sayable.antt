@@ -4,7 +4,7 @@ use Rattle.std.specs.Prelude.{ℕ, ◌^◌, ◌<◌, ◌≤◌, List, length, Fi
 use Rattle.std.specs.List.{All}
 use Rattle.std.specs.Int.{w64}
 use Rattle.hx_types.specs.declared.calls.Op.{Op}
-use Rattle.hx_types.specs.declared.calls.Op.TheVariants.{Put, Get, Del, Cput, Search, Stop, Add}
+use Rattle.hx_types.specs.declared.calls.Op.TheVariants.{Put, Get, Del, Cput, Search, Stop, Add, Atomic}
 use Rattle.hx_types.specs.declared.messages.PostId.{PostId}
 use Rattle.hx_types.specs.declared.ids.Actor.{Actor}
 use Rattle.hx_types.specs.declared.ids.Actor.TheVariants.{Coordinator, Server, Session}
@@ -15,6 +15,7 @@ use Rattle.hx_types.specs.declared.traces.Script.{Script}
 use Rattle.hx_types.specs.declared.traces.Step.{Step}
 use Rattle.hx_types.specs.declared.traces.Step.TheVariants as a_step
 use Rattle.hx_types.specs.declared.values.Assign.{Assign}
+use Rattle.hx_types.specs.declared.values.Edit.{Edit}
 use Rattle.hx_types.specs.declared.values.Term.{Term}
 use Rattle.hx_types.specs.declared.values.Term.TheVariants.{Equal, Range}
 use Rattle.hx_types.specs.declared.values.Value.{Value}
@@ -33,6 +34,9 @@ BoundsAreSayable (a_kind.Int lo hi) = FitsSigned w64 lo × FitsSigned w64 hi
 abbrev pub ValuesAreSayable : List Assign → Type 0
 ValuesAreSayable assigns = All (λ (a : Assign). IsSayable a.value) assigns
 
+abbrev pub EditsAreSayable : List Edit → Type 0
+EditsAreSayable edits = All (λ (e : Edit). IsSayable e.value) edits
+
 abbrev pub TermIsSayable : Term → Type 0
 TermIsSayable (Equal attribute value) = IsSayable value
 TermIsSayable (Range attribute lo hi) = FitsSigned w64 lo × FitsSigned w64 hi
@@ -45,6 +49,7 @@ CallIsSayable (Cput key tests sets) = IsText key × ValuesAreSayable tests × Va
 CallIsSayable (Search terms) = All TermIsSayable terms
 CallIsSayable (Stop server) = ⊤
 CallIsSayable (Add server region) = ⊤
+CallIsSayable (Atomic key edits) = IsText key × EditsAreSayable edits
 
 -- a number from 1 to most
 abbrev pub IsUpTo : ℕ → ℕ → Type 0

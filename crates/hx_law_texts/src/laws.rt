@@ -1,12 +1,16 @@
 //! What the definitions of reading and of printing say of each other.
 
 ghost use Rattle.std.specs.Prelude.{◌≡◌, ℕ, List, Ok};
+ghost use Rattle.hx_types.specs.declared.calls.Op.{Op};
+ghost use Rattle.hx_types.specs.declared.spaces.Space.{Space};
 ghost use Rattle.hx_types.specs.declared.traces.Script.{Script};
 ghost use Rattle.hx_types.specs.Fitting.{IsScript};
+ghost use Rattle.hx_types.specs.Spaces.{Fits, IsSpace};
+ghost use Rattle.hx_script.specs.LoneCalls.{op_of_line};
 ghost use Rattle.hx_script.specs.Texts.{script_of};
-ghost use Rattle.hx_print.specs.Printing.{script_text};
+ghost use Rattle.hx_print.specs.Printing.{op_text, script_text};
 ghost use Rattle.hx_law_texts.specs.Again.{on_printed_lines};
-ghost use Rattle.hx_law_texts.specs.Sayable.{IsSayableScript};
+ghost use Rattle.hx_law_texts.specs.Sayable.{CallIsSayable, IsSayableScript};
 
 /// The print of a script is read as that script, each step on its line of the print.
 ///
@@ -23,4 +27,15 @@ pub fn prints_are_read_back()
 /// The numbers of the steps' lines don't stand in a print: what is read back is printed the same.
 pub fn prints_are_alike()
     ensures { (s : Script) → script_text (on_printed_lines s) ≡ script_text s }
+{}
+
+/// The print of a call is read as that call of a session of its space.
+///
+/// This holds of each call that fits the space and that the language can say, and of no other. So
+/// it holds of each that was read from some line.
+pub fn calls_are_read_back()
+    ensures sayable { (space : Space) (op : Op) → IsSpace space → Fits space op → CallIsSayable op → op_of_line space (op_text space op) ≡ Ok op }
+    ensures no_other { (space : Space) (op : Op) → IsSpace space → op_of_line space (op_text space op) ≡ Ok op → Fits space op × CallIsSayable op }
+    ensures read { (space : Space) (line : List ℕ) (op : Op) → IsSpace space → op_of_line space line ≡ Ok op → op_of_line space (op_text space op) ≡ Ok op }
+    ensures said { (space : Space) (line : List ℕ) (op : Op) → op_of_line space line ≡ Ok op → CallIsSayable op }
 {}

@@ -6,7 +6,8 @@
 //! say and so for every script that was read, but for the numbers of the lines on which steps
 //! stood, since those are of the text and not of the script. Which numbers come in their place
 //! `on_printed_lines` tells (`specs/Again.antt`), and [`prints_are_alike`] that they change
-//! nothing of the print.
+//! nothing of the print. [`calls_are_read_back`] says the same of a call on a line of its own, as
+//! `read_op` reads it and `print_op` writes it.
 //!
 //! What the language can say is told in `specs/Sayable.antt`. A text with a control character
 //! other than newline and tab is printed as it is, and no line of the language has it; nor has one
@@ -16,4 +17,4 @@
 
 mod laws;
 
-pub use laws::{prints_are_alike, prints_are_read_back};
+pub use laws::{calls_are_read_back, prints_are_alike, prints_are_read_back};

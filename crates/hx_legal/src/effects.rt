@@ -2,10 +2,11 @@ ghost use Rattle.std.specs.Prelude.{◌≡◌, ◌↔◌, unwrap_or, IsTrue};
 ghost use Rattle.std.specs.Option.{option_copied};
 ghost use Rattle.hx_legal.specs.Shown.{Shows};
 ghost use Rattle.hx_model.specs.Legal.{IsEffect};
-ghost use Rattle.hx_types.specs.Effects.{changed_to, defaults, deleted, got, left_as, put_where, tests_hold, written};
+ghost use Rattle.hx_types.specs.Effects.{changed_to, defaults, deleted, edited, got, left_as, put_where, tests_hold, written};
 
+use crate::edits::{first_refusal, is_edited, is_refusal};
 use crate::writes::{is_written, same_object};
-use hx_types::{Answer, Assign, Item, Object, Op, Same, Space, tests_hold};
+use hx_types::{Answer, Assign, Edit, Item, Object, Op, Same, Space, tests_hold};
 
 /// Whether the item has the answer and the object of its operation's effect on the object before
 /// it.
@@ -19,6 +20,7 @@ pub fn is_effect(space: &Space, before: Option<&Object>, item: &Item) -> bool
         Op::Cput { tests, sets, .. } => {
             is_cput(space, before, tests.as_slice(), sets.as_slice(), item)
         }
+        Op::Atomic { edits, .. } => is_atomic(before, edits.as_slice(), item),
         Op::Search { .. } | Op::Stop { .. } | Op::Add { .. } => is_not_found(before, item),
     }
 }
@@ -65,6 +67,21 @@ fn is_cput(
         is_put(space, before, sets, item)
     } else {
         is_failed(&item.answer) && same_object(item.object.as_ref(), before)
+    }
+}
+
+#[tactic(auto, using(crate::proofs::Edited::edited_refused, crate::proofs::Edited::edited_made))]
+fn is_atomic(before: Option<&Object>, edits: &[Edit], item: &Item) -> bool
+    ensures { IsTrue result ↔ Shows (edited (option_copied before.entry) edits.now) item.now }
+{
+    let Some(object) = before else {
+        return is_not_found(before, item);
+    };
+    match first_refusal(object, edits) {
+        Some(refusal) => {
+            is_refusal(&item.answer, refusal) && same_object(item.object.as_ref(), before)
+        }
+        None => is_done(&item.answer) && is_edited(object, edits, item.object.as_ref()),
     }
 }
 

@@ -6,6 +6,7 @@
 //! compared in place, and never made.
 #![tactic(auto)]
 
+mod edits;
 mod effects;
 mod faults;
 mod writes;

@@ -51,6 +51,9 @@ fn content(alloc: Global, at: usize, bytes: &[u8]) -> Result<Vec<u8>, LexError>
     ensures { Gives (λ v. v.items) result (content false at bytes.now) }
 {
     let mut out = Vec::new(alloc);
+    if out.reserve_exact(bytes.len()).is_err() {
+        return Err(LexError::Memory);
+    }
     let mut place = at;
     let mut rest = bytes;
     'bytes: while let Some((first, tail)) = rest.split_first() {

@@ -22,7 +22,9 @@ pub fn tokens(alloc: Global, line: &[u8]) -> Result<Tokens, LexError>
     ensures gives { Gives (λ ts. ts) result (tokens_of line.now) }
     ensures spelled { IfOk result (λ ts. AllByRecursion (IsTokenOf line.now) ts) }
 {
-    let mut tokens = Tokens::new(alloc);
+    let Ok(mut tokens) = Tokens::with_capacity(alloc, 16) else {
+        return Err(LexError::Memory);
+    };
     let mut start = 0;
     let mut rest = line;
     'pieces: while !rest.is_empty() {

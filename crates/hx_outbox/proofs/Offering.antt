@@ -8,7 +8,8 @@ use Rattle.hx_clock.specs.Views.{one, total}
 use Rattle.hx_clock.proofs.Lists.{each_append, total-append}
 use Rattle.hx_fate.specs.declared.fates.Choice.{Choice}
 use Rattle.hx_fate.specs.declared.fates.Choice.TheVariants.{Deliver, Lose, Twice}
-use Rattle.hx_fate.specs.Counts.{is_lose, is_twice, raised_if, FateCounts}
+use Rattle.hx_fate.specs.declared.fates.FateState.{FateState}
+use Rattle.hx_fate.specs.States.{after_choice, is_lose, is_twice, raised_if}
 use Rattle.hx_mail.specs.declared.views.Mailed.{Mailed}
 use Rattle.hx_mail.specs.Ports.{mailed}
 use Rattle.hx_outbox.specs.declared.copies.Copies.{Copies}
@@ -23,7 +24,7 @@ raised-both : (m n c : ℕ) → raised_by (m + n) c ≡ raised_by n (raised_by m
 raised-both zero n c = ap (λ k. raised_by k c) (let e : 0 + n ≡ n = omega arith in e)
 raised-both (suc m) n c = ap (λ k. raised_by k c) (let e : suc m + n ≡ suc (m + n) = omega arith in e) ∙ raised-both m n (raised_if true c)
 
-pub offered-none : (w w' : (Mailed → ℕ) → ℕ) (t : Totals) (f : FateCounts) → ((h : Mailed → ℕ) → w' h ≡ w h) → IsOffered w w' t t f f []
+pub offered-none : (w w' : (Mailed → ℕ) → ℕ) (t : Totals) (f : FateState) → ((h : Mailed → ℕ) → w' h ≡ w h) → IsOffered w w' t t f f []
 offered-none w w' t f e = record {
   offers = [];
   are = refl;
@@ -36,9 +37,10 @@ offered-none w w' t f e = record {
   chosen = refl;
   lost = refl;
   doubled = refl;
+  tuning = refl;
 }
 
-pub offered-both : (u v w : (Mailed → ℕ) → ℕ) (r s t : Totals) (e f g : FateCounts) (ms ns : List Mailed) → IsOffered u v r s e f ms → IsOffered v w s t f g ns → IsOffered u w r t e g (ms ++ ns)
+pub offered-both : (u v w : (Mailed → ℕ) → ℕ) (r s t : Totals) (e f g : FateState) (ms ns : List Mailed) → IsOffered u v r s e f ms → IsOffered v w s t f g ns → IsOffered u w r t e g (ms ++ ns)
 offered-both u v w r s t e f g ms ns a b = record {
   offers = a.offers ++ b.offers;
   are = map-append (λ (o : Offer). o.mailed) a.offers b.offers ∙ ap (λ l. l ++ map (λ (o : Offer). o.mailed) b.offers) a.are ∙ ap (λ l. ms ++ l) b.are;
@@ -51,6 +53,7 @@ offered-both u v w r s t e f g ms ns a b = record {
   chosen = join (λ (o : Offer). one (not (is_gone o.mailed.post.message))) e.chosen f.chosen g.chosen a.chosen b.chosen;
   lost = join (λ (o : Offer). one (eqb 0 o.times)) e.lost f.lost g.lost a.lost b.lost;
   doubled = join (λ (o : Offer). one (eqb 2 o.times)) e.doubled f.doubled g.doubled a.doubled b.doubled;
+  tuning = b.tuning ∙ a.tuning;
 }
   where
     join : (k : Offer → ℕ) (x y z : ℕ) → y ≡ raised_by (total k a.offers) x → z ≡ raised_by (total k b.offers) y → z ≡ raised_by (total k (a.offers ++ b.offers)) x
@@ -62,11 +65,11 @@ put-few [] h = omega arith
 put-few (o ∷ os) h = let f = h.0.few in omega (arith, put-few os h.1, f)
 
 -- each post was put or kept at most twice
-pub offered-few : (w w' : (Mailed → ℕ) → ℕ) (t t' : Totals) (f f' : FateCounts) (ms : List Mailed) → IsOffered w w' t t' f f' ms → w' (λ m. 1) ≤ w (λ m. 1) + 2 * length ms
+pub offered-few : (w w' : (Mailed → ℕ) → ℕ) (t t' : Totals) (f f' : FateState) (ms : List Mailed) → IsOffered w w' t t' f f' ms → w' (λ m. 1) ≤ w (λ m. 1) + 2 * length ms
 offered-few w w' t t' f f' ms o = omega (arith, o.put (λ m. 1), put-few o.offers o.fair, map-length (λ (p : Offer). p.mailed) o.offers, ap length o.are)
 
 -- one post, by its choice
-fair-choice : (p : Post) (choice : Choice) (f f' : FateCounts) → IsChoiceOn p choice f f' → is_gone p.message ≡ true → times_of choice ≡ 1
+fair-choice : (p : Post) (choice : Choice) (f f' : FateState) → IsChoiceOn p choice f f' → is_gone p.message ≡ true → times_of choice ≡ 1
 fair-choice p choice f f' h gone = ap times_of (h.0 gone).0
 
 few-choice : (choice : Choice) → times_of choice ≤ 2
@@ -84,26 +87,33 @@ twice-count Deliver c = refl
 twice-count Lose c = refl
 twice-count Twice c = refl
 
-record IsAsked (b : Bool) (choice : Choice) (f f' : FateCounts) : Type 0 where
+record IsAsked (b : Bool) (choice : Choice) (f f' : FateState) : Type 0 where
   pub chosen : f'.chosen ≡ raised_by (one (not b) + 0) f.chosen
   pub lost : f'.lost ≡ raised_by (one (eqb 0 (times_of choice)) + 0) f.lost
   pub doubled : f'.doubled ≡ raised_by (one (eqb 2 (times_of choice)) + 0) f.doubled
+  pub tuning : f'.tuning ≡ f.tuning
 
-asked-case : (b : Bool) (choice : Choice) (f f' : FateCounts) → (b ≡ true → (choice ≡ Deliver) × (f' ≡ f))
-    → (b ≡ false → (f'.chosen ≡ raised_if true f.chosen) × (f'.lost ≡ raised_if (is_lose choice) f.lost) × (f'.doubled ≡ raised_if (is_twice choice) f.doubled)) → IsAsked b choice f f'
+asked-case : (b : Bool) (choice : Choice) (f f' : FateState) → (b ≡ true → (choice ≡ Deliver) × (f' ≡ f))
+    → (b ≡ false → f' ≡ after_choice choice f) → IsAsked b choice f f'
 asked-case true choice f f' g h =
     let d = (g refl).0 in
     let s = (g refl).1 in
     record {
-      chosen = ap (λ (x : FateCounts). x.chosen) s;
-      lost = ap (λ (x : FateCounts). x.lost) s ∙ ap (λ x. raised_by (one (eqb 0 (times_of x)) + 0) f.lost) (sym d);
-      doubled = ap (λ (x : FateCounts). x.doubled) s ∙ ap (λ x. raised_by (one (eqb 2 (times_of x)) + 0) f.doubled) (sym d);
+      chosen = ap (λ (x : FateState). x.chosen) s;
+      lost = ap (λ (x : FateState). x.lost) s ∙ ap (λ x. raised_by (one (eqb 0 (times_of x)) + 0) f.lost) (sym d);
+      doubled = ap (λ (x : FateState). x.doubled) s ∙ ap (λ x. raised_by (one (eqb 2 (times_of x)) + 0) f.doubled) (sym d);
+      tuning = ap (λ (x : FateState). x.tuning) s;
     }
 asked-case false choice f f' g h =
     let a = h refl in
-    record { chosen = a.0; lost = a.1 ∙ lose-count choice f.lost; doubled = a.2 ∙ twice-count choice f.doubled }
+    record {
+      chosen = ap (λ (x : FateState). x.chosen) a;
+      lost = ap (λ (x : FateState). x.lost) a ∙ lose-count choice f.lost;
+      doubled = ap (λ (x : FateState). x.doubled) a ∙ twice-count choice f.doubled;
+      tuning = ap (λ (x : FateState). x.tuning) a;
+    }
 
-pub offered-one : (w w' : (Mailed → ℕ) → ℕ) (t t' : Totals) (f f' : FateCounts) (m : Mailed) (choice : Choice) → IsChoiceOn m.post choice f f' → IsCounted choice t t'
+pub offered-one : (w w' : (Mailed → ℕ) → ℕ) (t t' : Totals) (f f' : FateState) (m : Mailed) (choice : Choice) → IsChoiceOn m.post choice f f' → IsCounted choice t t'
     → ((h : Mailed → ℕ) → w' h ≡ w h + times_of choice * h m) → IsOffered w w' t t' f f' (m ∷ [])
 offered-one w w' t t' f f' m choice h k put =
     let a = asked-case (is_gone m.post.message) choice f f' h.0 h.1 in
@@ -123,6 +133,7 @@ offered-one w w' t t' f f' m choice h k put =
       chosen = a.chosen;
       lost = a.lost;
       doubled = a.doubled;
+      tuning = a.tuning;
     }
 
 named-append : (e k : ℕ) (xs ys : List Post) → named e k (xs ++ ys) ≡ named e k xs ++ named e (k + length xs) ys
@@ -152,7 +163,7 @@ firsts-next entry n xs c is =
     ap (named entry 0) (map-append (λ (x : Copies). x.first) xs (c ∷ [])) ∙ named-next entry (firsts_of xs) c.first n (is ∙ sym (map-length (λ (x : Copies). x.first) xs))
 
 -- as many posts were offered as there were
-pub offered-long : (w w' : (Mailed → ℕ) → ℕ) (t t' : Totals) (f f' : FateCounts) (ms : List Mailed) (o : IsOffered w w' t t' f f' ms) → length o.offers ≡ length ms
+pub offered-long : (w w' : (Mailed → ℕ) → ℕ) (t t' : Totals) (f f' : FateState) (ms : List Mailed) (o : IsOffered w w' t t' f f' ms) → length o.offers ≡ length ms
 offered-long w w' t t' f f' ms o = sym (map-length (λ (p : Offer). p.mailed) o.offers) ∙ ap length o.are
 
 -- a list with nothing left after it is the whole
@@ -160,5 +171,5 @@ pub all-there : (xs rest all : List Copies) (n : ℕ) → xs ++ rest ≡ all →
 all-there xs [] all n e h z = sym (append-nil xs) ∙ e
 all-there xs (c ∷ rest) all n e h z = absurd (omega (arith, h, z))
 
-pub offered-of : (w w' : (Mailed → ℕ) → ℕ) (t t' : Totals) (f f' : FateCounts) (entry : ℕ) (xs ys : List Copies) → xs ≡ ys → IsOffered w w' t t' f f' (named entry 0 (firsts_of xs)) → IsOffered w w' t t' f f' (named entry 0 (firsts_of ys))
+pub offered-of : (w w' : (Mailed → ℕ) → ℕ) (t t' : Totals) (f f' : FateState) (entry : ℕ) (xs ys : List Copies) → xs ≡ ys → IsOffered w w' t t' f f' (named entry 0 (firsts_of xs)) → IsOffered w w' t t' f f' (named entry 0 (firsts_of ys))
 offered-of w w' t t' f f' entry xs ys e h = subst (λ l. IsOffered w w' t t' f f' (named entry 0 (firsts_of l))) e h

@@ -8,7 +8,8 @@ use Rattle.hx_types.specs.declared.totals.Totals.{Totals}
 use Rattle.hx_clock.specs.Views.{one, total}
 use Rattle.hx_fate.specs.declared.fates.Choice.{Choice}
 use Rattle.hx_fate.specs.declared.fates.Choice.TheVariants.{Deliver, Lose, Twice}
-use Rattle.hx_fate.specs.Counts.{is_lose, is_twice, raised_if, FateCounts}
+use Rattle.hx_fate.specs.declared.fates.FateState.{FateState}
+use Rattle.hx_fate.specs.States.{after_choice, raised_if}
 use Rattle.hx_mail.specs.declared.views.Mailed.{Mailed}
 use Rattle.hx_mail.specs.Ports.{mailed}
 use Rattle.hx_outbox.specs.declared.copies.Copies.{Copies}
@@ -58,8 +59,8 @@ pub record IsFair (o : Offer) : Type 0 where
   pub few : o.times ≤ 2
   pub gone : is_gone o.mailed.post.message ≡ true → o.times ≡ 1
 
--- these posts were offered, in order: what was put or kept went from w to w', the totals from t to t', and the fate's counts from f to f'
-pub record IsOffered (w w' : (Mailed → ℕ) → ℕ) (t t' : Totals) (f f' : FateCounts) (ms : List Mailed) : Type 0 where
+-- these posts were offered, in order: what was put or kept went from w to w', the totals from t to t', and the fate's state from f to f'
+pub record IsOffered (w w' : (Mailed → ℕ) → ℕ) (t t' : Totals) (f f' : FateState) (ms : List Mailed) : Type 0 where
   pub offers : List Offer
   pub are : map (λ o. o.mailed) offers ≡ ms
   pub fair : AllByRecursion IsFair offers
@@ -73,6 +74,7 @@ pub record IsOffered (w w' : (Mailed → ℕ) → ℕ) (t t' : Totals) (f f' : F
   pub chosen : f'.chosen ≡ raised_by (asked_of offers) f.chosen
   pub lost : f'.lost ≡ raised_by (count_of 0 offers) f.lost
   pub doubled : f'.doubled ≡ raised_by (count_of 2 offers) f.doubled
+  pub tuning : f'.tuning ≡ f.tuning
 
 -- the totals add up
 abbrev pub IsTotal : Totals → Type 0
@@ -82,11 +84,11 @@ IsTotal t = t.posts ≡ t.deliver + t.lose + t.twice
 abbrev pub firsts_of : List Copies → List Post
 firsts_of posts = map (λ c. c.first) posts
 
--- what was chosen for a post, and the fate's counts before and after: it isn't asked about a word of halting
-abbrev pub IsChoiceOn : Post → Choice → FateCounts → FateCounts → Type 0
+-- what was chosen for a post, and the fate's state before and after: it isn't asked about a word of halting
+abbrev pub IsChoiceOn : Post → Choice → FateState → FateState → Type 0
 IsChoiceOn p choice f f' =
     (is_gone p.message ≡ true → (choice ≡ Deliver) × (f' ≡ f))
-    × (is_gone p.message ≡ false → (f'.chosen ≡ raised_if true f.chosen) × (f'.lost ≡ raised_if (is_lose choice) f.lost) × (f'.doubled ≡ raised_if (is_twice choice) f.doubled))
+    × (is_gone p.message ≡ false → f' ≡ after_choice choice f)
 
 -- one more post was counted, by what was chosen for it
 pub record IsCounted (choice : Choice) (t t' : Totals) : Type 0 where

@@ -33,7 +33,7 @@ fn seal(clock: &Clock, seat: &mut Seat, id: PostId, post: Post) -> Envelope
 
 /// What the fate makes of a post. It isn't asked about a word of halting, which is delivered.
 fn ask(fate: &mut Box<dyn Fate + Send>, post: &Post) -> Choice
-    ensures { IsChoiceOn post.now result (counts fate.old) (counts fate.new) }
+    ensures { IsChoiceOn post.now result (state fate.old) (state fate.new) }
 {
     match post.message {
         Message::Gone => Choice::Deliver,
@@ -163,7 +163,7 @@ pub fn offer_one<R: Wait>(
     ensures seat { seat.new ≡ seat.old }
     ensures out { IsOutbox boxes.now out.new × (out.new.index ≡ out.old.index) }
     ensures more { MorePut out.old.ports.items out.new.ports.items }
-    ensures offered { IsOffered (λ h. out_weight h out.old.ports.items + kept_weight h kept.old.items) (λ h. out_weight h out.new.ports.items + kept_weight h kept.new.items) totals.old totals.new (counts fate.old) (counts fate.new) (mailed id copies.first ∷ []) }
+    ensures offered { IsOffered (λ h. out_weight h out.old.ports.items + kept_weight h kept.old.items) (λ h. out_weight h out.new.ports.items + kept_weight h kept.new.items) totals.old totals.new (state fate.old) (state fate.new) (mailed id copies.first ∷ []) }
     ensures good { AreGood script.now clock.now kept.old.items → AreGood script.now clock.now kept.new.items }
     ensures capacity { (deque_capacity kept.new ≡ deque_capacity kept.old) × (deque_len kept.new ≤ deque_len kept.old + 2) }
     ensures total { IsTotal totals.new }
@@ -202,7 +202,7 @@ pub fn offer_all<R: Wait>(
     ensures seat { seat.new ≡ seat.old }
     ensures out { IsOutbox boxes.now out.new × (out.new.index ≡ out.old.index) }
     ensures more { MorePut out.old.ports.items out.new.ports.items }
-    ensures offered { IsOffered (λ h. out_weight h out.old.ports.items + kept_weight h kept.old.items) (λ h. out_weight h out.new.ports.items + kept_weight h kept.new.items) totals.old totals.new (counts fate.old) (counts fate.new) (named entry 0 (firsts_of posts.items)) }
+    ensures offered { IsOffered (λ h. out_weight h out.old.ports.items + kept_weight h kept.old.items) (λ h. out_weight h out.new.ports.items + kept_weight h kept.new.items) totals.old totals.new (state fate.old) (state fate.new) (named entry 0 (firsts_of posts.items)) }
     ensures good { AreGood script.now clock.now kept.old.items → AreGood script.now clock.now kept.new.items }
     ensures total { IsTotal totals.new }
 {

@@ -1,17 +1,18 @@
 -- Printed scripts, by computing.
 use Rattle.std.specs.Prelude.{◌≡◌, ℕ, [], ◌∷◌, ◌++◌, pos, negsuc, codes}
 use Rattle.hx_types.specs.declared.spaces.Axis.{Axis}
+use Rattle.hx_types.specs.declared.values.EditKind.TheVariants as an_edit
 use Rattle.hx_types.specs.declared.calls.Op.{Op}
 use Rattle.hx_types.specs.declared.traces.Script.{Script}
 use Rattle.hx_types.specs.declared.spaces.Space.{Space}
 use Rattle.hx_types.specs.declared.spaces.Kind.TheVariants as a_kind
 use Rattle.hx_types.specs.declared.values.Value.TheVariants as a_value
 use Rattle.hx_types.specs.declared.traces.Step.TheVariants as a_step
-use Rattle.hx_types.specs.declared.calls.Op.TheVariants.{Put, Get, Del, Cput, Search, Stop, Add}
+use Rattle.hx_types.specs.declared.calls.Op.TheVariants.{Put, Get, Del, Cput, Search, Stop, Add, Atomic}
 use Rattle.hx_types.specs.declared.values.Term.TheVariants.{Equal, Range}
 use Rattle.hx_types.specs.declared.ids.Actor.TheVariants.{Coordinator, Server, Session}
 use Rattle.std.specs.Fmt.{digits}
-use Rattle.hx_print.specs.Printing.{actor_text, add_text, axes_text, axis_text, bounds_text, call_line, cput_text, int_line, key_line, named_text, next_axis_text, op_text, post_name, quoted, range_text, script_text, servers_line, session_text, sessions_text, space_line, space_text, step_line, step_text, steps_text, string_line, subspace_line, tolerate_line, value_text}
+use Rattle.hx_print.specs.Printing.{actor_text, add_text, axes_text, axis_text, bounds_text, call_line, cput_text, edit_text, int_line, key_line, named_text, next_axis_text, op_text, post_name, quoted, range_text, script_text, servers_line, session_text, sessions_text, space_line, space_text, step_line, step_text, steps_text, string_line, subspace_line, tolerate_line, value_text}
 use Rattle.std.proofs.Common.{refl}
 
 abbrev axis : ℕ → ℕ → Axis
@@ -50,6 +51,21 @@ cput_line :
     ≡ codes "cput \"a\" if genre=\"b\" set year=2000"
 unfolding digits op_text cput_text quoted named_text value_text
 cput_line = refl
+
+-- an edit of each kind; what an edit may be isn't asked here
+edits_line :
+    op_text
+    books
+    (Atomic
+    (codes "a")
+    (record { what = an_edit.Add; attribute = 2; value = a_value.Int (negsuc 0) }
+    ∷ record { what = an_edit.Append; attribute = 1; value = a_value.Text (codes "b") }
+    ∷ record { what = an_edit.Min; attribute = 2; value = a_value.Int (pos 5) }
+    ∷ record { what = an_edit.Max; attribute = 2; value = a_value.Int (pos 3) }
+    ∷ []))
+    ≡ codes "atomic \"a\" add year=-1 append genre=\"b\" min year=5 max year=3"
+unfolding digits op_text edit_text quoted named_text value_text
+edits_line = refl
 
 other_calls :
     op_text books (Get (codes "a"))

@@ -6,6 +6,9 @@ use Rattle.hx_types.specs.declared.ids.Actor.{Actor}
 use Rattle.hx_types.specs.declared.values.Assign.{Assign}
 use Rattle.hx_types.specs.declared.spaces.Attribute.{Attribute}
 use Rattle.hx_types.specs.declared.spaces.Axis.{Axis}
+use Rattle.hx_types.specs.declared.values.Edit.{Edit}
+use Rattle.hx_types.specs.declared.values.EditKind.{EditKind}
+use Rattle.hx_types.specs.declared.values.EditKind.TheVariants as an_edit
 use Rattle.hx_types.specs.declared.spaces.Kind.{Kind}
 use Rattle.hx_types.specs.declared.calls.Caller.{Caller}
 use Rattle.hx_types.specs.declared.calls.Op.{Op}
@@ -20,7 +23,7 @@ use Rattle.hx_types.specs.declared.values.Value.{Value}
 use Rattle.hx_types.specs.declared.spaces.Kind.TheVariants as a_kind
 use Rattle.hx_types.specs.declared.values.Value.TheVariants as a_value
 use Rattle.hx_types.specs.declared.traces.Step.TheVariants as a_step
-use Rattle.hx_types.specs.declared.calls.Op.TheVariants.{Put, Get, Del, Cput, Search, Stop, Add}
+use Rattle.hx_types.specs.declared.calls.Op.TheVariants.{Put, Get, Del, Cput, Search, Stop, Add, Atomic}
 use Rattle.hx_types.specs.declared.values.Term.TheVariants.{Equal, Range}
 use Rattle.hx_types.specs.declared.ids.Actor.TheVariants.{Coordinator, Server, Session}
 use Rattle.hx_types.specs.Words.{when_some}
@@ -83,6 +86,19 @@ cput_text space key tests sets = codes "cput " ++ quoted key ++ codes " if" ++ a
 unfoldable pub add_text : ServerId → RegionId → List ℕ
 add_text server region = codes "add " ++ decimal server.0 ++ codes " " ++ decimal region.0
 
+abbrev pub edit_word : EditKind → List ℕ
+edit_word an_edit.Add = codes "add"
+edit_word an_edit.Append = codes "append"
+edit_word an_edit.Min = codes "min"
+edit_word an_edit.Max = codes "max"
+
+-- ` add N=V`
+unfoldable pub edit_text : Space → Edit → List ℕ
+edit_text space e = codes " " ++ edit_word e.what ++ named_text (name_of space e.attribute) e.value
+
+abbrev pub edits_text : Space → List Edit → List ℕ
+edits_text space edits = flat_map (edit_text space) edits
+
 -- a call, without its newline
 unfoldable pub op_text : Space → Op → List ℕ
 op_text space (Put key sets) = codes "put " ++ quoted key ++ assigns_text space sets
@@ -92,6 +108,7 @@ op_text space (Cput key tests sets) = cput_text space key tests sets
 op_text space (Search terms) = codes "search" ++ terms_text space terms
 op_text space (Stop server) = codes "stop " ++ decimal server.0
 op_text space (Add server region) = add_text server region
+op_text space (Atomic key edits) = codes "atomic " ++ quoted key ++ edits_text space edits
 
 unfoldable pub string_line : List ℕ → List ℕ
 string_line name = codes "string " ++ name ++ codes "\n"

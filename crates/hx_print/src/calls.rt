@@ -2,11 +2,13 @@
 
 ghost use Rattle.std.specs.Prelude.{◌≡◌, ◌++◌, IfOk, OnOk};
 ghost use Rattle.std.specs.List.{flat_map};
-ghost use Rattle.hx_print.specs.Printing.{add_text, assigns_text, cput_text, name_of, op_text, range_text, term_text, terms_text};
+ghost use Rattle.hx_print.specs.Printing.{add_text, assigns_text, cput_text, edit_text, edit_word, edits_text, name_of, op_text, range_text, term_text, terms_text};
 
 use crate::numbers::{put_number, put_signed};
 use crate::texts::{put_bytes, put_named, put_text};
-use hx_types::{Assigns, Memory, Op, RegionId, ServerId, Space, Term, Terms, Text};
+use hx_types::{
+    Assigns, Edit, EditKind, Edits, Memory, Op, RegionId, ServerId, Space, Term, Terms, Text,
+};
 use std::alloc::Global;
 
 /// The name of an attribute: 0 is the key, i the i-th declared; no byte where there is none.
@@ -94,6 +96,36 @@ fn put_add(out: &mut Vec<u8>, server: ServerId, region: RegionId) -> Result<(), 
     put_number(out, u64::from(region.0))
 }
 
+fn edit_word(what: EditKind) -> &'static [u8]
+    ensures { result.now ≡ edit_word what }
+{
+    match what {
+        EditKind::Add => b"add".as_slice(),
+        EditKind::Append => b"append".as_slice(),
+        EditKind::Min => b"min".as_slice(),
+        EditKind::Max => b"max".as_slice(),
+    }
+}
+
+#[tactic(auto, unfolding(crate::specs::Printing::edit_text))]
+fn put_edit(out: &mut Vec<u8>, space: &Space, edit: &Edit) -> Result<(), Memory>
+    ensures { OnOk result (out.new.items ≡ out.old.items ++ edit_text space.now edit.now) }
+{
+    put_bytes(out, b" ")?;
+    put_bytes(out, edit_word(edit.what))?;
+    put_named(out, name_of(space, edit.attribute), &edit.value)
+}
+
+/// Appends each edit with a blank before it.
+fn put_edits(out: &mut Vec<u8>, space: &Space, edits: &Edits) -> Result<(), Memory>
+    ensures { OnOk result (out.new.items ≡ out.old.items ++ edits_text space.now edits.now) }
+{
+    for edit in edits.as_slice() {
+        put_edit(out, space, edit)?;
+    }
+    Ok(())
+}
+
 /// Appends a call without a newline.
 #[tactic(auto, unfolding(crate::specs::Printing::op_text))]
 pub fn put_op(out: &mut Vec<u8>, space: &Space, op: &Op) -> Result<(), Memory>
@@ -123,6 +155,11 @@ pub fn put_op(out: &mut Vec<u8>, space: &Space, op: &Op) -> Result<(), Memory>
             put_number(out, u64::from(server.0))
         }
         Op::Add { server, region } => put_add(out, *server, *region),
+        Op::Atomic { key, edits } => {
+            put_bytes(out, b"atomic ")?;
+            put_text(out, key)?;
+            put_edits(out, space, edits)
+        }
     }
 }
 

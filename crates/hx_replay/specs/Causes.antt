@@ -21,6 +21,7 @@ use Rattle.hx_script.specs.declared.errors.ScriptError.{ScriptError}
 use Rattle.hx_script.specs.declared.errors.ScriptError.TheVariants as a_script_error
 use Rattle.hx_script.specs.Texts.{script_of}
 use Rattle.hx_report.specs.Reporting.{IsReport}
+use Rattle.hx_law_epochs.specs.Epochs.{LosesReplicas}
 use Rattle.hx_law_order.specs.Order.{HasOneOrder}
 use Rattle.hx_world.specs.Worlds.{HasFewEntries, IsWornOut}
 use Rattle.hx_replay.specs.declared.outcomes.Ended.{Ended}
@@ -105,7 +106,7 @@ pub record IsSearchWell (script : Script) (trace : List Entry) (s : FinishedSear
   pub true_rows : IsSearchTrue script trace s
   pub whole : (key : List ℕ) → IsSearchWhole script trace key s
 
--- the trace is the run of the script that its steps and the schedule give, each key's history is linear, all of them have one order, each finished search is whole and true, every answer has its cause, and the report tells of it
+-- the trace is the run of the script that its steps and the schedule give, each key's history is linear, all of them have one order, each finished search is whole and true, every answer has its cause, a lost region has lost its replicas, and the report tells of it
 pub record IsWholeReplay (with_trace : Bool) (script : Script) (trace : List Entry) (report : List ℕ) : Type 0 where
   pub run : IsRun script (reverse trace)
   pub taken : AreTaken script
@@ -115,6 +116,7 @@ pub record IsWholeReplay (with_trace : Bool) (script : Script) (trace : List Ent
   pub one_order : HasOneOrder script (reverse trace)
   pub searches : (c : Caller) (s : FinishedSearch) → search_of script (reverse trace) c ≡ Some s → IsSearchWell script (reverse trace) s
   pub causes : HasCauses script (reverse trace)
+  pub lost : LosesReplicas script (reverse trace)
   pub report_is : IsReport script (reverse trace) [] report with_trace
 
 -- the plans of the script's searches, and no trace

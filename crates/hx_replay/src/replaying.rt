@@ -74,6 +74,7 @@ fn answered(
     hx_law_order::runs_have_one_order();
     hx_law_searches::searches_are_true_and_whole();
     hx_law_causes::answers_have_causes();
+    hx_law_epochs::lost_regions_have_lost_their_replicas();
     let bytes = report(alloc, script, &trace, &[], with_trace)?;
     Ok(Written { trace, bytes })
 }

@@ -21,7 +21,7 @@ use Rattle.hx_law_posts.proofs.Bounds as a_bound
 use Rattle.hx_law_posts.proofs.Moves as a_move
 use Rattle.hx_law_posts.proofs.Servers as a_server
 use Rattle.hx_law_posts.proofs.Slots as a_slot
-use Rattle.hx_law_posts.proofs.Texts as a_text
+use Rattle.hx_law_lemmas.proofs.Texts as a_text
 use Rattle.hx_law_posts.proofs.ServerSteps.{server-good}
 use Rattle.hx_replica.specs.Servers.{ServerValue, server_entry}
 use Rattle.hx_replica.specs.Sound.{IsSoundAt, IsSoundInput, IsSoundReplica, IsSoundServer, IsSoundSlot}

@@ -129,11 +129,13 @@ joined = refl
 -- the other answers
 other_answers :
     answer_lines one (record { 0 = 7 }) an_answer.CmpFail
+    ∷ answer_lines one (record { 0 = 7 }) an_answer.Overflow
+    ∷ answer_lines one (record { 0 = 7 }) an_answer.TooLong
     ∷ answer_lines one (record { 0 = 7 }) (an_answer.Rows [])
     ∷ answer_lines one (record { 0 = 7 }) (an_answer.Stopped (record { 0 = 2 }))
     ∷ answer_lines one (record { 0 = 7 }) (an_answer.Member (record { 0 = 3 }))
     ∷ answer_lines one (record { 0 = 7 }) (an_answer.Lost (record { 0 = 2 }))
     ∷ []
-    ≡ codes "cmpfail version 7\n" ∷ codes "rows 0\n" ∷ codes "stopped epoch 2\n" ∷ codes "member epoch 3\n" ∷ codes "lost epoch 2\n" ∷ []
+    ≡ codes "cmpfail version 7\n" ∷ codes "overflow version 7\n" ∷ codes "toolong version 7\n" ∷ codes "rows 0\n" ∷ codes "stopped epoch 2\n" ∷ codes "member epoch 3\n" ∷ codes "lost epoch 2\n" ∷ []
 unfolding digits add_text axes_text axis_text bounds_text cput_text int_line key_line named_text next_axis_text op_text quoted range_text servers_line space_line space_text string_line subspace_line tolerate_line value_text answer_lines called_text caller_text end_text epoch_line epochs_text found_line head_text history_lines in_epoch_line item_line item_text lost_text maybe_answer_lines next_number_text note_lines numbers_text object_text record_lines region_line report_text row_line rows_lines servers_text span_text state_text trace_text drivers_text version_line version_text word_of
 other_answers = refl

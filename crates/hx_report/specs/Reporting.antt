@@ -63,6 +63,8 @@ unfoldable pub answer_lines : Space → Version → Answer → List ℕ
 answer_lines space version an_answer.Done = version_line (codes "done") version
 answer_lines space version an_answer.NotFound = version_line (codes "notfound") version
 answer_lines space version an_answer.CmpFail = version_line (codes "cmpfail") version
+answer_lines space version an_answer.Overflow = version_line (codes "overflow") version
+answer_lines space version an_answer.TooLong = version_line (codes "toolong") version
 answer_lines space version (an_answer.Found object) = found_line space version object
 answer_lines space version (an_answer.Rows rows) = rows_lines space rows
 answer_lines space version (an_answer.Refused region epoch) = region_line (codes "refused") region epoch
@@ -100,6 +102,8 @@ unfoldable pub word_of : Answer → List ℕ
 word_of an_answer.Done = codes "done"
 word_of an_answer.NotFound = codes "notfound"
 word_of an_answer.CmpFail = codes "cmpfail"
+word_of an_answer.Overflow = codes "overflow"
+word_of an_answer.TooLong = codes "toolong"
 word_of (an_answer.Found object) = codes "found"
 word_of other = []
 

@@ -109,6 +109,8 @@ pub fn put_answer(
         Answer::Done => put_version_line(out, b"done", version),
         Answer::NotFound => put_version_line(out, b"notfound", version),
         Answer::CmpFail => put_version_line(out, b"cmpfail", version),
+        Answer::Overflow => put_version_line(out, b"overflow", version),
+        Answer::TooLong => put_version_line(out, b"toolong", version),
         Answer::Found(object) => put_found(out, space, version, object),
         Answer::Rows(rows) => put_rows(out, space, rows),
         Answer::Refused { region, epoch } => { put_region_line(out, b"refused", *region, *epoch) }

@@ -19,6 +19,8 @@ fn word_of(answer: &Answer) -> &'static [u8]
         Answer::Done => b"done".as_slice(),
         Answer::NotFound => b"notfound".as_slice(),
         Answer::CmpFail => b"cmpfail".as_slice(),
+        Answer::Overflow => b"overflow".as_slice(),
+        Answer::TooLong => b"toolong".as_slice(),
         Answer::Found(_) => b"found".as_slice(),
         _ => b"".as_slice(),
     }

@@ -45,17 +45,17 @@ module _ (script : Script) (clock : TableId) (boxes : List Boxed) (w : ℕ) wher
       let n : length outs ≡ w = ap length eo ∙ (have-indexes w crews numbered).0 in
       subst (λ k. AllByRecursion (IsJoined script k boxes []) sorted) (sym n) (sorted-ready script clock boxes w are crews h sorted (perm-of crews takers sorted e p))
 
-  pub left-of : AreBoxes script clock boxes → (crews : List Crew) → AreNumbered w crews → AllByRecursion (IsCrew script clock boxes w) crews → HaveAllActors script crews → (actors : List SeatedPart) → actors ≡ map seated_of (desks_of crews)
+  pub left-of : AreBoxes script clock boxes → (crews : List Crew) → 1 ≤ w → AreNumbered w crews → AllByRecursion (IsCrew script clock boxes w) crews → HaveAllActors script crews → (actors : List SeatedPart) → actors ≡ map seated_of (desks_of crews)
       → (totals : List Totals) → totals ≡ map (λ (c : Crew). c.totals) crews → (takers sorted joined : List Taker) → takers ≡ map taker_of (desks_of crews) → IsPermutation takers sorted → IsNonDecreasingBy (place_at script) sorted
       → (outs : List Outbox) → outs ≡ map (λ (c : Crew). c.out) crews → Both IsKeptTaker sorted joined → AllByRecursion (IsJoined script (length outs) boxes outs) joined → (ports : List Ported) → ports ≡ map (λ (t : Taker). t.inbox) joined
       → IsLeft script clock crews actors totals ports
-  left-of are crews numbered h all actors ea totals et takers sorted joined e p up outs eo kept joins ports ep =
+  left-of are crews some numbered h all actors ea totals et takers sorted joined e p up outs eo kept joins ports ep =
       let q = perm-of crews takers sorted e p in
       let pl = sorted-places script clock boxes w are crews h all sorted q up in
       let n : length outs ≡ w = ap length eo ∙ (have-indexes w crews numbered).0 in
       let j : AllByRecursion (IsJoined script w boxes (map (λ (c : Crew). c.out) crews)) joined =
       subst (λ l. AllByRecursion (IsJoined script w boxes l) joined) eo (subst (λ k. AllByRecursion (IsJoined script k boxes outs) joined) n joins) in
-      is-left script clock boxes w are crews h all numbered actors ea totals et sorted joined q pl.0 pl.1 kept j ports ep
+      is-left script clock boxes w are crews h all some numbered actors ea totals et sorted joined q pl.0 pl.1 kept j ports ep
 
   pub order-of : (crews : List Crew) (takers sorted : List Taker) → takers ≡ map taker_of (desks_of crews) → IsPermutation takers sorted → (outs : List Outbox) → outs ≡ map (λ (c : Crew). c.out) crews → AllByRecursion (TookInOrder script outs) sorted
       → AreInOrder script crews

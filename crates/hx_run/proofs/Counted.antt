@@ -18,7 +18,7 @@ use Rattle.hx_law_threads.specs.Own.{IsOwn}
 use Rattle.hx_law_threads.proofs.Lists.{in_map, in_reverse, of_filter, of_map}
 use Rattle.hx_law_threads.proofs.Totals.{total_same}
 use Rattle.hx_mail.specs.declared.views.Mailed.{Mailed}
-use Rattle.hx_fate.specs.Counts.{FateCounts}
+use Rattle.hx_fate.specs.declared.fates.FateState.{FateState}
 use Rattle.hx_outbox.specs.Offers.{asked_of, count_of, is_gone, named, raised_by, Offer}
 use Rattle.hx_outbox.specs.Places.{place_of}
 use Rattle.hx_outbox.proofs.Lists.{total-one}
@@ -154,7 +154,7 @@ module _ (script : Script) (w : ℕ) where
   asked-total (o ∷ os) = omega (arith, asked-total os)
 
   -- a fate's counts rose by what its crew posted
-  pub posted-risen : (trace : List Entry) (i : ℕ) (c : Crew) (f f' : FateCounts) → posts_by is_asked script w i trace ≡ total (worth is_asked) c.desks.items → HasPosted c f f' → HasRisen script w trace i c.totals f f'
+  pub posted-risen : (trace : List Entry) (i : ℕ) (c : Crew) (f f' : FateState) → posts_by is_asked script w i trace ≡ total (worth is_asked) c.desks.items → HasPosted c f f' → HasRisen script w trace i c.totals f f'
   posted-risen trace i c f f' e h =
       let k = h.posted in
       let o = k.offered in
@@ -167,6 +167,7 @@ module _ (script : Script) (w : ℕ) where
         chosen = o.chosen ∙ ap (λ n. raised_by n f.chosen) asked;
         lost = o.lost ∙ ap (λ n. raised_by n f.lost) (sym lose);
         doubled = o.doubled ∙ ap (λ n. raised_by n f.doubled) (sym twice);
+        tuning = o.tuning;
       }
     where
       zeros : (n : ℕ) → 0 + n ≡ n

@@ -12,7 +12,7 @@ use Rattle.hx_clock.proofs.Lists.{each_in, get-front, total-append}
 use Rattle.hx_law_threads.specs.Cuts.{is_retry}
 use Rattle.hx_mail.specs.declared.views.Mailed.{Mailed}
 use Rattle.hx_mail.specs.Boxes.{Boxed}
-use Rattle.hx_fate.specs.Counts.{FateCounts}
+use Rattle.hx_fate.specs.declared.fates.FateState.{FateState}
 use Rattle.hx_outbox.specs.Zipped.{Both}
 use Rattle.hx_outbox.proofs.Lists.{begins-refl, begins-trans}
 use Rattle.hx_outbox.proofs.Outs.{more-refl, more-trans}
@@ -44,6 +44,7 @@ crew-refl c = record {
   put = more-refl c.out.ports.items;
   desks = both-refl IsLater later-refl c.desks.items;
   calm = λ e. e;
+  stays = λ fault e. refl;
   lose = omega arith;
   twice = omega arith;
 }
@@ -59,6 +60,7 @@ crew-trans c d e a b =
       put = more-trans c.out.ports.items d.out.ports.items e.out.ports.items a.put b.put;
       desks = both-trans IsLater later-trans c.desks.items d.desks.items e.desks.items a.desks b.desks;
       calm = λ h. a.calm (b.calm h);
+      stays = λ fault h. let same = a.stays fault h in b.stays fault (ap (λ (x : Crew). x.fault) same ∙ h) ∙ same;
       lose = omega (arith, al, bl);
       twice = omega (arith, aw, bw);
     }
@@ -116,10 +118,10 @@ pub are-sliced-trans : (xs ys zs : List Crew) → AreSliced xs ys → AreSliced 
 are-sliced-trans xs ys zs h k = both-trans IsSliced sliced-trans xs ys zs h k
 
 -- what each driver posted
-pub posted-refl : (c : Crew) (f : FateCounts) → IsPosted c c f f
+pub posted-refl : (c : Crew) (f : FateState) → IsPosted c c f f
 posted-refl c f = record { posts = []; offered = offered-none _ _ c.totals f (λ h. refl); made = λ h. omega arith }
 
-pub posted-trans : (c d e : Crew) (f g h : FateCounts) → IsPosted c d f g → IsPosted d e g h → IsPosted c e f h
+pub posted-trans : (c d e : Crew) (f g h : FateState) → IsPosted c d f g → IsPosted d e g h → IsPosted c e f h
 posted-trans c d e f g h a b = record {
   posts = a.posts ++ b.posts;
   offered = offered-both (λ k. weight_in k c.out c.desks.items) (λ k. weight_in k d.out d.desks.items) (λ k. weight_in k e.out e.desks.items) c.totals d.totals e.totals f g h a.posts b.posts a.offered b.offered;

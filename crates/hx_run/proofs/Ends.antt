@@ -11,7 +11,7 @@ use Rattle.hx_clock.specs.declared.parts.Stamped.{Stamped}
 use Rattle.hx_clock.specs.Seats.{Seated}
 use Rattle.hx_law_threads.specs.Merged.{parts_in, ActorPart, AreWholeParts, HasStampsAsPlaces, IsMerged}
 use Rattle.hx_mail.specs.Boxes.{Boxed, Ported}
-use Rattle.hx_fate.specs.Counts.{FateCounts}
+use Rattle.hx_fate.specs.declared.fates.FateState.{FateState}
 use Rattle.hx_outbox.specs.Places.{AreBoxes}
 use Rattle.hx_outbox.specs.Zipped.{Both}
 use Rattle.hx_outbox.proofs.Lists.{map-length}
@@ -72,11 +72,11 @@ module _ {D : Type 0} (f : D → Crew) (script : Script) (clock : TableId) (boxe
       let m : length (map (λ (c : Crew). c.out) (map f xs)) ≡ length xs = map-length (λ (c : Crew). c.out) (map f xs) ∙ map-length f xs in
       ap length e ∙ map-length g after ∙ ap length stays ∙ long ∙ ap length lends ∙ sym m ∙ n
 
-  pub all-posted : {X : Type 0} (fate : D → X) (counts : X → FateCounts) (fates gs : List X) → Both (λ d d'. IsPosted (f d) (f d') (counts (fate d)) (counts (fate d'))) lent news
-      → ((i : ℕ) (d : D) (u : X) → slice_get xs i ≡ Some d → slice_get fates i ≡ Some u → counts (fate d) ≡ counts u) → gs ≡ map fate after
-      → (i : ℕ) (u v : X) (c : Crew) → slice_get fates i ≡ Some u → slice_get gs i ≡ Some v → slice_get (map f news) i ≡ Some c → HasPosted c (counts u) (counts v)
-  all-posted fate counts fates gs h same e =
-      posted-at f fate counts xs news fates gs (subst (λ l. Both (λ d d'. IsPosted (f d) (f d') (counts (fate d)) (counts (fate d'))) l news) lends h) new.new same (e ∙ ap (map fate) stays)
+  pub all-posted : {X : Type 0} (fate : D → X) (state : X → FateState) (fates gs : List X) → Both (λ d d'. IsPosted (f d) (f d') (state (fate d)) (state (fate d'))) lent news
+      → ((i : ℕ) (d : D) (u : X) → slice_get xs i ≡ Some d → slice_get fates i ≡ Some u → state (fate d) ≡ state u) → gs ≡ map fate after
+      → (i : ℕ) (u v : X) (c : Crew) → slice_get fates i ≡ Some u → slice_get gs i ≡ Some v → slice_get (map f news) i ≡ Some c → HasPosted c (state u) (state v)
+  all-posted fate state fates gs h same e =
+      posted-at f fate state xs news fates gs (subst (λ l. Both (λ d d'. IsPosted (f d) (f d') (state (fate d)) (state (fate d'))) l news) lends h) new.new same (e ∙ ap (map fate) stays)
 
 -- the crews of a slice that was lent
 pub lent-crews : {D : Type 0} (f : D → Crew) (script : Script) (clock : TableId) (boxes : List Boxed) (w : ℕ) (xs lent : List D) → lent ≡ xs → AreNewCrews script clock boxes w (map f xs) → (w : ℕ) × AllByRecursion (IsCrew script clock boxes w) (map f lent)
@@ -113,7 +113,7 @@ module _ (script : Script) (clock : TableId) (w : ℕ) (start now : List Crew) (
   pub ran-of : (worn : Option Actor) → fault ≡ fault_of worn → IsRan script w trace totals ports worn
   ran-of worn e = is-ran script clock w start now fault closed own paced rested ended goes-on trace made.0 is-whole is-merged made.3 totals left.totals_are dealt many worn e ports left.ports_are
 
-  pub risen-of : (i : ℕ) (t : Totals) (f f' : FateCounts) → ((c : Crew) → slice_get now i ≡ Some c → HasPosted c f f') → slice_get totals i ≡ Some t → HasRisen script w trace i t f f'
+  pub risen-of : (i : ℕ) (t : Totals) (f f' : FateState) → ((c : Crew) → slice_get now i ≡ Some c → HasPosted c f f') → slice_get totals i ≡ Some t → HasRisen script w trace i t f f'
   risen-of i t f f' posted g = has-risen script clock w start now fault closed own paced rested ended goes-on trace made.0 is-whole is-merged made.3 totals left.totals_are dealt many i t f f' posted g
 
 -- as many actors are counted as there are

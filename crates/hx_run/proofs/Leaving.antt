@@ -252,9 +252,14 @@ module _ (script : Script) (clock : TableId) (boxes : List Boxed) (w : ℕ) wher
   first-taken n ins outs =
       ap (λ b. cond b ins [] ++ taken_under 0 (joined_lists n outs)) (eq-eqb 0 0 refl) ∙ ap (λ l. ins ++ l) (none-taken n outs) ∙ append-nil ins
 
-  first-one : AreBoxes script clock boxes → (crews : List Crew) (outs : List Outbox) → HaveIndexes w outs → (t : Taker) (d : Desk) → IsIn d (desks_of crews) → t.actor ≡ d.actor → ins_of t.inbox ≡ ins_of d.inbox
+  -- where there is a driver
+  not-empty : {P : Type 0} (outs : List Outbox) → 1 ≤ w → HaveIndexes w outs → (outs ≡ []) ⊎ P → P
+  not-empty outs some index (inl e) = let o = index 0 (omega (arith, some)) in absurd (subst (IsIn o.0) e o.1)
+  not-empty outs some index (inr p) = p
+
+  first-one : AreBoxes script clock boxes → (crews : List Crew) (outs : List Outbox) → 1 ≤ w → HaveIndexes w outs → (t : Taker) (d : Desk) → IsIn d (desks_of crews) → t.actor ≡ d.actor → ins_of t.inbox ≡ ins_of d.inbox
       → Exists script t.actor → IsJoined script w boxes outs t → IsFirstPort crews t.actor t.inbox
-  first-one are crews outs index t d i actor ins exists j =
+  first-one are crews outs some index t d i actor ins exists j =
       let b = some-at boxes (place_at script t) j.place in
       let v = (j.inbox b.0 b.1).1 in
       let names : b.0.names ≡ names_for script clock t.actor = are.each t.actor exists b.0 b.1 in
@@ -266,6 +271,8 @@ module _ (script : Script) (clock : TableId) (boxes : List Boxed) (w : ℕ) wher
         owner = ap (λ (x : BoxNames). x.owner) names;
         all = subst CarriesAll (sym v) (joined-has w (Some b.0.names) n (ins_of t.inbox) outs index);
         alone = subst (TookAlone 0) (sym v) (joined-alone w (Some b.0.names) n (ins_of t.inbox) outs);
+        order = not-empty outs some index j.order;
+        once = not-empty outs some index j.once;
         desk = d;
         is = i;
         actor = sym actor;
@@ -275,17 +282,17 @@ module _ (script : Script) (clock : TableId) (boxes : List Boxed) (w : ℕ) wher
   abbrev IsDone : List Crew → Taker → Type 0
   IsDone crews t = Exists script t.actor × IsFirstPort crews t.actor t.inbox
 
-  done-each : AreBoxes script clock boxes → (crews : List Crew) (outs : List Outbox) → HaveIndexes w outs → AllByRecursion IsSome (desks_of crews) → (sorted joined : List Taker) → ((t : Taker) → IsIn t sorted → IsIn t (map taker_of (desks_of crews)))
+  done-each : AreBoxes script clock boxes → (crews : List Crew) (outs : List Outbox) → 1 ≤ w → HaveIndexes w outs → AllByRecursion IsSome (desks_of crews) → (sorted joined : List Taker) → ((t : Taker) → IsIn t sorted → IsIn t (map taker_of (desks_of crews)))
       → Both IsKeptTaker sorted joined → AllByRecursion (IsJoined script w boxes outs) joined → AllByRecursion (IsDone crews) joined
-  done-each are crews outs index all [] [] from k j = tt
-  done-each are crews outs index all [] (u ∷ joined) from k j = absurd k
-  done-each are crews outs index all (t ∷ sorted) [] from k j = absurd k
-  done-each are crews outs index all (t ∷ sorted) (u ∷ joined) from k j =
+  done-each are crews outs some index all [] [] from k j = tt
+  done-each are crews outs some index all [] (u ∷ joined) from k j = absurd k
+  done-each are crews outs some index all (t ∷ sorted) [] from k j = absurd k
+  done-each are crews outs some index all (t ∷ sorted) (u ∷ joined) from k j =
       let d = of_map taker_of (desks_of crews) t (from t (inl refl)) in
       let actor : u.actor ≡ d.0.actor = k.0.actor ∙ ap (λ (x : Taker). x.actor) d.2 in
       let ins : ins_of u.inbox ≡ ins_of d.0.inbox = k.0.ins ∙ ap (λ (x : Taker). ins_of x.inbox) d.2 in
       let exists : Exists script u.actor = subst (Exists script) (sym actor) (actor-exists script d.0.actor (each_in IsSome (desks_of crews) d.0 all d.1).1.exists) in
-      ((exists, first-one are crews outs index u d.0 d.1 actor ins exists j.0), done-each are crews outs index all sorted joined (λ x i. from x (inr i)) k.1 j.1)
+      ((exists, first-one are crews outs some index u d.0 d.1 actor ins exists j.0), done-each are crews outs some index all sorted joined (λ x i. from x (inr i)) k.1 j.1)
 
   in-order : (crews : List Crew) (n : ℕ) (xs : List Actor) (ts : List Taker) → PlacesFrom script n xs → AllByRecursion (Exists script) xs → AreInPlaces script n ts → AllByRecursion (IsDone crews) ts → length xs ≡ length ts
       → Both (IsFirstPort crews) xs (map (λ (t : Taker). t.inbox) ts)
@@ -310,16 +317,16 @@ module _ (script : Script) (clock : TableId) (boxes : List Boxed) (w : ℕ) wher
       let own = (each_in IsSome (desks_of crews) d.0 all d.1).1.seat.1 in
       (seated_of d.0, in_map seated_of (desks_of crews) d.0 d.1, subst (λ n. Owns d.0.seat.view n d.0.part.items) place own)
 
-  pub is-left : AreBoxes script clock boxes → (crews : List Crew) → AllByRecursion (IsCrew script clock boxes w) crews → HaveAllActors script crews → AreNumbered w crews
+  pub is-left : AreBoxes script clock boxes → (crews : List Crew) → AllByRecursion (IsCrew script clock boxes w) crews → HaveAllActors script crews → 1 ≤ w → AreNumbered w crews
       → (actors : List SeatedPart) → actors ≡ map seated_of (desks_of crews) → (totals : List Totals) → totals ≡ map (λ (c : Crew). c.totals) crews
       → (sorted joined : List Taker) → IsPermutation (map taker_of (desks_of crews)) sorted → AreInPlaces script 0 sorted → length sorted ≡ length boxes → Both IsKeptTaker sorted joined
       → AllByRecursion (IsJoined script w boxes (map (λ (c : Crew). c.out) crews)) joined
       → (ports : List Ported) → ports ≡ map (λ (t : Taker). t.inbox) joined → IsLeft script clock crews actors totals ports
-  is-left are crews h all numbered actors ea totals et sorted joined p placed long kept joins ports ep =
+  is-left are crews h all some numbered actors ea totals et sorted joined p placed long kept joins ports ep =
       let ds = all-desks crews h in
       let b = are.count in
       let many : length (actors_of script) ≡ length joined = omega (arith, how-many script, b, long, both-long IsKeptTaker sorted joined kept) in
-      let done = done-each are crews (map (λ (c : Crew). c.out) crews) (have-indexes w crews numbered).1 ds sorted joined (λ t i. in_permuted sorted (map taker_of (desks_of crews)) t (IsPermutation-sym _ _ p) i) kept joins in
+      let done = done-each are crews (map (λ (c : Crew). c.out) crews) some (have-indexes w crews numbered).1 ds sorted joined (λ t i. in_permuted sorted (map taker_of (desks_of crews)) t (IsPermutation-sym _ _ p) i) kept joins in
       record {
         parts = ap parts_by ea ∙ parts-are (desks_of crews);
         seats = subst (AllByRecursion (IsSeated clock)) (sym ea) (seats-are (desks_of crews) ds);

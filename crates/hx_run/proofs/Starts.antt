@@ -11,7 +11,7 @@ use Rattle.hx_types.specs.Words.{same_actor, IsIn}
 use Rattle.hx_clock.proofs.Lists.{each_all, each_in, in_left, in_right}
 use Rattle.hx_law_threads.proofs.Lists.{in_append, in_map, map_append, of_filter}
 use Rattle.hx_mail.specs.Boxes.{Boxed}
-use Rattle.hx_fate.specs.Counts.{FateCounts}
+use Rattle.hx_fate.specs.declared.fates.FateState.{FateState}
 use Rattle.hx_outbox.specs.Places.{place_of, AreBoxes}
 use Rattle.hx_outbox.specs.Zipped.{Both}
 use Rattle.hx_outbox.proofs.Lists.{map-length}
@@ -125,23 +125,23 @@ module _ (script : Script) (clock : TableId) (boxes : List Boxed) (w : ℕ) (sta
       }
 
 -- ---- fates
-module _ {D X : Type 0} (crew : D → Crew) (fate : D → X) (counts : X → FateCounts) where
-  at-both : (olds news : List D) → Both (λ d d'. IsPosted (crew d) (crew d') (counts (fate d)) (counts (fate d'))) olds news → AllByRecursion IsNewCrew (map crew olds)
+module _ {D X : Type 0} (crew : D → Crew) (fate : D → X) (state : X → FateState) where
+  at-both : (olds news : List D) → Both (λ d d'. IsPosted (crew d) (crew d') (state (fate d)) (state (fate d'))) olds news → AllByRecursion IsNewCrew (map crew olds)
       → (i : ℕ) (g : X) (c : Crew) → slice_get (map fate news) i ≡ Some g → slice_get (map crew news) i ≡ Some c
-      → (d : D) × (slice_get olds i ≡ Some d) × IsNewCrew (crew d) × IsPosted (crew d) c (counts (fate d)) (counts g)
+      → (d : D) × (slice_get olds i ≡ Some d) × IsNewCrew (crew d) × IsPosted (crew d) c (state (fate d)) (state g)
   at-both [] [] h k i g c p q = absurd cc
   at-both [] (y ∷ news) h k i g c p q = absurd h
   at-both (x ∷ olds) [] h k i g c p q = absurd h
   at-both (x ∷ olds) (y ∷ news) h k zero g c p q =
-      (x, refl, k.0, subst (λ u. IsPosted (crew x) u (counts (fate x)) (counts g)) (some-same (crew y) c q) (subst (λ u. IsPosted (crew x) (crew y) (counts (fate x)) (counts u)) (some-same (fate y) g p) h.0))
+      (x, refl, k.0, subst (λ u. IsPosted (crew x) u (state (fate x)) (state g)) (some-same (crew y) c q) (subst (λ u. IsPosted (crew x) (crew y) (state (fate x)) (state u)) (some-same (fate y) g p) h.0))
   at-both (x ∷ olds) (y ∷ news) h k (suc i) g c p q = at-both olds news h.1 k.1 i g c p q
 
-  pub posted-at : (olds news : List D) (fates gs : List X) → Both (λ d d'. IsPosted (crew d) (crew d') (counts (fate d)) (counts (fate d'))) olds news → AllByRecursion IsNewCrew (map crew olds)
-      → ((i : ℕ) (d : D) (f : X) → slice_get olds i ≡ Some d → slice_get fates i ≡ Some f → counts (fate d) ≡ counts f) → gs ≡ map fate news
-      → (i : ℕ) (f g : X) (c : Crew) → slice_get fates i ≡ Some f → slice_get gs i ≡ Some g → slice_get (map crew news) i ≡ Some c → HasPosted c (counts f) (counts g)
+  pub posted-at : (olds news : List D) (fates gs : List X) → Both (λ d d'. IsPosted (crew d) (crew d') (state (fate d)) (state (fate d'))) olds news → AllByRecursion IsNewCrew (map crew olds)
+      → ((i : ℕ) (d : D) (f : X) → slice_get olds i ≡ Some d → slice_get fates i ≡ Some f → state (fate d) ≡ state f) → gs ≡ map fate news
+      → (i : ℕ) (f g : X) (c : Crew) → slice_get fates i ≡ Some f → slice_get gs i ≡ Some g → slice_get (map crew news) i ≡ Some c → HasPosted c (state f) (state g)
   posted-at olds news fates gs h k same e i f g c p q r =
       let b = at-both olds news h k i g c (subst (λ l. slice_get l i ≡ Some g) e q) r in
-      record { start = crew b.0; new = b.2; posted = subst (λ u. IsPosted (crew b.0) c u (counts g)) (same i b.0 f b.1 p) b.3 }
+      record { start = crew b.0; new = b.2; posted = subst (λ u. IsPosted (crew b.0) c u (state g)) (same i b.0 f b.1 p) b.3 }
 
 -- a slice that was lent and came back
 pub cut-same : {D : Type 0} (n : ℕ) (ws rest : List D) → length ws ≡ n → take n (ws ++ rest) ≡ ws

@@ -1,8 +1,8 @@
 -- What a trace of drivers that ran to their end tells.
-use Rattle.std.proofs.Common.{◌≡◌, ◌≢◌, ℕ, zero, suc, ◌+◌, ◌%◌, ◌<◌, ◌⊎◌, ⊎_elim, inl, inr, Bool, true, false, cond, List, [], ◌∷◌, ◌++◌, map, length, slice_get, Option, Some, None, refl, ap, sym, subst, ◌∙◌, arith, append_assoc, append-nil, length-append}
+use Rattle.std.proofs.Common.{◌≡◌, ◌≢◌, ℕ, zero, suc, ◌+◌, ◌%◌, ◌<◌, ◌≤◌, ◌⊎◌, ⊎_elim, inl, inr, Bool, true, false, cond, List, [], ◌∷◌, ◌++◌, map, length, slice_get, Option, Some, None, refl, ap, sym, subst, ◌∙◌, arith, append_assoc, append-nil, length-append}
 use Rattle.std.specs.Prelude.{reverse, IsSome}
 use Rattle.std.specs.List.{flat_map, filter, AllByRecursion}
-use Rattle.std.proofs.lemmas.Bool.{cond_both}
+use Rattle.std.proofs.lemmas.Bool.{cond_both, true≢false}
 use Rattle.std.proofs.lemmas.List.{reverse-append}
 use Rattle.std.proofs.lemmas.List.Sorted.{IsPermutation-sym}
 use mathlib.Core.List.{IsPrefix}
@@ -18,7 +18,7 @@ use Rattle.hx_types.specs.declared.traces.Input.TheVariants.{Tick, Halt, Deliver
 use Rattle.hx_types.specs.Fitting.{call_of}
 use Rattle.hx_types.specs.Words.{first_some, same_actor, IsIn}
 use Rattle.hx_model.specs.Histories.{note_of_end}
-use Rattle.hx_model.specs.Runs.{IsRun}
+use Rattle.hx_model.specs.Runs.{is_actor, IsRun}
 use Rattle.hx_model.specs.Schedule.{entries_of}
 use Rattle.hx_clock.specs.declared.parts.Stamped.{Stamped}
 use Rattle.hx_clock.specs.Parts.{all_of}
@@ -35,7 +35,7 @@ use Rattle.hx_law_threads.specs.Feeding.{IsFed, IsFedBy}
 use Rattle.hx_mail.specs.declared.views.Mailed.{Mailed}
 use Rattle.hx_mail.specs.declared.views.Sent.{Sent}
 use Rattle.hx_mail.specs.Boxes.{Boxed, Ported}
-use Rattle.hx_fate.specs.Counts.{FateCounts}
+use Rattle.hx_fate.specs.declared.fates.FateState.{FateState}
 use Rattle.hx_outbox.specs.Places.{place_of}
 use Rattle.hx_outbox.specs.Zipped.{Both}
 use Rattle.hx_outbox.proofs.Lists.{map-length}
@@ -117,6 +117,15 @@ count-own a (x ∷ xs) = by (same_actor x.actor a) (count-own a xs)
     by : (b : Bool) → entries_of a xs ≡ length (own_entries a xs) → cond b (entries_of a xs + 1) (entries_of a xs) ≡ length (cond b (x ∷ own_entries a xs) (own_entries a xs))
     by true e = omega (arith, e)
     by false e = e
+
+-- who is no actor of the script makes no entry
+no-others : (script : Script) (a : Actor) → is_actor script a ≡ false → (xs : List Entry) → IsRun script xs → entries_of a xs ≡ 0
+no-others script a e [] run = refl
+no-others script a e (x ∷ older) run = by (same_actor x.actor a) refl (no-others script a e older run.1)
+  where
+    by : (b : Bool) → same_actor x.actor a ≡ b → entries_of a older ≡ 0 → cond b (entries_of a older + 1) (entries_of a older) ≡ 0
+    by true same none = absurd (true≢false (sym run.0.actor ∙ ap (is_actor script) (same_actor_is x.actor a same) ∙ e))
+    by false same none = none
 
 length-reverse : {A : Type 0} (xs : List A) → length (reverse xs) ≡ length xs
 length-reverse [] = refl
@@ -201,6 +210,20 @@ module _ (script : Script) (clock : TableId) (w : ℕ) (start now : List Crew) (
   own-of : (d : Desk) → IsIn d (desks_of now) → own_entries d.actor (reverse trace) ≡ past_of d.part.items
   own-of d i = ap (own_entries d.actor) back ∙ each_in (λ (p : ActorPart). own_entries p.actor (past_of merged) ≡ past_of p.part) (parts_of now) (part_of d) runs.own (in_map part_of (desks_of now) d i)
 
+  desk-count : (d : Desk) → IsIn d (desks_of now) → entries_of d.actor (reverse trace) ≡ length d.part.items
+  desk-count d i =
+      count-own d.actor (reverse trace) ∙ ap length (own-of d i) ∙ length-reverse (map (λ (x : Stamped). x.entry) d.part.items) ∙ map-length (λ (x : Stamped). x.entry) d.part.items
+
+  few-entries : (a : Actor) → entries_of a (reverse trace) ≤ MOST_ENTRIES
+  few-entries a = by (is_actor script a) refl
+    where
+      by : (b : Bool) → is_actor script a ≡ b → entries_of a (reverse trace) ≤ MOST_ENTRIES
+      by true e =
+          let d = (actors_now script clock boxes w start now run-is).all a e in
+          let few = (desk-of d.0 d.1).1.few in
+          subst (λ b. entries_of b (reverse trace) ≤ MOST_ENTRIES) d.2 (omega (arith, desk-count d.0 d.1, few))
+      by false e = omega (arith, no-others script a e (reverse trace) (subst (IsRun script) (sym back) runs.run))
+
   no-halts : HasNoHalts trace
   no-halts = each_all (λ (x : Entry). is_halt x.input ≡ false) trace (λ x i. halts x (subst (IsIn x) made i))
     where
@@ -226,7 +249,7 @@ module _ (script : Script) (clock : TableId) (w : ℕ) (start now : List Crew) (
       ∙ told-flat a d.part.items (λ z j. part-actor script d.actor d.part.items z (desk-of d i).1.own j ∙ e)
 
   port-of : (more : List Entry) (a : Actor) (p : Ported) → IsFirstPort now a p → IsPrefix (delivered_to a more) (map (λ (s : Sent). s.mailed) (taken_under 0 p.view.lists)) → IsPortOfActor more a p
-  port-of more a p h begins = record { names = h.names; of_box = h.of_box; owner = h.owner; all = h.all; alone = h.alone; delivered = begins }
+  port-of more a p h begins = record { names = h.names; of_box = h.of_box; owner = h.owner; all = h.all; alone = h.alone; delivered = begins; order = h.order; once = h.once }
 
   port-begins : (a : Actor) (p : Ported) → IsFirstPort now a p → IsPrefix (delivered_to a trace) (map (λ (s : Sent). s.mailed) (taken_under 0 p.view.lists))
   port-begins a p h = let d = desk-of h.desk h.is in (d.0, ap (λ l. l ++ d.0) (came a h.desk h.is h.actor) ∙ d.1.told ∙ ap (map (λ (s : Sent). s.mailed)) (sym h.taken))
@@ -261,9 +284,7 @@ module _ (script : Script) (clock : TableId) (w : ℕ) (start now : List Crew) (
 
     worn-count : entries_of a (reverse trace) ≡ MOST_ENTRIES
     worn-count =
-        let d : Desk = the-worn.0.desk in
-        let n : length (past_of d.part.items) ≡ length d.part.items = length-reverse (map (λ (x : Stamped). x.entry) d.part.items) ∙ map-length (λ (x : Stamped). x.entry) d.part.items in
-        subst (λ b. entries_of b (reverse trace) ≡ MOST_ENTRIES) the-worn.1 (count-own d.actor (reverse trace) ∙ ap length (own-of d in-desks) ∙ n ∙ the-worn.0.most)
+        subst (λ b. entries_of b (reverse trace) ≡ MOST_ENTRIES) the-worn.1 (desk-count the-worn.0.desk in-desks ∙ the-worn.0.most)
 
     worn-more : (ports : List Ported) → Both (IsFirstPort now) (actors_of script) ports → HasOneMore script trace ports a
     worn-more ports p =
@@ -308,12 +329,13 @@ module _ (script : Script) (clock : TableId) (w : ℕ) (start now : List Crew) (
     is-ran worn e ports p = record {
       run = subst (IsRun script) (sym back) runs.run;
       no_halts = no-halts;
+      few = few-entries;
       end = ends worn e ports p;
       totals_are = all-totals;
       ports_are = both-map (IsFirstPort now) (IsPortOfActor trace) port-one (actors_of script) ports p;
     }
 
-    pub has-risen : (i : ℕ) (t : Totals) (f f' : FateCounts) → ((c : Crew) → slice_get now i ≡ Some c → HasPosted c f f') → slice_get totals i ≡ Some t → HasRisen script w trace i t f f'
+    pub has-risen : (i : ℕ) (t : Totals) (f f' : FateState) → ((c : Crew) → slice_get now i ≡ Some c → HasPosted c f f') → slice_get totals i ≡ Some t → HasRisen script w trace i t f f'
     has-risen i t f f' posted g =
         let c = get-map (λ (c : Crew). c.totals) now i t (subst (λ l. slice_get l i ≡ Some t) totals-are g) in
         subst (λ u. HasRisen script w trace i u f f') c.2 (posted-risen script w trace i c.0 f f' (crew-posts is_asked i c.0 c.1) (posted c.0 c.1))

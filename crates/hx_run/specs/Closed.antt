@@ -8,8 +8,8 @@ use Rattle.hx_types.specs.declared.traces.Script.{Script}
 use Rattle.hx_types.specs.Words.{IsIn}
 use Rattle.hx_mail.specs.declared.views.BoxNames.{BoxNames}
 use Rattle.hx_mail.specs.Boxes.{Boxed, Ported}
-use Rattle.hx_mail.specs.Ports.{CarriesAll, TookAlone}
-use Rattle.hx_fate.specs.Counts.{FateCounts}
+use Rattle.hx_mail.specs.Ports.{CarriesAll, IsInOrder, IsOnce, TookAlone}
+use Rattle.hx_fate.specs.declared.fates.FateState.{FateState}
 use Rattle.hx_outbox.specs.Zipped.{Both}
 use Rattle.hx_desk.specs.declared.desks.Desk.{Desk}
 use Rattle.hx_desk.specs.declared.faults.Fault.{Fault}
@@ -27,13 +27,15 @@ use Rattle.hx_run.specs.declared.joining.Taker.{Taker}
 use Rattle.hx_run.specs.Ran.{taken_under}
 use Rattle.hx_run.specs.Rounds.{AreOver}
 
--- the first port of an actor's box took in all others: it has all names, and what was taken was taken under the name 0
+-- the first port of an actor's box took in all others: it has all names, what was taken was taken under the name 0, in order and once
 pub record IsFirstPort (crews : List Crew) (a : Actor) (p : Ported) : Type 0 where
   pub names : BoxNames
   pub of_box : p.view.of_box ≡ Some names
   pub owner : names.owner ≡ a
   pub all : CarriesAll p.view
   pub alone : TookAlone 0 p.view
+  pub order : IsInOrder p.view
+  pub once : IsOnce p.view
   pub desk : Desk
   pub is : IsIn desk (desks_of crews)
   pub actor : desk.actor ≡ a
@@ -61,8 +63,8 @@ pub record AreClosed (script : Script) (clock : TableId) (w : ℕ) (start now : 
   pub run : HaveRun script clock boxes w start now
   pub over : AreOver script now fault
 
--- what a new driver posted by now, and its fate's counts then and now
-pub record HasPosted (c : Crew) (f f' : FateCounts) : Type 0 where
+-- what a new driver posted by now, and its fate's state then and now
+pub record HasPosted (c : Crew) (f f' : FateState) : Type 0 where
   pub start : Crew
   pub new : IsNewCrew start
   pub posted : IsPosted start c f f'

@@ -1,5 +1,5 @@
 -- What a run of drivers answers: a trace, what each driver posted, and the ports of all boxes.
-use Rattle.std.specs.Prelude.{ℕ, ◌≡◌, ◌+◌, ◌%◌, Bool, true, false, not, cond, eqb, List, [], ◌∷◌, ◌++◌, length, map, reverse, slice_get, Option, None, Some, IsSome}
+use Rattle.std.specs.Prelude.{ℕ, ◌≡◌, ◌+◌, ◌%◌, ◌≤◌, Bool, true, false, not, cond, eqb, List, [], ◌∷◌, ◌++◌, length, map, reverse, slice_get, Option, None, Some, IsSome}
 use Rattle.std.specs.List.{AllByRecursion, flat_map}
 use mathlib.Core.List.{IsPrefix}
 use Rattle.hx_types.specs.declared.calls.Caller.{Caller}
@@ -23,8 +23,8 @@ use Rattle.hx_mail.specs.declared.views.Mailed.{Mailed}
 use Rattle.hx_mail.specs.declared.views.PortLists.{PortLists}
 use Rattle.hx_mail.specs.declared.views.Sent.{Sent}
 use Rattle.hx_mail.specs.Boxes.{Ported}
-use Rattle.hx_mail.specs.Ports.{CarriesAll, TookAlone}
-use Rattle.hx_fate.specs.Counts.{FateCounts}
+use Rattle.hx_mail.specs.Ports.{CarriesAll, IsInOrder, IsOnce, TookAlone}
+use Rattle.hx_fate.specs.declared.fates.FateState.{FateState}
 use Rattle.hx_outbox.specs.Offers.{IsTotal, is_gone, raised_by}
 use Rattle.hx_outbox.specs.Places.{place_of}
 use Rattle.hx_outbox.specs.Zipped.{Both}
@@ -73,11 +73,12 @@ pub record AreTotalsOf (script : Script) (w : ℕ) (trace : List Entry) (totals 
   pub count : length totals ≡ w
   pub each : (i : ℕ) (t : Totals) → slice_get totals i ≡ Some t → IsTotalOf script w trace i t
 
--- the counts of driver i's fate rose by what it was asked, and by what it answered
-pub record HasRisen (script : Script) (w : ℕ) (trace : List Entry) (i : ℕ) (t : Totals) (f f' : FateCounts) : Type 0 where
+-- the counts of driver i's fate rose by what it was asked, and by what it answered, and it is tuned as it was
+pub record HasRisen (script : Script) (w : ℕ) (trace : List Entry) (i : ℕ) (t : Totals) (f f' : FateState) : Type 0 where
   pub chosen : f'.chosen ≡ raised_by (posts_by is_asked script w i trace) f.chosen
   pub lost : f'.lost ≡ raised_by t.lose f.lost
   pub doubled : f'.doubled ≡ raised_by t.twice f.doubled
+  pub tuning : f'.tuning ≡ f.tuning
 
 abbrev pub lost_in : List Totals → ℕ
 lost_in totals = total (λ (t : Totals). t.lose) totals
@@ -95,7 +96,7 @@ delivered_to a trace = flat_map (λ (x : Entry). cond (same_actor x.actor a) (to
 abbrev pub taken_under : ℕ → List PortLists → List Sent
 taken_under k lists = flat_map (λ (b : PortLists). cond (eqb k b.name) b.taken []) lists
 
--- the port is of the actor's box and carries all its names; what the actor's entries deliver is, in order, a prefix of what was taken under the name 0, and nothing was taken under another
+-- the port is of the actor's box and carries all its names; what the actor's entries deliver is, in order, a prefix of what was taken under the name 0, and nothing was taken under another; of what each name put, what was taken is, in order, a prefix, and no put was taken twice
 pub record IsPortOfActor (trace : List Entry) (a : Actor) (p : Ported) : Type 0 where
   pub names : BoxNames
   pub of_box : p.view.of_box ≡ Some names
@@ -103,6 +104,8 @@ pub record IsPortOfActor (trace : List Entry) (a : Actor) (p : Ported) : Type 0 
   pub all : CarriesAll p.view
   pub alone : TookAlone 0 p.view
   pub delivered : IsPrefix (delivered_to a trace) (map (λ (s : Sent). s.mailed) (taken_under 0 p.view.lists))
+  pub order : IsInOrder p.view
+  pub once : IsOnce p.view
 
 abbrev pub ArePortsOfActors : Script → List Entry → List Ported → Type 0
 ArePortsOfActors script trace ports = Both (IsPortOfActor trace) (actors_of script) ports
@@ -124,10 +127,11 @@ HasEnd script trace totals ports None =
 HasEnd script trace totals ports (Some a) =
     (entries_of a (reverse trace) ≡ MOST_ENTRIES) × HasOneMore script trace ports a × IsPaced script (reverse trace) (lost_in totals) (doubled_in totals)
 
--- what drivers of w threads made of a script
+-- what drivers of w threads made of a script; no actor made more entries than it may
 pub record IsRan (script : Script) (w : ℕ) (trace : List Entry) (totals : List Totals) (ports : List Ported) (worn : Option Actor) : Type 0 where
   pub run : IsRun script (reverse trace)
   pub no_halts : HasNoHalts trace
+  pub few : (a : Actor) → entries_of a (reverse trace) ≤ MOST_ENTRIES
   pub end : HasEnd script trace totals ports worn
   pub totals_are : AreTotalsOf script w trace totals
   pub ports_are : ArePortsOfActors script trace ports

@@ -37,7 +37,7 @@ fn slice_one<R: Wait, G: Gate>(
     requires crew { (w : ℕ) × IsCrew script.now clock.now boxes.now w driver.old.crew }
     ensures crew { StaysCrew script.now clock.now boxes.now driver.old.crew driver.new.crew }
     ensures sliced { IsSliced driver.old.crew driver.new.crew }
-    ensures posted { IsPosted driver.old.crew driver.new.crew (counts (driver.old.fate.vtable, driver.old.fate.value)) (counts (driver.new.fate.vtable, driver.new.fate.value)) }
+    ensures posted { IsPosted driver.old.crew driver.new.crew (state (driver.old.fate.vtable, driver.old.fate.value)) (state (driver.new.fate.vtable, driver.new.fate.value)) }
 {
     driver.slice(rt, alloc, script, clock, boxes, gate, at_work);
 }
@@ -57,7 +57,7 @@ fn slice_all<R: Threads + Wait + Sync, G: Gate + Sync>(
     requires crews { All (λ d. (w : ℕ) × IsCrew script.now clock.now boxes.now w d.crew) drivers.old }
     ensures crews { StayCrews script.now clock.now boxes.now (map (λ d. d.crew) drivers.old) (map (λ d. d.crew) drivers.new) }
     ensures sliced { AreSliced (map (λ d. d.crew) drivers.old) (map (λ d. d.crew) drivers.new) }
-    ensures posted { Both (λ d d'. IsPosted d.crew d'.crew (counts (d.fate.vtable, d.fate.value)) (counts (d'.fate.vtable, d'.fate.value))) drivers.old drivers.new }
+    ensures posted { Both (λ d d'. IsPosted d.crew d'.crew (state (d.fate.vtable, d.fate.value)) (state (d'.fate.vtable, d'.fate.value))) drivers.old drivers.new }
 {
     let at_work = AtWork::new(drivers.len());
     let shared = &at_work;
@@ -71,7 +71,7 @@ fn slice_all<R: Threads + Wait + Sync, G: Gate + Sync>(
             requires crew { (w : ℕ) × IsCrew script.now clock.now boxes.now w driver.now.crew }
             ensures crew { StaysCrew script.entry.now clock.entry.now boxes.entry.now driver.entry.now.crew driver.exit.now.crew }
             ensures sliced { IsSliced driver.entry.now.crew driver.exit.now.crew }
-            ensures posted { IsPosted driver.entry.now.crew driver.exit.now.crew (counts (driver.entry.now.fate.vtable, driver.entry.now.fate.value)) (counts (driver.exit.now.fate.vtable, driver.exit.now.fate.value)) }
+            ensures posted { IsPosted driver.entry.now.crew driver.exit.now.crew (state (driver.entry.now.fate.vtable, driver.entry.now.fate.value)) (state (driver.exit.now.fate.vtable, driver.exit.now.fate.value)) }
         { slice_one(rt, alloc, script, clock, boxes, gate, driver, shared) },
     );
 }
@@ -91,7 +91,7 @@ fn retry_all<R: Wait, G: Gate>(
     requires crews { (w : ℕ) × AllByRecursion (IsCrew script.now clock.now boxes.now w) (map (λ d. d.crew) drivers.old) }
     ensures crews { StayCrews script.now clock.now boxes.now (map (λ d. d.crew) drivers.old) (map (λ d. d.crew) drivers.new) }
     ensures retried { AreRetried script.now (map (λ d. d.crew) drivers.old) (map (λ d. d.crew) drivers.new) }
-    ensures posted { Both (λ d d'. IsPosted d.crew d'.crew (counts (d.fate.vtable, d.fate.value)) (counts (d'.fate.vtable, d'.fate.value))) drivers.old drivers.new }
+    ensures posted { Both (λ d d'. IsPosted d.crew d'.crew (state (d.fate.vtable, d.fate.value)) (state (d'.fate.vtable, d'.fate.value))) drivers.old drivers.new }
 {
     for at in 0..drivers.len() {
         drivers[at].retry(rt, alloc, script, clock, boxes, gate);
@@ -129,7 +129,7 @@ fn advance<R: Threads + Wait + Sync, G: Gate + Sync>(
     requires crews { (w : ℕ) × AllByRecursion (IsCrew script.now clock.now boxes.now w) (map (λ d. d.crew) drivers.old) }
     ensures crews { StayCrews script.now clock.now boxes.now (map (λ d. d.crew) drivers.old) (map (λ d. d.crew) drivers.new) }
     ensures goes { MatchOption result (Advance script.now (map (λ d. d.crew) drivers.old) (map (λ d. d.crew) drivers.new)) (λ fault. (drivers.new ≡ drivers.old) × AreOver script.now (map (λ d. d.crew) drivers.old) fault) }
-    ensures posted { Both (λ d d'. IsPosted d.crew d'.crew (counts (d.fate.vtable, d.fate.value)) (counts (d'.fate.vtable, d'.fate.value))) drivers.old drivers.new }
+    ensures posted { Both (λ d d'. IsPosted d.crew d'.crew (state (d.fate.vtable, d.fate.value)) (state (d'.fate.vtable, d'.fate.value))) drivers.old drivers.new }
 {
     let fault = first_fault(drivers);
     if fault.is_some() {
@@ -164,7 +164,7 @@ pub fn run_rounds<R: Threads + Wait + Sync, G: Gate + Sync>(
     ensures crews { StayCrews script.now clock.now boxes.now (map (λ d. d.crew) drivers.old) (map (λ d. d.crew) drivers.new) }
     ensures course { (w : ℕ) → AllByRecursion (IsCrew script.now clock.now boxes.now w) (map (λ d. d.crew) drivers.old) → (cuts : List (List Crew)) × IsCourse script.now clock.now boxes.now w (map (λ d. d.crew) drivers.old) cuts (map (λ d. d.crew) drivers.new) }
     ensures over { AreOver script.now (map (λ d. d.crew) drivers.new) result }
-    ensures posted { Both (λ d d'. IsPosted d.crew d'.crew (counts (d.fate.vtable, d.fate.value)) (counts (d'.fate.vtable, d'.fate.value))) drivers.old drivers.new }
+    ensures posted { Both (λ d d'. IsPosted d.crew d'.crew (state (d.fate.vtable, d.fate.value)) (state (d'.fate.vtable, d'.fate.value))) drivers.old drivers.new }
 {
     for _round in rt.forever() {
         match advance(rt, alloc, script, clock, boxes, gate, drivers) {

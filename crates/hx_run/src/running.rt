@@ -52,7 +52,7 @@ fn run_drivers<R: Threads + Wait + Sync, G: Gate + Sync>(
     requires seats { AreNewSeats clock.now seats.items × (length seats.items ≡ length (actors_of script.now)) }
     requires workers { (1 ≤ workers) × (workers ≤ 16) × (workers ≤ length fates.items) }
     requires capacity { 1 ≤ capacity }
-    ensures left { IfOk result (λ made. (start : List Crew) × (now : List Crew) × AreClosed script.now clock.now workers start now made.0 × IsLeft script.now clock.now now made.1.actors.items made.1.totals.items made.1.ports.items × (length made.1.fates.items ≡ workers) × ((i : ℕ) (f : _) (g : _) (c : Crew) → slice_get fates.items i ≡ Some f → slice_get made.1.fates.items i ≡ Some g → slice_get now i ≡ Some c → HasPosted c (counts f) (counts g))) }
+    ensures left { IfOk result (λ made. (start : List Crew) × (now : List Crew) × AreClosed script.now clock.now workers start now made.0 × IsLeft script.now clock.now now made.1.actors.items made.1.totals.items made.1.ports.items × (length made.1.fates.items ≡ workers) × ((i : ℕ) (f : _) (g : _) (c : Crew) → slice_get fates.items i ≡ Some f → slice_get made.1.fates.items i ≡ Some g → slice_get now i ≡ Some c → HasPosted c (state f) (state g))) }
 {
     let (boxes, ports) = open_boxes(rt, alloc, script, clock, workers, capacity)?;
     let held = boxes.as_slice();
@@ -80,7 +80,8 @@ fn worn_by(fault: Option<Fault>) -> Result<Option<Actor>, Memory>
 ///
 /// # Errors
 ///
-/// [`Memory`] alone. Where several actors are worn, it is one of the lowest driver's that is told.
+/// [`Memory`] alone. Where several drivers met a worn actor, that of the lowest of them is told: the
+/// contract of `run_rounds` says so, and this one doesn't, which knows no drivers.
 pub fn run<R: Threads + Wait + Sync, G: Gate + Sync>(
     rt: &R,
     alloc: Global,
@@ -95,7 +96,7 @@ pub fn run<R: Threads + Wait + Sync, G: Gate + Sync>(
     requires capacity { 1 ≤ capacity }
     ensures ran { IfOk result (λ ran. IsRan script.now workers ran.trace ran.totals.items ran.ports.items ran.worn) }
     ensures fates { IfOk result (λ ran. length ran.fates.items ≡ workers) }
-    ensures risen { IfOk result (λ ran. (i : ℕ) (f : _) (g : _) (t : TotalsSeen) → slice_get fates.items i ≡ Some f → slice_get ran.fates.items i ≡ Some g → slice_get ran.totals.items i ≡ Some t → HasRisen script.now workers ran.trace i t (counts f) (counts g)) }
+    ensures risen { IfOk result (λ ran. (i : ℕ) (f : _) (g : _) (t : TotalsSeen) → slice_get fates.items i ≡ Some f → slice_get ran.fates.items i ≡ Some g → slice_get ran.totals.items i ≡ Some t → HasRisen script.now workers ran.trace i t (state f) (state g)) }
 {
     let (mut clock, mut seat) = Clock::new(alloc)?;
     let count = 1 + script.space.servers + script.sessions.len() as u32;

@@ -3,7 +3,7 @@ ghost use Rattle.std.specs.Prelude.{◌≡◌, ◌≤◌, length};
 
 use crate::running::{LIBRARY, answers, boxed, script_of};
 use hx_desk::Open;
-use hx_fate::{Choice, Faithful, Fate};
+use hx_fate::{Choice, Drawn, Faithful, Fate, FateState, Tuning};
 use hx_run::{Ran, run};
 use hx_types::{Actor, Message};
 use std::alloc::Global;
@@ -16,70 +16,22 @@ use std::thread::Threads;
 const MOVED: &str =
     "hx 1\nspace books\nkey name 2\nstring genre\nint year 1900 2099\nsubspace genre 4\nsubspace year 2\nservers 4\ntolerate 1\nsession 1\nput \"a\" genre=\"b\" year=1999\nget \"a\"\nput \"a\" genre=\"d\"\n";
 
-/// Loses every post on which the draw of SplitMix64 is odd.
-#[derive(Drop)]
-struct Coin {
-    state: u64,
-    chosen: u64,
-    lost: u64,
+/// A fate of a driver that loses every second post by a draw.
+fn coin(driver: u32) -> Drawn {
+    let mut fate = Drawn::new(1, driver);
+    fate.tune(Tuning {
+        lose_every: 2,
+        repeat_every: 0,
+    });
+    fate
 }
 
-impl Coin {
-    fn new(state: u64) -> Coin {
-        Coin {
-            state,
-            chosen: 0,
-            lost: 0,
-        }
-    }
-
-    /// The next draw.
-    fn draw(&mut self) -> u64
-        ensures chosen { self.new.chosen ≡ self.old.chosen }
-        ensures lost { self.new.lost ≡ self.old.lost }
-    {
-        self.state = self.state.wrapping_add(0x9e37_79b9_7f4a_7c15);
-        let once = (self.state ^ (self.state >> 30)).wrapping_mul(0xbf58_476d_1ce4_e5b9);
-        let twice = (once ^ (once >> 27)).wrapping_mul(0x94d0_49bb_1331_11eb);
-        twice ^ (twice >> 31)
-    }
-}
-
-impl Fate for Coin {
-    ghost counts = { λ c. record { chosen = c.chosen; lost = c.lost; doubled = 0 } };
-
-    fn choose(&mut self, _from: Actor, _to: Actor) -> Choice {
-        let draw = self.draw();
-        self.chosen = self.chosen.saturating_add(1);
-        if draw % 2 == 0 {
-            return Choice::Deliver;
-        }
-        self.lost = self.lost.saturating_add(1);
-        Choice::Lose
-    }
-
-    fn tune(&mut self, _lose_every: u32, _repeat_every: u32) {}
-
-    fn chosen(&self) -> u64 {
-        self.chosen
-    }
-
-    fn lost(&self) -> u64 {
-        self.lost
-    }
-
-    fn doubled(&self) -> u64 {
-        0
-    }
-}
-
-/// Each fate draws from a state of its own: 1, 2 and 3.
 #[test]
 fn half_of_all_posts_may_be_lost(rt: HostRuntime) {
     let mut fates: Vec<Box<dyn Fate + Send>> = Vec::new(rt.alloc());
-    fates.push(boxed(&rt, Coin::new(1))).expect(&rt, "memory");
-    fates.push(boxed(&rt, Coin::new(2))).expect(&rt, "memory");
-    fates.push(boxed(&rt, Coin::new(3))).expect(&rt, "memory");
+    fates.push(boxed(&rt, coin(0))).expect(&rt, "memory");
+    fates.push(boxed(&rt, coin(1))).expect(&rt, "memory");
+    fates.push(boxed(&rt, coin(2))).expect(&rt, "memory");
     let answered = answers(&rt, LIBRARY, 3, 1024, fates, &Open);
     assert_eq!(&rt; answered, Some(13));
 }
@@ -96,7 +48,7 @@ fn boxes_of_one_place_lose_nothing(rt: HostRuntime) {
 
 /// Delivers all, and tells others how often it was asked and dropped.
 struct Counted {
-    chosen: u64,
+    state: FateState,
     asked: Arc<AtomicU64, Global>,
     dropped: Arc<AtomicU64, Global>,
 }
@@ -105,7 +57,7 @@ impl Drop for Counted {
     fn drop(self) {
         self.dropped.fetch_add(1, Ordering::SeqCst);
         let Counted {
-            chosen: _,
+            state: _,
             asked: _,
             dropped: _,
         } = self;
@@ -113,26 +65,20 @@ impl Drop for Counted {
 }
 
 impl Fate for Counted {
-    ghost counts = { λ c. record { chosen = c.chosen; lost = 0; doubled = 0 } };
+    ghost state = { λ c. c.state };
 
     fn choose(&mut self, _from: Actor, _to: Actor) -> Choice {
         self.asked.fetch_add(1, Ordering::SeqCst);
-        self.chosen = self.chosen.saturating_add(1);
+        self.state.count(Choice::Deliver);
         Choice::Deliver
     }
 
-    fn tune(&mut self, _lose_every: u32, _repeat_every: u32) {}
-
-    fn chosen(&self) -> u64 {
-        self.chosen
+    fn tune(&mut self, tuning: Tuning) {
+        self.state.tuning = tuning;
     }
 
-    fn lost(&self) -> u64 {
-        0
-    }
-
-    fn doubled(&self) -> u64 {
-        0
+    fn state(&self) -> FateState {
+        self.state
     }
 }
 
@@ -159,7 +105,7 @@ fn counting_fate<R: Abort + AllocGlobal>(
     dropped: &Arc<AtomicU64, Global>,
 ) -> Counted {
     Counted {
-        chosen: 0,
+        state: FateState::new(),
         asked: Arc::try_clone(asked).expect(rt, "a count of owners"),
         dropped: Arc::try_clone(dropped).expect(rt, "a count of owners"),
     }

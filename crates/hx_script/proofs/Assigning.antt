@@ -26,7 +26,7 @@ any_value_takes (Number v ∷ ts) x e = omega (arith, ap (λ (y : Value × List 
 any_value_takes (Text v ∷ ts) x e = omega (arith, ap (λ (y : Value × List Tok). length y.1) (ok_is (values.Text v, ts) x e))
 any_value_takes (Sign v ∷ ts) x e = absurd cc
 
-any_value_consumes : Consumes any_value
+pub any_value_consumes : Consumes any_value
 any_value_consumes = record { at = any_value_takes }
 
 pub value_consumes : (kind : Kind) → Consumes (value kind)

@@ -11,12 +11,16 @@ use Rattle.hx_lex.specs.Lines.{tokens_from}
 use Rattle.hx_types.specs.declared.spaces.Space.{Space}
 use Rattle.hx_types.specs.declared.spaces.Kind.TheVariants as kinds
 use Rattle.hx_types.specs.declared.calls.Op.{Op}
-use Rattle.hx_types.specs.declared.calls.Op.TheVariants.{Put, Get, Cput, Search, Add}
+use Rattle.hx_types.specs.declared.calls.Op.TheVariants.{Put, Get, Cput, Search, Add, Atomic}
 use Rattle.hx_types.specs.declared.ids.Actor.TheVariants.{Coordinator, Server}
 use Rattle.hx_types.specs.declared.traces.Script.{Script}
 use Rattle.hx_types.specs.declared.traces.Step.{Step}
 use Rattle.hx_types.specs.declared.traces.Step.TheVariants.{Deliver, Tick, Halt}
+use Rattle.hx_types.specs.declared.values.Edit.{Edit}
+use Rattle.hx_types.specs.declared.values.EditKind.{EditKind}
+use Rattle.hx_types.specs.declared.values.EditKind.TheVariants as an_edit
 use Rattle.hx_types.specs.declared.values.Term.TheVariants as a_term
+use Rattle.hx_types.specs.declared.values.Value.{Value}
 use Rattle.hx_types.specs.declared.values.Value.TheVariants as a_value
 use Rattle.hx_script.specs.declared.errors.ScriptError.{ScriptError}
 use Rattle.hx_script.specs.declared.errors.ScriptError.TheVariants.{Refused}
@@ -24,7 +28,8 @@ use Rattle.hx_script.specs.declared.errors.Reason.TheVariants.{Token, Order, Unk
 use Rattle.hx_script.specs.Readers.{number_in, natural, number_from, steps}
 use Rattle.hx_script.specs.Words.{named, name, new_name}
 use Rattle.hx_script.specs.Values.{short_text, value, free_attribute, assign, one_more, some_assigns, free_known, range, term, one_more_term}
-use Rattle.hx_script.specs.Calls.{put, get, del, cput, search_call, stop, add, deliver, tick, halt}
+use Rattle.hx_script.specs.Edits.{edit_word, unedited_attribute, edit_value, edit, one_more_edit, some_edits}
+use Rattle.hx_script.specs.Calls.{put, get, del, cput, search_call, stop, add, atomic, deliver, tick, halt}
 use Rattle.hx_script.specs.Actors.{actor}
 use Rattle.hx_script.specs.Axes.{free_axis, parts, axis, next_axis, subspace}
 use Rattle.hx_script.specs.Grammar.{hx_line, space_line, key_line, string_attribute, int_attribute, attribute_line, subspace_line, servers_line, tolerate_line, session_line, steps_line, call_line, step_line, command}
@@ -94,6 +99,46 @@ adds : with_call (codes "add 4 7") ≡ one_call (Add (record { 0 = 4 }) (record 
 unfolding tokens_from piece_at number_at text_at inside_at content comment_at utf8_valid_len is_utf8 chars encode read_lines number_in natural number_from steps named name new_name free_axis parts axis next_axis subspace hx_line space_line key_line string_attribute int_attribute attribute_line subspace_line servers_line tolerate_line session_line steps_line call_line step_line command short_text value free_attribute assign one_more some_assigns free_known range term one_more_term put get del cput search_call stop add deliver tick halt actor
 adds = refl
 
+abbrev edit_by : EditKind → ℕ → Value → Edit
+edit_by what attribute value = record { what = what; attribute = attribute; value = value }
+
+edits_a_number : with_call (codes "atomic \"a\" add year=1") ≡ one_call (Atomic (codes "a") (edit_by an_edit.Add 2 (a_value.Int (pos 1)) ∷ []))
+unfolding tokens_from piece_at number_at text_at inside_at content comment_at utf8_valid_len is_utf8 chars encode read_lines number_in natural number_from steps named name new_name free_axis parts axis next_axis subspace hx_line space_line key_line string_attribute int_attribute attribute_line subspace_line servers_line tolerate_line session_line steps_line call_line step_line command short_text value free_attribute assign one_more some_assigns free_known range term one_more_term put get del cput search_call stop add deliver tick halt actor edit_word unedited_attribute edit_value edit one_more_edit some_edits atomic
+edits_a_number = refl
+
+edits_two : with_call (codes "atomic \"a\" min year=5 append genre=\"x\"") ≡ one_call (Atomic (codes "a") (edit_by an_edit.Min 2 (a_value.Int (pos 5)) ∷ edit_by an_edit.Append 1 (a_value.Text (codes "x")) ∷ []))
+unfolding tokens_from piece_at number_at text_at inside_at content comment_at utf8_valid_len is_utf8 chars encode read_lines number_in natural number_from steps named name new_name free_axis parts axis next_axis subspace hx_line space_line key_line string_attribute int_attribute attribute_line subspace_line servers_line tolerate_line session_line steps_line call_line step_line command short_text value free_attribute assign one_more some_assigns free_known range term one_more_term put get del cput search_call stop add deliver tick halt actor edit_word unedited_attribute edit_value edit one_more_edit some_edits atomic
+edits_two = refl
+
+edits_by_the_greater : with_call (codes "atomic \"a\" max year=3") ≡ one_call (Atomic (codes "a") (edit_by an_edit.Max 2 (a_value.Int (pos 3)) ∷ []))
+unfolding tokens_from piece_at number_at text_at inside_at content comment_at utf8_valid_len is_utf8 chars encode read_lines number_in natural number_from steps named name new_name free_axis parts axis next_axis subspace hx_line space_line key_line string_attribute int_attribute attribute_line subspace_line servers_line tolerate_line session_line steps_line call_line step_line command short_text value free_attribute assign one_more some_assigns free_known range term one_more_term put get del cput search_call stop add deliver tick halt actor edit_word unedited_attribute edit_value edit one_more_edit some_edits atomic
+edits_by_the_greater = refl
+
+no_edit : with_call (codes "atomic \"a\"") ≡ Err (Refused 11 Order)
+unfolding tokens_from piece_at number_at text_at inside_at content comment_at utf8_valid_len is_utf8 chars encode read_lines number_in natural number_from steps named name new_name free_axis parts axis next_axis subspace hx_line space_line key_line string_attribute int_attribute attribute_line subspace_line servers_line tolerate_line session_line steps_line call_line step_line command short_text value free_attribute assign one_more some_assigns free_known range term one_more_term put get del cput search_call stop add deliver tick halt actor edit_word unedited_attribute edit_value edit one_more_edit some_edits atomic
+no_edit = refl
+
+no_such_edit : with_call (codes "atomic \"a\" mul year=2") ≡ Err (Refused 11 Order)
+unfolding tokens_from piece_at number_at text_at inside_at content comment_at utf8_valid_len is_utf8 chars encode read_lines number_in natural number_from steps named name new_name free_axis parts axis next_axis subspace hx_line space_line key_line string_attribute int_attribute attribute_line subspace_line servers_line tolerate_line session_line steps_line call_line step_line command short_text value free_attribute assign one_more some_assigns free_known range term one_more_term put get del cput search_call stop add deliver tick halt actor edit_word unedited_attribute edit_value edit one_more_edit some_edits atomic
+no_such_edit = refl
+
+edits_the_key : with_call (codes "atomic \"a\" append name=\"x\"") ≡ Err (Refused 11 Unknown)
+unfolding tokens_from piece_at number_at text_at inside_at content comment_at utf8_valid_len is_utf8 chars encode read_lines number_in natural number_from steps named name new_name free_axis parts axis next_axis subspace hx_line space_line key_line string_attribute int_attribute attribute_line subspace_line servers_line tolerate_line session_line steps_line call_line step_line command short_text value free_attribute assign one_more some_assigns free_known range term one_more_term put get del cput search_call stop add deliver tick halt actor edit_word unedited_attribute edit_value edit one_more_edit some_edits atomic
+edits_the_key = refl
+
+edited_twice : with_call (codes "atomic \"a\" add year=1 append genre=\"x\" max year=2") ≡ Err (Refused 11 Twice)
+unfolding tokens_from piece_at number_at text_at inside_at content comment_at utf8_valid_len is_utf8 chars encode read_lines number_in natural number_from steps named name new_name free_axis parts axis next_axis subspace hx_line space_line key_line string_attribute int_attribute attribute_line subspace_line servers_line tolerate_line session_line steps_line call_line step_line command short_text value free_attribute assign one_more some_assigns free_known range term one_more_term put get del cput search_call stop add deliver tick halt actor edit_word unedited_attribute edit_value edit one_more_edit some_edits atomic
+edited_twice = refl
+
+-- a text is no number, and no text is added to
+adds_a_text : with_call (codes "atomic \"a\" add year=\"x\"") ≡ Err (Refused 11 TypeOf)
+unfolding tokens_from piece_at number_at text_at inside_at content comment_at utf8_valid_len is_utf8 chars encode read_lines number_in natural number_from steps named name new_name free_axis parts axis next_axis subspace hx_line space_line key_line string_attribute int_attribute attribute_line subspace_line servers_line tolerate_line session_line steps_line call_line step_line command short_text value free_attribute assign one_more some_assigns free_known range term one_more_term put get del cput search_call stop add deliver tick halt actor edit_word unedited_attribute edit_value edit one_more_edit some_edits atomic
+adds_a_text = refl
+
+adds_to_a_text : with_call (codes "atomic \"a\" add genre=\"x\"") ≡ Err (Refused 11 TypeOf)
+unfolding tokens_from piece_at number_at text_at inside_at content comment_at utf8_valid_len is_utf8 chars encode read_lines number_in natural number_from steps named name new_name free_axis parts axis next_axis subspace hx_line space_line key_line string_attribute int_attribute attribute_line subspace_line servers_line tolerate_line session_line steps_line call_line step_line command short_text value free_attribute assign one_more some_assigns free_known range term one_more_term put get del cput search_call stop add deliver tick halt actor edit_word unedited_attribute edit_value edit one_more_edit some_edits atomic
+adds_to_a_text = refl
+
 wrong_type : with_call (codes "put \"a\" year=\"x\"") ≡ Err (Refused 11 TypeOf)
 unfolding tokens_from piece_at number_at text_at inside_at content comment_at utf8_valid_len is_utf8 chars encode read_lines number_in natural number_from steps named name new_name free_axis parts axis next_axis subspace hx_line space_line key_line string_attribute int_attribute attribute_line subspace_line servers_line tolerate_line session_line steps_line call_line step_line command short_text value free_attribute assign one_more some_assigns free_known range term one_more_term put get del cput search_call stop add deliver tick halt actor
 wrong_type = refl
@@ -158,3 +203,12 @@ longest_text = refl
 too_long : with_call (codes "get \"x" ++ doubled 10 ++ codes "\"") ≡ Err (Refused 11 Limit)
 unfolding tokens_from piece_at number_at text_at inside_at content comment_at utf8_valid_len is_utf8 chars encode read_lines number_in natural number_from steps named name new_name free_axis parts axis next_axis subspace hx_line space_line key_line string_attribute int_attribute attribute_line subspace_line servers_line tolerate_line session_line steps_line call_line step_line command short_text value free_attribute assign one_more some_assigns free_known range term one_more_term put get del cput search_call stop add deliver tick halt actor
 too_long = refl
+
+appends_too_long : with_call (codes "atomic \"a\" append genre=\"x" ++ doubled 10 ++ codes "\"") ≡ Err (Refused 11 Limit)
+unfolding tokens_from piece_at number_at text_at inside_at content comment_at utf8_valid_len is_utf8 chars encode read_lines number_in natural number_from steps named name new_name free_axis parts axis next_axis subspace hx_line space_line key_line string_attribute int_attribute attribute_line subspace_line servers_line tolerate_line session_line steps_line call_line step_line command short_text value free_attribute assign one_more some_assigns free_known range term one_more_term put get del cput search_call stop add deliver tick halt actor edit_word unedited_attribute edit_value edit one_more_edit some_edits atomic
+appends_too_long = refl
+
+-- the type is looked at before the length
+adds_a_long_text : with_call (codes "atomic \"a\" add year=\"x" ++ doubled 10 ++ codes "\"") ≡ Err (Refused 11 TypeOf)
+unfolding tokens_from piece_at number_at text_at inside_at content comment_at utf8_valid_len is_utf8 chars encode read_lines number_in natural number_from steps named name new_name free_axis parts axis next_axis subspace hx_line space_line key_line string_attribute int_attribute attribute_line subspace_line servers_line tolerate_line session_line steps_line call_line step_line command short_text value free_attribute assign one_more some_assigns free_known range term one_more_term put get del cput search_call stop add deliver tick halt actor edit_word unedited_attribute edit_value edit one_more_edit some_edits atomic
+adds_a_long_text = refl

@@ -1,20 +1,24 @@
 -- Calls that are read fit their space.
 use Rattle.std.proofs.Common.{◌≡◌, ℕ, ℤ, zero, suc, ◌-◌, ◌<◌, ◌≤◌, Bool, true, false, eqb, List, [], ◌∷◌, ◌++◌, length, Some, Ok, refl, subst, arith}
-use Rattle.std.specs.Prelude.{int_le, nat_le, not, codes, slice_get}
+use Rattle.std.specs.Prelude.{◌&&◌, int_le, nat_le, not, codes, slice_get}
 use Rattle.std.specs.Int.Signed.{le_z_yes}
 use Rattle.std.proofs.lemmas.Bool.{leb-true, ne_eqb}
 use Rattle.std.proofs.lemmas.Float.{T_from_true}
 use Rattle.std.proofs.lemmas.List.Elements.{All-nil, All-push}
+use Rattle.hx_lex.specs.Letters.{IsWord}
 use Rattle.hx_types.specs.declared.calls.Op.TheVariants as ops
 use Rattle.hx_types.specs.declared.spaces.Kind.{Kind}
 use Rattle.hx_types.specs.declared.spaces.Kind.TheVariants as kinds
 use Rattle.hx_types.specs.declared.spaces.Space.{Space}
 use Rattle.hx_types.specs.declared.values.Assign.{Assign}
+use Rattle.hx_types.specs.declared.values.Edit.{Edit}
+use Rattle.hx_types.specs.declared.values.EditKind.{EditKind}
+use Rattle.hx_types.specs.declared.values.EditKind.TheVariants as an_edit
 use Rattle.hx_types.specs.declared.values.Term.{Term}
 use Rattle.hx_types.specs.declared.values.Term.TheVariants as a_term
 use Rattle.hx_types.specs.declared.values.Value.{Value}
 use Rattle.hx_types.specs.declared.values.Value.TheVariants as values
-use Rattle.hx_types.specs.Spaces.{IsOfKind, IsIntKind, KeyFits, AssignFits, AssignsFit, TermFits, TermsFit, attribute_of, Fits}
+use Rattle.hx_types.specs.Spaces.{IsOfKind, IsIntKind, KeyFits, AssignFits, AssignsFit, IsEditOf, EditFits, EditsFit, TermFits, TermsFit, attribute_of, Fits}
 use Rattle.hx_types.specs.Subspaces.{kind_at, region_count}
 use Rattle.hx_script.specs.declared.errors.Reason.TheVariants.{Twice, TypeOf, Limit}
 use Rattle.hx_script.specs.declared.keyword.CallWord.{CallWord}
@@ -25,11 +29,12 @@ use Rattle.hx_script.specs.Toks.{Tok, Word, Number, Text, Sign}
 use Rattle.hx_script.specs.Readers.{Reader}
 use Rattle.hx_script.specs.Words.{declared_number, known_number}
 use Rattle.hx_script.specs.Values.{short_text, is_of, is_short, any_value, value, has_assign, free_attribute, assign, one_more, more_assigns, some_assigns, has_term, free_known, range, is_dots, range_or_equal, rest_of_term, term, one_more_term, all_terms}
-use Rattle.hx_script.specs.Calls.{put, get, del, cput, search_call, stop, add, call}
+use Rattle.hx_script.specs.Edits.{edit_kind, edit_word, has_edit, unedited_attribute, is_edit_of, edit_value, edit, one_more_edit, some_edits}
+use Rattle.hx_script.specs.Calls.{put, get, del, cput, search_call, stop, add, atomic, call}
 use Rattle.hx_script.proofs.Naming.{MayName, yields_named, declared_is, known_is}
 use Rattle.hx_script.proofs.Once.{not_true, once_more}
 use Rattle.hx_script.proofs.Takes.{ok_is}
-use Rattle.hx_script.proofs.Yields.{AllToks, Yields, Any, yields_then, yields_give, yields_check, yields_judged, yields_text, yields_end, yields_sign, yields_fixed, yields_number_in, yields_number_from, yields_repeat}
+use Rattle.hx_script.proofs.Yields.{AllToks, Yields, Any, yields_then, yields_give, yields_check, yields_judged, yields_word, yields_text, yields_end, yields_sign, yields_fixed, yields_number_in, yields_number_from, yields_repeat, and_left, and_right}
 
 pub yields_short_text : Yields short_text KeyFits
 unfolding short_text
@@ -170,6 +175,94 @@ yields_one_more_term space terms fit = yields_then (IsNextTerm space terms) (yie
 yields_terms : (space : Space) → Yields (all_terms space) (TermsFit space)
 yields_terms space = yields_repeat (TermsFit space) until.End (one_more_term space) (λ b q. yields_one_more_term space b q) [] (record { each = All-nil (TermFits space); once = tt })
 
+-- ---- edits
+
+yields_edit_word : Yields edit_word Any
+unfolding edit_word
+yields_edit_word = yields_then IsWord yields_word (λ w u. weaker (λ what. edit_kind w ≡ Ok what) Any (λ what e. tt) (yields_judged (edit_kind w)))
+
+-- an attribute that isn't edited yet
+record IsUnedited (space : Space) (edits : List Edit) (a : ℕ) : Type 0 where
+  pub is : (0 < a) × (a ≤ length space.attributes)
+  pub new : has_edit edits a ≡ false
+
+yields_unedited : (space : Space) (edits : List Edit) → Yields (unedited_attribute space edits) (IsUnedited space edits)
+unfolding unedited_attribute
+yields_unedited space edits =
+    yields_then MayName yields_named (λ w m.
+    yields_then (λ a. declared_number space w ≡ Ok a) (yields_judged (declared_number space w)) (λ a d.
+    yields_then (λ u. not (has_edit edits a) ≡ true) (yields_check (not (has_edit edits a)) Twice) (λ u n.
+    yields_give a (record { is = declared_is space w a d; new = not_true (has_edit edits a) n }))))
+
+-- a value by which a value of the kind can be edited so
+record Edits (what : EditKind) (kind : Kind) (v : Value) : Type 0 where
+  pub is : is_edit_of what kind ≡ true
+  pub suits : Suits kind v
+
+yields_edit_value : (what : EditKind) (kind : Kind) → Yields (edit_value what kind) (Edits what kind)
+unfolding edit_value
+yields_edit_value what kind =
+    yields_then Any yields_any_value (λ v u.
+    yields_then (λ u. (is_edit_of what kind && is_of kind v) ≡ true) (yields_check (is_edit_of what kind && is_of kind v) TypeOf) (λ u k.
+    yields_then (λ u. is_short v ≡ true) (yields_check (is_short v) Limit) (λ u s.
+    yields_give v (record { is = and_left (is_edit_of what kind) (is_of kind v) k; suits = record { fits = and_right (is_edit_of what kind) (is_of kind v) k; short = s } }))))
+
+edit_is : (what : EditKind) (kind : Kind) → is_edit_of what kind ≡ true → IsEditOf what kind
+edit_is an_edit.Append kinds.Text e = tt
+edit_is an_edit.Append (kinds.Int lo hi) e = absurd cc
+edit_is an_edit.Add kinds.Text e = absurd cc
+edit_is an_edit.Add (kinds.Int lo hi) e = tt
+edit_is an_edit.Min kinds.Text e = absurd cc
+edit_is an_edit.Min (kinds.Int lo hi) e = tt
+edit_is an_edit.Max kinds.Text e = absurd cc
+edit_is an_edit.Max (kinds.Int lo hi) e = tt
+
+edit_fits : (space : Space) (what : EditKind) (a : ℕ) (v : Value) → (0 < a) × (a ≤ length space.attributes) → Edits what (kind_at space a) v → EditFits space (record { what = what; attribute = a; value = v })
+edit_fits space what a v is by =
+    let low : 0 < a = is.0 in
+    let high : a ≤ length space.attributes = is.1 in
+    let s = some_at space.attributes (a - 1) (omega (arith, low, high)) in
+    let same : kind_at space a ≡ s.0.kind = rw (not_zero a low, s.1) refl in
+    let fits : IsEditOf what s.0.kind × IsOfKind s.0.kind v =
+    subst (λ k. IsEditOf what k × IsOfKind k v) same (edit_is what (kind_at space a) by.is, value_fits (kind_at space a) v by.suits.fits by.suits.short) in
+    (low, rw s.1 fits)
+
+record IsNextEdit (space : Space) (edits : List Edit) (e : Edit) : Type 0 where
+  pub fits : EditFits space e
+  pub new : has_edit edits e.attribute ≡ false
+
+yields_edit : (space : Space) (edits : List Edit) → Yields (edit space edits) (IsNextEdit space edits)
+unfolding edit
+yields_edit space edits =
+    yields_then Any yields_edit_word (λ what w.
+    yields_then (IsUnedited space edits) (yields_unedited space edits) (λ a f.
+    yields_then Any (yields_sign (codes "=")) (λ u t.
+    yields_then (Edits what (kind_at space a)) (yields_edit_value what (kind_at space a)) (λ v s.
+    yields_give (record { what = what; attribute = a; value = v }) (record { fits = edit_fits space what a v f.is s; new = f.new })))))
+
+record SomeEdit (space : Space) (edits : List Edit) : Type 0 where
+  pub fit : EditsFit space edits
+  pub some : 0 < length edits
+
+next_edit_fits : (space : Space) (edits : List Edit) (e : Edit) → EditsFit space edits → IsNextEdit space edits e → EditsFit space (edits ++ e ∷ [])
+next_edit_fits space edits e fit next = record {
+  each = All-push (EditFits space) edits e fit.each next.fits;
+  once = once_more (λ (x : Edit). x.attribute) edits e fit.once next.new;
+}
+
+yields_one_more_edit : (space : Space) (edits : List Edit) → EditsFit space edits → Yields (one_more_edit space edits) (SomeEdit space)
+unfolding one_more_edit
+yields_one_more_edit space edits fit =
+    yields_then (IsNextEdit space edits) (yields_edit space edits) (λ e n. yields_give (edits ++ e ∷ []) (record { fit = next_edit_fits space edits e fit n; some = one_longer edits e }))
+
+yields_some_edits : (space : Space) → Yields (some_edits space) (SomeEdit space)
+unfolding some_edits
+yields_some_edits space =
+    yields_then (SomeEdit space) (yields_one_more_edit space [] (record { each = All-nil (EditFits space); once = tt })) (λ first s.
+    yields_repeat (SomeEdit space) until.End (one_more_edit space) (λ b q. yields_one_more_edit space b q.fit) first s)
+
+-- ---- calls
+
 yields_put : (space : Space) → Yields (put space) (Fits space)
 unfolding put
 yields_put space = yields_then KeyFits yields_short_text (λ key k. yields_then (AssignsFit space) (yields_assigns space) (λ sets s. yields_give (ops.Put key sets) (k, s)))
@@ -201,6 +294,10 @@ yields_add : (space : Space) (regions : ℕ) → regions ≡ region_count space 
 unfolding add
 yields_add space regions same low = yields_then (λ n. (1 ≤ n) × (n ≤ space.servers)) (yields_number_in 1 space.servers) (λ n h. yields_then (λ g. (0 ≤ g) × (g ≤ regions - 1)) (yields_number_in 0 (regions - 1)) (λ g k. yields_then Any yields_end (λ u t. yields_give (ops.Add (record { 0 = n }) (record { 0 = g })) ((h.0, h.1), subst (λ r. g < r) same (below_it g regions low k.1)))))
 
+yields_atomic : (space : Space) → Yields (atomic space) (Fits space)
+unfolding atomic
+yields_atomic space = yields_then KeyFits yields_short_text (λ key k. yields_then (SomeEdit space) (yields_some_edits space) (λ edits s. yields_give (ops.Atomic key edits) (k, s.fit, s.some)))
+
 -- each call fits
 pub yields_call : (space : Space) (regions : ℕ) (w : CallWord) → regions ≡ region_count space → 0 < regions → Yields (call space regions w) (Fits space)
 yields_call space regions calls.Put same low = yields_put space
@@ -210,3 +307,4 @@ yields_call space regions calls.Cput same low = yields_cput space
 yields_call space regions calls.Search same low = yields_search space
 yields_call space regions calls.Stop same low = yields_stop space
 yields_call space regions calls.Add same low = yields_add space regions same low
+yields_call space regions calls.Atomic same low = yields_atomic space

@@ -2,6 +2,7 @@ pub mod Spelled
 pub mod Takes
 pub mod Assigning
 pub mod Asking
+pub mod Editing
 pub mod MoreAxes
 pub mod Lists
 pub mod Lines
@@ -15,3 +16,4 @@ mod Sections
 mod FittingAxes
 mod SoundLines
 pub mod SoundTexts
+pub mod LoneCalls

@@ -1,6 +1,6 @@
 -- No line is refused for the reason Step, which only a run can tell.
 use Rattle.std.proofs.Common.{◌≢◌, ℕ, ℤ, zero, suc, Bool, true, false, not, cond, List, [], ◌∷◌, length, pos, Option, Some, None, Result, Ok, Err, subst}
-use Rattle.std.specs.Prelude.{nat_le, int_le, ◌&&◌, ◌==◌, ◌+◌}
+use Rattle.std.specs.Prelude.{nat_le, int_le, ◌&&◌, ◌==◌, ◌+◌, codes}
 use Rattle.std.specs.Str.{bytes_eq}
 use Rattle.hx_lex.specs.declared.errors.LexError.{LexError}
 use Rattle.hx_lex.specs.declared.token.Token.{Token}
@@ -13,6 +13,9 @@ use Rattle.hx_types.specs.declared.spaces.Kind.{Kind}
 use Rattle.hx_types.specs.declared.spaces.Space.{Space}
 use Rattle.hx_types.specs.declared.traces.Script.{Script}
 use Rattle.hx_types.specs.declared.values.Assign.{Assign}
+use Rattle.hx_types.specs.declared.values.Edit.{Edit}
+use Rattle.hx_types.specs.declared.values.EditKind.{EditKind}
+use Rattle.hx_types.specs.declared.values.EditKind.TheVariants as an_edit
 use Rattle.hx_types.specs.declared.values.Term.{Term}
 use Rattle.hx_types.specs.declared.values.Value.{Value}
 use Rattle.hx_types.specs.declared.values.Value.TheVariants as values
@@ -39,9 +42,10 @@ use Rattle.hx_script.specs.Toks.{Tok, Word, Number, Text, Sign}
 use Rattle.hx_script.specs.Readers.{◌>>=◌, on_ok, Reader, give, judged, check, word, number, text, end, sign, fixed, is_between, number_in, natural, number_from, is_at, steps, repeat}
 use Rattle.hx_script.specs.Words.{may_name, named, name, is_declared, new_name, numbered, place_of, declared_number, known_number}
 use Rattle.hx_script.specs.Values.{short_text, is_of, is_short, any_value, value, has_assign, free_attribute, assign, one_more, more_assigns, some_assigns, has_term, free_known, range, is_dots, range_or_equal, rest_of_term, term, one_more_term, all_terms}
+use Rattle.hx_script.specs.Edits.{edit_kind, edit_word, has_edit, unedited_attribute, is_edit_of, edit_value, edit, one_more_edit, some_edits}
 use Rattle.hx_script.specs.Axes.{has_axis, free_axis, parts, axis, next_axis, no_axes_yet, subspace}
 use Rattle.hx_script.specs.Actors.{is_decimal, number_word, actor_word, actor}
-use Rattle.hx_script.specs.Calls.{put, get, del, cput, search_call, stop, add, call, deliver, tick, halt, step}
+use Rattle.hx_script.specs.Calls.{put, get, del, cput, search_call, stop, add, atomic, call, deliver, tick, halt, step}
 use Rattle.hx_script.specs.Keywords.{keyword_of}
 use Rattle.hx_script.specs.Grammar.{hx_line, space_line, key_line, string_attribute, int_attribute, attribute_line, subspace_line, servers_line, tolerate_line, session_line, steps_line, call_line, step_line, heading_line, line_for, command, toks_from, line_of_toks, line_of}
 use Rattle.hx_script.specs.Texts.{empty_draft, may_end, lines_of, at_line, read_lines, script_of}
@@ -263,6 +267,51 @@ tells_one_more_term space terms = tells_then (tells_term space terms) (λ t. tel
 tells_all_terms : (space : Space) → Tells (all_terms space)
 tells_all_terms space = tells_repeat until.End (one_more_term space) (tells_one_more_term space) []
 
+-- edits
+told_edit_kind : (w : List ℕ) → Told (edit_kind w)
+told_edit_kind w = by (bytes_eq w (codes "add")) (bytes_eq w (codes "append")) (bytes_eq w (codes "min")) (bytes_eq w (codes "max"))
+  where
+    by : (a p n x : Bool) → Told (cond a (Ok an_edit.Add) (cond p (Ok an_edit.Append) (cond n (Ok an_edit.Min) (cond x (Ok an_edit.Max) (Err reasons.Order)))))
+    by true p n x = tt
+    by false true n x = tt
+    by false false true x = tt
+    by false false false true = tt
+    by false false false false = tt
+
+tells_edit_word : Tells edit_word
+unfolding edit_word
+tells_edit_word = tells_then tells_word (λ w. tells_judged (edit_kind w) (told_edit_kind w))
+
+tells_unedited : (space : Space) (edits : List Edit) → Tells (unedited_attribute space edits)
+unfolding unedited_attribute
+tells_unedited space edits =
+    tells_then tells_named (λ w.
+    tells_then (tells_judged (declared_number space w) (told_declared space w)) (λ a.
+    tells_then (tells_check (not (has_edit edits a)) reasons.Twice tt) (λ u. tells_give a)))
+
+tells_edit_value : (what : EditKind) (kind : Kind) → Tells (edit_value what kind)
+unfolding edit_value
+tells_edit_value what kind =
+    tells_then tells_any_value (λ v.
+    tells_then (tells_check (is_edit_of what kind && is_of kind v) reasons.TypeOf tt) (λ u.
+    tells_then (tells_check (is_short v) reasons.Limit tt) (λ t. tells_give v)))
+
+tells_edit : (space : Space) (edits : List Edit) → Tells (edit space edits)
+unfolding edit
+tells_edit space edits =
+    tells_then tells_edit_word (λ what.
+    tells_then (tells_unedited space edits) (λ a.
+    tells_then (tells_sign _) (λ u.
+    tells_then (tells_edit_value what (kind_at space a)) (λ v. tells_give _))))
+
+tells_one_more_edit : (space : Space) (edits : List Edit) → Tells (one_more_edit space edits)
+unfolding one_more_edit
+tells_one_more_edit space edits = tells_then (tells_edit space edits) (λ e. tells_give _)
+
+tells_some_edits : (space : Space) → Tells (some_edits space)
+unfolding some_edits
+tells_some_edits space = tells_then (tells_one_more_edit space []) (λ first. tells_repeat until.End (one_more_edit space) (tells_one_more_edit space) first)
+
 -- subspaces
 tells_free_axis : (space : Space) (axes : List Axis) → Tells (free_axis space axes)
 unfolding free_axis
@@ -309,7 +358,7 @@ tells_actor servers sessions = tells_then tells_word (λ w. tells_judged (actor_
 
 -- calls and steps
 tells_call : (space : Space) (regions : ℕ) (w : CallWord) → Tells (call space regions w)
-unfolding put get del cput search_call stop add
+unfolding put get del cput search_call stop add atomic
 tells_call space regions call_words.Put = tells_then tells_short_text (λ key. tells_then (tells_more_assigns space until.End []) (λ sets. tells_give _))
 tells_call space regions call_words.Get = tells_then tells_short_text (λ key. tells_then tells_end (λ u. tells_give _))
 tells_call space regions call_words.Del = tells_then tells_short_text (λ key. tells_then tells_end (λ u. tells_give _))
@@ -317,6 +366,7 @@ tells_call space regions call_words.Cput = tells_then tells_short_text (λ key. 
 tells_call space regions call_words.Search = tells_then (tells_all_terms space) (λ terms. tells_give _)
 tells_call space regions call_words.Stop = tells_then (tells_number_in _ _) (λ n. tells_then tells_end (λ u. tells_give _))
 tells_call space regions call_words.Add = tells_then (tells_number_in _ _) (λ n. tells_then (tells_number_in _ _) (λ g. tells_then tells_end (λ u. tells_give _)))
+tells_call space regions call_words.Atomic = tells_then tells_short_text (λ key. tells_then (tells_some_edits space) (λ edits. tells_give _))
 
 tells_step : (servers sessions : ℕ) (w : StepWord) → Tells (step servers sessions w)
 unfolding deliver tick halt

@@ -39,7 +39,7 @@ all_toks : (line : List ℕ) (ts : List Token) → AllByRecursion (IsTokenOf lin
 all_toks line [] all = tt
 all_toks line (t ∷ ts) all = one_tok t.kind (slice_range line t.start t.end) (map (meaning line) ts) all.0.spelled (all_toks line ts all.1)
 
-toks_sound : (line : List ℕ) (r : Result (List Token) LexError) (ts : List Tok) → tokens_of line ≡ r → toks_from line r ≡ Ok ts → AllToks ts
+pub toks_sound : (line : List ℕ) (r : Result (List Token) LexError) (ts : List Tok) → tokens_of line ≡ r → toks_from line r ≡ Ok ts → AllToks ts
 toks_sound line (Ok tokens) ts e f = subst AllToks (ok_is (map (meaning line) tokens) ts f) (all_toks line tokens (tokens_spelled line tokens e))
 toks_sound line (Err e) ts f g = absurd cc
 

@@ -12,6 +12,7 @@ use Rattle.hx_script.specs.declared.keyword.StepWord.TheVariants as step_words
 use Rattle.hx_script.specs.declared.line.Until.TheVariants as until
 use Rattle.hx_script.specs.Readers.{◌>>=◌, Reader, give, natural, number_in, end, sign, fixed}
 use Rattle.hx_script.specs.Values.{short_text, more_assigns, some_assigns, all_terms}
+use Rattle.hx_script.specs.Edits.{some_edits}
 use Rattle.hx_script.specs.Actors.{actor}
 
 -- put T N=V ..
@@ -66,6 +67,13 @@ add space regions = do
   ended ← end
   give (ops.Add (record { 0 = server }) (record { 0 = region }))
 
+-- atomic T, with add N=V, append N=V, min N=V or max N=V ..
+unfoldable pub atomic : Space → Reader Op
+atomic space = do
+  key ← short_text
+  edits ← some_edits space
+  give (ops.Atomic key edits)
+
 -- the call that a word begins, in a space with so many regions
 abbrev pub call : Space → ℕ → CallWord → Reader Op
 call space regions calls.Put = put space
@@ -75,6 +83,7 @@ call space regions calls.Cput = cput space
 call space regions calls.Search = search_call space
 call space regions calls.Stop = stop space
 call space regions calls.Add = add space regions
+call space regions calls.Atomic = atomic space
 
 -- deliver I.I
 unfoldable pub deliver : Reader Step

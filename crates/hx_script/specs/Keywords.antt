@@ -33,7 +33,8 @@ call_word_of w =
     else (if bytes_eq w (codes "search") then Some calls.Search
     else (if bytes_eq w (codes "stop") then Some calls.Stop
     else (if bytes_eq w (codes "add") then Some calls.Add
-    else None))))))
+    else (if bytes_eq w (codes "atomic") then Some calls.Atomic
+    else None)))))))
 
 abbrev pub step_word_of : List ℕ → Option StepWord
 step_word_of w =

@@ -4,8 +4,10 @@ pub mod Parts
 pub mod Keywords
 pub mod Words
 pub mod Values
+pub mod Edits
 pub mod Axes
 pub mod Actors
 pub mod Calls
 pub mod Grammar
 pub mod Texts
+pub mod LoneCalls

@@ -8,10 +8,9 @@ ghost use Rattle.hx_script.specs.Texts.{empty_draft, finished, may_end};
 use crate::axes::subspace;
 use crate::errors::{Reason, ScriptError, Stop};
 use crate::keyword::{CallWord, Heading, Keyword, StepWord, keyword_of};
-use crate::line::Line;
+use crate::line::{Line, tokens_in};
 use crate::ops::{call, step};
 use crate::words::{name, new_name};
-use hx_lex::{LexError, tokens};
 use hx_types::{
     Attribute, Attributes, Calls, Kind, MOST_ATTRIBUTES, MOST_CALLS, MOST_FAILURES, MOST_PARTS,
     MOST_SERVERS, MOST_SESSIONS, MOST_STEPS, MOST_SUBSPACES, Memory, Op, Script, Sessions, Space,
@@ -303,11 +302,7 @@ impl Draft {
         requires attributes { length self.old.space.attributes ≤ 16 }
         ensures { Gives (λ _. self.new) result (line_of number self.old line.now) }
     {
-        let tokens = match tokens(alloc, line) {
-            Ok(tokens) => tokens,
-            Err(LexError::Memory) => return Err(Stop::Memory),
-            Err(_) => return Err(Stop::Fault(Reason::Token)),
-        };
+        let tokens = tokens_in(alloc, line)?;
         let mut rest = Line::new(line, tokens.as_slice());
         if rest.is_empty() {
             return Ok(());

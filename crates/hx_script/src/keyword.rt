@@ -29,6 +29,7 @@ pub enum CallWord {
     Search,
     Stop,
     Add,
+    Atomic,
 }
 
 /// The words of steps.
@@ -98,6 +99,8 @@ fn call_word_of(word: &[u8]) -> Option<CallWord>
         Some(CallWord::Stop)
     } else if is(word, b"add") {
         Some(CallWord::Add)
+    } else if is(word, b"atomic") {
+        Some(CallWord::Atomic)
     } else {
         None
     }

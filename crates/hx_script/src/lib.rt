@@ -24,10 +24,11 @@
 //! | `cput T if N=V .. set N=V ..` | one test and one assignment at least |
 //! | `search` and then `N=V` or `N=I..I` .. | here the key's name is known too |
 //! | `stop I`, `add I I` | a server; a server and a region |
+//! | `atomic T` and then `add N=V`, `append N=V`, `min N=V` or `max N=V` .. | one edit at least; texts are appended, numbers added and compared |
 //! | `deliver I.I` | the entry and place of a post |
 //! | `tick A`, `halt A` | |
 //!
-//! Each attribute stands at most once in each group of assignments, tests, terms or axes. Lines end
+//! Each attribute stands at most once in each group of assignments, tests, terms, edits or axes. Lines end
 //! with a newline, the last may lack it. A line without tokens is skipped, but counted.
 //!
 //! The first faulty line is refused. In it a fault of the tokens comes first; then the tokens are
@@ -36,6 +37,10 @@
 //! `specs/Grammar.antt` and the files below it say the same, a definition for each line, and [`read`]
 //! gives exactly that. [`scripts_are_valid`] says that each such script is within the limits, and
 //! that each of its calls fits its space.
+//!
+//! [`read_op`] reads one line as a call of a session of a space, by the same definitions
+//! (`specs/LoneCalls.antt`); [`calls_are_read_as_in_sessions`] says what a session makes of that
+//! line. No calls stand before it, so no count is full.
 //!
 //! No contract says that there is memory, so a `read` that always answered `Memory` would be
 //! proved. The tests show it succeed.
@@ -46,15 +51,21 @@
 mod actors;
 mod axes;
 mod draft;
+mod edits;
 mod errors;
 mod keyword;
 mod laws;
 mod line;
+mod lone_calls;
 mod ops;
 mod reading;
 mod values;
 mod words;
 
 pub use errors::{Reason, ScriptError};
-pub use laws::{scripts_are_valid, texts_are_not_refused_by_steps};
+pub use laws::{
+    calls_are_read_as_in_sessions, calls_fit_their_space, scripts_are_valid,
+    texts_are_not_refused_by_steps,
+};
+pub use lone_calls::read_op;
 pub use reading::read;

@@ -1,18 +1,21 @@
 //! The tokens of a line that are left, taken from the front.
 
-ghost use Rattle.std.specs.Prelude.{◌≡◌, [], ◌∷◌, MatchOption, MatchBool, ◌<◌, length, map};
+ghost use Rattle.std.specs.Prelude.{◌≡◌, [], ◌∷◌, MatchOption, MatchBool, ◌<◌, length, map, IfOk};
 ghost use Rattle.std.specs.List.{AllByRecursion};
 ghost use Rattle.hx_lex.specs.Letters.{IsWord};
+ghost use Rattle.hx_lex.specs.Lines.{tokens_of};
 ghost use Rattle.hx_lex.specs.Spelling.{IsTokenOf};
 ghost use Rattle.hx_script.specs.Toks.{meaning};
-ghost use Rattle.hx_script.specs.Readers.{Reads, word, number, number_in, natural, number_from, text, end, sign, fixed, is_at};
+ghost use Rattle.hx_script.specs.Grammar.{toks_from};
+ghost use Rattle.hx_script.specs.Readers.{Reads, Gives, word, number, number_in, natural, number_from, text, end, sign, fixed, is_at};
 ghost use Rattle.hx_script.specs.Values.{is_dots};
 ghost use Rattle.hx_script.specs.Parts.{said};
 
 use crate::errors::{Reason, Stop};
 use crate::keyword::is;
-use hx_lex::{Token, TokenKind};
+use hx_lex::{LexError, Token, TokenKind, Tokens, tokens};
 use hx_types::Text;
+use std::alloc::Global;
 use std::marker::Model;
 use std::str;
 
@@ -50,6 +53,18 @@ impl<'a> Model for Line<'a> {
     ghost view = { λ l. map (meaning l.line.now) l.tokens.now };
 
     ghost invariant = { λ l. AllByRecursion (IsTokenOf l.line.now) l.tokens.now };
+}
+
+/// The tokens of a line in order.
+pub(crate) fn tokens_in(alloc: Global, line: &[u8]) -> Result<Tokens, Stop>
+    ensures toks { Gives (λ ts. map (meaning line.now) ts) result (toks_from line.now (tokens_of line.now)) }
+    ensures spelled { IfOk result (λ ts. AllByRecursion (IsTokenOf line.now) ts) }
+{
+    match tokens(alloc, line) {
+        Ok(tokens) => Ok(tokens),
+        Err(LexError::Memory) => Err(Stop::Memory),
+        Err(_) => Err(Stop::Fault(Reason::Token)),
+    }
 }
 
 /// A word is ASCII, so a text.

@@ -2,14 +2,15 @@
 
 ghost use Rattle.std.specs.Prelude.{◌≡◌, ◌≤◌, length};
 ghost use Rattle.hx_script.specs.Readers.{Reads};
-ghost use Rattle.hx_script.specs.Calls.{put, get, del, cput, search_call, stop, add, call, deliver, tick, halt, step};
+ghost use Rattle.hx_script.specs.Calls.{put, get, del, cput, search_call, stop, add, atomic, call, deliver, tick, halt, step};
 
 use crate::actors::actor;
+use crate::edits::some_edits;
 use crate::errors::Stop;
 use crate::keyword::{CallWord, StepWord};
 use crate::line::{Line, Until};
 use crate::values::{all_terms, more_assigns, short_text, some_assigns};
-use hx_types::{Assigns, Op, PostId, RegionId, ServerId, Space, Step, Terms};
+use hx_types::{Assigns, Edits, Op, PostId, RegionId, ServerId, Space, Step, Terms};
 use std::alloc::Global;
 
 #[tactic(auto, unfolding(crate::specs::Calls::put))]
@@ -85,6 +86,17 @@ fn add(space: &Space, regions: u32, line: &mut Line<'_>) -> Result<Op, Stop>
     Ok(Op::Add { server, region })
 }
 
+#[tactic(auto, unfolding(crate::specs::Calls::atomic))]
+fn atomic(alloc: Global, space: &Space, line: &mut Line<'_>) -> Result<Op, Stop>
+    requires few { length space.now.attributes ≤ 16 }
+    ensures { Reads (λ op. op) result line.new (atomic space.now line.old) }
+{
+    let key = short_text(alloc, line)?;
+    let mut edits = Edits::new(alloc);
+    some_edits(alloc, space, &mut edits, line)?;
+    Ok(Op::Atomic { key, edits })
+}
+
 /// The call that a word begins, in a space with so many regions.
 pub(crate) fn call(
     alloc: Global,
@@ -104,6 +116,7 @@ pub(crate) fn call(
         CallWord::Search => search(alloc, space, line),
         CallWord::Stop => stop(space, line),
         CallWord::Add => add(space, regions, line),
+        CallWord::Atomic => atomic(alloc, space, line),
     }
 }
 

@@ -31,7 +31,7 @@ fn first_line(text: &[u8]) -> (&[u8], &[u8])
     }
 }
 
-fn at(stop: Stop, line: u64) -> ScriptError
+pub(crate) fn at(stop: Stop, line: u64) -> ScriptError
     ensures { result ≡ at_stop line stop }
 {
     match stop {

@@ -25,7 +25,7 @@ pub(crate) fn short_text(alloc: Global, line: &mut Line<'_>) -> Result<Text, Sto
 
 /// A value of the kind.
 #[tactic(auto, unfolding(crate::specs::Values::value))]
-fn value(alloc: Global, kind: Kind, line: &mut Line<'_>) -> Result<Value, Stop>
+pub(crate) fn value(alloc: Global, kind: Kind, line: &mut Line<'_>) -> Result<Value, Stop>
     ensures { Reads (λ v. v) result line.new (value kind line.old) }
 {
     match line.next() {

@@ -16,7 +16,7 @@ use Rattle.hx_types.specs.declared.outcomes.Planned.{Planned}
 use Rattle.hx_types.specs.declared.spaces.Space.{Space}
 use Rattle.hx_types.specs.declared.traces.Input.{Input}
 use Rattle.hx_types.specs.declared.values.Term.{Term}
-use Rattle.hx_types.specs.declared.calls.Op.TheVariants.{Put, Get, Del, Cput, Search, Stop, Add}
+use Rattle.hx_types.specs.declared.calls.Op.TheVariants.{Put, Get, Del, Cput, Search, Stop, Add, Atomic}
 use Rattle.hx_types.specs.declared.ids.Actor.TheVariants.{Coordinator, Server, Session}
 use Rattle.hx_types.specs.declared.messages.Message.TheVariants as a_message
 use Rattle.hx_types.specs.declared.outcomes.Planned.TheVariants as a_plan
@@ -88,6 +88,7 @@ module _ (space : Space) (Good : Post → Type 0) where
   sent st h (Get key) own = sent_to st h (Get key) own (key_region space key)
   sent st h (Del key) own = sent_to st h (Del key) own (key_region space key)
   sent st h (Cput key tests sets) own = sent_to st h (Cput key tests sets) own (key_region space key)
+  sent st h (Atomic key edits) own = sent_to st h (Atomic key edits) own (key_region space key)
   sent st h (Search terms) own = asked st h terms own (plan_of space st.config terms) (plan-regions space st.config terms)
   sent st h (Stop server) own = one-good _ (h.stop st.begun server own)
   sent st h (Add server region) own = one-good _ (h.add st.begun server region own)
@@ -104,6 +105,7 @@ module _ (space : Space) (Good : Post → Type 0) where
   sent_allows st h (Get key) = cond_both (is_lost st.config (key_region space key)) _ _ (λ (step : SessionStep). AllowsOwn step.state) (λ t. h) (λ t. h)
   sent_allows st h (Del key) = cond_both (is_lost st.config (key_region space key)) _ _ (λ (step : SessionStep). AllowsOwn step.state) (λ t. h) (λ t. h)
   sent_allows st h (Cput key tests sets) = cond_both (is_lost st.config (key_region space key)) _ _ (λ (step : SessionStep). AllowsOwn step.state) (λ t. h) (λ t. h)
+  sent_allows st h (Atomic key edits) = cond_both (is_lost st.config (key_region space key)) _ _ (λ (step : SessionStep). AllowsOwn step.state) (λ t. h) (λ t. h)
   sent_allows st h (Search terms) = by (plan_of space st.config terms)
     where
       by : (planned : Planned) → AllowsOwn (ask_regions st terms planned).state

@@ -16,7 +16,7 @@ use Rattle.hx_types.specs.declared.outcomes.Planned.{Planned}
 use Rattle.hx_types.specs.declared.spaces.Space.{Space}
 use Rattle.hx_types.specs.declared.traces.Input.{Input}
 use Rattle.hx_types.specs.declared.values.Term.{Term}
-use Rattle.hx_types.specs.declared.calls.Op.TheVariants.{Put, Get, Del, Cput, Search, Stop, Add}
+use Rattle.hx_types.specs.declared.calls.Op.TheVariants.{Put, Get, Del, Cput, Search, Stop, Add, Atomic}
 use Rattle.hx_types.specs.declared.messages.Message.TheVariants as a_message
 use Rattle.hx_types.specs.declared.outcomes.Planned.TheVariants as a_plan
 use Rattle.hx_types.specs.declared.traces.Input.TheVariants.{Tick, Halt, Deliver}
@@ -73,6 +73,7 @@ module _ (space : Space) (s : SessionState) (h : IsInOrder s) where
   send_in_order (Get key) = sent_in_order (Get key) (key_region space key)
   send_in_order (Del key) = sent_in_order (Del key) (key_region space key)
   send_in_order (Cput key tests sets) = sent_in_order (Cput key tests sets) (key_region space key)
+  send_in_order (Atomic key edits) = sent_in_order (Atomic key edits) (key_region space key)
   send_in_order (Search terms) = asked_in_order terms (plan_of space s.config terms) refl
   send_in_order (Stop server) = h
   send_in_order (Add server region) = h

@@ -10,7 +10,7 @@ use Rattle.hx_types.specs.declared.messages.Message.{Message}
 use Rattle.hx_types.specs.declared.outcomes.Planned.{Planned}
 use Rattle.hx_types.specs.declared.spaces.Space.{Space}
 use Rattle.hx_types.specs.declared.traces.Input.{Input}
-use Rattle.hx_types.specs.declared.calls.Op.TheVariants.{Put, Get, Del, Cput, Search, Stop, Add}
+use Rattle.hx_types.specs.declared.calls.Op.TheVariants.{Put, Get, Del, Cput, Search, Stop, Add, Atomic}
 use Rattle.hx_types.specs.declared.messages.Message.TheVariants as a_message
 use Rattle.hx_types.specs.declared.outcomes.Planned.TheVariants as a_plan
 use Rattle.hx_types.specs.declared.traces.Input.TheVariants.{Tick, Halt, Deliver}
@@ -39,6 +39,7 @@ module _ (space : Space) where
   sent_stays st h (Get key) = sent_to_stays st h (Get key) (key_region space key)
   sent_stays st h (Del key) = sent_to_stays st h (Del key) (key_region space key)
   sent_stays st h (Cput key tests sets) = sent_to_stays st h (Cput key tests sets) (key_region space key)
+  sent_stays st h (Atomic key edits) = sent_to_stays st h (Atomic key edits) (key_region space key)
   sent_stays st h (Search terms) = by (plan_of space st.config terms)
     where
       by : (planned : Planned) → Stays (ask_regions st terms planned)

@@ -6,7 +6,7 @@ use hx_types::Op;
 /// What a call is of.
 #[derive(Clone, Copy)]
 pub enum CallKind {
-    /// A put, get, del or conditional put.
+    /// A put, get, del, conditional put or atomic operation.
     OnKey,
     Search,
     /// A stop or an add.
@@ -18,9 +18,8 @@ pub fn is_of(kind: CallKind, op: &Op) -> bool
     ensures { result ≡ kind_test kind op.now }
 {
     match op {
-        Op::Put { .. } | Op::Get { .. } | Op::Del { .. } | Op::Cput { .. } => {
-            matches!(kind, CallKind::OnKey)
-        }
+        Op::Put { .. } | Op::Get { .. } | Op::Del { .. } | Op::Cput { .. } | Op::Atomic { .. } =>
+            matches!(kind, CallKind::OnKey),
         Op::Search { .. } => matches!(kind, CallKind::Search),
         Op::Stop { .. } | Op::Add { .. } => matches!(kind, CallKind::Administrative),
     }

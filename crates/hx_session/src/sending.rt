@@ -37,7 +37,11 @@ pub fn send(alloc: Global, sender: &Sender, op: &Op) -> Result<StepOutput, Memor
     ensures config { IfOk result (λ made. made.change.config ≡ None) }
 {
     match op {
-        Op::Put { key, .. } | Op::Get { key } | Op::Del { key } | Op::Cput { key, .. } => {
+        Op::Put { key, .. }
+        | Op::Get { key }
+        | Op::Del { key }
+        | Op::Cput { key, .. }
+        | Op::Atomic { key, .. } => {
             let region = sender.map.of_key(key);
             send_to(alloc, sender, op, region)
         }

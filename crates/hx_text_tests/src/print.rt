@@ -1,7 +1,8 @@
 use crate::parts::{is_printed, list, shared_list, text};
 use hx_print::*;
 use hx_types::{
-    Actor, Assign, Attribute, Axis, Kind, Op, PostId, Script, SessionId, Space, Step, Term, Value,
+    Actor, Assign, Attribute, Axis, Edit, EditKind, Kind, Op, PostId, Script, SessionId, Space,
+    Step, Term, Value,
 };
 use std::process::Abort;
 
@@ -54,6 +55,38 @@ fn put_book<R: Abort + AllocGlobal>(rt: &R) -> Op {
     }
 }
 
+/// An edit of each kind.
+fn edit_book<R: Abort + AllocGlobal>(rt: &R) -> Op {
+    let edits = [
+        Edit {
+            what: EditKind::Add,
+            attribute: 2,
+            value: Value::Int(-1),
+        },
+        Edit {
+            what: EditKind::Append,
+            attribute: 1,
+            value: Value::Text(text(rt, "b\n")),
+        },
+        Edit {
+            what: EditKind::Min,
+            attribute: 2,
+            value: Value::Int(5),
+        },
+        Edit {
+            what: EditKind::Max,
+            attribute: 2,
+            value: Value::Int(3),
+        },
+    ];
+    Op::Atomic {
+        key: text(rt, "a"),
+        edits: shared_list(rt, edits),
+    }
+}
+
+const EDITS: &str = "atomic \"a\" add year=-1 append genre=\"b\\n\" min year=5 max year=3";
+
 const SCRIPT: &str = "hx 1\n\
     space books\n\
     key name 2\n\
@@ -97,6 +130,7 @@ const SPACE: &str = "space books\n\
 fn prints_parts(rt: HostRuntime) {
     let space = books(&rt);
     let put = put_book(&rt);
+    let edit = edit_book(&rt);
     let (attribute, lo, hi) = (2, 1990, 2010);
     let terms = shared_list(&rt, [Term::Range { attribute, lo, hi }]);
     let search = Op::Search { terms };
@@ -104,16 +138,19 @@ fn prints_parts(rt: HostRuntime) {
     let printed = [
         print_space(rt.alloc(), &space),
         print_op(rt.alloc(), &space, &put),
+        print_op(rt.alloc(), &space, &edit),
         print_op(rt.alloc(), &space, &search),
         print_text(rt.alloc(), &word),
     ];
     drop(word);
     drop(search);
+    drop(edit);
     drop(put);
     drop(space);
-    let [space, put, search, word] = printed;
+    let [space, put, edit, search, word] = printed;
     assert!(rt; is_printed(space, SPACE));
     assert!(rt; is_printed(put, "put \"a\" genre=\"b\" year=1999"));
+    assert!(rt; is_printed(edit, EDITS));
     assert!(rt; is_printed(search, "search year=1990..2010"));
     assert!(rt; is_printed(word, "\"a\\\"b\\\\c\\nd\\te ß\""));
 }

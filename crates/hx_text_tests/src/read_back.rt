@@ -1,6 +1,9 @@
-use crate::parts::is_printed;
-use hx_print::print;
-use hx_script::read;
+ghost use Rattle.hx_types.specs.Spaces.{IsSpace};
+
+use crate::parts::{is_printed, script_of};
+use hx_print::{print, print_op};
+use hx_script::{read, read_op};
+use hx_types::Space;
 use std::alloc::Global;
 
 /// A script with each kind of line, in no plain layout.
@@ -24,6 +27,9 @@ const WRITTEN: &str = "# each kind of line\n\
     search\n\
     stop 3\r\n\
     add 4 7\n\
+    atomic \"a\"  add year = -0 append genre=\"c\"# both\n\
+    atomic \"b\" min\tyear=-9223372036854775808\n\
+    atomic \"b\" max year=07\n\
     session 2\n\
     steps\n\
     deliver 1 . 0\n\
@@ -51,6 +57,9 @@ const PLAIN: &str = "hx 1\n\
     search\n\
     stop 3\n\
     add 4 7\n\
+    atomic \"a\" add year=0 append genre=\"c\"\n\
+    atomic \"b\" min year=-9223372036854775808\n\
+    atomic \"b\" max year=7\n\
     session 2\n\
     steps\n\
     deliver 1.0\n\
@@ -98,7 +107,59 @@ fn is_read(alloc: Global, text: &str, lines: &[u64], plain: &str) -> bool {
 
 #[test]
 fn reads_what_it_prints(rt: HostRuntime) {
-    assert!(rt; is_read(rt.alloc(), WRITTEN, &[23, 25, 26, 27], PLAIN));
-    assert!(rt; is_read(rt.alloc(), PLAIN, &[21, 22, 23, 24], PLAIN));
+    assert!(rt; is_read(rt.alloc(), WRITTEN, &[26, 28, 29, 30], PLAIN));
+    assert!(rt; is_read(rt.alloc(), PLAIN, &[24, 25, 26, 27], PLAIN));
     assert!(rt; is_read(rt.alloc(), SESSIONS, &[20, 21, 22], SESSIONS));
+}
+
+/// Calls of books, in no plain layout, and as they are printed.
+const ALONE: [(&str, &str); 9] = [
+    ("get \"a\"", "get \"a\""),
+    (
+        "put \"a # b\"  genre = \"say \\\"b\\\"\\n\" year=-0",
+        "put \"a # b\" genre=\"say \\\"b\\\"\\n\" year=0",
+    ),
+    ("\tdel \"\" # gone\r", "del \"\""),
+    (
+        "cput \"a\" if genre=\"b\" year = 7 set year=02000",
+        "cput \"a\" if genre=\"b\" year=7 set year=2000",
+    ),
+    (
+        "search year=-1990 .. 2010 name=\"\u{df}\"",
+        "search year=-1990..2010 name=\"\u{df}\"",
+    ),
+    (" search", "search"),
+    ("stop 3 ", "stop 3"),
+    ("add 4 7", "add 4 7"),
+    (
+        "atomic \"a\" append  genre=\"b\" max year =-01",
+        "atomic \"a\" append genre=\"b\" max year=-1",
+    ),
+];
+
+/// Whether the line is read as a call of the space that is printed plainly.
+fn is_read_alone(alloc: Global, space: &Space, line: &str, plain: &str) -> bool
+    requires { IsSpace space.now }
+{
+    let Ok(op) = read_op(alloc, space, line.as_bytes()) else {
+        return false;
+    };
+    let printed = print_op(alloc, space, &op);
+    drop(op);
+    is_printed(printed, plain)
+}
+
+#[test]
+fn reads_the_calls_that_it_prints(rt: HostRuntime) {
+    let script = script_of(&rt, SESSIONS);
+    for (line, plain) in ALONE {
+        assert!(rt;
+            is_read_alone(rt.alloc(), &script.space, line, plain),
+            "{line}"
+        );
+        assert!(rt;
+            is_read_alone(rt.alloc(), &script.space, plain, plain),
+            "{plain}"
+        );
+    }
 }

@@ -1,4 +1,8 @@
+ghost use Rattle.hx_types.specs.Spaces.{IsSpace};
+
+use crate::parts::script_of;
 use hx_script::*;
+use hx_types::Space;
 use std::process::Abort;
 
 const BOOKS: &str =
@@ -121,6 +125,32 @@ const NO_CALLS: [Row; 38] = [
 ];
 
 /// Behind the same.
+const NO_EDITS: [Row; 22] = [
+    ("atomic", 11, Reason::Order),
+    ("atomic a add year=1", 11, Reason::Order),
+    ("atomic add year=1", 11, Reason::Order),
+    ("atomic \"a\"", 11, Reason::Order),
+    ("atomic \"a\" year=1", 11, Reason::Order),
+    ("atomic \"a\" mul year=2", 11, Reason::Order),
+    ("atomic \"a\" add", 11, Reason::Order),
+    ("atomic \"a\" add if=1", 11, Reason::Order),
+    ("atomic \"a\" add year 1", 11, Reason::Order),
+    ("atomic \"a\" add year=", 11, Reason::Order),
+    ("atomic \"a\" add year=1..2", 11, Reason::Order),
+    ("atomic \"a\" add year=1 genre=\"b\"", 11, Reason::Order),
+    ("atomic \"a\" add colour=\"b\"", 11, Reason::Unknown),
+    ("atomic \"a\" append name=\"b\"", 11, Reason::Unknown),
+    ("atomic \"a\" add year=1 min year=\"x\"", 11, Reason::Twice),
+    ("atomic \"a\" add year=\"b\"", 11, Reason::TypeOf),
+    ("atomic \"a\" add genre=1", 11, Reason::TypeOf),
+    ("atomic \"a\" add genre=\"b\"", 11, Reason::TypeOf),
+    ("atomic \"a\" min genre=\"b\"", 11, Reason::TypeOf),
+    ("atomic \"a\" max genre=\"b\"", 11, Reason::TypeOf),
+    ("atomic \"a\" append year=\"b\"", 11, Reason::TypeOf),
+    ("atomic \"a\" append year=1", 11, Reason::TypeOf),
+];
+
+/// Behind the same.
 const NO_TOKENS: [Row; 11] = [
     ("get \"a\u{1}\"", 11, Reason::Token),
     ("get \"a\\r\"", 11, Reason::Token),
@@ -153,10 +183,11 @@ const NO_STEPS: [Row; 13] = [
 ];
 
 /// Lines that are read, behind the head of books, of their session or of their steps.
-const TAKEN: [(&str, &str); 6] = [
+const TAKEN: [(&str, &str); 7] = [
     (BOOKS, "tolerate 3"),
     (CALLS, "add 4 7"),
     (CALLS, "cput \"a\" if year=1 set year=2"),
+    (CALLS, "atomic \"a\" min year=-5 append genre=\"\""),
     (
         CALLS,
         "\tsearch\tyear=-9223372036854775808..9223372036854775807\t# ä\u{1}\r",
@@ -198,6 +229,7 @@ fn refuses_lines_of_the_head(rt: HostRuntime) {
 #[test]
 fn refuses_calls_and_steps(rt: HostRuntime) {
     assert_refused(&rt, CALLS, &NO_CALLS);
+    assert_refused(&rt, CALLS, &NO_EDITS);
     assert_refused(&rt, CALLS, &NO_TOKENS);
     assert_refused(&rt, STEPS, &NO_STEPS);
     for (head, line) in TAKEN {
@@ -214,6 +246,47 @@ fn refuses_bytes_that_are_no_text(rt: HostRuntime) {
     assert!(rt; read(rt.alloc(), b"hx 1\n# \xFF").err() == Some(refused));
 }
 
+/// Lines that are no call of books, and what is wrong with each.
+const NO_LONE_CALLS: [(&str, Reason); 15] = [
+    ("", Reason::Order),
+    ("\t# note", Reason::Order),
+    ("\"a\"", Reason::Order),
+    ("gets \"a\"", Reason::Order),
+    ("session 3", Reason::Order),
+    ("steps", Reason::Order),
+    ("tick s9", Reason::Order),
+    ("get \"a\" get \"a\"", Reason::Order),
+    ("get \"a\"\nget \"b\"", Reason::Token),
+    ("put \"a\" colour=\"b\"", Reason::Unknown),
+    ("atomic \"a\" add genre=\"b\"", Reason::TypeOf),
+    ("search name=\"a\" name=\"b\"", Reason::Twice),
+    ("cput \"a\" if genre=1 set year=2", Reason::TypeOf),
+    ("add 4 8", Reason::Bounds),
+    ("get \"a", Reason::Token),
+];
+
+/// What is wrong with a line as a call of the space.
+fn lone_refusal<R: Abort + AllocGlobal>(rt: &R, space: &Space, line: &str) -> Option<(u64, Reason)>
+    requires { IsSpace space.now }
+{
+    match read_op(rt.alloc(), space, line.as_bytes()).err() {
+        None => None,
+        Some(ScriptError::Refused { line, reason }) => Some((line, reason)),
+        Some(_) => panic!(rt; "memory"),
+    }
+}
+
+#[test]
+fn refuses_lines_that_are_no_call(rt: HostRuntime) {
+    let script = script_of(&rt, CALLS);
+    for (line, reason) in NO_LONE_CALLS {
+        assert!(rt;
+            lone_refusal(&rt, &script.space, line) == Some((1, reason)),
+            "{line}"
+        );
+    }
+}
+
 /// A head, a text, what is repeated behind it and how often, what stands behind that, and what is wrong.
 type Long = (
     &'static str,
@@ -224,12 +297,29 @@ type Long = (
     Option<(u64, Reason)>,
 );
 
-const LONG: [Long; 7] = [
+const LONG: [Long; 10] = [
     (CALLS, "put \"", "x", 1024, "\"", None),
     (CALLS, "put \"", "x", 1024, "y\"", Some((11, Reason::Limit))),
     (
         CALLS,
         "put \"a\" year=\"",
+        "x",
+        1024,
+        "y\"",
+        Some((11, Reason::TypeOf)),
+    ),
+    (CALLS, "atomic \"a\" append genre=\"", "x", 1024, "\"", None),
+    (
+        CALLS,
+        "atomic \"a\" append genre=\"",
+        "x",
+        1024,
+        "y\"",
+        Some((11, Reason::Limit)),
+    ),
+    (
+        CALLS,
+        "atomic \"a\" add year=\"",
         "x",
         1024,
         "y\"",

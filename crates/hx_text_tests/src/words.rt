@@ -1,16 +1,23 @@
 use hx_words::{Run, Soak, run_of, soak_of};
 use std::process::Abort;
 
-const OPTIONS: [&str; 4] = ["--workers 7", "--lose 11", "--repeat 1000000", "--trace"];
+const OPTIONS: [&str; 5] = [
+    "--workers 7",
+    "--lose 11",
+    "--repeat 1000000",
+    "--seed 18446744073709551615",
+    "--trace",
+];
 
 const ALL: Run = Run {
     workers: 7,
     lose: 11,
     repeat: 1_000_000,
+    seed: Some(u64::MAX),
     with_trace: true,
 };
 
-const NO_RUNS: [&str; 30] = [
+const NO_RUNS: [&str; 37] = [
     "",
     "soak",
     "Run",
@@ -41,9 +48,16 @@ const NO_RUNS: [&str; 30] = [
     "run --lose -1",
     "run --lose 0x10",
     "run --trace 1",
+    "run --seed",
+    "run --seed 1 --seed 1",
+    "run --seed 18446744073709551616",
+    "run --seed 01",
+    "run --seed +1",
+    "run --workers 2 --lose 1 --repeat 1 --trace x",
+    "run --workers 2 --lose 1 --repeat 1 --seed 1 x",
 ];
 
-const NO_SOAKS: [&str; 18] = [
+const NO_SOAKS: [&str; 19] = [
     "run 1 1",
     "soak",
     "soak 1",
@@ -62,6 +76,7 @@ const NO_SOAKS: [&str; 18] = [
     "soak --workers 2 1 1",
     "soak 1 1 --trace",
     "soak 1 1 --lose 0",
+    "soak 1 1 --seed 1",
 ];
 
 fn words<R: Abort + AllocGlobal>(rt: &R, line: &str) -> Vec<String> {
@@ -86,24 +101,30 @@ fn soak<R: Abort + AllocGlobal>(rt: &R, line: &str) -> Option<Soak> {
 }
 
 /// The options of these places, one after the other.
-fn run_with<R: Abort + AllocGlobal>(rt: &R, places: [usize; 4]) -> Option<Run> {
+fn run_with<R: Abort + AllocGlobal>(rt: &R, places: [usize; 5]) -> Option<Run> {
     let mut line = String::from_str(rt.alloc(), "run").expect(rt, "memory");
     for place in places {
         line.push_str(" ").expect(rt, "memory");
-        line.push_str(OPTIONS[place % 4]).expect(rt, "memory");
+        line.push_str(OPTIONS[place % 5]).expect(rt, "memory");
     }
     run(rt, line.as_str())
 }
 
-fn differ(places: [usize; 4]) -> bool {
-    let [a, b, c, d] = places;
-    a != b && a != c && a != d && b != c && b != d && c != d
+/// Whether each of the five places is among these.
+fn differ(places: [usize; 5]) -> bool {
+    (0..5).all(|place| places.contains(&place))
 }
 
 #[test]
 fn options_stand_in_any_order_and_each_once(rt: HostRuntime) {
-    for number in 0..256usize {
-        let places = [number % 4, number / 4 % 4, number / 16 % 4, number / 64];
+    for number in 0..3125usize {
+        let places = [
+            number % 5,
+            number / 5 % 5,
+            number / 25 % 5,
+            number / 125 % 5,
+            number / 625,
+        ];
         let wanted = if differ(places) { Some(ALL) } else { None };
         assert!(rt; run_with(&rt, places) == wanted, "at {number}");
     }
@@ -115,6 +136,7 @@ fn what_is_left_out_has_its_default(rt: HostRuntime) {
         workers: 2,
         lose: 0,
         repeat: 0,
+        seed: None,
         with_trace: false,
     };
     assert!(rt; run(&rt, "run") == Some(default));
@@ -129,6 +151,11 @@ fn what_is_left_out_has_its_default(rt: HostRuntime) {
         ..default
     };
     assert!(rt; run(&rt, "run --lose 1000000 --trace --repeat 0") == Some(traced));
+    let drawn = Run {
+        seed: Some(0),
+        ..default
+    };
+    assert!(rt; run(&rt, "run --seed 0") == Some(drawn));
 }
 
 #[test]

@@ -118,6 +118,7 @@ pub use spaces::Axis;
 pub use spaces::Kind;
 pub use spaces::Space;
 pub use spaces::Subspaces;
+pub use starting::count_regions;
 pub use starting::first_config;
 pub use starting::first_shared_config;
 pub use texts::Text;

@@ -5,7 +5,7 @@ use Rattle.std.specs.declared.string.String.{String}
 use Rattle.std.specs.declared.alloc.Global.{Global}
 use Rattle.std.proofs.lemmas.Option.{none-some, same_Some}
 use Rattle.hx_words.specs.declared.options.CommandOption.{CommandOption}
-use Rattle.hx_words.specs.declared.options.CommandOption.TheVariants.{Workers, Lose, Repeat, Trace}
+use Rattle.hx_words.specs.declared.options.CommandOption.TheVariants.{Workers, Lose, Repeat, Seed, Trace}
 use Rattle.hx_words.specs.declared.choosing.Chosen.{Chosen}
 use Rattle.hx_words.specs.declared.commands.Run.{Run}
 use Rattle.hx_words.specs.Limits.{IsRun}
@@ -22,6 +22,7 @@ more_in_limits : (option : CommandOption) (chosen : Chosen) → IsWithin option 
 more_in_limits (Workers n) chosen h l = record { workers = h; lose = l.lose; repeat = l.repeat }
 more_in_limits (Lose n) chosen h l = record { workers = l.workers; lose = h; repeat = l.repeat }
 more_in_limits (Repeat n) chosen h l = record { workers = l.workers; lose = l.lose; repeat = h }
+more_in_limits (Seed n) chosen h l = record { workers = l.workers; lose = l.lose; repeat = l.repeat }
 more_in_limits Trace chosen h l = record { workers = l.workers; lose = l.lose; repeat = l.repeat }
 
 all_in_limits : (options : List CommandOption) (before after : Chosen) → Choose before options after → InLimits before → InLimits after

@@ -7,7 +7,7 @@ use Rattle.std.specs.declared.alloc.Global.{Global}
 use Rattle.std.specs.Prelude.{◌↔◌, codes, string_bytes}
 use Rattle.std.specs.List.{flat_map}
 use Rattle.hx_words.specs.declared.options.CommandOption.{CommandOption}
-use Rattle.hx_words.specs.declared.options.CommandOption.TheVariants.{Workers, Lose, Repeat, Trace}
+use Rattle.hx_words.specs.declared.options.CommandOption.TheVariants.{Workers, Lose, Repeat, Seed, Trace}
 use Rattle.hx_words.specs.declared.choosing.Chosen.{Chosen}
 use Rattle.hx_words.specs.Options.{words_of, IsWithin, IsFree, choosing, Choose}
 use Rattle.hx_words.specs.Saying.{AreSaid}
@@ -21,6 +21,7 @@ spoken option rest e = absurd (at option (ap length e))
     at (Workers n) e = omega (arith, e)
     at (Lose n) e = omega (arith, e)
     at (Repeat n) e = omega (arith, e)
+    at (Seed n) e = omega (arith, e)
     at Trace e = omega (arith, e)
 
 none_said : (before after : Chosen) → AreSaid [] before after ↔ (before ≡ after)
@@ -49,6 +50,7 @@ never_said words rest name text before after spelled other none s = to s.options
     first (Workers n) os h e = none (Workers n) (sym (ap (take 2) e)) h
     first (Lose n) os h e = none (Lose n) (sym (ap (take 2) e)) h
     first (Repeat n) os h e = none (Repeat n) (sym (ap (take 2) e)) h
+    first (Seed n) os h e = none (Seed n) (sym (ap (take 2) e)) h
     first Trace os h e = other (ap (λ ws. get_or ws 0 []) e)
 
     to : (options : List CommandOption) → Choose before options after → name ∷ text ∷ rest ≡ flat_map words_of options → ⊥
@@ -63,6 +65,7 @@ alone_never_said words name before after spelled other s = to s.options (sym spe
     first (Workers n) os e = omega (arith, ap length e)
     first (Lose n) os e = omega (arith, ap length e)
     first (Repeat n) os e = omega (arith, ap length e)
+    first (Seed n) os e = omega (arith, ap length e)
     first Trace os e = other (ap (λ ws. get_or ws 0 []) e)
 
     to : (options : List CommandOption) → name ∷ [] ≡ flat_map words_of options → ⊥

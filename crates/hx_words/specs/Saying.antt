@@ -12,7 +12,7 @@ use Rattle.hx_words.specs.declared.commands.Soak.{Soak}
 use Rattle.hx_words.specs.Options.{words_of, Choose}
 
 abbrev pub nothing_chosen : Chosen
-nothing_chosen = record { workers = None; lose = None; repeat = None; with_trace = false }
+nothing_chosen = record { workers = None; lose = None; repeat = None; seed = None; with_trace = false }
 
 -- the words are those of options that choose this, after what was chosen before
 pub record AreSaid (words : List (List ℕ)) (before after : Chosen) : Type 0 where
@@ -26,6 +26,7 @@ run_by chosen = record {
   workers = unwrap_or chosen.workers 2;
   lose = unwrap_or chosen.lose 0;
   repeat = unwrap_or chosen.repeat 0;
+  seed = chosen.seed;
   with_trace = chosen.with_trace;
 }
 
@@ -41,6 +42,7 @@ pub record SaysRun (words : List (String Global)) (run : Run) : Type 0 where
 pub record OnlyWorkers (chosen : Chosen) : Type 0 where
   pub lose : chosen.lose ≡ None
   pub repeat : chosen.repeat ≡ None
+  pub seed : chosen.seed ≡ None
   pub with_trace : chosen.with_trace ≡ false
 
 -- the words are the command `soak`, its seed and calls, and options that choose its workers

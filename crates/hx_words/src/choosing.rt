@@ -12,6 +12,7 @@ pub struct Chosen {
     pub workers: Option<u32>,
     pub lose: Option<u32>,
     pub repeat: Option<u32>,
+    pub seed: Option<u64>,
     pub with_trace: bool,
 }
 
@@ -20,6 +21,7 @@ const NOTHING: Chosen = Chosen {
     workers: None,
     lose: None,
     repeat: None,
+    seed: None,
     with_trace: false,
 };
 
@@ -41,6 +43,10 @@ impl Chosen {
                 repeat: Some(n),
                 ..self
             }),
+            CommandOption::Seed(n) if self.seed.is_none() => Some(Chosen {
+                seed: Some(n),
+                ..self
+            }),
             CommandOption::Trace if !self.with_trace => Some(Chosen {
                 with_trace: true,
                 ..self
@@ -51,7 +57,7 @@ impl Chosen {
 }
 
 /// What the words of options choose after what was chosen before. No option is chosen twice, so it
-/// calls itself four times at most.
+/// calls itself five times at most.
 fn chosen_after(chosen: Chosen, words: &[String]) -> Option<Chosen>
     ensures { (after : Chosen) → (result ≡ Some after) ↔ AreSaid (map string_bytes words.now) chosen after }
 {

@@ -20,6 +20,8 @@ pub struct Run {
     pub lose: u32,
     /// One post in so many is repeated, and none where this is 0. At most 1,000,000.
     pub repeat: u32,
+    /// Where it is said, what is lost and repeated is drawn from it; else it is counted.
+    pub seed: Option<u64>,
     /// Whether the trace is written too, with every entry and its posts.
     pub with_trace: bool,
 }
@@ -57,6 +59,7 @@ fn run_by(chosen: Chosen) -> Run
         workers: chosen.workers.unwrap_or(DEFAULT_WORKERS),
         lose: chosen.lose.unwrap_or(0),
         repeat: chosen.repeat.unwrap_or(0),
+        seed: chosen.seed,
         with_trace: chosen.with_trace,
     }
 }
@@ -85,7 +88,10 @@ pub fn soak_of(words: &[String]) -> Option<Soak>
 fn workers_alone(chosen: Chosen) -> Option<u32>
     ensures { (workers : ℕ) → (result ≡ Some workers) ↔ (OnlyWorkers chosen × (workers ≡ unwrap_or chosen.workers 2)) }
 {
-    if chosen.lose.is_some() || chosen.repeat.is_some() || chosen.with_trace {
+    if chosen.lose.is_some() || chosen.repeat.is_some() {
+        return None;
+    }
+    if chosen.seed.is_some() || chosen.with_trace {
         return None;
     }
     Some(chosen.workers.unwrap_or(DEFAULT_WORKERS))

@@ -3,7 +3,7 @@
 ghost use Rattle.std.specs.Prelude.{◌≡◌, ◌∷◌, [], ◌↔◌};
 ghost use Rattle.hx_words.specs.Options.{words_of, IsWithin};
 
-use crate::numbers::number_within;
+use crate::numbers::{number_of, number_within};
 
 /// The most threads that drive the actors.
 const MOST_WORKERS: u32 = 16;
@@ -20,6 +20,8 @@ pub enum CommandOption {
     Lose(u32),
     /// One post in so many is repeated, from 0, which stands for never, to 1,000,000.
     Repeat(u32),
+    /// What is lost and repeated is drawn, from this number.
+    Seed(u64),
     /// The trace is written too.
     Trace,
 }
@@ -34,6 +36,8 @@ pub(crate) fn option_of(name: &str, value: &str) -> Option<CommandOption>
         Some(CommandOption::Lose(number_within(value, 0, LONGEST_PERIOD)?))
     } else if name == "--repeat" {
         Some(CommandOption::Repeat(number_within(value, 0, LONGEST_PERIOD)?))
+    } else if name == "--seed" {
+        Some(CommandOption::Seed(number_of(value)?))
     } else {
         None
     }

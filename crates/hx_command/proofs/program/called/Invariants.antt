@@ -2,4 +2,4 @@ use Rattle.std.proofs.Common.{◌≡◌, length}
 use Rattle.hx_command.proofs.program.called.Given as goal
 
 abbrev pub invariant-loop-driver : goal.invariant-loop-driver
-invariant-loop-driver g l = length l.fates.items ≡ l._driver
+invariant-loop-driver g l = length l.fates.items ≡ l.driver

@@ -1,4 +1,4 @@
--- All that the laws say of a run on threads; and tuning changes no count of a fate.
+-- All that the laws say of a run on threads, and how its fates were tuned.
 use Rattle.std.proofs.Common.{◌≡◌, get_or, slice_get, Some, arith}
 use Rattle.std.proofs.lemmas.Option.{slice_get_within, slice_get-get_or}
 use Rattle.hx_command.proofs.Handing.{is_lawful, risen_from}
@@ -11,7 +11,7 @@ returns-clause-ran g c =
       ran = e.ran;
       lawful =
           is_lawful c.args.script.now c.in_ok-ran.ran.trace c.requires.script e.ran.run c.histories_are_linear.ensures c.runs_have_one_order.ensures
-          c.searches_are_true_and_whole.ensures c.answers_have_causes.ensures;
+          c.searches_are_true_and_whole.ensures c.answers_have_causes.ensures c.lost_regions_have_lost_their_replicas.ensures;
       fates = e.fates;
     }
 
@@ -20,5 +20,6 @@ returns-clause-risen g c i f h t p q r =
     let tuned = c.tune_first.new.fates.items in
     let within = slice_get_within c.args.fates.items i f p in
     let at : slice_get tuned i ≡ Some (get_or tuned i f) = slice_get-get_or tuned i f (omega (arith, c.tune_first.ensures.count, within)) in
-    let same = c.tune_first.ensures.same i f (get_or tuned i f) p at in
+    let few = slice_get_within c.in_ok-ran.ran.fates.items i h q in
+    let same = c.tune_first.ensures.tuned i f (get_or tuned i f) (omega (arith, c.in_ok-ran.ensures.fates, few)) p at in
     risen_from c.args.script.now c.args.threading.workers c.in_ok-ran.ran.trace i t _ _ _ same (c.in_ok-ran.ensures.risen i (get_or tuned i f) h t at q r)

@@ -8,6 +8,6 @@ invariant-loop-at g l =
     ((w : ℕ) → IsCrew l.script l.clock l.boxes w l.initial.crew → IsCrew l.script l.clock l.boxes w l.crew)
     × IsLaterCrew l.initial.crew l.crew
     × IsPosted l.initial.crew l.crew
-    ((g.dyn-1.0.entry l.initial.fate.vtable).1.counts l.initial.fate.value)
-    ((g.dyn-1.0.entry l.fate.vtable).1.counts l.fate.value)
+    ((g.dyn-1.0.entry l.initial.fate.vtable).1.state l.initial.fate.value)
+    ((g.dyn-1.0.entry l.fate.vtable).1.state l.fate.value)
     × HaveNoRetry l.initial.crew l.crew

@@ -19,6 +19,6 @@ invariant-loop-copies g l =
     × (l.place ≡ length l.yielded)
     × (l.yielded ++ l.copies-iterator.rest.items ≡ l.fn.posts.items)
     × IsOffered (λ h. out_weight h l.initial.out.ports.items + kept_weight h l.initial.kept.items) (λ h. out_weight h l.out.ports.items + kept_weight h l.kept.items) l.initial.totals l.totals
-    ((g.dyn-1.0.entry l.initial.fate.vtable).1.counts l.initial.fate.value)
-    ((g.dyn-1.0.entry l.fate.vtable).1.counts l.fate.value)
+    ((g.dyn-1.0.entry l.initial.fate.vtable).1.state l.initial.fate.value)
+    ((g.dyn-1.0.entry l.fate.vtable).1.state l.fate.value)
     (named l.entry 0 (firsts_of l.yielded))

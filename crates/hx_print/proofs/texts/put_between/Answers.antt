@@ -1,4 +1,4 @@
-use Rattle.std.proofs.Common.{◌++◌, List, ap, sym, rules, ◌∙◌}
+use Rattle.std.proofs.Common.{sym, rules, ◌∙◌}
 use Rattle.hx_print.proofs.Plain.{stays_plain}
 use Rattle.hx_print.proofs.texts.put_between.Goals as goal
 

@@ -15,5 +15,6 @@ returns c =
           let well = c.searches_are_true_and_whole.ensures c.args.script.now c.requires.valid (reverse c.args.trace) c.requires.whole.run caller s found in
           record { true_rows = well.0; whole = well.1 };
       causes = c.answers_have_causes.ensures c.args.script.now c.requires.valid (reverse c.args.trace) c.requires.whole.run;
+      lost = c.lost_regions_have_lost_their_replicas.ensures c.args.script.now c.requires.valid (reverse c.args.trace) c.requires.whole.run;
       report_is = c.in_ok-bytes.ensures;
     }

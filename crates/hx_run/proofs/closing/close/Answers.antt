@@ -23,7 +23,7 @@ join_all-requires-clause-joined g c =
 pub returns-clause-left : goal.returns-clause-left
 returns-clause-left g c =
     let r = c.requires.crews in
-    left-of c.args.script.now c.args.clock.now c.args.boxes.now r.0 c.requires.boxes (map (λ d. d.crew) c.args.drivers.items) r.2 r.3 c.requires.actors c.in_ok-apart.apart.actors.items c.in_ok-apart.ensures.actors c.in_ok-apart.apart.totals.items c.in_ok-apart.ensures.totals c.in_ok-apart.apart.takers.items
+    left-of c.args.script.now c.args.clock.now c.args.boxes.now r.0 c.requires.boxes (map (λ d. d.crew) c.args.drivers.items) r.1 r.2 r.3 c.requires.actors c.in_ok-apart.apart.actors.items c.in_ok-apart.ensures.actors c.in_ok-apart.apart.totals.items c.in_ok-apart.ensures.totals c.in_ok-apart.apart.takers.items
     c.sort_by_place.new.takers.items c.join_all.new.takers.items c.in_ok-apart.ensures.takers c.sort_by_place.ensures.permutation c.in_ok-sort_by_place.ensures.sorted c.in_ok-apart.apart.outs.items c.in_ok-apart.ensures.outs c.join_all.ensures.kept c.join_all.ensures.joined
     c.in_ok-ports.ports.items c.in_ok-ports.ensures
 

@@ -11,5 +11,5 @@ invariant-loop-at g l =
     × StayCrews l.script l.clock l.boxes (map (λ d. d.crew) l.initial.drivers) (map (λ d. d.crew) l.drivers)
     × RetriedTo l.script l.at (map (λ d. d.crew) l.initial.drivers) (map (λ d. d.crew) l.drivers)
     × Both (λ d d'. IsPosted d.crew d'.crew
-    ((goal.Fate-dyn g (d.fate.vtable, d.fate.value)).counts d.fate.value)
-    ((goal.Fate-dyn g (d'.fate.vtable, d'.fate.value)).counts d'.fate.value)) l.initial.drivers l.drivers
+    ((goal.Fate-dyn g (d.fate.vtable, d.fate.value)).state d.fate.value)
+    ((goal.Fate-dyn g (d'.fate.vtable, d'.fate.value)).state d'.fate.value)) l.initial.drivers l.drivers

@@ -13,5 +13,5 @@ invariant-loop-round g l =
     × ((w : ℕ) → AllByRecursion (IsCrew l.script l.clock l.boxes w) (map (λ d. d.crew) l.initial.drivers)
     → (cuts : List (List Crew)) × IsCourse l.script l.clock l.boxes w (map (λ d. d.crew) l.initial.drivers) cuts (map (λ d. d.crew) l.drivers))
     × Both (λ d d'. IsPosted d.crew d'.crew
-    ((goal.Fate-dyn g (d.fate.vtable, d.fate.value)).counts d.fate.value)
-    ((goal.Fate-dyn g (d'.fate.vtable, d'.fate.value)).counts d'.fate.value)) l.initial.drivers l.drivers
+    ((goal.Fate-dyn g (d.fate.vtable, d.fate.value)).state d.fate.value)
+    ((goal.Fate-dyn g (d'.fate.vtable, d'.fate.value)).state d'.fate.value)) l.initial.drivers l.drivers

@@ -21,14 +21,14 @@ returns-clause-posted g c =
     both-each-at
     (λ d d'.
     IsPosted d.crew d'.crew
-    ((goal.Fate-dyn g (d.fate.vtable, d.fate.value)).counts d.fate.value)
-    ((goal.Fate-dyn g (d'.fate.vtable, d'.fate.value)).counts d'.fate.value))
+    ((goal.Fate-dyn g (d.fate.vtable, d.fate.value)).state d.fate.value)
+    ((goal.Fate-dyn g (d'.fate.vtable, d'.fate.value)).state d'.fate.value))
     c.args.drivers.now c.for_each_mut.new.s c.for_each_mut.auto.s
     (λ i d lt. let k = (c.for_each_mut.ensures i d lt).1 in moved
     (λ d d'.
     IsPosted d.crew d'.crew
-    ((goal.Fate-dyn g (d.fate.vtable, d.fate.value)).counts d.fate.value)
-    ((goal.Fate-dyn g (d'.fate.vtable, d'.fate.value)).counts d'.fate.value))
+    ((goal.Fate-dyn g (d.fate.vtable, d.fate.value)).state d.fate.value)
+    ((goal.Fate-dyn g (d'.fate.vtable, d'.fate.value)).state d'.fate.value))
     k.argument.now k.after_call.now _ _ k.argument_is k.left k.call.1.1)
 
 pub for_each_mut-requires-clause-accepts : goal.for_each_mut-requires-clause-accepts

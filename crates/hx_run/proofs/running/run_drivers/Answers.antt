@@ -41,7 +41,7 @@ returns g c =
         closed-of (λ d. d.crew) c.args.script.now c.args.clock.now c.as_slice-held.result.now c.args.workers xs c.as_mut_slice.result.now news _ c.as_mut_slice.ensures.value stays c.in_ok-drivers.ensures.crews c.run_rounds-fault.ensures.crews c.run_rounds-fault.ensures.course c.run_rounds-fault.result c.requires.script (subst (AreBoxes c.args.script.now c.args.clock.now) (sym c.as_slice-held.ensures.value) c.in_ok-boxes.ensures.boxes) c.run_rounds-fault.ensures.over c.in_ok-left.ensures.order c.in_ok-left.ensures.once,
         left-same (λ d. d.crew) c.args.script.now c.args.clock.now c.as_slice-held.result.now c.args.workers xs c.as_mut_slice.result.now news _ c.as_mut_slice.ensures.value stays c.in_ok-drivers.ensures.crews c.run_rounds-fault.ensures.crews c.run_rounds-fault.ensures.course c.in_ok-left.left.actors.items c.in_ok-left.left.totals.items c.in_ok-left.left.ports.items c.in_ok-left.ensures.left,
         how-long (λ d. d.crew) c.args.script.now c.args.clock.now c.as_slice-held.result.now c.args.workers xs c.as_mut_slice.result.now news _ c.as_mut_slice.ensures.value stays c.in_ok-drivers.ensures.crews c.run_rounds-fault.ensures.crews c.run_rounds-fault.ensures.course (λ d. d.fate) c.in_ok-left.left.fates.items c.in_ok-left.ensures.fates long,
-        all-posted (λ d. d.crew) c.args.script.now c.args.clock.now c.as_slice-held.result.now c.args.workers xs c.as_mut_slice.result.now news _ c.as_mut_slice.ensures.value stays c.in_ok-drivers.ensures.crews c.run_rounds-fault.ensures.crews c.run_rounds-fault.ensures.course (λ d. d.fate) (λ x. (goal.Fate-dyn g (x.vtable, x.value)).counts x.value) c.args.fates.items c.in_ok-left.left.fates.items c.run_rounds-fault.ensures.posted
+        all-posted (λ d. d.crew) c.args.script.now c.args.clock.now c.as_slice-held.result.now c.args.workers xs c.as_mut_slice.result.now news _ c.as_mut_slice.ensures.value stays c.in_ok-drivers.ensures.crews c.run_rounds-fault.ensures.crews c.run_rounds-fault.ensures.course (λ d. d.fate) (λ x. (goal.Fate-dyn g (x.vtable, x.value)).state x.value) c.args.fates.items c.in_ok-left.left.fates.items c.run_rounds-fault.ensures.posted
             c.in_ok-drivers.ensures.fates c.in_ok-left.ensures.fates,
       );
     }

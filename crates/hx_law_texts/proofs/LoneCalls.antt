@@ -1,0 +1,44 @@
+-- A line that is read as a call apart from any script can be said, and its print is read as that call.
+use Rattle.std.proofs.Common.{◌≡◌, ℕ, List, Option, Some, None, Ok, refl, subst}
+use Rattle.hx_lex.specs.Lines.{tokens_of}
+use Rattle.hx_types.specs.declared.calls.Op.{Op}
+use Rattle.hx_types.specs.declared.spaces.Space.{Space}
+use Rattle.hx_types.specs.Spaces.{Fits, IsSpace}
+use Rattle.hx_types.specs.Subspaces.{region_count}
+use Rattle.hx_print.specs.Printing.{op_text}
+use Rattle.hx_script.specs.declared.errors.Reason.TheVariants.{Order}
+use Rattle.hx_script.specs.declared.keyword.Keyword.{Keyword}
+use Rattle.hx_script.specs.declared.keyword.Keyword.TheVariants as keywords
+use Rattle.hx_script.specs.Grammar.{toks_from}
+use Rattle.hx_script.specs.Keywords.{keyword_of}
+use Rattle.hx_script.specs.LoneCalls.{call_by, lone_call, op_of_toks, op_of_line}
+use Rattle.hx_script.specs.Toks.{Tok}
+use Rattle.hx_script.proofs.LoneCalls.{lone_fits}
+use Rattle.hx_script.proofs.Takes.{on_ok_ok, ok_is}
+use Rattle.hx_law_texts.specs.Sayable.{CallIsSayable}
+use Rattle.hx_law_texts.proofs.Calls.{lone_reads}
+use Rattle.hx_law_texts.proofs.Told.{Tells, Any, tells_then, tells_refuse, tells_word}
+use Rattle.hx_law_texts.proofs.ToldCalls.{tells_call}
+use Rattle.hx_law_texts.proofs.ToldTexts.{toks_told}
+
+tells_by : (space : Space) (k : Option Keyword) → Tells (call_by space k) CallIsSayable
+tells_by space (Some (keywords.Call w)) = tells_call space (region_count space) w
+tells_by space (Some (keywords.Heading h)) = tells_refuse Order
+tells_by space (Some (keywords.Step w)) = tells_refuse Order
+tells_by space None = tells_refuse Order
+
+tells_lone : (space : Space) → Tells (lone_call space) CallIsSayable
+unfolding lone_call
+tells_lone space = tells_then Any tells_word (λ w i. tells_by space (keyword_of w))
+
+pub lone_told : (space : Space) (line : List ℕ) (op : Op) → op_of_line space line ≡ Ok op → CallIsSayable op
+lone_told space line op e =
+    let o = on_ok_ok (toks_from line (tokens_of line)) (op_of_toks space) op e in
+    let x = on_ok_ok (lone_call space o.0) (λ (y : Op × List Tok). Ok y.0) op o.2 in
+    subst CallIsSayable (ok_is x.0.0 op x.2) ((tells_lone space).at o.0 x.0 (toks_told line (tokens_of line) o.0 refl o.1) x.1).0
+
+pub lone_only : (space : Space) (op : Op) → IsSpace space → op_of_line space (op_text space op) ≡ Ok op → Fits space op × CallIsSayable op
+lone_only space op is e = (lone_fits space (op_text space op) op is e, lone_told space (op_text space op) op e)
+
+pub lone_alike : (space : Space) (line : List ℕ) (op : Op) → IsSpace space → op_of_line space line ≡ Ok op → op_of_line space (op_text space op) ≡ Ok op
+lone_alike space line op is e = lone_reads space op is (lone_fits space line op is e) (lone_told space line op e)
