@@ -1,5 +1,5 @@
 -- How a run on threads ends whose answer was written, and what the laws say of it.
-use Rattle.std.proofs.Common.{◌≡◌, ◌∙◌, inl, inr, ℕ, ◌≤◌, List, [], ◌∷◌, Some, None, true, false, ap, sym, subst, rules}
+use Rattle.std.proofs.Common.{◌≡◌, ◌∙◌, inl, inr, ℕ, ◌≤◌, List, [], ◌∷◌, Option, Some, None, true, false, ap, sym, subst, rules}
 use Rattle.std.specs.Prelude.{reverse, slice_get}
 use Rattle.hx_types.specs.declared.limits.TheConstants.{MOST_CALLS}
 use Rattle.hx_types.specs.declared.totals.Totals.{Totals}
@@ -16,6 +16,7 @@ use Rattle.hx_law_order.specs.Headline.{RunsHaveOneOrder}
 use Rattle.hx_law_causes.specs.Causes.{RunsHaveCauses}
 use Rattle.hx_fate.specs.declared.fates.FateState.{FateState}
 use Rattle.hx_outbox.specs.Offers.{raised_by}
+use Rattle.hx_clock.specs.Seats.{Seated}
 use Rattle.hx_mail.specs.Boxes.{Ported}
 use Rattle.hx_soak.specs.Soaking.{script_drawn}
 use Rattle.hx_law_soak.specs.Soaks.{IsSoak, NoHalts, SoaksSumUpInOrder}
@@ -29,12 +30,11 @@ use Rattle.hx_replay.specs.declared.outcomes.Outcome.{Outcome}
 use Rattle.hx_replay.specs.declared.outcomes.Outcome.TheVariants.{Fine, Usage, Refused, TooLarge, ReadFault, WriteFault, Memory, Worn}
 
 -- what is handed back, part by part
-abbrev pub handed : List Entry → List Totals → List Ported → ℕ → Handed
-handed t a p n = record { trace = t; totals = a; ports = p; fates = n }
+abbrev pub handed : List Entry → Option Seated → List Totals → List Ported → ℕ → Handed
+handed t s a p n = record { trace = t; seat = s; totals = a; ports = p; fates = n }
 
-pub same_handed : (t u : List Entry) (a b : List Totals) (p q : List Ported) (n m : ℕ) → t ≡ u → a ≡ b → p ≡ q → n ≡ m → handed t a p n ≡ handed u b q m
-same_handed t u a b p q n m e f g h =
-    ap (λ x. handed x a p n) e ∙ ap (λ x. handed u x p n) f ∙ ap (λ x. handed u b x n) g ∙ ap (λ x. handed u b q x) h
+pub same_handed : (t u : List Entry) (s r : Option Seated) (a b : List Totals) (p q : List Ported) (n m : ℕ) → t ≡ u → s ≡ r → a ≡ b → p ≡ q → n ≡ m → handed t s a p n ≡ handed u r b q m
+same_handed t u s r a b p q n m e d f g h = λ i. handed (e i) (d i) (f i) (g i) (h i)
 
 -- an empty list has nothing at any place
 pub none_at : {A : Type 0} (xs : List A) (i : ℕ) (x : A) → xs ≡ [] → slice_get xs i ≡ Some x → ⊥

@@ -15,6 +15,7 @@ use Rattle.hx_model.specs.Linear.{IsLinear}
 use Rattle.hx_model.specs.Causes.{HasCauses}
 use Rattle.hx_model.specs.Searching.{FinishedSearch, search_of}
 use Rattle.hx_report.specs.Reporting.{IsReport}
+use Rattle.hx_clock.specs.Seats.{Seated}
 use Rattle.hx_mail.specs.Boxes.{Ported}
 use Rattle.hx_fate.specs.declared.fates.Tuning.{Tuning}
 use Rattle.hx_run.specs.Ran.{IsRan}
@@ -44,12 +45,13 @@ pub record HasEnough (words : List (String Global)) (fates : ℕ) : Type 0 where
 -- what a call hands back beside its outcome; of the fates, how many
 pub record Handed : Type 0 where
   pub trace : List Entry
+  pub seat : Option Seated
   pub totals : List Totals
   pub ports : List Ported
   pub fates : ℕ
 
 abbrev pub nothing : Handed
-nothing = record { trace = []; totals = []; ports = []; fates = 0 }
+nothing = record { trace = []; seat = None; totals = []; ports = []; fates = 0 }
 
 -- each key's history is linear, all of them have one order, each finished search is whole and true, every answer has its cause, and a lost region has lost its replicas
 pub record IsLawful (script : Script) (trace : List Entry) : Type 0 where
@@ -61,7 +63,9 @@ pub record IsLawful (script : Script) (trace : List Entry) : Type 0 where
 
 -- so many threads ran the script, to its end or until this actor was worn, and each has its fate
 pub record IsThreaded (script : Script) (workers : ℕ) (h : Handed) (worn : Option Actor) : Type 0 where
-  pub ran : IsRan script workers h.trace h.totals h.ports worn
+  pub seat : Seated
+  pub seat_is : h.seat ≡ Some seat
+  pub ran : IsRan script workers h.trace seat h.totals h.ports worn
   pub lawful : IsLawful script h.trace
   pub fates : h.fates ≡ workers
 

@@ -36,7 +36,7 @@ pub fn answer_run<R: Threads + Wait + Sync, K: Sink, G: Gate + Sync>(
 ) -> Finished
     requires script { IsScript script.now }
     requires workers { (1 ≤ command.workers) × (command.workers ≤ 16) × (command.workers ≤ length fates.items) }
-    ensures ends { EndsOnThreads (IsReported command script.now) script.now command.workers (record { before = K.held sink.old; after = K.held sink.new; faults_before = K.faults sink.old; faults_after = K.faults sink.new }) (record { trace = result.done.trace; totals = result.totals.items; ports = result.ports.items; fates = length result.fates.items }) result.done.outcome }
+    ensures ends { EndsOnThreads (IsReported command script.now) script.now command.workers (record { before = K.held sink.old; after = K.held sink.new; faults_before = K.faults sink.old; faults_after = K.faults sink.new }) (record { trace = result.done.trace; seat = result.seat; totals = result.totals.items; ports = result.ports.items; fates = length result.fates.items }) result.done.outcome }
     ensures status { result.done.status ≡ status_of result.done.outcome }
     ensures risen { (i : ℕ) (f : _) (g : _) (t : TotalsSeen) → slice_get fates.items i ≡ Some f → slice_get result.fates.items i ≡ Some g → slice_get result.totals.items i ≡ Some t → HasRisen script.now command.workers result.done.trace i t (tuned (tuning_of command) (state f)) (state g) }
     ensures silent { IsSilent result.done.outcome → sink.new ≡ sink.old }
@@ -65,8 +65,8 @@ fn report_run<K: Sink>(
     ran: Ran,
 ) -> Finished
     requires script { IsScript script.now }
-    requires threaded { IsThreaded script.now command.workers (record { trace = ran.trace; totals = ran.totals.items; ports = ran.ports.items; fates = length ran.fates.items }) ran.worn }
-    ensures ends { EndsOnThreads (IsReported command script.now) script.now command.workers (record { before = K.held sink.old; after = K.held sink.new; faults_before = K.faults sink.old; faults_after = K.faults sink.new }) (record { trace = result.done.trace; totals = result.totals.items; ports = result.ports.items; fates = length result.fates.items }) result.done.outcome }
+    requires threaded { IsThreaded script.now command.workers (record { trace = ran.trace; seat = Some ran.seat; totals = ran.totals.items; ports = ran.ports.items; fates = length ran.fates.items }) ran.worn }
+    ensures ends { EndsOnThreads (IsReported command script.now) script.now command.workers (record { before = K.held sink.old; after = K.held sink.new; faults_before = K.faults sink.old; faults_after = K.faults sink.new }) (record { trace = result.done.trace; seat = result.seat; totals = result.totals.items; ports = result.ports.items; fates = length result.fates.items }) result.done.outcome }
     ensures status { result.done.status ≡ status_of result.done.outcome }
     ensures kept { ((result.fates ≡ ran.fates) × (result.totals ≡ ran.totals) × (result.done.trace ≡ ran.trace)) ⊎ (result.fates.items ≡ []) }
     ensures silent { IsSilent result.done.outcome → sink.new ≡ sink.old }
@@ -87,8 +87,8 @@ fn write_report<K: Sink>(
     ran: Ran,
 ) -> Finished
     requires script { IsScript script.now }
-    requires threaded { IsThreaded script.now command.workers (record { trace = ran.trace; totals = ran.totals.items; ports = ran.ports.items; fates = length ran.fates.items }) None }
-    ensures ends { EndsOnThreads (IsReported command script.now) script.now command.workers (record { before = K.held sink.old; after = K.held sink.new; faults_before = K.faults sink.old; faults_after = K.faults sink.new }) (record { trace = result.done.trace; totals = result.totals.items; ports = result.ports.items; fates = length result.fates.items }) result.done.outcome }
+    requires threaded { IsThreaded script.now command.workers (record { trace = ran.trace; seat = Some ran.seat; totals = ran.totals.items; ports = ran.ports.items; fates = length ran.fates.items }) None }
+    ensures ends { EndsOnThreads (IsReported command script.now) script.now command.workers (record { before = K.held sink.old; after = K.held sink.new; faults_before = K.faults sink.old; faults_after = K.faults sink.new }) (record { trace = result.done.trace; seat = result.seat; totals = result.totals.items; ports = result.ports.items; fates = length result.fates.items }) result.done.outcome }
     ensures status { result.done.status ≡ status_of result.done.outcome }
     ensures kept { ((result.fates ≡ ran.fates) × (result.totals ≡ ran.totals) × (result.done.trace ≡ ran.trace)) ⊎ (result.fates.items ≡ []) }
     ensures silent { IsSilent result.done.outcome → sink.new ≡ sink.old }

@@ -1,4 +1,4 @@
-ghost use Rattle.std.specs.Prelude.{◌≡◌, ◌≤◌, ◌⊎◌, ℕ, [], length, slice_get, Some};
+ghost use Rattle.std.specs.Prelude.{◌≡◌, ◌≤◌, ◌⊎◌, ℕ, [], length, slice_get, None, Some};
 ghost use Rattle.hx_io.specs.Causes.{Rose};
 ghost use Rattle.hx_types.specs.declared.ids.Actor.{Actor};
 ghost use Rattle.hx_types.specs.declared.totals.Totals.{Totals as TotalsSeen};
@@ -53,14 +53,14 @@ pub fn hyperstore<R: Threads + Wait + Sync, S: Source, K: Sink, G: Gate + Sync>(
     ensures fine { result.done.outcome ≡ Outcome.Fine → Answers words.now
         (record { before = S.left source.old; after = S.left source.new; faults_before = S.faults source.old; faults_after = S.faults source.new })
         (record { before = K.held sink.old; after = K.held sink.new; faults_before = K.faults sink.old; faults_after = K.faults sink.new })
-        (record { trace = result.done.trace; totals = result.totals.items; ports = result.ports.items; fates = length result.fates.items }) }
+        (record { trace = result.done.trace; seat = result.seat; totals = result.totals.items; ports = result.ports.items; fates = length result.fates.items }) }
 
     // Words that start no threads end as they do alone, and hand back nothing of threads.
     ensures alone { IsUnthreaded words.now → Ends words.now
         (record { before = S.left source.old; after = S.left source.new; faults_before = S.faults source.old; faults_after = S.faults source.new })
         (record { before = K.held sink.old; after = K.held sink.new; faults_before = K.faults sink.old; faults_after = K.faults sink.new })
         result.done.outcome result.done.trace }
-    ensures empty { IsUnthreaded words.now → (result.totals.items ≡ []) × (result.fates.items ≡ []) × (result.ports.items ≡ []) }
+    ensures empty { IsUnthreaded words.now → (result.seat ≡ None) × (result.totals.items ≡ []) × (result.fates.items ≡ []) × (result.ports.items ≡ []) }
 
     // Under `run` the text that the source gave is that of a script. Each fate was tuned as the words
     // say, and nothing tuned it otherwise. With status 0 the trace is a run of
@@ -70,7 +70,7 @@ pub fn hyperstore<R: Threads + Wait + Sync, S: Source, K: Sink, G: Gate + Sync>(
     ensures run { (command : RunSeen) → SaysRun words.now command → (script : ScriptSeen) × EndsRun command script
         (record { before = S.left source.old; after = S.left source.new; faults_before = S.faults source.old; faults_after = S.faults source.new })
         (record { before = K.held sink.old; after = K.held sink.new; faults_before = K.faults sink.old; faults_after = K.faults sink.new })
-        (record { trace = result.done.trace; totals = result.totals.items; ports = result.ports.items; fates = length result.fates.items })
+        (record { trace = result.done.trace; seat = result.seat; totals = result.totals.items; ports = result.ports.items; fates = length result.fates.items })
         result.done.outcome
         × ((i : ℕ) (f : _) (g : _) (t : TotalsSeen) → slice_get fates.items i ≡ Some f → slice_get result.fates.items i ≡ Some g → slice_get result.totals.items i ≡ Some t → HasRisen script command.workers result.done.trace i t (tuned (tuning_of command) (state f)) (state g)) }
     ensures decided { (command : RunSeen) → SaysRun words.now command → IsDecided
@@ -82,7 +82,7 @@ pub fn hyperstore<R: Threads + Wait + Sync, S: Source, K: Sink, G: Gate + Sync>(
     // every number of threads.
     ensures soak { (command : SoakSeen) → SaysSoak words.now command → EndsSoak command
         (record { before = K.held sink.old; after = K.held sink.new; faults_before = K.faults sink.old; faults_after = K.faults sink.new })
-        (record { trace = result.done.trace; totals = result.totals.items; ports = result.ports.items; fates = length result.fates.items })
+        (record { trace = result.done.trace; seat = result.seat; totals = result.totals.items; ports = result.ports.items; fates = length result.fates.items })
         result.done.outcome
         × ((i : ℕ) (f : _) (g : _) (t : TotalsSeen) → slice_get fates.items i ≡ Some f → slice_get result.fates.items i ≡ Some g → slice_get result.totals.items i ≡ Some t → HasRisen (script_drawn command.seed command.calls) command.workers result.done.trace i t (tuned never (state f)) (state g)) }
     ensures soaked { (command : SoakSeen) → SaysSoak words.now command → ¬ Rose (K.faults sink.old) (K.faults sink.new)

@@ -1,4 +1,4 @@
-ghost use Rattle.std.specs.Prelude.{◌≡◌, ◌≤◌};
+ghost use Rattle.std.specs.Prelude.{◌≡◌, ◌≤◌, Some};
 ghost use Rattle.hx_replay.specs.Outcomes.{status_of};
 ghost use Rattle.hx_command.specs.Threads.{IsWritten};
 ghost use Rattle.hx_replay.specs.declared.outcomes.Outcome.TheVariants as an_outcome;
@@ -14,12 +14,14 @@ fn handed(ran: Ran, outcome: Outcome) -> Finished
     ensures outcome { result.done.outcome ≡ outcome }
     ensures status { result.done.status ≡ status_of outcome }
     ensures trace { result.done.trace ≡ ran.trace }
+    ensures seat { result.seat ≡ Some ran.seat }
     ensures totals { result.totals ≡ ran.totals }
     ensures fates { result.fates ≡ ran.fates }
     ensures ports { result.ports ≡ ran.ports }
 {
     let Ran {
         trace,
+        seat,
         totals,
         fates,
         ports,
@@ -32,6 +34,7 @@ fn handed(ran: Ran, outcome: Outcome) -> Finished
     };
     Finished {
         done,
+        seat: Some(seat),
         totals,
         fates,
         ports,
@@ -43,6 +46,7 @@ pub fn hand_worn(ran: Ran, actor: Actor) -> Finished
     ensures outcome { result.done.outcome ≡ an_outcome.Worn actor }
     ensures status { result.done.status ≡ status_of result.done.outcome }
     ensures trace { result.done.trace ≡ ran.trace }
+    ensures seat { result.seat ≡ Some ran.seat }
     ensures totals { result.totals ≡ ran.totals }
     ensures fates { result.fates ≡ ran.fates }
     ensures ports { result.ports ≡ ran.ports }
@@ -55,6 +59,7 @@ pub fn write_answer<K: Sink>(sink: &mut K, ran: Ran, bytes: &[u8]) -> Finished
     ensures written { IsWritten (record { before = K.held sink.old; after = K.held sink.new; faults_before = K.faults sink.old; faults_after = K.faults sink.new }) bytes.now result.done.outcome }
     ensures status { result.done.status ≡ status_of result.done.outcome }
     ensures trace { result.done.trace ≡ ran.trace }
+    ensures seat { result.seat ≡ Some ran.seat }
     ensures totals { result.totals ≡ ran.totals }
     ensures fates { result.fates ≡ ran.fates }
     ensures ports { result.ports ≡ ran.ports }

@@ -27,7 +27,7 @@ use Rattle.hx_cluster.specs.Clusters.{actors_dealt, AreNewCrews}
 use Rattle.hx_cluster.specs.Everyone.{actors_of}
 use Rattle.hx_gather.specs.declared.gathering.SeatedPart.{SeatedPart}
 use Rattle.hx_gather.specs.Gathered as gathered
-use Rattle.hx_gather.specs.Gathered.{part_by, parts_by, CountsAll}
+use Rattle.hx_gather.specs.Gathered.{part_by, parts_by, CountsAll, IsDrawn}
 use Rattle.hx_run.specs.Closed.{fault_of, AreClosed, HasPosted, IsLeft}
 use Rattle.hx_run.specs.Ran.{HasRisen, IsRan}
 use Rattle.hx_run.specs.Rounds.{AreOver, StayCrews}
@@ -110,8 +110,9 @@ module _ (script : Script) (clock : TableId) (w : ℕ) (start now : List Crew) (
   many : length now ≡ w
   many = sym (map-length (λ (c : Crew). c.out) now) ∙ (have-indexes w now (later-numbered w start now later closed.new.numbered)).0
 
-  pub ran-of : (worn : Option Actor) → fault ≡ fault_of worn → IsRan script w trace totals ports worn
-  ran-of worn e = is-ran script clock w start now fault closed own paced rested ended goes-on trace made.0 is-whole is-merged made.3 totals left.totals_are dealt many worn e ports left.ports_are
+  pub ran-of : (seat : Seated) → seat.clock ≡ clock → IsDrawn seat.view trace → (worn : Option Actor) → fault ≡ fault_of worn → IsRan script w trace seat totals ports worn
+  ran-of seat same drawn worn e =
+      is-ran script clock w start now fault closed own paced rested ended goes-on trace made.0 is-whole is-merged made.3 totals left.totals_are dealt many seat same drawn worn e ports left.ports_are
 
   pub risen-of : (i : ℕ) (t : Totals) (f f' : FateState) → ((c : Crew) → slice_get now i ≡ Some c → HasPosted c f f') → slice_get totals i ≡ Some t → HasRisen script w trace i t f f'
   risen-of i t f f' posted g = has-risen script clock w start now fault closed own paced rested ended goes-on trace made.0 is-whole is-merged made.3 totals left.totals_are dealt many i t f f' posted g

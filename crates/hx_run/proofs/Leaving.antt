@@ -258,7 +258,7 @@ module _ (script : Script) (clock : TableId) (boxes : List Boxed) (w : ℕ) wher
   not-empty outs some index (inr p) = p
 
   first-one : AreBoxes script clock boxes → (crews : List Crew) (outs : List Outbox) → 1 ≤ w → HaveIndexes w outs → (t : Taker) (d : Desk) → IsIn d (desks_of crews) → t.actor ≡ d.actor → ins_of t.inbox ≡ ins_of d.inbox
-      → Exists script t.actor → IsJoined script w boxes outs t → IsFirstPort crews t.actor t.inbox
+      → Exists script t.actor → IsJoined script w boxes outs t → IsFirstPort clock crews t.actor t.inbox
   first-one are crews outs some index t d i actor ins exists j =
       let b = some-at boxes (place_at script t) j.place in
       let v = (j.inbox b.0 b.1).1 in
@@ -269,6 +269,7 @@ module _ (script : Script) (clock : TableId) (boxes : List Boxed) (w : ℕ) wher
         names = b.0.names;
         of_box = ap (λ (x : PortView). x.of_box) v;
         owner = ap (λ (x : BoxNames). x.owner) names;
+        of_clock = ap (λ (x : BoxNames). x.clock) names;
         all = subst CarriesAll (sym v) (joined-has w (Some b.0.names) n (ins_of t.inbox) outs index);
         alone = subst (TookAlone 0) (sym v) (joined-alone w (Some b.0.names) n (ins_of t.inbox) outs);
         order = not-empty outs some index j.order;
@@ -280,7 +281,7 @@ module _ (script : Script) (clock : TableId) (boxes : List Boxed) (w : ℕ) wher
       }
 
   abbrev IsDone : List Crew → Taker → Type 0
-  IsDone crews t = Exists script t.actor × IsFirstPort crews t.actor t.inbox
+  IsDone crews t = Exists script t.actor × IsFirstPort clock crews t.actor t.inbox
 
   done-each : AreBoxes script clock boxes → (crews : List Crew) (outs : List Outbox) → 1 ≤ w → HaveIndexes w outs → AllByRecursion IsSome (desks_of crews) → (sorted joined : List Taker) → ((t : Taker) → IsIn t sorted → IsIn t (map taker_of (desks_of crews)))
       → Both IsKeptTaker sorted joined → AllByRecursion (IsJoined script w boxes outs) joined → AllByRecursion (IsDone crews) joined
@@ -295,13 +296,13 @@ module _ (script : Script) (clock : TableId) (boxes : List Boxed) (w : ℕ) wher
       ((exists, first-one are crews outs some index u d.0 d.1 actor ins exists j.0), done-each are crews outs some index all sorted joined (λ x i. from x (inr i)) k.1 j.1)
 
   in-order : (crews : List Crew) (n : ℕ) (xs : List Actor) (ts : List Taker) → PlacesFrom script n xs → AllByRecursion (Exists script) xs → AreInPlaces script n ts → AllByRecursion (IsDone crews) ts → length xs ≡ length ts
-      → Both (IsFirstPort crews) xs (map (λ (t : Taker). t.inbox) ts)
+      → Both (IsFirstPort clock crews) xs (map (λ (t : Taker). t.inbox) ts)
   in-order crews n [] [] pa ea pt dt e = tt
   in-order crews n [] (t ∷ ts) pa ea pt dt e = absurd (omega (arith, e))
   in-order crews n (a ∷ xs) [] pa ea pt dt e = absurd (omega (arith, e))
   in-order crews n (a ∷ xs) (t ∷ ts) pa ea pt dt e =
       let same : t.actor ≡ a = place-apart script t.actor a dt.0.0 ea.0 (pt.0 ∙ sym pa.0) in
-      (subst (λ x. IsFirstPort crews x t.inbox) same dt.0.1, in-order crews (suc n) xs ts pa.1 ea.1 pt.1 dt.1 (omega (arith, e)))
+      (subst (λ x. IsFirstPort clock crews x t.inbox) same dt.0.1, in-order crews (suc n) xs ts pa.1 ea.1 pt.1 dt.1 (omega (arith, e)))
 
   places-stay : (n : ℕ) (ds es : List Taker) → Both IsKeptTaker ds es → AreInPlaces script n ds → AreInPlaces script n es
   places-stay n [] [] h k = tt
@@ -332,5 +333,5 @@ module _ (script : Script) (clock : TableId) (boxes : List Boxed) (w : ℕ) wher
         seats = subst (AllByRecursion (IsSeated clock)) (sym ea) (seats-are (desks_of crews) ds);
         numbers = λ k lt. subst (HasNumber k) (sym ea) (number-left crews ds all k lt);
         totals_are = et;
-        ports_are = subst (Both (IsFirstPort crews) (actors_of script)) (sym ep) (in-order crews 0 (actors_of script) joined (places-of script) (exist-all script) (places-stay 0 sorted joined kept placed) done many);
+        ports_are = subst (Both (IsFirstPort clock crews) (actors_of script)) (sym ep) (in-order crews 0 (actors_of script) joined (places-of script) (exist-all script) (places-stay 0 sorted joined kept placed) done many);
       }

@@ -22,6 +22,7 @@ use Rattle.hx_model.specs.Runs.{is_actor, IsRun}
 use Rattle.hx_model.specs.Schedule.{entries_of}
 use Rattle.hx_clock.specs.declared.parts.Stamped.{Stamped}
 use Rattle.hx_clock.specs.Parts.{all_of}
+use Rattle.hx_clock.specs.Seats.{Seated}
 use Rattle.hx_clock.specs.Views.{total}
 use Rattle.hx_clock.proofs.Lists.{each_all, each_in, each_map}
 use Rattle.hx_law_threads.specs.Own.{own_entries, past_of, IsOwn}
@@ -53,6 +54,7 @@ use Rattle.hx_law_drivers.specs.Laws.{EndedRunsEndCalls, HaveRun, IsTraceOf, May
 use Rattle.hx_law_drivers.proofs.Desks.{one_desk}
 use Rattle.hx_law_drivers.proofs.Paced.{actors_now}
 use Rattle.hx_cluster.specs.Everyone.{actors_of}
+use Rattle.hx_gather.specs.Gathered.{IsDrawn}
 use Rattle.hx_run.specs.Closed.{fault_of, AreClosed, HasPosted, IsFirstPort, IsLeft}
 use Rattle.hx_run.specs.Ran.{delivered_to, doubled_in, is_any, is_asked, is_halt, lost_in, posts_by, taken_under, ArePortsOfActors, AreTotalsOf, HasEnd, HasNoHalts, HasOneMore, HasRisen, HaveCallsEnded, IsPortOfActor, IsRan, IsTotalOf}
 use Rattle.hx_run.specs.Rounds.{first_fault, AreOver}
@@ -248,17 +250,17 @@ module _ (script : Script) (clock : TableId) (w : ℕ) (start now : List Crew) (
       flat-filter (λ (x : Entry). same_actor x.actor a) (λ (x : Entry). told_by a x.input) trace ∙ ap (flat_map (λ (x : Entry). told_by a x.input)) mine
       ∙ told-flat a d.part.items (λ z j. part-actor script d.actor d.part.items z (desk-of d i).1.own j ∙ e)
 
-  port-of : (more : List Entry) (a : Actor) (p : Ported) → IsFirstPort now a p → IsPrefix (delivered_to a more) (map (λ (s : Sent). s.mailed) (taken_under 0 p.view.lists)) → IsPortOfActor more a p
-  port-of more a p h begins = record { names = h.names; of_box = h.of_box; owner = h.owner; all = h.all; alone = h.alone; delivered = begins; order = h.order; once = h.once }
+  port-of : (more : List Entry) (a : Actor) (p : Ported) → IsFirstPort clock now a p → IsPrefix (delivered_to a more) (map (λ (s : Sent). s.mailed) (taken_under 0 p.view.lists)) → IsPortOfActor clock more a p
+  port-of more a p h begins = record { names = h.names; of_box = h.of_box; owner = h.owner; of_clock = h.of_clock; all = h.all; alone = h.alone; delivered = begins; order = h.order; once = h.once }
 
-  port-begins : (a : Actor) (p : Ported) → IsFirstPort now a p → IsPrefix (delivered_to a trace) (map (λ (s : Sent). s.mailed) (taken_under 0 p.view.lists))
+  port-begins : (a : Actor) (p : Ported) → IsFirstPort clock now a p → IsPrefix (delivered_to a trace) (map (λ (s : Sent). s.mailed) (taken_under 0 p.view.lists))
   port-begins a p h = let d = desk-of h.desk h.is in (d.0, ap (λ l. l ++ d.0) (came a h.desk h.is h.actor) ∙ d.1.told ∙ ap (map (λ (s : Sent). s.mailed)) (sym h.taken))
 
-  port-one : (a : Actor) (p : Ported) → IsFirstPort now a p → IsPortOfActor trace a p
+  port-one : (a : Actor) (p : Ported) → IsFirstPort clock now a p → IsPortOfActor clock trace a p
   port-one a p h = port-of trace a p h (port-begins a p h)
 
   -- with one more entry of a desk's actor
-  port-next : (d : Desk) → IsIn d (desks_of now) → (x : Entry) → MayComeNext script (reverse trace) d x → (a : Actor) (p : Ported) → IsFirstPort now a p → IsPortOfActor (trace ++ x ∷ []) a p
+  port-next : (d : Desk) → IsIn d (desks_of now) → (x : Entry) → MayComeNext script (reverse trace) d x → (a : Actor) (p : Ported) → IsFirstPort clock now a p → IsPortOfActor clock (trace ++ x ∷ []) a p
   port-next d i x next a p h = port-of (trace ++ x ∷ []) a p h (subst (λ l. IsPrefix l (map (λ (s : Sent). s.mailed) (taken_under 0 p.view.lists))) (sym (delivered-next a trace x)) (by (same_actor x.actor a) refl))
     where
       by : (b : Bool) → same_actor x.actor a ≡ b → IsPrefix (delivered_to a trace ++ cond b (told_by a x.input) []) (map (λ (s : Sent). s.mailed) (taken_under 0 p.view.lists))
@@ -286,7 +288,7 @@ module _ (script : Script) (clock : TableId) (w : ℕ) (start now : List Crew) (
     worn-count =
         subst (λ b. entries_of b (reverse trace) ≡ MOST_ENTRIES) the-worn.1 (desk-count the-worn.0.desk in-desks ∙ the-worn.0.most)
 
-    worn-more : (ports : List Ported) → Both (IsFirstPort now) (actors_of script) ports → HasOneMore script trace ports a
+    worn-more : (ports : List Ported) → Both (IsFirstPort clock now) (actors_of script) ports → HasOneMore script clock trace ports a
     worn-more ports p =
         let d : Desk = the-worn.0.desk in
         let next = goes-on script clock boxes w start now run-is d in-desks the-worn.0.more (reverse trace) traced in
@@ -295,10 +297,10 @@ module _ (script : Script) (clock : TableId) (w : ℕ) (start now : List Crew) (
           actor = next.1.actor ∙ the-worn.1;
           no_halt = no-halt next.0.input next.1.no_halt;
           run = next.1.run;
-          ports_are = both-map (IsFirstPort now) (IsPortOfActor (trace ++ next.0 ∷ [])) (port-next d in-desks next.0 next.1) (actors_of script) ports p;
+          ports_are = both-map (IsFirstPort clock now) (IsPortOfActor clock (trace ++ next.0 ∷ [])) (port-next d in-desks next.0 next.1) (actors_of script) ports p;
         }
 
-  ends : (worn : Option Actor) → fault ≡ fault_of worn → (ports : List Ported) → Both (IsFirstPort now) (actors_of script) ports → HasEnd script trace totals ports worn
+  ends : (worn : Option Actor) → fault ≡ fault_of worn → (ports : List Ported) → Both (IsFirstPort clock now) (actors_of script) ports → HasEnd script clock trace totals ports worn
   ends None e ports p = (
     ended script clock boxes w start now run-is (closed.over.ended e) (reverse trace) traced,
     subst (λ n. IsPacedToEnd script (reverse trace) n (doubled_in totals)) lost-is (subst (λ n. IsPacedToEnd script (reverse trace) (lost_by now) n) doubled-is (rested script clock boxes w start now run-is (closed.over.rest e) (reverse trace) traced)),
@@ -325,14 +327,16 @@ module _ (script : Script) (clock : TableId) (w : ℕ) (start now : List Crew) (
     all-totals : AreTotalsOf script w trace totals
     all-totals = record { count = ap length totals-are ∙ map-length (λ (c : Crew). c.totals) now ∙ many; each = total-one }
 
-    pub is-ran : (worn : Option Actor) → fault ≡ fault_of worn → (ports : List Ported) → Both (IsFirstPort now) (actors_of script) ports → IsRan script w trace totals ports worn
-    is-ran worn e ports p = record {
+    pub is-ran : (seat : Seated) → seat.clock ≡ clock → IsDrawn seat.view trace → (worn : Option Actor) → fault ≡ fault_of worn
+        → (ports : List Ported) → Both (IsFirstPort clock now) (actors_of script) ports → IsRan script w trace seat totals ports worn
+    is-ran seat same drawn worn e ports p = record {
       run = subst (IsRun script) (sym back) runs.run;
       no_halts = no-halts;
       few = few-entries;
-      end = ends worn e ports p;
+      drawn = drawn;
+      end = subst (λ k. HasEnd script k trace totals ports worn) (sym same) (ends worn e ports p);
       totals_are = all-totals;
-      ports_are = both-map (IsFirstPort now) (IsPortOfActor trace) port-one (actors_of script) ports p;
+      ports_are = subst (λ k. ArePortsOfActors script k trace ports) (sym same) (both-map (IsFirstPort clock now) (IsPortOfActor clock trace) port-one (actors_of script) ports p);
     }
 
     pub has-risen : (i : ℕ) (t : Totals) (f f' : FateState) → ((c : Crew) → slice_get now i ≡ Some c → HasPosted c f f') → slice_get totals i ≡ Some t → HasRisen script w trace i t f f'

@@ -28,10 +28,11 @@ use Rattle.hx_run.specs.Ran.{taken_under}
 use Rattle.hx_run.specs.Rounds.{AreOver}
 
 -- the first port of an actor's box took in all others: it has all names, what was taken was taken under the name 0, in order and once
-pub record IsFirstPort (crews : List Crew) (a : Actor) (p : Ported) : Type 0 where
+pub record IsFirstPort (clock : TableId) (crews : List Crew) (a : Actor) (p : Ported) : Type 0 where
   pub names : BoxNames
   pub of_box : p.view.of_box ≡ Some names
   pub owner : names.owner ≡ a
+  pub of_clock : names.clock ≡ clock
   pub all : CarriesAll p.view
   pub alone : TookAlone 0 p.view
   pub order : IsInOrder p.view
@@ -54,7 +55,7 @@ pub record IsLeft (script : Script) (clock : TableId) (crews : List Crew) (actor
   pub seats : AllByRecursion (IsSeated clock) actors
   pub numbers : (k : ℕ) → k < length (actors_of script) → HasNumber k actors
   pub totals_are : totals ≡ map (λ (c : Crew). c.totals) crews
-  pub ports_are : Both (IsFirstPort crews) (actors_of script) ports
+  pub ports_are : Both (IsFirstPort clock crews) (actors_of script) ports
 
 -- drivers that were new ran to their end
 pub record AreClosed (script : Script) (clock : TableId) (w : ℕ) (start now : List Crew) (fault : Option Fault) : Type 0 where

@@ -2,6 +2,7 @@
 use Rattle.std.specs.Prelude.{ℕ, ◌≡◌, ◌+◌, ◌%◌, ◌≤◌, Bool, true, false, not, cond, eqb, List, [], ◌∷◌, ◌++◌, length, map, reverse, slice_get, Option, None, Some, IsSome}
 use Rattle.std.specs.List.{AllByRecursion, flat_map}
 use mathlib.Core.List.{IsPrefix}
+use Rattle.atomic_table.specs.Seated.{TableId}
 use Rattle.hx_types.specs.declared.calls.Caller.{Caller}
 use Rattle.hx_types.specs.declared.ids.Actor.{Actor}
 use Rattle.hx_types.specs.declared.limits.TheConstants.{MOST_ENTRIES}
@@ -16,6 +17,7 @@ use Rattle.hx_types.specs.Words.{same_actor}
 use Rattle.hx_model.specs.Histories.{note_of_end}
 use Rattle.hx_model.specs.Runs.{IsRun}
 use Rattle.hx_model.specs.Schedule.{entries_of}
+use Rattle.hx_clock.specs.Seats.{Seated}
 use Rattle.hx_clock.specs.Views.{one, total}
 use Rattle.hx_law_threads.specs.Pacing.{IsPaced, IsPacedToEnd}
 use Rattle.hx_mail.specs.declared.views.BoxNames.{BoxNames}
@@ -30,6 +32,7 @@ use Rattle.hx_outbox.specs.Places.{place_of}
 use Rattle.hx_outbox.specs.Zipped.{Both}
 use Rattle.hx_desk.specs.Told.{told_by}
 use Rattle.hx_cluster.specs.Everyone.{actors_of}
+use Rattle.hx_gather.specs.Gathered.{IsDrawn}
 
 -- ---- traces here have the oldest entry first
 
@@ -96,42 +99,44 @@ delivered_to a trace = flat_map (λ (x : Entry). cond (same_actor x.actor a) (to
 abbrev pub taken_under : ℕ → List PortLists → List Sent
 taken_under k lists = flat_map (λ (b : PortLists). cond (eqb k b.name) b.taken []) lists
 
--- the port is of the actor's box and carries all its names; what the actor's entries deliver is, in order, a prefix of what was taken under the name 0, and nothing was taken under another; of what each name put, what was taken is, in order, a prefix, and no put was taken twice
-pub record IsPortOfActor (trace : List Entry) (a : Actor) (p : Ported) : Type 0 where
+-- the port is of the actor's box, whose letters are of this clock, and carries all its names; what the actor's entries deliver is, in order, a prefix of what was taken under the name 0, and nothing was taken under another; of what each name put, what was taken is, in order, a prefix, and no put was taken twice
+pub record IsPortOfActor (clock : TableId) (trace : List Entry) (a : Actor) (p : Ported) : Type 0 where
   pub names : BoxNames
   pub of_box : p.view.of_box ≡ Some names
   pub owner : names.owner ≡ a
+  pub of_clock : names.clock ≡ clock
   pub all : CarriesAll p.view
   pub alone : TookAlone 0 p.view
   pub delivered : IsPrefix (delivered_to a trace) (map (λ (s : Sent). s.mailed) (taken_under 0 p.view.lists))
   pub order : IsInOrder p.view
   pub once : IsOnce p.view
 
-abbrev pub ArePortsOfActors : Script → List Entry → List Ported → Type 0
-ArePortsOfActors script trace ports = Both (IsPortOfActor trace) (actors_of script) ports
+abbrev pub ArePortsOfActors : Script → TableId → List Entry → List Ported → Type 0
+ArePortsOfActors script clock trace ports = Both (IsPortOfActor clock trace) (actors_of script) ports
 
 -- ---- all of it
 
 -- with one more entry of the actor, which is no halt, the trace is still a run, and what its entries deliver is still a prefix of what was taken
-pub record HasOneMore (script : Script) (trace : List Entry) (ports : List Ported) (a : Actor) : Type 0 where
+pub record HasOneMore (script : Script) (clock : TableId) (trace : List Entry) (ports : List Ported) (a : Actor) : Type 0 where
   pub entry : Entry
   pub actor : entry.actor ≡ a
   pub no_halt : is_halt entry.input ≡ false
   pub run : IsRun script (entry ∷ reverse trace)
-  pub ports_are : ArePortsOfActors script (trace ++ entry ∷ []) ports
+  pub ports_are : ArePortsOfActors script clock (trace ++ entry ∷ []) ports
 
 -- where no actor was worn, every call ended, and the trace is paced to its end; a worn actor made all the entries that it may make, and has one more to make
-abbrev pub HasEnd : Script → List Entry → List Totals → List Ported → Option Actor → Type 0
-HasEnd script trace totals ports None =
+abbrev pub HasEnd : Script → TableId → List Entry → List Totals → List Ported → Option Actor → Type 0
+HasEnd script clock trace totals ports None =
     HaveCallsEnded script trace × IsPacedToEnd script (reverse trace) (lost_in totals) (doubled_in totals)
-HasEnd script trace totals ports (Some a) =
-    (entries_of a (reverse trace) ≡ MOST_ENTRIES) × HasOneMore script trace ports a × IsPaced script (reverse trace) (lost_in totals) (doubled_in totals)
+HasEnd script clock trace totals ports (Some a) =
+    (entries_of a (reverse trace) ≡ MOST_ENTRIES) × HasOneMore script clock trace ports a × IsPaced script (reverse trace) (lost_in totals) (doubled_in totals)
 
--- what drivers of w threads made of a script; no actor made more entries than it may
-pub record IsRan (script : Script) (w : ℕ) (trace : List Entry) (totals : List Totals) (ports : List Ported) (worn : Option Actor) : Type 0 where
+-- what drivers of w threads made of a script; no actor made more entries than it may, and the seat of the clock has all entries, each with the stamp that says its place
+pub record IsRan (script : Script) (w : ℕ) (trace : List Entry) (seat : Seated) (totals : List Totals) (ports : List Ported) (worn : Option Actor) : Type 0 where
   pub run : IsRun script (reverse trace)
   pub no_halts : HasNoHalts trace
   pub few : (a : Actor) → entries_of a (reverse trace) ≤ MOST_ENTRIES
-  pub end : HasEnd script trace totals ports worn
+  pub drawn : IsDrawn seat.view trace
+  pub end : HasEnd script seat.clock trace totals ports worn
   pub totals_are : AreTotalsOf script w trace totals
-  pub ports_are : ArePortsOfActors script trace ports
+  pub ports_are : ArePortsOfActors script seat.clock trace ports

@@ -13,7 +13,7 @@ use hx_clock::{Clock, Seat};
 use hx_cluster::{deal, enrol_all, open_boxes};
 use hx_desk::{Fault, Gate};
 use hx_fate::Fate;
-use hx_gather::gather;
+use hx_gather::{Gathered, gather};
 use hx_law_drivers::{runs_of_drivers_are_paced, traces_go_on};
 use hx_mail::Port;
 use hx_trace::Trace;
@@ -22,13 +22,15 @@ use std::alloc::Global;
 use std::sync::Wait;
 use std::thread::Threads;
 
-/// What drivers made of a script: the trace; for each driver in order the totals of its posts, and its
+/// What drivers made of a script: the trace, and the clock's seat, which shows that its entries stand in
+/// the order of the stamps that they drew; for each driver in order the totals of its posts, and its
 /// fate; for each actor in order the first port of its box, which carries the names of all its ports.
 /// And the actor, if one ended the run, that had made all the entries that it may make and had one more
 /// to make.
 #[derive(Drop)]
 pub struct Ran {
     pub trace: Trace,
+    pub seat: Seat,
     pub totals: Vec<Totals>,
     pub fates: Vec<Box<dyn Fate + Send>>,
     pub ports: Vec<Port>,
@@ -94,7 +96,7 @@ pub fn run<R: Threads + Wait + Sync, G: Gate + Sync>(
     requires script { IsScript script.now }
     requires workers { (1 ≤ workers) × (workers ≤ 16) × (workers ≤ length fates.items) }
     requires capacity { 1 ≤ capacity }
-    ensures ran { IfOk result (λ ran. IsRan script.now workers ran.trace ran.totals.items ran.ports.items ran.worn) }
+    ensures ran { IfOk result (λ ran. IsRan script.now workers ran.trace ran.seat ran.totals.items ran.ports.items ran.worn) }
     ensures fates { IfOk result (λ ran. length ran.fates.items ≡ workers) }
     ensures risen { IfOk result (λ ran. (i : ℕ) (f : _) (g : _) (t : TotalsSeen) → slice_get fates.items i ≡ Some f → slice_get ran.fates.items i ≡ Some g → slice_get ran.totals.items i ≡ Some t → HasRisen script.now workers ran.trace i t (state f) (state g)) }
 {
@@ -111,11 +113,12 @@ pub fn run<R: Threads + Wait + Sync, G: Gate + Sync>(
         fates,
         ports,
     } = left;
-    let trace = gather(alloc, clock, seat, actors)?;
+    let Gathered { trace, seat } = gather(alloc, clock, seat, actors)?;
     runs_of_drivers_are_paced();
     traces_go_on();
     Ok(Ran {
         trace,
+        seat,
         totals,
         fates,
         ports,

@@ -1,7 +1,9 @@
 -- The examples of the tests.
 use Rattle.std.proofs.Common.{ℕ, zero, suc, ◌≡◌, ◌+◌, ◌<◌, inl, inr, List, [], ◌∷◌, Option, Some, slice_get, refl, ap, subst, sym, ◌∙◌, arith}
+use Rattle.std.specs.Prelude.{Result, IfOk, Ok, Err}
 use Rattle.std.specs.List.{IsDistinct}
 use Rattle.std.specs.List.Sorted.{IsStrictlyIncreasing}
+use Rattle.hx_types.specs.declared.errors.Memory.{Memory}
 use Rattle.hx_types.specs.declared.messages.Post.{Post}
 use Rattle.hx_types.specs.declared.messages.PostId.{PostId}
 use Rattle.hx_types.specs.declared.traces.Entry.{Entry}
@@ -95,3 +97,8 @@ both_own items server session asked answered end sent reply e a p b q =
     ≡ actor_part first_server (stamped answered (answering sent) ∷ []) ∷ actor_part first_session (stamped asked asking ∷ stamped end (ended reply) ∷ []) ∷ [] =
     ap parts_by e ∙ (λ i. actor_part (a i) (p i) ∷ actor_part (b i) (q i) ∷ []) in
     subst (AreOwnParts one_get) (sym same) (steps_own asked answered end sent reply)
+
+-- what holds of what was made gives what follows of it
+pub part_of_it : {A : Type 0} (result : Result A Memory) (P Q : A → Type 0) → ((made : A) → P made → Q made) → IfOk result P → IfOk result Q
+part_of_it (Ok made) P Q f h = f made h
+part_of_it (Err e) P Q f h = h

@@ -106,7 +106,7 @@ fn three_acts_are_numbered_from_0(rt: HostRuntime) -> Result<(), Fail> {
     };
     assert_eq!(rt; stamps.as_slice(), [0, 1, 2].as_slice());
     clock.learn(&mut counting, seat);
-    assert_eq!(rt; clock.close(counting), 3);
+    assert_eq!(rt; clock.close(&mut counting), 3);
     Ok(())
 }
 
@@ -140,7 +140,7 @@ fn two_threads_draw_different_stamps(rt: HostRuntime) -> Result<(), Fail> {
     assert_eq!(rt; all.len(), 2000);
     clock.learn(&mut counting, first);
     clock.learn(&mut counting, second);
-    assert_eq!(rt; clock.close(counting), 2000);
+    assert_eq!(rt; clock.close(&mut counting), 2000);
     Ok(())
 }
 

@@ -7,12 +7,12 @@ ghost use Rattle.hx_clock.specs.declared.parts.Stamped.{Stamped};
 ghost use Rattle.hx_clock.specs.Parts.{stamped, DeliveryMeets, Posted};
 ghost use Rattle.hx_clock.specs.Views.{Knows, Owns};
 ghost use Rattle.hx_thread_tests.specs.Gathered.{answering, asking, call_of_get, ended, first_server, first_session, no_object, one_get, HasMade};
-ghost use Rattle.hx_gather.specs.Gathered.{IsSeated};
+ghost use Rattle.hx_gather.specs.Gathered.{IsDrawn, IsSeated};
 
 use crate::clocks::begun;
 use crate::gather::is_of;
 use hx_clock::{Clock, Part, Seat, Stamped};
-use hx_gather::{SeatedPart, gather};
+use hx_gather::{Gathered, SeatedPart, gather};
 use hx_trace::{InputRef, Trace};
 use hx_types::{
     Actor, Answer, Entry, Epoch, Input, Memory, Message, Note, Notes, Op, Post, PostId, Posts,
@@ -190,8 +190,9 @@ fn both(rt: &impl Abort, alloc: Global, server: SeatedPart, session: SeatedPart)
 }
 
 /// What a session and a server made on their own.
-fn small_run(rt: &impl Abort, alloc: Global) -> Result<Trace, Memory>
-    ensures run { IfOk result (λ trace. IsRun one_get (reverse trace)) }
+fn small_run(rt: &impl Abort, alloc: Global) -> Result<Gathered, Memory>
+    ensures run { IfOk result (λ made. IsRun one_get (reverse made.trace)) }
+    ensures drawn { IfOk result (λ made. IsDrawn made.seat.view made.trace) }
 {
     let (mut clock, mut counting) = begun(rt, alloc);
     let mut session = enrolled(alloc, &mut clock, &mut counting, SESSION);
@@ -216,7 +217,7 @@ fn is_delivery(trace: &Trace, place: usize, name: PostId) -> bool {
 #[test]
 fn two_actors_are_gathered_into_a_run(rt: HostRuntime) -> Result<(), Fail> {
     let alloc: Global = rt.alloc();
-    let trace = small_run(&rt, alloc)?;
+    let Gathered { trace, seat: _ } = small_run(&rt, alloc)?;
     assert_eq!(rt; trace.len(), 3);
     for place in 0..trace.len() {
         assert!(rt; is_of(&trace, place, SERVER) == (place == 1), "at {place}");

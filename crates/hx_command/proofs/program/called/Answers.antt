@@ -15,7 +15,7 @@ returns-clause-told g c =
     let ended = c.hyperstore-done.ensures in
     let result = c.hyperstore-done.result in
     record {
-      h = handed result.done.trace result.totals.items result.ports.items (length result.fates.items);
+      h = handed result.done.trace result.seat result.totals.items result.ports.items (length result.fates.items);
       alone = λ unthreaded. inr (ended.alone unthreaded);
       run = λ command says. let r = ended.run command says in (r.0, r.1);
       decided = ended.decided;

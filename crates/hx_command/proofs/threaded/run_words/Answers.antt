@@ -1,5 +1,5 @@
 -- What decides a call whose script was read, and how a call ends that read none.
-use Rattle.std.proofs.Common.{[], ap, length}
+use Rattle.std.proofs.Common.{[], None, ap, length}
 use Rattle.hx_command.specs.Threads.{IsReported}
 use Rattle.hx_command.proofs.Deciding.{decided_ran, no_script, unread_at}
 use Rattle.hx_command.proofs.Handing.{none_at, same_handed}
@@ -15,7 +15,7 @@ returns-in-Err-clause-run g c =
     let e = c.ended.ensures in (
       no_script,
       unread_at c.args.command no_script _ _ _ c.in-Err.outcome c.ended.result.done.outcome
-          (same_handed c.ended.result.done.trace [] c.ended.result.totals.items [] c.ended.result.ports.items [] (length c.ended.result.fates.items) 0 e.trace
-          e.totals e.ports (ap length e.fates)) e.outcome c.in-Err.ensures.cause,
+          (same_handed c.ended.result.done.trace [] c.ended.result.seat None c.ended.result.totals.items [] c.ended.result.ports.items [] (length c.ended.result.fates.items) 0 e.trace
+          e.seat e.totals e.ports (ap length e.fates)) e.outcome c.in-Err.ensures.cause,
       λ i f h t p q r. absurd (none_at _ i h e.fates q),
     )

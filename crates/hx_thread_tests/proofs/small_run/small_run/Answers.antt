@@ -4,8 +4,7 @@ use Rattle.hx_clock.specs.Parts.{stamped, DeliveryMeets}
 use Rattle.hx_clock.specs.Views.{Knows}
 use Rattle.hx_clock.specs.declared.view.View.{View}
 use Rattle.hx_thread_tests.specs.Gathered.{one_get}
-use Rattle.hx_thread_tests.proofs.Gathered.{both_here, both_own, made_post, post_known}
-use Rattle.hx_gather.proofs.Gathers.{part_of_it}
+use Rattle.hx_thread_tests.proofs.Gathered.{both_here, both_own, made_post, part_of_it, post_known}
 use Rattle.hx_thread_tests.proofs.small_run.small_run.Goals as goal
 
 pub pass-requires-clause-posted : goal.pass-requires-clause-posted
@@ -54,4 +53,4 @@ returns g c =
     let server_actor = c.pass-2.ensures.from.0 ∙ c.step-answered.ensures.actor ∙ c.pass.ensures.to.0 ∙ c.enrolled-server.ensures.part.1 in
     let session_actor = c.step.ensures.actor ∙ c.pass-2.ensures.to.0 ∙ c.pass.ensures.from.0 ∙ c.step-sent.ensures.actor ∙ c.enrolled-session.ensures.part.1 in
     let own = both_own c.both-actors.result.items server session sent.0 answered.0 end.0 c.step-sent.result c.step-answered.result c.both-actors.ensures server_actor server_part session_actor session_part in
-    record { run = part_of_it c.gather.result _ _ (λ trace h. h one_get own) c.gather.ensures.run }
+    record { run = part_of_it c.gather.result _ _ (λ made h. h one_get own) c.gather.ensures.run; drawn = c.gather.ensures.drawn }
