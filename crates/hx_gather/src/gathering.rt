@@ -8,7 +8,7 @@ ghost use Rattle.hx_clock.specs.Views.{IsWhole};
 ghost use Rattle.hx_law_threads.specs.Merged.{AreOwnParts, AreWholeParts, HasOwnParts, HasStampsAsPlaces, IsMerged};
 ghost use Rattle.hx_gather.specs.Gathered.{parts_by, parts_of, CountsAll, IsDrawn, IsSeated};
 
-use crate::arranging::arrange;
+use crate::merging::merge;
 use hx_clock::{Clock, Part, Parts, Seat};
 use hx_trace::Trace;
 use hx_types::{Actor, Memory};
@@ -60,7 +60,7 @@ pub fn gather(
     ensures own { IfOk result (λ made. (script : Script) → AreOwnParts script (parts_by actors.items) → HasOwnParts (parts_by actors.items) (reverse made.trace)) }
 {
     let (parts, seat) = collect(alloc, clock, seat, actors)?;
-    let trace = arrange(alloc, parts)?;
+    let trace = merge(alloc, parts)?;
     Ok(Gathered { trace, seat })
 }
 

@@ -3,9 +3,9 @@
 //! No contract says that there is memory for a trace. Tests merge and gather the parts of actors.
 #![tactic(auto)]
 
-mod arranging;
 mod gathering;
 mod merging;
+mod stretches;
 
 pub use gathering::{Gathered, SeatedPart, gather};
 pub use hx_clock::{Part, Parts, Stamped};
