@@ -7,6 +7,7 @@ use Rattle.hx_model.specs.Runs.{IsRun}
 use Rattle.hx_clock.specs.declared.parts.Stamped.{Stamped}
 use Rattle.hx_law_threads.specs.Merged.{parts_in, AreOwnParts, AreWholeParts, HasOwnParts, HasStampsAsPlaces, IsMerged}
 use Rattle.hx_law_threads.specs.Laws.{IsRunOfParts}
+use Rattle.hx_law_threads.proofs.Places.{stamps_are_places}
 use Rattle.hx_law_threads.proofs.Runs.{merged_run}
 use Rattle.hx_gather.specs.declared.gathering.SeatedPart.{SeatedPart}
 use Rattle.hx_gather.specs.Gathered.{parts_by, parts_of}
@@ -23,15 +24,15 @@ same_parts [] = refl
 same_parts (p ∷ seated) = ap (λ l. p.part ∷ l) (same_parts seated)
 
 pub gathered : (seated : List SeatedPart) (lists : List (List Stamped)) (trace : List Entry) → lists ≡ parts_of seated → AreWholeParts (parts_of seated)
-    → (merged : List Stamped) × IsMerged lists merged × HasStampsAsPlaces merged × (trace ≡ map (λ (x : Stamped). x.entry) merged) → IsGathered seated trace
+    → (merged : List Stamped) × IsMerged lists merged × (trace ≡ map (λ (x : Stamped). x.entry) merged) → IsGathered seated trace
 gathered seated lists trace same whole m =
     let merged : IsMerged (parts_of seated) m.0 = subst (λ l. IsMerged l m.0) same m.1 in
     let run : (script : Script) → AreOwnParts script (parts_by seated) → IsRunOfParts script (parts_by seated) m.0 =
     λ script own.
     merged_run script (parts_by seated) m.0 own (subst AreWholeParts (sym (same_parts seated)) whole) (subst (λ l. IsMerged l m.0) (sym (same_parts seated)) merged) in
     record {
-      whole = (m.0, merged, m.2, m.3);
+      whole = (m.0, merged, stamps_are_places (parts_of seated) m.0 whole merged, m.2);
       parts = whole;
-      run = λ script own. subst (λ t. IsRun script (reverse t)) (sym m.3) (run script own).run;
-      own = λ script own. subst (λ t. HasOwnParts (parts_by seated) (reverse t)) (sym m.3) (run script own).own;
+      run = λ script own. subst (λ t. IsRun script (reverse t)) (sym m.2) (run script own).run;
+      own = λ script own. subst (λ t. HasOwnParts (parts_by seated) (reverse t)) (sym m.2) (run script own).own;
     }

@@ -1,5 +1,5 @@
+pub mod Stretched
+pub mod Ordered
 pub mod Sources
 pub mod Seated
 pub mod Gathers
-pub mod Taking
-pub mod Arranged

@@ -1,126 +1,109 @@
--- What the merge of lists gives.
-use Rattle.std.proofs.Common.{cond, ◌≡◌, ℕ, zero, suc, ◌+◌, ◌<◌, Bool, true, false, List, [], ◌∷◌, ◌++◌, map, length, get_or, Option, refl, ap, sym, subst, ◌∙◌, arith, append-nil, ltb-false}
-use Rattle.std.proofs.lemmas.Bool.{le-ltb}
-use Rattle.hx_types.specs.declared.ids.Actor.TheVariants.{Coordinator}
-use Rattle.hx_types.specs.declared.traces.Input.TheVariants.{Tick}
-use Rattle.std.specs.Prelude.{nat_lt, eqb, IsPermutation, All}
+-- What the merge of stretches gives.
+use Rattle.std.proofs.Common.{cond, ◌≡◌, ℕ, ◌+◌, Bool, true, false, List, [], ◌∷◌, ◌++◌, map, flat_map, length, eqb, Option, refl, ap, sym, subst, ◌∙◌, arith, append-nil}
+use Rattle.std.specs.Prelude.{nat_lt, slice_index_or, IsPermutation, All}
 use Rattle.std.specs.Cmp.{IsStrictWeakOrder}
 use Rattle.std.specs.Ordering.{is_lt, nat_cmp}
 use Rattle.std.specs.declared.cmp.Ordering.TheVariants.{Less, Equal, Greater}
-use Rattle.std.specs.Iterator.{DrainsIf, AlwaysYields}
+use Rattle.std.specs.Iterator.{AlwaysYields, DrainsIf, YieldsFirst}
 use Rattle.std.specs.Iterator.Runs.{Run, WholeRun, EveryRun, ItemsAre}
-use Rattle.std.specs.List.{IsDistinct}
+use Rattle.std.specs.List.{AllByRecursion}
 use Rattle.std.specs.List.Sorted.{IsSortedBy, IsStrictlyIncreasing}
-use Rattle.std.specs.Vec.Iter.{into_iter_items, into_iter_steps, into_iter_len}
+use Rattle.std.specs.Vec.Iter.{into_iter_items, into_iter_steps}
 use Rattle.std.specs.declared.vec.IntoIter.{IntoIter}
-use Rattle.std.specs.Prelude.{Vec, vec_len, ◌^◌}
-use Rattle.std.proofs.lemmas.List.MinMax.{IsStrictWeakOrder-by_number}
-use Rattle.std.proofs.lemmas.List.Sorted.{sorted_far, IsPermutation-map}
-use Rattle.std.proofs.lemmas.List.Elements.{All-cons, All-nil}
-use Rattle.std.proofs.lemmas.Map.Keys.{IsDistinct-IsPermutation, IsStrictlyIncreasing-from_distinct}
 use Rattle.std.proofs.lemmas.Bool.Decides.{nat_tests}
+use Rattle.std.proofs.lemmas.List.Elements.{All-cons, All-nil}
+use Rattle.std.proofs.lemmas.List.MinMax.{IsStrictWeakOrder-by_number}
+use Rattle.std.proofs.lemmas.List.Sorted.{IsPermutation-map, IsPermutation-sym}
+use Rattle.std.proofs.lemmas.Map.Keys.{IsDistinct-IsPermutation}
 use Rattle.itertools.specs.KMerge.{SourcesGive, MergeGivesAll, MergeInOrder, kmerge_steps}
 use Rattle.itertools.specs.declared.kmerge_impl.KMergeBy.{KMergeBy}
+use Rattle.itertools.proofs.KMergeLemmas.{flat-permutation}
 use Rattle.hx_clock.specs.declared.parts.Stamped.{Stamped}
-use Rattle.std.specs.List.{AllByRecursion}
 use Rattle.hx_clock.specs.Parts.{all_of, stamps_of, IsCausal}
+use Rattle.hx_clock.proofs.Lists.{each_all, each_in}
+use Rattle.hx_law_threads.proofs.Lists.{in_permuted, map_append}
 use Rattle.hx_law_threads.specs.Merged.{IsMerged}
-use Rattle.hx_gather.proofs.Taking.{length-stamps}
+use Rattle.hx_trace.specs.Turns.{IsTurnOf, stamped_at}
+use Rattle.hx_gather.specs.Stretches.{numbered, stretches_from, stretches_of, turns_in, AreTurns, StretchSeen}
+use Rattle.hx_gather.proofs.Stretched.{all_entries, all_from, all_stretches, both_all, entries_in, IsStretchOf}
+use Rattle.hx_gather.proofs.Ordered.{by_stamp, entries_rise, sorted_stretches}
 
--- a vector's iterator gives its items
-vec_gives : {X Z : Type 0} (xs : List X) (s : IntoIter X Z) → into_iter_items s ≡ xs → AlwaysYields into_iter_steps (λ x. x) s xs
-vec_gives [] s e = λ x j h. absurd (let a = h.0 in cc)
-vec_gives (y ∷ ys) s e = (
-  (λ j h. let a = s.rest.ok.0 in let b = ap length e in absurd (omega arith)),
-  (λ x j h. (cc (h.0, e), vec_gives ys j (cc (h.0, e)))),
+-- ---- sources that are seen as lists
+
+-- the list is what comes from it
+list_gives : {A : Type 0} (xs s : List A) → s ≡ xs → AlwaysYields (YieldsFirst (λ (l : List A). l)) (λ x. x) s xs
+list_gives [] s e = λ x j h. let none = ap length (sym h ∙ e) in absurd (omega (arith, none))
+list_gives (y ∷ ys) s e = (
+  (λ j h. let none = ap length (sym h.0 ∙ e) in absurd (omega (arith, none))),
+  (λ x j h. (cc (h, e), list_gives ys j (cc (h, e)))),
 )
 
-abbrev lt_by : Stamped → Stamped → Bool
-lt_by x y = nat_lt x.stamp.0 y.stamp.0
+sources_give : {A : Type 0} (us : List (List A)) → SourcesGive (λ (s r : List A). r ≡ s) (YieldsFirst (λ (l : List A). l)) us us
+sources_give [] = tt
+sources_give (u ∷ us) = ((λ j g. list_gives u j g), sources_give us)
 
-module _ {I U S F Z : Type 0} (outer : I → Option U → I → Type 0) (it : I) (gives : U → S → Type 0) (steps : S → Option Stamped → S → Type 0) (computes : F → (Stamped → Stamped → Bool) → Type 0)
-    (m : KMergeBy S F Z Stamped) (us : List U) (parts : List (List Stamped)) (xs : List Stamped) where
-  pub merged_items : ((p : Run outer) → p.from ≡ it → p.whole ≡ true → p.items ≡ us) → SourcesGive gives steps us parts
-      → WholeRun outer it (λ p. (ls : List (List Stamped)) → SourcesGive gives steps p.items ls → MergeGivesAll steps computes m ls)
-      → DrainsIf (kmerge_steps steps computes) (Unit {0}) m xs → IsPermutation (all_of parts) xs
-  merged_items read src run d =
-      let ps = subst (λ us. SourcesGive gives steps us parts) (sym (read run.0 run.1 run.2)) src in
-      let w = run.3 parts ps xs true (d.0, d.1, λ _. d.2 tt) in
-      subst (IsPermutation (all_of parts)) (ap (λ r. xs ++ r) (w.2 refl) ∙ append-nil xs) w.1
+module _ {I U S F Z A : Type 0} (outer : I → Option U → I → Type 0) (it : I) (gives : U → S → Type 0) (steps : S → Option A → S → Type 0) (computes : F → (A → A → Bool) → Type 0)
+    (m : KMergeBy S F Z A) (us : List U) (lists : List (List A)) (xs : List A) (read : (p : Run outer) → p.from ≡ it → p.whole ≡ true → p.items ≡ us) (src : SourcesGive gives steps us lists)
+    (drained : DrainsIf (kmerge_steps steps computes) (Unit {0}) m xs) where
+  merged_items : WholeRun outer it (λ p. (ls : List (List A)) → SourcesGive gives steps p.items ls → MergeGivesAll steps computes m ls) → IsPermutation (flat_map (λ l. l) lists) xs
+  merged_items run =
+      let ps = subst (λ us. SourcesGive gives steps us lists) (sym (read run.0 run.1 run.2)) src in
+      let w = run.3 lists ps xs true (drained.0, drained.1, λ _. drained.2 tt) in
+      subst (IsPermutation (flat_map (λ l. l) lists)) (ap (λ r. xs ++ r) (w.2 refl) ∙ append-nil xs) w.1
 
-  pub merged_order : (lt : Stamped → Stamped → Bool) → ((p : Run outer) → p.from ≡ it → p.whole ≡ true → p.items ≡ us) → SourcesGive gives steps us parts
-      → WholeRun outer it (λ p. IsStrictWeakOrder lt → (ls : List (List Stamped)) → SourcesGive gives steps p.items ls → All (IsSortedBy lt) ls → MergeInOrder steps computes lt m)
-      → IsStrictWeakOrder lt → All (IsSortedBy lt) parts
-      → DrainsIf (kmerge_steps steps computes) (Unit {0}) m xs → IsSortedBy lt xs
-  merged_order lt read src run order sorted d =
-      let ps = subst (λ us. SourcesGive gives steps us parts) (sym (read run.0 run.1 run.2)) src in
-      run.3 order parts ps sorted xs true (d.0, d.1, λ _. d.2 tt)
+  merged_order : (lt : A → A → Bool) → WholeRun outer it (λ p. IsStrictWeakOrder lt → (ls : List (List A)) → SourcesGive gives steps p.items ls → All (IsSortedBy lt) ls → MergeInOrder steps computes lt m)
+      → IsStrictWeakOrder lt → All (IsSortedBy lt) lists → IsSortedBy lt xs
+  merged_order lt run order sorted =
+      let ps = subst (λ us. SourcesGive gives steps us lists) (sym (read run.0 run.1 run.2)) src in
+      run.3 order lists ps sorted xs true (drained.0, drained.1, λ _. drained.2 tt)
 
--- some entry
-abbrev some_stamped : Stamped
-some_stamped = record { stamp = record { 0 = 0 }; entry = record { actor = Coordinator; input = Tick; outputs = []; notes = [] } }
+-- ---- the merge of the stretches of parts
+sorted_lists : (n : ℕ) (ps : List (List Stamped)) → AllByRecursion (λ part. IsStrictlyIncreasing (stamps_of part)) ps → All (IsSortedBy by_stamp) (numbered (λ place part. stretches_from place 0 part) n ps)
+sorted_lists n [] h = All-nil (IsSortedBy by_stamp)
+sorted_lists n (p ∷ ps) h =
+    All-cons (IsSortedBy by_stamp) (stretches_from n 0 p) (numbered (λ place part. stretches_from place 0 part) (n + 1) ps) (sorted_stretches n p h.0) (sorted_lists (n + 1) ps h.1)
 
-stamp_at : (xs : List Stamped) (i : ℕ) (d : Stamped) (e : ℕ) → i < length xs → get_or (stamps_of xs) i e ≡ (get_or xs i d).stamp.0
-stamp_at [] i d e h = absurd (omega arith)
-stamp_at (x ∷ xs) zero d e h = refl
-stamp_at (x ∷ xs) (suc i) d e h = stamp_at xs i d e (omega arith)
+-- stretches in the order of their stamps, each once, are seen as turns of all entries
+each_turn : (parts : List (List Stamped)) (ss : List StretchSeen) → AllByRecursion (IsStretchOf parts) ss → AllByRecursion (IsTurnOf parts) (flat_map turns_in ss)
+each_turn parts [] w = tt
+each_turn parts (s ∷ ss) w = both_all (IsTurnOf parts) (turns_in s) (flat_map turns_in ss) w.0.turns (each_turn parts ss w.1)
 
--- the sorted parts
-sorted_part : (part : List Stamped) → IsStrictlyIncreasing (stamps_of part) → IsSortedBy lt_by part
-sorted_part part h k d low lt =
-    let n = length-stamps part in
-    let a : get_or (stamps_of part) k 0 < get_or (stamps_of part) (k + 1) 0 = h k (omega arith) in
-    let b = stamp_at part k d 0 (omega arith) in
-    let c = stamp_at part (k + 1) d 0 (omega arith) in
-    le-ltb _ _ (omega arith)
+turns_found : (parts : List (List Stamped)) (ss : List StretchSeen) → AllByRecursion (IsStretchOf parts) ss → map (stamped_at parts) (flat_map turns_in ss) ≡ entries_in ss
+turns_found parts [] w = refl
+turns_found parts (s ∷ ss) w =
+    let rest = turns_found parts ss w.1 in
+    map_append (stamped_at parts) (turns_in s) (flat_map turns_in ss) ∙ (λ i. w.0.found i ++ rest i)
 
-sorted_parts : (parts : List (List Stamped)) → AllByRecursion (λ part. IsStrictlyIncreasing (stamps_of part)) parts → All (IsSortedBy lt_by) parts
-sorted_parts [] h = All-nil (IsSortedBy lt_by)
-sorted_parts (p ∷ ps) h = All-cons (IsSortedBy lt_by) p ps (sorted_part p h.0) (sorted_parts ps h.1)
+are_turns : (parts : List (List Stamped)) (ss : List StretchSeen) → IsCausal parts → IsPermutation (all_from 0 parts) ss → IsSortedBy by_stamp ss → AreTurns (flat_map turns_in ss) parts
+are_turns parts ss causal perm up =
+    let each : AllByRecursion (IsStretchOf parts) (all_from 0 parts) = all_stretches parts 0 parts (λ k lt. let z : 0 + k ≡ k = omega arith in ap (λ n. slice_index_or parts n []) z) in
+    let w : AllByRecursion (IsStretchOf parts) ss = each_all (IsStretchOf parts) ss (λ s i. each_in (IsStretchOf parts) (all_from 0 parts) s each (in_permuted ss (all_from 0 parts) s (IsPermutation-sym _ _ perm) i)) in
+    let all : IsPermutation (all_of parts) (entries_in ss) = subst (λ l. IsPermutation l (entries_in ss)) (all_entries 0 parts) (flat-permutation (λ (s : StretchSeen). s.entries) (all_from 0 parts) ss perm) in
+    let differ = IsDistinct-IsPermutation eqb (λ x y. grind (arith, nat_tests)) _ _ (IsPermutation-map (λ (x : Stamped). x.stamp.0) _ _ all) causal.differ in
+    record {
+      each = each_turn parts ss w;
+      merged = subst (IsMerged parts) (sym (turns_found parts ss w)) (record { all = all; by_stamp = entries_rise parts ss w up differ });
+    }
 
-by_stamp : IsStrictWeakOrder lt_by
-by_stamp = IsStrictWeakOrder-by_number (λ (x : Stamped). x.stamp.0)
+module _ {Y F W : Type 0} (computes : F → (StretchSeen → StretchSeen → Bool) → Type 0) (parts : List (List Stamped)) (it : IntoIter (List StretchSeen) Y) (m n : KMergeBy (List StretchSeen) F W StretchSeen)
+    (xs : List StretchSeen) (lt : StretchSeen → StretchSeen → Bool) where
+  abbrev steps : List StretchSeen → Option StretchSeen → List StretchSeen → Type 0
+  steps = YieldsFirst (λ (l : List StretchSeen). l)
 
-rising_stamps : (xs : List Stamped) → IsSortedBy lt_by xs → IsDistinct eqb (stamps_of xs) → IsStrictlyIncreasing (stamps_of xs)
-rising_stamps xs up differ =
-    IsStrictlyIncreasing-from_distinct (stamps_of xs)
-    (λ i j d le lt.
-    let n = length-stamps xs in
-    let f = sorted_far lt_by by_stamp xs up i j some_stamped le (omega arith) in
-    let g = ltb-false (get_or xs j some_stamped).stamp.0 (get_or xs i some_stamped).stamp.0 f in
-    let b = stamp_at xs i some_stamped d (omega arith) in
-    let c = stamp_at xs j some_stamped d (omega arith) in
-    omega arith) differ
-
-vec_sources : {X Z : Type 0} (gives : Vec X Z → IntoIter X Z → Type 0) → ((u : Vec X Z) (j : IntoIter X Z) → gives u j → into_iter_items j ≡ u.items) → (us : List (Vec X Z))
-    → SourcesGive gives into_iter_steps us (map (λ (u : Vec X Z). u.items) us)
-vec_sources gives f [] = tt
-vec_sources gives f (u ∷ us) = ((λ j g. vec_gives u.items j (f u j g)), vec_sources gives f us)
-
-module _ {Y Z F W : Type 0} (gives : Vec Stamped Z → IntoIter Stamped Z → Type 0) (computes : F → (Stamped → Stamped → Bool) → Type 0)
-    (lists : List (Vec Stamped Z)) (parts : List (List Stamped)) (it : IntoIter (Vec Stamped Z) Y) (m n : KMergeBy (IntoIter Stamped Z) F W Stamped) (xs : List Stamped) (lt : Stamped → Stamped → Bool) where
-  pub merges : map (λ (u : Vec Stamped Z). u.items) lists ≡ parts → IsCausal parts → ((u : Vec Stamped Z) (j : IntoIter Stamped Z) → gives u j → into_iter_items j ≡ u.items)
-      → into_iter_items it ≡ lists → EveryRun into_iter_steps (λ (p : Run (into_iter_steps {X = Vec Stamped Z} {Z = Y})). ItemsAre p (into_iter_items p.from))
-      → ((x y : Stamped) → lt x y ≡ lt_by x y)
-      → WholeRun into_iter_steps it (λ p. (ls : List (List Stamped)) → SourcesGive gives into_iter_steps p.items ls → MergeGivesAll into_iter_steps computes m ls)
-      → WholeRun into_iter_steps it (λ p. IsStrictWeakOrder lt → (ls : List (List Stamped)) → SourcesGive gives into_iter_steps p.items ls → All (IsSortedBy lt) ls → MergeInOrder into_iter_steps computes lt m)
-      → n ≡ m → DrainsIf (kmerge_steps into_iter_steps computes) (Unit {0}) n xs → IsMerged parts xs
-  merges are causal given is runs same items order begins started =
-      let drained = subst (λ m. DrainsIf (kmerge_steps into_iter_steps computes) (Unit {0}) m xs) begins started in
-      let read : (p : Run (into_iter_steps {X = Vec Stamped Z} {Z = Y})) → p.from ≡ it → p.whole ≡ true → p.items ≡ lists = λ p from whole. (runs p p.seen).4 whole ∙ ap into_iter_items from ∙ is in
-      let src : SourcesGive gives into_iter_steps lists parts = subst (SourcesGive gives into_iter_steps lists) are (vec_sources gives given lists) in
-      let alike : lt_by ≡ lt = λ i x y. sym (same x y) i in
-      let perm = merged_items into_iter_steps it gives into_iter_steps computes m lists parts xs read src items drained in
-      let up = merged_order into_iter_steps it gives into_iter_steps computes m lists parts xs lt read src order (subst IsStrictWeakOrder alike by_stamp)
-      (subst (λ lt. All (IsSortedBy lt) parts) alike (sorted_parts parts causal.ascend)) drained in
-      record {
-        all = perm;
-        by_stamp = rising_stamps xs (subst (λ lt. IsSortedBy lt xs) (sym alike) up) (IsDistinct-IsPermutation eqb (λ x y. grind (arith, nat_tests)) _ _ (IsPermutation-map _ _ _ perm) causal.differ);
-      }
-
--- what a vector's `into_iter` gives
-abbrev pub opens : {X Z : Type 0} → Vec X Z → IntoIter X Z → Type 0
-opens {X} {Z} v r = (into_iter_items r ≡ v.items) × (into_iter_len r ≡ vec_len v) × (into_iter_len r < 2 ^ 64) × EveryRun (into_iter_steps {X = X} {Z = Z}) (λ p. ItemsAre p (into_iter_items p.from))
+  pub merges : IsCausal parts → into_iter_items it ≡ stretches_of parts → EveryRun into_iter_steps (λ (p : Run (into_iter_steps {X = List StretchSeen} {Z = Y})). ItemsAre p (into_iter_items p.from))
+      → ((x y : StretchSeen) → lt x y ≡ by_stamp x y)
+      → WholeRun into_iter_steps it (λ p. (ls : List (List StretchSeen)) → SourcesGive (λ (s r : List StretchSeen). r ≡ s) steps p.items ls → MergeGivesAll steps computes m ls)
+      → WholeRun into_iter_steps it (λ p. IsStrictWeakOrder lt → (ls : List (List StretchSeen)) → SourcesGive (λ (s r : List StretchSeen). r ≡ s) steps p.items ls → All (IsSortedBy lt) ls → MergeInOrder steps computes lt m)
+      → n ≡ m → DrainsIf (kmerge_steps steps computes) (Unit {0}) n xs → AreTurns (flat_map turns_in xs) parts
+  merges causal is runs same items order begins started =
+      let drained = subst (λ m. DrainsIf (kmerge_steps steps computes) (Unit {0}) m xs) begins started in
+      let read : (p : Run (into_iter_steps {X = List StretchSeen} {Z = Y})) → p.from ≡ it → p.whole ≡ true → p.items ≡ stretches_of parts = λ p from whole. (runs p p.seen).4 whole ∙ ap into_iter_items from ∙ is in
+      let src = sources_give (stretches_of parts) in
+      let alike : by_stamp ≡ lt = λ i x y. sym (same x y) i in
+      let perm = merged_items into_iter_steps it (λ (s r : List StretchSeen). r ≡ s) steps computes m (stretches_of parts) (stretches_of parts) xs read src drained items in
+      let up = merged_order into_iter_steps it (λ (s r : List StretchSeen). r ≡ s) steps computes m (stretches_of parts) (stretches_of parts) xs read src drained lt order
+      (subst IsStrictWeakOrder alike (IsStrictWeakOrder-by_number (λ (s : StretchSeen). s.stamp))) (subst (λ lt. All (IsSortedBy lt) (stretches_of parts)) alike (sorted_lists 0 parts causal.ascend)) in
+      are_turns parts xs causal perm (subst (λ lt. IsSortedBy lt xs) (sym alike) up)
 
 equal-case : (c : Bool) → is_lt (cond c Equal Greater) ≡ false
 equal-case true = refl

@@ -8,7 +8,7 @@ ghost use Rattle.hx_clock.specs.Views.{IsWhole};
 ghost use Rattle.hx_law_threads.specs.Merged.{AreOwnParts, AreWholeParts, HasOwnParts, HasStampsAsPlaces, IsMerged};
 ghost use Rattle.hx_gather.specs.Gathered.{parts_by, parts_of, CountsAll, IsDrawn, IsSeated};
 
-use crate::arranging::arrange;
+use crate::merging::merge;
 use hx_clock::{Clock, Part, Parts, Seat};
 use hx_trace::Trace;
 use hx_types::{Actor, Memory};
@@ -40,8 +40,8 @@ pub struct Gathered {
 /// that script, and each actor's entries in it are its part: so its state at the end is the one that
 /// it has. Whatever the threads did, the laws over all runs hold of it.
 ///
-/// The entries stay where they lie in their parts: beside these there is memory for the heads of the
-/// trace, for a number for each entry, and for one for each part.
+/// The entries stay where they lie in their parts. What memory there is for beside these is told at
+/// [`merge`].
 pub fn gather(
     alloc: Global,
     clock: Clock,
@@ -60,7 +60,7 @@ pub fn gather(
     ensures own { IfOk result (λ made. (script : Script) → AreOwnParts script (parts_by actors.items) → HasOwnParts (parts_by actors.items) (reverse made.trace)) }
 {
     let (parts, seat) = collect(alloc, clock, seat, actors)?;
-    let trace = arrange(alloc, parts)?;
+    let trace = merge(alloc, parts)?;
     Ok(Gathered { trace, seat })
 }
 

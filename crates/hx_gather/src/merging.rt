@@ -1,39 +1,62 @@
-ghost use Rattle.std.specs.Prelude.{◌≡◌, List, length, map, IfOk};
+ghost use Rattle.std.specs.Prelude.{◌≡◌, ◌<◌, ◌^◌, List, length, map, IfOk};
 ghost use Rattle.hx_clock.specs.declared.parts.Stamped.{Stamped};
 ghost use Rattle.hx_clock.specs.Parts.{all_of, IsCausal};
 ghost use Rattle.hx_law_threads.specs.Merged.{IsMerged};
+ghost use Rattle.hx_gather.specs.Stretches.{stretches_of, AreTurns};
 
-use hx_clock::{Part, Parts, Stamped};
-use hx_trace::Trace;
+use crate::stretches::Stretches;
+use hx_clock::{Part, Parts};
+use hx_trace::{Trace, Turn};
 use hx_types::Memory;
 use itertools::Itertools;
 use std::alloc::Global;
 
-/// All entries of causal parts in the order of their stamps, and nothing else.
+/// All entries of causal parts in the order of their stamps, and nothing else. It moves no entry: each
+/// has its turn, and stays where it lies. What is merged are stretches of entries whose stamps follow one
+/// another, as each thread gives an actor several turns together, and these are fewer than the entries.
+///
+/// Beside the parts there is memory for eight bytes for each entry, and for a stretch of each part. Where
+/// there is not enough, or there are 4,294,967,296 entries or 65,536 parts, the entries are dropped.
 pub fn merge(alloc: Global, parts: Parts) -> Result<Trace, Memory>
     requires causal { IsCausal parts }
     ensures merged { IfOk result (λ trace. (merged : List Stamped) × IsMerged parts merged × (trace ≡ map (λ x. x.entry) merged)) }
 {
-    let entries = entries_in(parts.as_slice())?;
-    let lists = lists_of(alloc, parts)?;
-    merge_lists(alloc, entries, lists)
+    let turns = turns_of(alloc, parts.as_slice())?;
+    Ok(Trace::of_parts(alloc, parts, turns))
 }
 
-// The entries of the lists in the order of their stamps. There is room for the heads of so many before
-// the first is moved.
-fn merge_lists(alloc: Global, entries: usize, lists: Vec<Vec<Stamped>>) -> Result<Trace, Memory>
-    requires causal { IsCausal (map (λ list. list.items) lists.items) }
-    ensures merged { IfOk result (λ trace. (merged : List Stamped) × IsMerged (map (λ list. list.items) lists.items) merged × (trace ≡ map (λ x. x.entry) merged)) }
+/// The turns of all entries, in the order of their stamps.
+fn turns_of(alloc: Global, parts: &[Part]) -> Result<Vec<Turn>, Memory>
+    requires causal { IsCausal parts.now }
+    ensures turns { IfOk result (λ turns. AreTurns turns.items parts.now) }
 {
-    let mut trace = Trace::with_capacity(alloc, entries)?;
-    for stamped in lists.into_iter().kmerge(alloc)? {
-        trace.push(stamped.entry)?;
+    let entries = entries_in(parts)?;
+    if entries > u32::MAX as usize || parts.len() > usize::from(u16::MAX) {
+        return Err(Memory);
     }
-    Ok(trace)
+    let mut turns = Vec::with_capacity(alloc, entries)?;
+    let sources = sources_of(alloc, parts)?;
+    for stretch in sources.into_iter().kmerge(alloc)? {
+        stretch.take_turns(&mut turns)?;
+    }
+    Ok(turns)
 }
 
-// How many entries the parts have. Where they are more than a number can say, there is no memory for them.
-pub(crate) fn entries_in(parts: &[Part]) -> Result<usize, Memory>
+/// The stretches of each part.
+fn sources_of<'a>(alloc: Global, parts: &'a [Part]) -> Result<Vec<Stretches<'a>>, Memory>
+    requires few_entries { length (all_of parts.now) < 2 ^ 32 }
+    requires few_parts { length parts.now < 2 ^ 16 }
+    ensures { IfOk result (λ sources. sources.items ≡ stretches_of parts.now) }
+{
+    let mut sources = Vec::with_capacity(alloc, parts.len())?;
+    for (place, part) in parts.iter().enumerate() {
+        sources.push(Stretches::new(place as u16, part.as_slice()))?;
+    }
+    Ok(sources)
+}
+
+/// How many entries the parts have. Where they are more than a number can say, there is no memory for them.
+fn entries_in(parts: &[Part]) -> Result<usize, Memory>
     ensures { IfOk result (λ entries. entries ≡ length (all_of parts.now)) }
 {
     let mut entries: usize = 0;
@@ -41,15 +64,4 @@ pub(crate) fn entries_in(parts: &[Part]) -> Result<usize, Memory>
         entries = entries.checked_add(part.len()).ok_or(Memory)?;
     }
     Ok(entries)
-}
-
-// The parts as vectors.
-fn lists_of(alloc: Global, parts: Parts) -> Result<Vec<Vec<Stamped>>, Memory>
-    ensures { IfOk result (λ lists. map (λ list. list.items) lists.items ≡ parts) }
-{
-    let mut lists = Vec::new(alloc);
-    for part in parts.into_vec() {
-        lists.push(part.into_vec())?;
-    }
-    Ok(lists)
 }

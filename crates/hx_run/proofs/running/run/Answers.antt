@@ -29,9 +29,9 @@ returns g c =
     record {
       ran =
           ran-of c.args.script.now c.enrol_all.new.clock c.args.workers r.0 r.1 c.in_ok-fault.fault r.2 c.runs_of_drivers_are_paced.ensures.own c.runs_of_drivers_are_paced.ensures.paced c.runs_of_drivers_are_paced.ensures.rested c.runs_of_drivers_are_paced.ensures.ended c.traces_go_on.ensures.more
-          c.in_ok-fault.left.actors.items c.in_ok-fault.left.totals.items c.in_ok-fault.left.ports.items r.3 c.in_ok-trace.trace c.in_ok-trace.ensures.whole c.in_ok-trace.ensures.parts c.in_ok-trace.seat c.in_ok-trace.ensures.clock c.in_ok-trace.ensures.drawn c.in_ok-worn.worn c.in_ok-worn.ensures;
+          c.in_ok-fault.left.actors.items c.in_ok-fault.left.totals.items c.in_ok-fault.left.ports.items r.3 c.in_ok-trace.field-0.trace c.in_ok-trace.ensures.whole c.in_ok-trace.ensures.parts c.in_ok-trace.field-0.seat c.in_ok-trace.ensures.clock c.in_ok-trace.ensures.drawn c.in_ok-worn.worn c.in_ok-worn.ensures;
       fates = r.4;
       risen = λ i f f' t p q s.
           risen-of c.args.script.now c.enrol_all.new.clock c.args.workers r.0 r.1 c.in_ok-fault.fault r.2 c.runs_of_drivers_are_paced.ensures.own c.runs_of_drivers_are_paced.ensures.paced c.runs_of_drivers_are_paced.ensures.rested c.runs_of_drivers_are_paced.ensures.ended c.traces_go_on.ensures.more
-          c.in_ok-fault.left.actors.items c.in_ok-fault.left.totals.items c.in_ok-fault.left.ports.items r.3 c.in_ok-trace.trace c.in_ok-trace.ensures.whole c.in_ok-trace.ensures.parts i t _ _ (λ k e. r.5 i f f' k p q e) s;
+          c.in_ok-fault.left.actors.items c.in_ok-fault.left.totals.items c.in_ok-fault.left.ports.items r.3 c.in_ok-trace.field-0.trace c.in_ok-trace.ensures.whole c.in_ok-trace.ensures.parts i t _ _ (λ k e. r.5 i f f' k p q e) s;
     }
