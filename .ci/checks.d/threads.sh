@@ -17,7 +17,7 @@ done
 
 # On threads every call is answered, whatever is lost or repeated, and as many posts are as the words say. Where several
 # threads lose messages by number, one may lose the same message each time that it is sent again (of 400 runs nine on four
-# threads): such a run is made anew.
+# threads): such a run is made anew. One that loses by a draw ends.
 ran() {
   words=$*
   for _ in 1 2 3 4; do
@@ -41,6 +41,16 @@ ran --workers 4 --lose 7
 for driver in 1 2 3 4; do tells "$driver posts [0-9]+ deliver [0-9]+ lose [1-9][0-9]* twice 0"; done
 ran --workers 4 --repeat 2
 for driver in 1 2 3 4; do tells "$driver posts [0-9]+ deliver [0-9]+ lose 0 twice [1-9][0-9]*"; done
+ran --workers 4 --lose 3 --repeat 5 --seed 7
+for driver in 1 2 3 4; do tells "$driver posts [0-9]+ deliver [0-9]+ lose [1-9][0-9]* twice [1-9][0-9]*"; done
+for seed in 1 2 3; do
+  timeout 20 "$program" run --workers 4 --lose 3 --seed "$seed" <examples/library.hx >/dev/null || complain "hx run --workers 4 --lose 3 --seed $seed fails"
+done
 ran --workers 16
 tells '16 posts [0-9]+ deliver [0-9]+ lose 0 twice 0'
+
+# Additions of two sessions to one number: as many as were done are in it.
+counted=$(hx run --workers 4 <cases/replay/counted_by_two_sessions.hx)
+done_adds=$(grep -c 'atomic .* -> done ' <<<"$counted")
+[[ $counted == *"n=$done_adds"$'\nepoch 1'* ]] || complain "additions on threads don't add up"
 exit "$failed"

@@ -17,7 +17,7 @@ use Rattle.hx_types.specs.declared.messages.Message.{Message}
 use Rattle.hx_types.specs.declared.messages.Post.{Post}
 use Rattle.hx_types.specs.declared.traces.Input.{Input}
 use Rattle.hx_types.specs.declared.calls.Answer.TheVariants as an_answer
-use Rattle.hx_types.specs.declared.calls.Op.TheVariants.{Put, Get, Del, Cput, Search, Stop, Add}
+use Rattle.hx_types.specs.declared.calls.Op.TheVariants.{Put, Get, Del, Cput, Search, Stop, Add, Atomic}
 use Rattle.hx_types.specs.declared.ids.Actor.TheVariants.{Coordinator, Server, Session}
 use Rattle.hx_types.specs.declared.messages.Message.TheVariants as a_message
 use Rattle.hx_types.specs.declared.traces.Input.TheVariants.{Tick, Halt, Deliver}
@@ -185,6 +185,7 @@ module _ (Known : Actor → Type 0) (most : ℕ) where
   does-known i h t task (Get key) f = leaves-known i h t
   does-known i h t task (Del key) f = leaves-known i h t
   does-known i h t task (Cput key tests sets) f = leaves-known i h t
+  does-known i h t task (Atomic key edits) f = leaves-known i h t
   does-known i h t task (Search terms) f = leaves-known i h t
   does-known i h t task (Stop s) f =
       cond_both (server_in s i.config.servers) (leaves i t) (answers_with i t (an_answer.Issued i.config.epoch)) IsKnownIssuing
@@ -359,6 +360,7 @@ module _ (Known : Actor → Type 0) (most : ℕ) where
   die-good test (Get key) f = none-good
   die-good test (Del key) f = none-good
   die-good test (Cput key tests sets) f = none-good
+  die-good test (Atomic key edits) f = none-good
   die-good test (Search terms) f = none-good
   die-good test (Stop s) f = λ p i. one-good (to_server a_message.Die s) (plain-good a_message.Die s (f (Server s) (inl refl)) (λ a j. absurd j) tt) p (in-provided (test s) (to_server a_message.Die s ∷ []) p i).1
   die-good test (Add s g) f = none-good

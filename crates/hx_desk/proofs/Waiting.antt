@@ -4,7 +4,7 @@ use Rattle.std.specs.Prelude.{not, ◌&&◌, ◌||◌}
 use Rattle.std.specs.List.{list_any}
 use Rattle.std.proofs.lemmas.Bool.{and_from, and_parts, cond_both, lt-ltb, ltb-true, not-true, true≢false}
 use Rattle.hx_types.specs.declared.calls.Op.{Op}
-use Rattle.hx_types.specs.declared.calls.Op.TheVariants.{Put, Get, Del, Cput, Search, Stop, Add}
+use Rattle.hx_types.specs.declared.calls.Op.TheVariants.{Put, Get, Del, Cput, Search, Stop, Add, Atomic}
 use Rattle.hx_types.specs.declared.ids.Actor.{Actor}
 use Rattle.hx_types.specs.declared.ids.Actor.TheVariants.{Coordinator, Server, Session}
 use Rattle.hx_types.specs.declared.ids.RegionId.{RegionId}
@@ -64,6 +64,7 @@ send-quiet space s (Cput key tests sets) = to-quiet s (Cput key tests sets) _
 send-quiet space s (Search terms) = ask-quiet s terms _
 send-quiet space s (Stop server) = refl
 send-quiet space s (Add server region) = refl
+send-quiet space s (Atomic key edits) = to-quiet s (Atomic key edits) _
 
 item-there : {A : Type 0} (xs : List A) (k : ℕ) → k < length xs → (x : A) × (slice_get xs k ≡ Some x)
 item-there [] k lt = absurd (omega (arith, lt))

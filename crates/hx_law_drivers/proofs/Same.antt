@@ -1,5 +1,5 @@
 -- Two posts with their names are the same or not.
-use Rattle.std.proofs.Common.{◌≡◌, ℕ, ◌⊎◌, inl, inr, List, Option, None, Some, ℤ, refl, ap, sym, ◌∙◌}
+use Rattle.std.proofs.Common.{◌≡◌, ℕ, zero, suc, ◌⊎◌, inl, inr, List, Option, None, Some, ℤ, refl, ap, sym, ◌∙◌}
 use Rattle.std.proofs.Math.Bool.{Bool-discrete}
 use Rattle.std.proofs.Math.Decide.{ℕ_discrete}
 use Rattle.std.proofs.Math.IntN.{ℤ_discrete}
@@ -30,6 +30,9 @@ use Rattle.hx_types.specs.declared.snapshots.Touch.{Touch}
 use Rattle.hx_types.specs.declared.updates.Place.{Place}
 use Rattle.hx_types.specs.declared.updates.Update.{Update}
 use Rattle.hx_types.specs.declared.values.Assign.{Assign}
+use Rattle.hx_types.specs.declared.values.Edit.{Edit}
+use Rattle.hx_types.specs.declared.values.EditKind.{EditKind}
+use Rattle.hx_types.specs.declared.values.EditKind.TheVariants as an_edit
 use Rattle.hx_types.specs.declared.values.Term.{Term}
 use Rattle.hx_types.specs.declared.values.Term.TheVariants as a_term
 use Rattle.hx_types.specs.declared.values.Value.{Value}
@@ -143,6 +146,29 @@ term_back (a_term.Range i lo hi) = refl
 term : Discrete Term
 term = by_code term_code term_of term_back (either (both ℕ_discrete value) (both ℕ_discrete (both ℤ_discrete ℤ_discrete)))
 
+-- the code of a kind of edits is its place among them
+abbrev kind_code : EditKind → ℕ
+kind_code an_edit.Add = 0
+kind_code an_edit.Append = 1
+kind_code an_edit.Min = 2
+kind_code an_edit.Max = 3
+
+abbrev kind_of : ℕ → EditKind
+kind_of zero = an_edit.Add
+kind_of (suc zero) = an_edit.Append
+kind_of (suc (suc zero)) = an_edit.Min
+kind_of (suc (suc (suc n))) = an_edit.Max
+
+kind_back : (x : EditKind) → kind_of (kind_code x) ≡ x
+kind_back an_edit.Add = refl
+kind_back other = refl
+
+kind : Discrete EditKind
+kind = by_code kind_code kind_of kind_back ℕ_discrete
+
+edit : Discrete Edit
+edit = by_code (λ (x : Edit). (x.what, (x.attribute, x.value))) (λ t. record { what = t.0; attribute = t.1.0; value = t.1.1 }) (λ x. refl) (both kind (both ℕ_discrete value))
+
 object : Discrete (List Value)
 object = listed value
 
@@ -151,7 +177,7 @@ row = by_code (λ (x : Row). (x.key, (x.version, x.object))) (λ t. record { key
 
 -- ---- calls, updates, configurations and snapshots
 abbrev OpCode : Type 0
-OpCode = (List ℕ × List Assign) ⊎ (List ℕ ⊎ (List ℕ ⊎ ((List ℕ × (List Assign × List Assign)) ⊎ (List Term ⊎ (ServerId ⊎ (ServerId × RegionId))))))
+OpCode = (List ℕ × List Assign) ⊎ (List ℕ ⊎ (List ℕ ⊎ ((List ℕ × (List Assign × List Assign)) ⊎ (List Term ⊎ (ServerId ⊎ ((ServerId × RegionId) ⊎ (List ℕ × List Edit)))))))
 
 abbrev op_code : Op → OpCode
 op_code (an_op.Put k sets) = inl (k, sets)
@@ -160,7 +186,8 @@ op_code (an_op.Del k) = inr (inr (inl k))
 op_code (an_op.Cput k tests sets) = inr (inr (inr (inl (k, (tests, sets)))))
 op_code (an_op.Search ts) = inr (inr (inr (inr (inl ts))))
 op_code (an_op.Stop s) = inr (inr (inr (inr (inr (inl s)))))
-op_code (an_op.Add s g) = inr (inr (inr (inr (inr (inr (s, g))))))
+op_code (an_op.Add s g) = inr (inr (inr (inr (inr (inr (inl (s, g)))))))
+op_code (an_op.Atomic k edits) = inr (inr (inr (inr (inr (inr (inr (k, edits)))))))
 
 abbrev op_of : OpCode → Op
 op_of (inl t) = an_op.Put t.0 t.1
@@ -169,17 +196,18 @@ op_of (inr (inr (inl k))) = an_op.Del k
 op_of (inr (inr (inr (inl t)))) = an_op.Cput t.0 t.1.0 t.1.1
 op_of (inr (inr (inr (inr (inl ts))))) = an_op.Search ts
 op_of (inr (inr (inr (inr (inr (inl s)))))) = an_op.Stop s
-op_of (inr (inr (inr (inr (inr (inr t)))))) = an_op.Add t.0 t.1
+op_of (inr (inr (inr (inr (inr (inr (inl t))))))) = an_op.Add t.0 t.1
+op_of (inr (inr (inr (inr (inr (inr (inr t))))))) = an_op.Atomic t.0 t.1
 
 op_back : (x : Op) → op_of (op_code x) ≡ x
 op_back (an_op.Put k sets) = refl
 op_back other = refl
 
 op : Discrete Op
-op = by_code op_code op_of op_back (either (both text (listed assign)) (either text (either text (either (both text (both (listed assign) (listed assign))) (either (listed term) (either server (both server region)))))))
+op = by_code op_code op_of op_back (either (both text (listed assign)) (either text (either text (either (both text (both (listed assign) (listed assign))) (either (listed term) (either server (either (both server region) (both text (listed edit)))))))))
 
 abbrev AnswerCode : Type 0
-AnswerCode = ℕ ⊎ (ℕ ⊎ (ℕ ⊎ (List Value ⊎ (List Row ⊎ ((RegionId × Epoch) ⊎ ((RegionId × Epoch) ⊎ (Epoch ⊎ (Epoch ⊎ (Epoch ⊎ (Epoch ⊎ Epoch))))))))))
+AnswerCode = ℕ ⊎ (ℕ ⊎ (ℕ ⊎ (List Value ⊎ (List Row ⊎ ((RegionId × Epoch) ⊎ ((RegionId × Epoch) ⊎ (Epoch ⊎ (Epoch ⊎ (Epoch ⊎ (Epoch ⊎ (Epoch ⊎ (ℕ ⊎ ℕ))))))))))))
 
 abbrev answer_code : Answer → AnswerCode
 answer_code an_answer.Done = inl 0
@@ -193,7 +221,9 @@ answer_code (an_answer.Issued e) = inr (inr (inr (inr (inr (inr (inr (inl e)))))
 answer_code (an_answer.Stopped e) = inr (inr (inr (inr (inr (inr (inr (inr (inl e))))))))
 answer_code (an_answer.Member e) = inr (inr (inr (inr (inr (inr (inr (inr (inr (inl e)))))))))
 answer_code (an_answer.Joining e) = inr (inr (inr (inr (inr (inr (inr (inr (inr (inr (inl e))))))))))
-answer_code (an_answer.Lost e) = inr (inr (inr (inr (inr (inr (inr (inr (inr (inr (inr e))))))))))
+answer_code (an_answer.Lost e) = inr (inr (inr (inr (inr (inr (inr (inr (inr (inr (inr (inl e)))))))))))
+answer_code an_answer.Overflow = inr (inr (inr (inr (inr (inr (inr (inr (inr (inr (inr (inr (inl 0))))))))))))
+answer_code an_answer.TooLong = inr (inr (inr (inr (inr (inr (inr (inr (inr (inr (inr (inr (inr 0))))))))))))
 
 abbrev answer_of : AnswerCode → Answer
 answer_of (inl n) = an_answer.Done
@@ -207,14 +237,16 @@ answer_of (inr (inr (inr (inr (inr (inr (inr (inl e)))))))) = an_answer.Issued e
 answer_of (inr (inr (inr (inr (inr (inr (inr (inr (inl e))))))))) = an_answer.Stopped e
 answer_of (inr (inr (inr (inr (inr (inr (inr (inr (inr (inl e)))))))))) = an_answer.Member e
 answer_of (inr (inr (inr (inr (inr (inr (inr (inr (inr (inr (inl e))))))))))) = an_answer.Joining e
-answer_of (inr (inr (inr (inr (inr (inr (inr (inr (inr (inr (inr e))))))))))) = an_answer.Lost e
+answer_of (inr (inr (inr (inr (inr (inr (inr (inr (inr (inr (inr (inl e)))))))))))) = an_answer.Lost e
+answer_of (inr (inr (inr (inr (inr (inr (inr (inr (inr (inr (inr (inr (inl n))))))))))))) = an_answer.Overflow
+answer_of (inr (inr (inr (inr (inr (inr (inr (inr (inr (inr (inr (inr (inr n))))))))))))) = an_answer.TooLong
 
 answer_back : (x : Answer) → answer_of (answer_code x) ≡ x
 answer_back an_answer.Done = refl
 answer_back other = refl
 
 answer : Discrete Answer
-answer = by_code answer_code answer_of answer_back (either ℕ_discrete (either ℕ_discrete (either ℕ_discrete (either object (either (listed row) (either (both region epoch) (either (both region epoch) (either epoch (either epoch (either epoch (either epoch epoch)))))))))))
+answer = by_code answer_code answer_of answer_back (either ℕ_discrete (either ℕ_discrete (either ℕ_discrete (either object (either (listed row) (either (both region epoch) (either (both region epoch) (either epoch (either epoch (either epoch (either epoch (either epoch (either ℕ_discrete ℕ_discrete)))))))))))))
 
 caller : Discrete Caller
 caller = by_code (λ (x : Caller). (x.session, x.number)) (λ t. record { session = t.0; number = t.1 }) (λ x. refl) (both session ℕ_discrete)

@@ -11,7 +11,7 @@ use Rattle.hx_types.specs.declared.ids.Version.{Version}
 use Rattle.hx_types.specs.declared.traces.Entry.{Entry}
 use Rattle.hx_types.specs.declared.traces.Script.{Script}
 use Rattle.hx_types.specs.declared.calls.Answer.TheVariants as an_answer
-use Rattle.hx_types.specs.declared.calls.Op.TheVariants.{Put, Get, Del, Cput, Search, Stop, Add}
+use Rattle.hx_types.specs.declared.calls.Op.TheVariants.{Stop, Add}
 use Rattle.hx_types.specs.declared.ids.Actor.TheVariants.{Session}
 use Rattle.hx_types.specs.declared.traces.Note.TheVariants as a_note
 use Rattle.hx_types.specs.Words.{IsIn}
@@ -68,36 +68,26 @@ module _ (script : Script) (valid : IsScript script) (none : NoneAdministers scr
       where
         no-key : (w : Op) (key : List ℕ) → key_of w ≡ Some key → key_of w ≡ None → ⊥
         no-key w key p q = let r : Some key ≡ None = sym p ∙ q in cc
-    plain an_answer.NotFound k h = record { not_refused = refl; not_doubt = refl; rows = λ e. absurd (let r : Some h.key ≡ None = sym h.on_key ∙ e in cc) }
-    plain an_answer.CmpFail k h = record { not_refused = refl; not_doubt = refl; rows = λ e. absurd (let r : Some h.key ≡ None = sym h.on_key ∙ e in cc) }
-    plain (an_answer.Found object) k h = record { not_refused = refl; not_doubt = refl; rows = λ e. absurd (let r : Some h.key ≡ None = sym h.on_key ∙ e in cc) }
     plain (an_answer.Rows rows) k h = record { not_refused = refl; not_doubt = refl; rows = λ e. refl }
     plain (an_answer.Issued epoch) k h = absurd (not-issued op (none c op called) h.config h.fulfilled)
       where
         not-issued : (w : Op) → is_administrative w ≡ false → (config : Config) → is_fulfilled w config ≡ true → ⊥
-        not-issued (Put key sets) a config t = false≢true t
-        not-issued (Get key) a config t = false≢true t
-        not-issued (Del key) a config t = false≢true t
-        not-issued (Cput key tests sets) a config t = false≢true t
-        not-issued (Search terms) a config t = false≢true t
         not-issued (Stop s) a config t = false≢true (sym a)
         not-issued (Add s g) a config t = false≢true (sym a)
+        not-issued other a config t = false≢true t
     plain (an_answer.Stopped epoch) k h = absurd (not-named op (none c op called) h.server h.named)
       where
         not-named : (w : Op) → is_administrative w ≡ false → (s : ServerId) → server_named w ≡ Some s → ⊥
-        not-named (Put key sets) a s t = cc
-        not-named (Get key) a s t = cc
-        not-named (Del key) a s t = cc
-        not-named (Cput key tests sets) a s t = cc
-        not-named (Search terms) a s t = cc
         not-named (Stop i) a s t = false≢true (sym a)
         not-named (Add i g) a s t = false≢true (sym a)
+        not-named other a s t = cc
     plain (an_answer.Member epoch) k h = absurd (not-add h.server h.region h.adds)
       where
         not-add : (s : ServerId) (g : RegionId) → op ≡ Add s g → ⊥
         not-add s g e = false≢true (sym (none c op called) ∙ ap is_administrative e)
     plain (an_answer.Joining epoch) k h = absurd (false≢true (sym (none c op called) ∙ ap is_administrative h.adds))
     plain (an_answer.Lost epoch) k h = absurd (false≢true (sym (none c op called) ∙ ap is_administrative h.adds))
+    plain other k h = record { not_refused = refl; not_doubt = refl; rows = λ e. absurd (let r : Some h.key ≡ None = sym h.on_key ∙ e in cc) }
 
   -- so is the answer of each call that ended
   pub answers-plain : (c : Caller) (op : Op) → call_of script c ≡ Some op → (begin : ℕ) → begin_of c trace ≡ Some begin → (v : Version) (a : Answer) (n : ℕ) → EndedAt trace c v a n → IsPlain op a

@@ -17,7 +17,7 @@ use Rattle.hx_types.specs.declared.traces.Entry.{Entry}
 use Rattle.hx_types.specs.declared.traces.Script.{Script}
 use Rattle.hx_types.specs.declared.values.Value.{Value}
 use Rattle.hx_types.specs.declared.calls.Answer.TheVariants as an_answer
-use Rattle.hx_types.specs.declared.calls.Op.TheVariants.{Put, Get, Del, Cput, Search, Stop, Add}
+use Rattle.hx_types.specs.declared.calls.Op.TheVariants.{Get, Del, Cput, Atomic}
 use Rattle.hx_types.specs.Effects.{effect_of, key_of, put_where, tests_hold}
 use Rattle.hx_types.specs.Fitting.{is_cmp_fail, is_done, is_found, is_not_found, is_rows}
 use Rattle.hx_types.specs.Posts.{keys_ascend}
@@ -26,6 +26,7 @@ use Rattle.hx_model.specs.Histories.{CallEnd, callers_of, history_of, record_at,
 use Rattle.hx_model.specs.Legal.{object_now}
 use Rattle.hx_history.specs.declared.key_histories.KeyHistory.{KeyHistory}
 use Rattle.hx_history.specs.Listed.{AreHistories, IsHistory, keys_of_histories}
+use Rattle.hx_law_lemmas.proofs.Edits.{atomic-both}
 use Rattle.hx_law_lemmas.proofs.Lists.{all-in}
 use Rattle.hx_law_lemmas.proofs.Texts.{Ascend, below-differs}
 use Rattle.hx_soak.specs.Soaking.{script_drawn, soak}
@@ -81,7 +82,6 @@ field a_count.Search t = t.searches
 
 -- an effect is answered without rows
 effect-no-rows : (space : Space) (old : Option (List Value)) (op : Op) → is_rows (effect_of space old op).answer ≡ false
-effect-no-rows space old (Put key sets) = refl
 effect-no-rows space None (Get key) = refl
 effect-no-rows space (Some v) (Get key) = refl
 effect-no-rows space None (Del key) = refl
@@ -92,9 +92,8 @@ effect-no-rows space (Some v) (Cput key tests sets) = by (tests_hold v tests) re
     by : (b : Bool) → tests_hold v tests ≡ b → is_rows (put_where (Some v) tests sets).answer ≡ false
     by true e = cond_both (tests_hold v tests) _ _ (λ (f : Effect). is_rows f.answer ≡ false) (λ t. refl) (λ t. refl)
     by false e = cond_both (tests_hold v tests) _ _ (λ (f : Effect). is_rows f.answer ≡ false) (λ t. refl) (λ t. refl)
-effect-no-rows space old (Search terms) = refl
-effect-no-rows space old (Stop server) = refl
-effect-no-rows space old (Add server region) = refl
+effect-no-rows space old (Atomic key edits) = atomic-both (λ (e : Effect). is_rows e.answer ≡ false) space old key edits (λ object. refl) refl (λ object. refl) (λ object. refl)
+effect-no-rows space old other = refl
 
 -- one more call on a key is counted by its answer
 counts-effect : (what : Counted) (t : Tally) (key : List ℕ) (old : Option (List Value)) (op : Op) → field what (with_effect t key (effect_of soak old op)) ≡ field what t + one_if (passes what (effect_of soak old op).answer)
@@ -107,23 +106,13 @@ counts-effect a_count.Search t key old op = let e : one_if (is_rows (effect_of s
 
 -- one more search by its rows
 counts-search : (what : Counted) (t : Tally) (a : Answer) → is_rows a ≡ true → field what (with_search t) ≡ field what t + one_if (passes what a)
-counts-search what t an_answer.Done e = absurd (false≢true e)
-counts-search what t an_answer.NotFound e = absurd (false≢true e)
-counts-search what t an_answer.CmpFail e = absurd (false≢true e)
-counts-search what t (an_answer.Found object) e = absurd (false≢true e)
-counts-search what t (an_answer.Refused region epoch) e = absurd (false≢true e)
-counts-search what t (an_answer.Doubt region epoch) e = absurd (false≢true e)
-counts-search what t (an_answer.Issued epoch) e = absurd (false≢true e)
-counts-search what t (an_answer.Stopped epoch) e = absurd (false≢true e)
-counts-search what t (an_answer.Member epoch) e = absurd (false≢true e)
-counts-search what t (an_answer.Joining epoch) e = absurd (false≢true e)
-counts-search what t (an_answer.Lost epoch) e = absurd (false≢true e)
 counts-search a_count.Ended t (an_answer.Rows rows) e = refl
 counts-search a_count.Done t (an_answer.Rows rows) e = omega arith
 counts-search a_count.NotFound t (an_answer.Rows rows) e = omega arith
 counts-search a_count.CmpFail t (an_answer.Rows rows) e = omega arith
 counts-search a_count.Found t (an_answer.Rows rows) e = omega arith
 counts-search a_count.Search t (an_answer.Rows rows) e = refl
+counts-search what t other e = absurd (false≢true e)
 
 -- ---- objects of histories
 

@@ -2,42 +2,83 @@ use crate::parts::{is_printed, list, script_of, shared_list, text};
 use hx_report::*;
 use hx_trace::Trace;
 use hx_types::{
-    Actor, Answer, Assign, Caller, Entry, Epoch, Input, Message, Note, Op, Places, Post, PostId,
-    Posts, ServerId, SessionId, Shared, Totals, Update, Value, Version,
+    Actor, Answer, Assign, Caller, Edit, EditKind, Entry, Epoch, Input, Message, Note, Op, Places,
+    Post, PostId, Posts, ServerId, SessionId, Shared, Totals, Update, Value, Version,
 };
 use std::process::Abort;
 
 /// One session with a put.
-const SCRIPT: &str =
+const PUT: &str =
     "hx 1\nspace one\nkey k 1\nstring v\nservers 1\ntolerate 0\nsession 1\nput \"a\" v=\"x\"\n";
+
+/// One session with an atomic operation.
+const ATOMIC: &str =
+    "hx 1\nspace one\nkey k 1\nstring v\nservers 1\ntolerate 0\nsession 1\natomic \"a\" append v=\"x\"\n";
 
 const SESSION: Actor = Actor::Session(SessionId(1));
 
 const SERVER: Actor = Actor::Server(ServerId(1));
 
-/// The session's call: `put "a" v="x"`.
-fn asked<R: Abort + AllocGlobal>(rt: &R) -> Message {
-    let attribute = 1;
-    let value = Value::Text(text(rt, "x"));
-    let sets = shared_list(rt, [Assign { attribute, value }]);
-    let key = text(rt, "a");
+/// The session's call.
+#[derive(Clone, Copy)]
+enum Call {
+    /// `put "a" v="x"`, which is done.
+    Put,
+    /// `atomic "a" append v="x"`, of which the text is too long.
+    Append,
+}
+
+impl Call {
+    fn op<R: Abort + AllocGlobal>(self, rt: &R) -> Op {
+        let key = text(rt, "a");
+        let attribute = 1;
+        let value = Value::Text(text(rt, "x"));
+        match self {
+            Call::Put => Op::Put {
+                key,
+                sets: shared_list(rt, [Assign { attribute, value }]),
+            },
+            Call::Append => {
+                let what = EditKind::Append;
+                let edit = Edit {
+                    what,
+                    attribute,
+                    value,
+                };
+                Op::Atomic {
+                    key,
+                    edits: shared_list(rt, [edit]),
+                }
+            }
+        }
+    }
+
+    fn answer(self) -> Answer {
+        match self {
+            Call::Put => Answer::Done,
+            Call::Append => Answer::TooLong,
+        }
+    }
+}
+
+fn asked<R: Abort + AllocGlobal>(rt: &R, call: Call) -> Message {
     Message::Call {
         epoch: Epoch(1),
         number: 1,
-        op: Shared::new(rt.alloc(), Op::Put { key, sets }).expect(rt, "memory"),
+        op: Shared::new(rt.alloc(), call.op(rt)).expect(rt, "memory"),
     }
 }
 
-fn replied() -> Message {
+fn replied(call: Call) -> Message {
     Message::Reply {
         number: 1,
         version: Version(1),
-        answer: Answer::Done,
+        answer: call.answer(),
     }
 }
 
-/// The server assigns the update of the put.
-fn assigned<R: Abort + AllocGlobal>(rt: &R) -> Note {
+/// The server assigns the update of the call.
+fn assigned<R: Abort + AllocGlobal>(rt: &R, call: Call) -> Note {
     let object = shared_list(rt, [Value::Text(text(rt, "x"))]);
     let update = Update {
         key: text(rt, "a"),
@@ -46,8 +87,8 @@ fn assigned<R: Abort + AllocGlobal>(rt: &R) -> Note {
             session: SessionId(1),
             number: 1,
         },
-        answer: Answer::Done,
-        changes: true,
+        answer: call.answer(),
+        changes: matches!(call, Call::Put),
         object: Some(object),
         places: Places::new(rt.alloc()),
     };
@@ -56,16 +97,16 @@ fn assigned<R: Abort + AllocGlobal>(rt: &R) -> Note {
 }
 
 /// The session begins its call, the server assigns the update and replies, and the call ends.
-fn entries<R: Abort + AllocGlobal>(rt: &R) -> [Entry; 3] {
+fn entries<R: Abort + AllocGlobal>(rt: &R, call: Call) -> [Entry; 3] {
     let asking = Post {
         from: SESSION,
         to: SERVER,
-        message: asked(rt),
+        message: asked(rt, call),
     };
     let replying = Post {
         from: SERVER,
         to: SESSION,
-        message: replied(),
+        message: replied(call),
     };
     let begins = Entry {
         actor: SESSION,
@@ -79,19 +120,19 @@ fn entries<R: Abort + AllocGlobal>(rt: &R) -> [Entry; 3] {
         input: Input::Deliver {
             id,
             from: SESSION,
-            message: asked(rt),
+            message: asked(rt, call),
         },
         outputs: list(rt, [replying]),
-        notes: list(rt, [assigned(rt)]),
+        notes: list(rt, [assigned(rt, call)]),
     };
     let id = PostId { entry: 2, place: 0 };
-    let (number, version, answer) = (1, Version(1), Answer::Done);
+    let (number, version, answer) = (1, Version(1), call.answer());
     let ends = Entry {
         actor: SESSION,
         input: Input::Deliver {
             id,
             from: SERVER,
-            message: replied(),
+            message: replied(call),
         },
         outputs: Posts::new(rt.alloc()),
         notes: list(
@@ -106,7 +147,7 @@ fn entries<R: Abort + AllocGlobal>(rt: &R) -> [Entry; 3] {
     [begins, replies, ends]
 }
 
-const LINES: &str = "report 1\n\
+const PUT_LINES: &str = "report 1\n\
     space one\n\
     key k 1\n\
     string v\n\
@@ -124,12 +165,30 @@ const LINES: &str = "report 1\n\
     driver 1 posts 2 deliver 2 lose 0 twice 0\n\
     end\n";
 
-#[test]
-fn reports_a_put_with_its_trace(rt: HostRuntime) {
-    let script = script_of(&rt, SCRIPT);
+const ATOMIC_LINES: &str = "report 1\n\
+    space one\n\
+    key k 1\n\
+    string v\n\
+    servers 1\n\
+    tolerate 0\n\
+    call u1.1 begin 1 end 3 atomic \"a\" append v=\"x\" -> toolong version 1\n\
+    history \"a\"\n\
+    item 1 u1.1 toolong present v=\"x\"\n\
+    epoch 1 servers 1 lost -\n\
+    entry 1 u1 tick\n\
+    post 1.0 s1 call epoch 1 number 1\n\
+    entry 2 s1 deliver 1.0\n\
+    post 2.0 u1 reply number 1 version 1\n\
+    entry 3 u1 deliver 2.0\n\
+    driver 1 posts 2 deliver 2 lose 0 twice 0\n\
+    end\n";
+
+/// Whether the report of the script with the trace of the call has these lines.
+fn is_reported<R: Abort + AllocGlobal>(rt: &R, call: Call, script: &str, lines: &str) -> bool {
+    let script = script_of(rt, script);
     let mut trace = Trace::new(rt.alloc());
-    for entry in list(&rt, entries(&rt)).into_vec() {
-        trace.push(entry).expect(&rt, "memory");
+    for entry in list(rt, entries(rt, call)).into_vec() {
+        trace.push(entry).expect(rt, "memory");
     }
     let totals = Totals {
         posts: 2,
@@ -140,5 +199,15 @@ fn reports_a_put_with_its_trace(rt: HostRuntime) {
     let reported = report(rt.alloc(), &script, &trace, &[totals], true);
     drop(trace);
     drop(script);
-    assert!(rt; is_printed(reported, LINES));
+    is_printed(reported, lines)
+}
+
+#[test]
+fn reports_a_put_with_its_trace(rt: HostRuntime) {
+    assert!(rt; is_reported(&rt, Call::Put, PUT, PUT_LINES));
+}
+
+#[test]
+fn reports_a_text_that_is_too_long(rt: HostRuntime) {
+    assert!(rt; is_reported(&rt, Call::Append, ATOMIC, ATOMIC_LINES));
 }

@@ -1,4 +1,4 @@
-use crate::parts::{list, shared_list, text};
+use crate::parts::{edits, list, shared_list, text};
 use hx_legal::*;
 use hx_types::{
     Answer, Assign, Assigns, Attribute, Caller, Item, Items, Kind, Object, Op, SessionId, Space,
@@ -46,7 +46,11 @@ fn cput<R: Abort + AllocGlobal>(rt: &R, wanted: &str) -> Op {
 }
 
 fn book<R: Abort + AllocGlobal>(rt: &R, year: i64) -> Object {
-    let genre = Value::Text(text(rt, "b"));
+    book_of(rt, "b", year)
+}
+
+fn book_of<R: Abort + AllocGlobal>(rt: &R, genre: &str, year: i64) -> Object {
+    let genre = Value::Text(text(rt, genre));
     shared_list(rt, [genre, Value::Int(year)])
 }
 
@@ -101,4 +105,52 @@ fn the_first_fault_of_a_history_is_found(rt: HostRuntime) {
         assert!(rt; is_legal == fault.is_none(), "{year}");
         assert!(rt; first == fault, "{year}");
     }
+}
+
+/// Whether an atomic operation that appends `c` to the genre and adds to the year of a book of
+/// genre `b` and 1900, is answered so and leaves this book is legal.
+fn are_legal_edits<R: Abort + AllocGlobal>(
+    rt: &R,
+    years: i64,
+    answer: Answer,
+    after: Object,
+) -> bool {
+    let space = books(rt);
+    let put = Op::Put {
+        key: text(rt, "a"),
+        sets: genre(rt, "b"),
+    };
+    let put = item(put, Answer::Done, Some(book(rt, 1900)));
+    let atomic = Op::Atomic {
+        key: text(rt, "a"),
+        edits: edits(rt, years),
+    };
+    let edited = item(atomic, answer, Some(after));
+    let items = list(rt, [put, edited]);
+    let is_legal = legal(&space, items.as_slice());
+    drop(items);
+    drop(space);
+    is_legal
+}
+
+/// Both edits are made, none is forgotten, and bytes are compared.
+#[test]
+fn edits_are_all_made(rt: HostRuntime) {
+    let both = are_legal_edits(&rt, 100, Answer::Done, book_of(&rt, "bc", 2000));
+    let first = are_legal_edits(&rt, 100, Answer::Done, book_of(&rt, "bc", 1900));
+    let swapped = are_legal_edits(&rt, 100, Answer::Done, book_of(&rt, "cb", 2000));
+    assert!(rt; both);
+    assert!(rt; !first);
+    assert!(rt; !swapped);
+}
+
+/// Where one edit can't be made, none is, and the answer says why.
+#[test]
+fn edits_fail_together(rt: HostRuntime) {
+    let none = are_legal_edits(&rt, i64::MAX, Answer::Overflow, book(&rt, 1900));
+    let first = are_legal_edits(&rt, i64::MAX, Answer::Overflow, book_of(&rt, "bc", 1900));
+    let other = are_legal_edits(&rt, i64::MAX, Answer::TooLong, book(&rt, 1900));
+    assert!(rt; none);
+    assert!(rt; !first);
+    assert!(rt; !other);
 }

@@ -1,4 +1,4 @@
-use crate::parts::{list, shared_list, text};
+use crate::parts::{edits, list, shared_list, text};
 use hx_types::*;
 use std::mem::size_of;
 use std::process::Abort;
@@ -95,12 +95,39 @@ fn operations_have_effects(rt: HostRuntime) {
     let got = effect_on(&rt, put.object.as_ref(), Op::Get { key });
     drop(put);
     let is_found = match &got.answer {
-        Answer::Found(object) => {
-            matches!(object.as_slice(), [Value::Text(g), Value::Int(y)] if g.as_str() == "b" && *y == 1900)
-        }
+        Answer::Found(object) => is_object(Some(object), "b", 1900),
         _ => false,
     };
     drop(got);
     assert!(rt; is_done);
     assert!(rt; is_found);
+}
+
+/// Whether the object is there and has this text and this number.
+fn is_object(object: Option<&Object>, genre: &str, year: i64) -> bool {
+    let Some(object) = object else {
+        return false;
+    };
+    matches!(object.as_slice(), [Value::Text(g), Value::Int(y)] if g.as_str() == genre && *y == year)
+}
+
+/// The edits of the text and of the number are both made, or none is where the sum has no room.
+#[test]
+fn edits_have_effects(rt: HostRuntime) {
+    let before = shared_list(&rt, [Value::Text(text(&rt, "b")), Value::Int(1900)]);
+    let (key, all) = (text(&rt, "a"), edits(&rt, 100));
+    let made = effect_on(&rt, Some(&before), Op::Atomic { key, edits: all });
+    let (key, all) = (text(&rt, "a"), edits(&rt, i64::MAX));
+    let left = effect_on(&rt, Some(&before), Op::Atomic { key, edits: all });
+    drop(before);
+    let is_made = made.changes
+        && matches!(&made.answer, Answer::Done)
+        && is_object(made.object.as_ref(), "bc", 2000);
+    let is_left = !left.changes
+        && matches!(&left.answer, Answer::Overflow)
+        && is_object(left.object.as_ref(), "b", 1900);
+    drop(made);
+    drop(left);
+    assert!(rt; is_made);
+    assert!(rt; is_left);
 }

@@ -1,6 +1,7 @@
 use Rattle.std.proofs.Common.{◌≡◌, ◌∙◌, sym, subst, [], append-nil, false}
 use Rattle.hx_types.specs.declared.ids.Actor.{Actor}
 use Rattle.hx_model.specs.Runs.{has_halted}
+use Rattle.hx_fate.specs.States.{untouched}
 use Rattle.hx_desk.specs.Desks.{entries_before}
 use Rattle.hx_desk.specs.Turns.{IsFaultOf}
 use Rattle.hx_desk.proofs.Results.{match-map}
@@ -35,14 +36,14 @@ returns-then-halted-clause-turn g c =
 
 pub returns-then-halted-clause-retries : goal.returns-then-halted-clause-retries
 returns-then-halted-clause-retries g c =
-    no-retry-none c.args.desk.now c.discard.new.desk (c.discard.ensures.taken.part ∙ (c.resend.ensures.turn (record { chosen = 0; lost = 0; doubled = 0 })).part ∙ append-nil _)
+    no-retry-none c.args.desk.now c.discard.new.desk (c.discard.ensures.taken.part ∙ (c.resend.ensures.turn untouched).part ∙ append-nil _)
 
 pub answer-requires-clause-desk : goal.answer-requires-clause-desk
 answer-requires-clause-desk g c =
     let w = c.requires.desk.0 in
     let h = c.requires.desk.1 in
     let d = c.resend.new.desk in
-    let r = c.resend.ensures.turn (record { chosen = 0; lost = 0; doubled = 0 }) in
+    let r = c.resend.ensures.turn untouched in
     let runs = sym (c.halted.ensures c.args.script.now d.actor (entries_before d.part.items) (c.resend.ensures.desk w h.rest h.desk).machine) ∙ c.if-halted.false in
     let ran = at-same (λ (a : Actor) xs. has_halted c.args.script.now (entries_before xs) a ≡ false) d.actor c.args.desk.now.actor d.part.items c.args.desk.now.part.items (sym r.later.actor) (sym (r.part ∙ append-nil _)) runs in
     (w, c.resend.ensures.desk w [] (whole-running c.args.script.now c.args.clock.now c.args.boxes.now w c.args.desk.now h ran))
@@ -55,12 +56,12 @@ answer-requires-clause-running g c =
     sym (c.halted.ensures c.args.script.now d.actor (entries_before d.part.items) (c.resend.ensures.desk w h.rest h.desk).machine) ∙ c.if-halted.false
 
 pub answer-requires-clause-out : goal.answer-requires-clause-out
-answer-requires-clause-out g c = (c.resend.ensures.turn (record { chosen = 0; lost = 0; doubled = 0 })).out.0
+answer-requires-clause-out g c = (c.resend.ensures.turn untouched).out.0
 
 pub returns-else-halted-clause-desk : goal.returns-else-halted-clause-desk
 returns-else-halted-clause-desk g c =
     let d = c.resend.new.desk in
-    let r = c.resend.ensures.turn (record { chosen = 0; lost = 0; doubled = 0 }) in
+    let r = c.resend.ensures.turn untouched in
     let s = c.args.script.now in
     match-map _ _ _ _ c.answer.result
     (λ _ k w h.
@@ -79,4 +80,4 @@ returns-else-halted-clause-turn g c =
 
 pub returns-else-halted-clause-retries : goal.returns-else-halted-clause-retries
 returns-else-halted-clause-retries g c =
-    no-retry-both c.args.desk.now c.resend.new.desk c.answer.new.desk ((c.resend.ensures.turn (record { chosen = 0; lost = 0; doubled = 0 })).part ∙ append-nil _) c.answer.ensures.retries
+    no-retry-both c.args.desk.now c.resend.new.desk c.answer.new.desk ((c.resend.ensures.turn untouched).part ∙ append-nil _) c.answer.ensures.retries

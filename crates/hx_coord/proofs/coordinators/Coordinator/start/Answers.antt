@@ -10,7 +10,7 @@ use Rattle.hx_coord.proofs.coordinators.Coordinator.start.Goals as goal
 
 pub returns-clause-of_space : goal.returns-clause-of_space
 returns-clause-of_space c =
-    let same : standing c.in_ok-config.config c.new-2.result ≡ coordinator_at_start c.args.space.now c.args.sessions =
-    ap (λ (k : Config). standing k c.new-2.result) (c.in_ok-config.ensures ∙ c.in_ok-first_config.ensures)
-    ∙ ap (λ (a : Agenda). standing (first_config c.args.space.now) a) c.new-2.ensures in
+    let same : standing c.in_ok-config.config c.new.result ≡ coordinator_at_start c.args.space.now c.args.sessions =
+    ap (λ (k : Config). standing k c.new.result) c.in_ok-config.ensures
+    ∙ ap (λ (a : Agenda). standing (first_config c.args.space.now) a) c.new.ensures in
     subst (IsCoordinatorOf c.args.space.now) (sym same) (starts_of_space c.args.space.now c.requires c.args.sessions)
