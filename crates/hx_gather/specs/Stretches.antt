@@ -1,5 +1,5 @@
 -- Stretches: entries of one part whose stamps follow one another.
-use Rattle.std.specs.Prelude.{ℕ, suc, ◌+◌, cond, eqb, List, [], ◌∷◌, length, map, nat_lt}
+use Rattle.std.specs.Prelude.{◌≡◌, ℕ, suc, ◌+◌, cond, eqb, List, [], ◌∷◌, length, map, nat_lt}
 use Rattle.std.specs.List.{AllByRecursion}
 use Rattle.hx_clock.specs.declared.parts.Stamped.{Stamped}
 use Rattle.hx_law_threads.specs.Merged.{IsMerged}

@@ -40,8 +40,8 @@ pub struct Gathered {
 /// that script, and each actor's entries in it are its part: so its state at the end is the one that
 /// it has. Whatever the threads did, the laws over all runs hold of it.
 ///
-/// The entries stay where they lie in their parts. What memory there is for beside these is told at
-/// [`merge`].
+/// The entries stay where they lie in their parts: beside these there is memory for the heads of the
+/// trace, for a number for each entry, and for one for each part.
 pub fn gather(
     alloc: Global,
     clock: Clock,

@@ -1,5 +1,4 @@
-//! The actors on several threads. What they made is merged into one trace, by the stamps that the clock
-//! gave, as `kmerge` of `itertools` merges lists. With the trace goes its evidence, the clock's seat.
+//! The actors on several threads. What they made is merged into one trace.
 //!
 //! No contract says that there is memory for a trace. Tests merge and gather the parts of actors.
 #![tactic(auto)]

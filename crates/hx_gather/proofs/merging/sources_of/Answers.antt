@@ -1,4 +1,4 @@
-use Rattle.std.proofs.Common.{ap, length, ◌∙◌, arith}
+use Rattle.std.proofs.Common.{ap, length, sym, ◌∙◌, arith}
 use Rattle.hx_gather.proofs.Stretched.{long_part, sources_more}
 use Rattle.hx_gather.specs.Stretches.{stretches_from}
 use Rattle.hx_gather.proofs.merging.sources_of.Goals as goal

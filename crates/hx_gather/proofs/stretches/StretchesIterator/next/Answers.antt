@@ -1,4 +1,4 @@
-use Rattle.std.proofs.Common.{ap, sym, length, ◌∙◌, arith}
+use Rattle.std.proofs.Common.{◌≡◌, ap, sym, length, ◌∙◌, arith}
 use Rattle.hx_gather.proofs.Stretched.{taken_first}
 use Rattle.hx_gather.proofs.stretches.StretchesIterator.next.Goals as goal
 
