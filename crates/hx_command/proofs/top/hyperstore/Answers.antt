@@ -4,6 +4,9 @@ use Rattle.hx_command.proofs.Wording.{none_some, not_both, same_some}
 use Rattle.hx_command.proofs.top.hyperstore.Goals as goal
 
 -- ---- the words of `run`
+pub run_words-requires-clause-fates : goal.run_words-requires-clause-fates
+run_words-requires-clause-fates g c κs within = c.requires.run c.in-Some.command ((c.in-Some.ensures.said c.in-Some.command).0 refl)
+
 pub returns-in-Some-clause-alone : goal.returns-in-Some-clause-alone
 returns-in-Some-clause-alone g c unthreaded = absurd (unthreaded.no_run c.in-Some.command ((c.in-Some.ensures.said c.in-Some.command).0 refl))
 
@@ -24,6 +27,10 @@ pub returns-in-Some-clause-unread : goal.returns-in-Some-clause-unread
 returns-in-Some-clause-unread g c command says = absurd (not_both c.args.words.now c.in-Some.command command ((c.in-Some.ensures.said c.in-Some.command).0 refl) says)
 
 -- ---- the words of `soak`
+pub soak_words-requires-clause-fates : goal.soak_words-requires-clause-fates
+soak_words-requires-clause-fates g c κs within =
+    c.requires.soak c.in-Some-soak_of.command ((c.in-Some-soak_of.ensures.said c.in-Some-soak_of.command).0 refl)
+
 pub returns-in-Some-soak_of-clause-alone : goal.returns-in-Some-soak_of-clause-alone
 returns-in-Some-soak_of-clause-alone g c unthreaded =
     absurd (unthreaded.no_soak c.in-Some-soak_of.command ((c.in-Some-soak_of.ensures.said c.in-Some-soak_of.command).0 refl))
