@@ -1,5 +1,13 @@
--- Status 0 is that of a call which went well.
-use Rattle.std.proofs.Common.{◌≡◌, ◌⊎◌, inl, inr, ℕ, refl, sym, ◌∙◌}
+-- Status 0 is that of a call which went well; and each status is that of a call with some words, or of words that couldn't be read.
+use Rattle.std.proofs.Common.{◌≡◌, ◌⊎◌, inl, inr, ℕ, List, refl, sym, ap, ◌∙◌}
+use Rattle.std.specs.Prelude.{Result, Ok, Err, IsErrOf, OnOk}
+use Rattle.std.specs.Io.KnownBytes.{Appends}
+use Rattle.hx_io.specs.Causes.{Rose}
+use Rattle.hx_io.specs.Pieces.{AppendsPrefix}
+use Rattle.hx_replay.specs.Calling.{Filled}
+use Rattle.hx_command.specs.Telling.{Prints}
+use Rattle.hx_command.specs.declared.program.Unprinted.{Unprinted}
+use Rattle.hx_command.specs.declared.program.Unprinted.TheVariants as a_reason
 use Rattle.hx_script.specs.declared.errors.Reason.{Reason}
 use Rattle.hx_replay.specs.Outcomes.{status_of}
 use Rattle.hx_replay.specs.declared.outcomes.Outcome.{Outcome}
@@ -28,3 +36,24 @@ returns-clause-fine g c zero =
       | in-Ok w ↦ rw (w.source-is, w.sink-is) (w.as_slice.result.now, w.command-outcome.ensures.fine (sym w.outcome-is ∙ fine))
       | in-Err w ↦ absurd (not_fine w.in-Err.outcome w.in-Err.ensures (sym w.outcome-is ∙ fine))
     ]
+
+printed_by : {A : Type 0} (r : Result A Unprinted) (errors : Filled) (line : List ℕ)
+    → OnOk r (Appends errors.before errors.after line)
+    → (IsErrOf r a_reason.WriteFault → Rose errors.faults_before errors.faults_after × AppendsPrefix errors.before errors.after line)
+    → (IsErrOf r a_reason.Memory → errors.after ≡ errors.before)
+    → Prints errors line
+printed_by (Ok x) errors line whole fault memory = inl whole
+printed_by (Err a_reason.WriteFault) errors line whole fault memory = inr (inl (fault refl))
+printed_by (Err a_reason.Memory) errors line whole fault memory = inr (inr (memory refl))
+
+pub returns-clause-told : goal.returns-clause-told
+returns-clause-told g c =
+    let e = c.print_outcome-printed.ensures in (
+      c.match-words_of.outcome,
+      c.status.ensures,
+      elim c.match-words_of.branch [
+        | in-Ok w ↦ rw (w.source-is, w.sink-is, w.outcome-is) (inl (w.as_slice.result.now, record { asked = w.command-outcome.ensures.shown; called = w.command-outcome.ensures.told }))
+        | in-Err w ↦ rw (w.source-is, w.sink-is, w.outcome-is) (inr (w.in-Err.ensures, refl, refl))
+      ],
+      printed_by c.print_outcome-printed.result _ _ e.printed e.fault (λ no_room. ap g.E.Sink.held (e.memory no_room)),
+    )
