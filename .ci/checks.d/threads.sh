@@ -53,4 +53,5 @@ tells '16 posts [0-9]+ deliver [0-9]+ lose 0 twice 0'
 counted=$(hx run --workers 4 <cases/replay/counted_by_two_sessions.hx)
 done_adds=$(grep -c 'atomic .* -> done ' <<<"$counted")
 [[ $counted == *"n=$done_adds"$'\nepoch 1'* ]] || complain "additions on threads don't add up"
+[ "$(grep -c '^call u1\..* atomic .* -> done ' <<<"$counted")" -eq 10 ] || complain 'an addition behind its own put is not done'
 exit "$failed"
