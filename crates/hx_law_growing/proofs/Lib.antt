@@ -1,0 +1,6 @@
+pub mod Numbers
+pub mod Steps
+pub mod Kept
+pub mod Runs
+pub mod Serves
+pub mod Calls
