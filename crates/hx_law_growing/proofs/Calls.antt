@@ -1,10 +1,9 @@
 -- A script with one more call of a session.
-use Rattle.std.proofs.Common.{◌≡◌, ◌≢◌, refl, ℕ, zero, suc, ◌+◌, ◌-◌, ◌<◌, ◌≤◌, Bool, true, ◌&&◌, inl, inr, List, [], ◌∷◌, ◌++◌, length, leb, ltb, set, Some, sym, ap, ◌∙◌, subst, arith, get_or, slice_get}
-use Rattle.std.proofs.lemmas.Bool.{cases_eq, leb-true, ltb-true}
+use Rattle.std.proofs.Common.{◌≡◌, ◌≢◌, refl, ℕ, zero, suc, ◌+◌, ◌-◌, ◌<◌, ◌≤◌, Bool, true, false, ◌&&◌, inl, inr, List, [], ◌∷◌, ◌++◌, length, leb, ltb, set, Some, sym, ap, ◌∙◌, subst, arith, get_or, slice_get}
+use Rattle.std.proofs.lemmas.Bool.{cases_eq, false≢true, leb-true, ltb-true}
 use Rattle.std.proofs.lemmas.List.{append-nil, length-append}
-use Rattle.std.proofs.lemmas.List.Elements.{All-push, All-set}
+use Rattle.std.proofs.lemmas.List.Elements.{All-get_or, All-push, All-set}
 use Rattle.std.proofs.lemmas.List.Sums.{sum_by-set}
-use Rattle.std.specs.Prelude.{sum_by}
 use Rattle.std.specs.List.{All}
 use mathlib.Core.List.{IsPrefix}
 use Rattle.hx_types.specs.declared.calls.Op.{Op}
@@ -15,7 +14,7 @@ use Rattle.hx_types.specs.Fitting.{IsScript, calls_of, numbered}
 use Rattle.hx_types.specs.Spaces.{Fits}
 use Rattle.hx_types.specs.Words.{when_some}
 use Rattle.hx_model.specs.Runs.{is_actor}
-use Rattle.hx_law_growing.specs.Growing.{CallsGrow, GrowsTo, HasCallMore, ScriptsStay, calls_in, with_call_of}
+use Rattle.hx_law_growing.specs.Growing.{CallsGrow, GrowsTo, ScriptsStay, calls_in, with_call_of}
 
 -- items of a list of which one was set
 get-set_here : {A : Type 0} (xs : List A) (i : ℕ) (y : A) → i < length xs → slice_get (set xs i y) i ≡ Some y
@@ -35,12 +34,7 @@ length-set [] i y = refl
 length-set (x ∷ xs) zero y = refl
 length-set (x ∷ xs) (suc i) y = ap suc (length-set xs i y)
 
--- what all items have, one that stands at a place has
-all-at : {A : Type 0} (P : A → Type 0) (xs : List A) (i : ℕ) (none : A) → P none → All P xs → P (get_or xs i none)
-all-at P [] i none p all = p
-all-at P (x ∷ xs) zero none p all = all.0
-all-at P (x ∷ xs) (suc i) none p all = all-at P xs i none p all.1
-
+-- an item, or another where the list ends before its place
 get-or : {A : Type 0} (xs : List A) (i : ℕ) (none : A) → when_some (slice_get xs i) none (λ (x : A). x) ≡ get_or xs i none
 get-or [] i none = refl
 get-or (x ∷ xs) zero none = refl
@@ -52,6 +46,8 @@ numbered_from_1 script session is = by (ltb 0 session.0) (leb session.0 (length 
   where
     by : (low high : Bool) → ltb 0 session.0 ≡ low → leb session.0 (length script.sessions) ≡ high → (low && high) ≡ true → (0 < session.0) × (session.0 ≤ length script.sessions)
     by true true l h e = (ltb-true 0 session.0 l, leb-true session.0 (length script.sessions) h)
+    by true false l h e = absurd (false≢true e)
+    by false high l h e = absurd (false≢true e)
 
 pub same_session : (u v : SessionId) → u.0 ≡ v.0 → u ≡ v
 same_session u v e = λ i. record { 0 = e i }
@@ -115,7 +111,7 @@ module _ (script : Script) (session : SessionId) (op : Op) (low : 0 < session.0)
   stays s fits few =
       let so_far : All (Fits script.space) (calls_of script session) =
       subst (λ (l : List Op). All (Fits script.space) l) (sym calls-at)
-      (all-at (λ (l : List Op). All (Fits script.space) l) script.sessions (session.0 - 1) [] tt s.calls) in
+      (All-get_or (λ (l : List Op). All (Fits script.space) l) script.sessions (session.0 - 1) [] (omega (arith, low, high)) s.calls) in
       record {
         space = s.space;
         sessions = subst (λ n. n ≤ 16) (sym grows.sessions) s.sessions;
