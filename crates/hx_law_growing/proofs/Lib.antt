@@ -4,3 +4,4 @@ pub mod Kept
 pub mod Runs
 pub mod Serves
 pub mod Calls
+pub mod Rows
