@@ -120,11 +120,15 @@ module _ (script : Script) (session : SessionId) (op : Op) (low : 0 < session.0)
         few_steps = s.few_steps;
       }
 
+-- the calls of one of the script's sessions stand at its place
+pub own_calls : (script : Script) (session : SessionId) → is_actor script (Session session) ≡ true → calls_of script session ≡ get_or script.sessions (session.0 - 1) []
+own_calls script session is = let n = numbered_from_1 script session is in calls-at script session n.0 n.1
+
 -- a session's calls are among all
 pub few_calls_of : (script : Script) (session : SessionId) → is_actor script (Session session) ≡ true → length (calls_of script session) ≤ calls_in script
 few_calls_of script session is =
     let n = numbered_from_1 script session is in
-    subst (λ (l : List Op). length l ≤ calls_in script) (sym (calls-at script session n.0 n.1))
+    subst (λ (l : List Op). length l ≤ calls_in script) (sym (own_calls script session is))
     (get_or-le-sum_by (λ (l : List Op). length l) script.sessions (session.0 - 1) [] (omega (arith, n.0, n.1)))
 
 pub calls_grow : CallsGrow

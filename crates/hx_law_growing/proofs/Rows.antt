@@ -18,9 +18,6 @@ use Rattle.hx_model.proofs.SmallSpace.{epoch, red, server, session}
 use Rattle.hx_law_growing.specs.Growing.{GrowsTo, calls_in, with_call_of}
 use Rattle.hx_law_growing.specs.Serving.{IsServed}
 
-get : Op
-get = Get the_key
-
 -- session 1 has a call, session 2 none
 abbrev script : Script
 script = called ((Get the_key ∷ []) ∷ [] ∷ [])
@@ -36,22 +33,19 @@ second_has_one = refl
 two_calls : calls_in (with_call_of script (session 2) (put_color red)) ≡ 2
 two_calls = refl
 
--- a call in front of another's place is no growth
-abbrev other : Script
-other = called ((put_color red ∷ Get the_key ∷ []) ∷ [] ∷ [])
+-- a script doesn't grow by a call in front of the others
+abbrev key_got : Op → List ℕ
+key_got (Get key) = key
+key_got other = []
 
-abbrev is_get : Op → List ℕ
-is_get (Get key) = key
-is_get else = []
+abbrev first_got : List Op → List ℕ
+first_got [] = []
+first_got (op ∷ rest) = key_got op
 
-abbrev first_key : List Op → List ℕ
-first_key [] = []
-first_key (op ∷ rest) = is_get op
+not_in_front : ¬ GrowsTo script (called ((put_color red ∷ Get the_key ∷ []) ∷ [] ∷ []))
+not_in_front = λ g. let e = ap first_got (g.calls (session 1)).1 in absurd (cc)
 
-not_in_front : ¬ GrowsTo script other
-not_in_front = λ g. let p = g.calls (session 1) in let e : first_key (Get the_key ∷ p.0) ≡ first_key (put_color red ∷ Get the_key ∷ []) = ap first_key p.1 in absurd (cc)
-
--- nor is one session more, or one less
+-- nor by a session
 no_new_session : ¬ GrowsTo script (called ((Get the_key ∷ []) ∷ [] ∷ [] ∷ []))
 no_new_session = λ g. let e = g.sessions in absurd (omega (arith, e))
 

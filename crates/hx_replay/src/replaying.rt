@@ -43,7 +43,7 @@ fn finish(
     alloc: Global,
     script: &Script,
     with_trace: bool,
-    world: World<'_>,
+    world: World,
 ) -> Result<Ended, Memory>
     requires valid { IsScript script.now }
     requires script { world.script ≡ script.now }

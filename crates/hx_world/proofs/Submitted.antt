@@ -1,5 +1,6 @@
 -- A world whose script gets one more call is a world of the longer script.
 use Rattle.std.proofs.Common.{◌≡◌, ◌≢◌, refl, ℕ, ◌+◌, ◌-◌, ◌<◌, ◌≤◌, Bool, true, false, not, List, [], ◌∷◌, ◌++◌, length, cond, set, Option, None, Some, sym, ap, ◌∙◌, subst, arith, get_or, slice_get}
+use Rattle.std.proofs.lemmas.List.{get_or_default}
 use Rattle.std.specs.Prelude.{reverse}
 use Rattle.std.specs.List.{filter}
 use Rattle.hx_types.specs.declared.calls.Op.{Op}
@@ -20,7 +21,7 @@ use Rattle.hx_model.specs.ServerSteps.{ServerState}
 use Rattle.hx_model.specs.SessionSteps.{SessionState}
 use Rattle.hx_law_folds.specs.Folding.{IsServerOf as AreInOrder, folded_server}
 use Rattle.hx_law_growing.specs.Growing.{AreStates, CallsGrow, HasCallMore, RunsGrow, StatesGrow, calls_in, with_call_of, with_calls}
-use Rattle.hx_law_growing.proofs.Calls.{few_calls_of}
+use Rattle.hx_law_growing.proofs.Calls.{few_calls_of, numbered_from_1, own_calls}
 use Rattle.hx_session.specs.Sessions.{with_call}
 use Rattle.hx_world.specs.declared.actors.Actors.{Actors}
 use Rattle.hx_world.specs.declared.servers.CountedServer.{CountedServer}
@@ -37,6 +38,23 @@ filter_same : {A : Type 0} (f g : A → Bool) → ((x : A) → f x ≡ g x) → 
 filter_same f g same [] = refl
 filter_same f g same (x ∷ xs) =
     ap (λ b. cond b (x ∷ filter f xs) (filter f xs)) (same x) ∙ ap (λ l. cond (g x) (x ∷ l) l) (filter_same f g same xs)
+
+-- the script whose list of calls was taken out, got one more, and was put back
+pub call_appended : (script : Script) (session : SessionId) (op : Op) → is_actor script (Session session) ≡ true
+    → (before after : List (List Op)) (calls more : List Op) → before ≡ script.sessions → calls ≡ get_or before (session.0 - 1) calls → more ≡ calls ++ op ∷ []
+    → after ≡ set before (session.0 - 1) more
+    → record { space = script.space; sessions = after; steps = script.steps } ≡ with_call_of script session op
+call_appended script session op is before after calls more taken read longer put =
+    let n = numbered_from_1 script session is in
+    let own : calls ≡ calls_of script session =
+    read
+    ∙ (ap (λ (l : List (List Op)). get_or l (session.0 - 1) calls) taken
+    ∙ (get_or_default script.sessions (session.0 - 1) calls [] (omega (arith, n.0, n.1)) ∙ sym (own_calls script session is))) in
+    let all : after ≡ set script.sessions (session.0 - 1) (calls_of script session ++ op ∷ []) =
+    put
+    ∙ (ap (λ (l : List (List Op)). set l (session.0 - 1) more) taken
+    ∙ ap (set script.sessions (session.0 - 1)) (longer ∙ ap (λ (l : List Op). l ++ op ∷ []) own)) in
+    ap (λ (l : List (List Op)). record { space = script.space; sessions = l; steps = script.steps }) all
 
 module _ (script : Script) (actors : Actors) (log : Log) (w : IsWorldOn script actors log) (u : SessionId) (actor : is_actor script (Session u) ≡ true) (x : CountedSession) (read : x ≡ get_or actors.sessions.items (u.0 - 1) x) where
   abbrev t : List Entry
@@ -63,12 +81,12 @@ module _ (script : Script) (actors : Actors) (log : Log) (w : IsWorldOn script a
     all_states = states script more longer.grows t w.past.run
 
     -- the session has its calls of the script
-    pub own_calls : x.session.state.calls ≡ calls_of script u
-    own_calls = ap (λ (s : SessionState). s.calls) (here.state ∙ ap (λ (v : SessionId). session_of script v t) is) ∙ all_states.calls u
+    pub session_calls : x.session.state.calls ≡ calls_of script u
+    session_calls = ap (λ (s : SessionState). s.calls) (here.state ∙ ap (λ (v : SessionId). session_of script v t) is) ∙ all_states.calls u
 
     pub few_own : calls_in script < 16384 → length x.session.state.calls < 16384
     few_own few =
-        let own : length x.session.state.calls ≡ length (calls_of script u) = ap (λ (l : List Op). length l) own_calls in
+        let own : length x.session.state.calls ≡ length (calls_of script u) = ap (λ (l : List Op). length l) session_calls in
         let most = few_calls_of script u actor in
         omega (arith, own, most, few)
 
