@@ -1,5 +1,5 @@
 -- Scripts with a call more, and what the schedule makes, computed on two sessions of the shop.
-use Rattle.std.specs.Prelude.{◌≡◌, ℕ, List, [], ◌∷◌, None}
+use Rattle.std.specs.Prelude.{◌≡◌, ℕ, List, [], ◌∷◌, length, None}
 use Rattle.std.proofs.Common.{inl, refl, ap, arith}
 use Rattle.hx_types.specs.declared.calls.Op.{Op}
 use Rattle.hx_types.specs.declared.ids.Actor.{Actor}
@@ -15,6 +15,8 @@ use Rattle.hx_model.specs.Runs.{entry_of, made_of}
 use Rattle.hx_model.specs.Schedule.{next_entry, scheduled}
 use Rattle.hx_model.proofs.HandMade.{called, never, put_color, the_key}
 use Rattle.hx_model.proofs.SmallSpace.{epoch, red, server, session}
+use Rattle.hx_types.specs.Fitting.{calls_of}
+use Rattle.hx_law_growing.specs.Alone.{IsNextCall, Made, script_made, trace_made}
 use Rattle.hx_law_growing.specs.Growing.{GrowsTo, calls_in, with_call_of}
 use Rattle.hx_law_growing.specs.Serving.{IsServed}
 
@@ -73,3 +75,24 @@ its_name = record { entry = 1; place = 0 }
 
 no_second_delivery : ¬ IsServed (made (scheduled script [] 2) (Server (server 1)) (Deliver its_name (Session (session 1)) (a_message.Call (epoch 1) 1 (Get the_key))) ∷ scheduled script [] 2)
 no_second_delivery = λ s. never s.0
+
+-- one caller makes the call of session 1 and then that of session 2, with room for nine entries each
+abbrev plan : Script
+plan = called ((Get the_key ∷ []) ∷ (Get the_key ∷ []) ∷ [])
+
+abbrev one_each : List Made
+one_each = record { session = session 2; op = Get the_key; entries = 9 } ∷ record { session = session 1; op = Get the_key; entries = 9 } ∷ []
+
+its_script : script_made plan one_each ≡ plan
+its_script = refl
+
+-- three entries a call, and then nothing is left to do
+six_entries : trace_made plan one_each ≡ scheduled plan [] 6
+six_entries = refl
+
+nothing_left : next_entry plan (trace_made plan one_each) ≡ None
+nothing_left = refl
+
+-- session 2 may not come first
+lower_first : ¬ IsNextCall plan [] (record { session = session 2; op = Get the_key; entries = 9 })
+lower_first = λ n. let e = n.lower (session 1) (omega arith) in let no : length (calls_of (script_made plan []) (session 1)) ≡ length (calls_of plan (session 1)) = ap (λ (l : List Op). length l) e in absurd (omega (arith, no))
