@@ -20,14 +20,14 @@ use Rattle.hx_model.specs.Schedule.{undelivered}
 use Rattle.hx_model.specs.ServerSteps.{ServerState}
 use Rattle.hx_model.specs.SessionSteps.{SessionState}
 use Rattle.hx_law_folds.specs.Folding.{IsServerOf as AreInOrder, folded_server}
-use Rattle.hx_law_growing.specs.Growing.{AreStates, CallsGrow, HasCallMore, RunsGrow, StatesGrow, calls_in, with_call_of, with_calls}
+use Rattle.hx_law_posts.specs.Posts.{EpochsStaySmall, PostsStaySound, VersionsStaySmall}
+use Rattle.hx_law_growing.specs.Growing.{AreStates, CallsGrow, HasCallMore, RunsGrow, ScriptsStay, StatesGrow, calls_in, with_call_of, with_calls}
 use Rattle.hx_law_growing.proofs.Calls.{few_calls_of, numbered_from_1, own_calls}
 use Rattle.hx_session.specs.Sessions.{with_call}
 use Rattle.hx_world.specs.declared.actors.Actors.{Actors}
-use Rattle.hx_world.specs.declared.servers.CountedServer.{CountedServer}
 use Rattle.hx_world.specs.declared.logs.Log.{Log}
 use Rattle.hx_world.specs.declared.sessions.CountedSession.{CountedSession}
-use Rattle.hx_world.specs.Invariant.{AreAt, AreSound, IsCoordinatorAfter, IsServerAt, IsSessionAt, IsWorldOn, server_at, session_at}
+use Rattle.hx_world.specs.Invariant.{AreAt, AreSound, IsServerAt, IsSessionAt, IsWorldOf, IsWorldOn, server_at, session_at}
 use Rattle.hx_world.specs.Names.{can_receive}
 use Rattle.hx_world.specs.Sessions.{HasCall}
 use Rattle.hx_world.proofs.Seating.{at_each, at_set}
@@ -120,21 +120,20 @@ module _ (script : Script) (actors : Actors) (log : Log) (w : IsWorldOn script a
     elsewhere j ne e = let n : j + 1 ≡ u.0 = ap (λ (v : SessionId). v.0) e in ne (omega (arith, n))
 
     -- the world with the call
-    pub submitted : IsScript more → AreSound more → (y : CountedSession) → HasCall x y op → (actors_after : Actors)
-        → actors_after.coordinator ≡ actors.coordinator → actors_after.servers.items ≡ actors.servers.items → actors_after.sessions.items ≡ set actors.sessions.items (u.0 - 1) y
-        → IsWorldOn more actors_after log
-    submitted valid sound y has after coordinator servers sessions = record {
+    submitted : IsScript more → AreSound more → (y : CountedSession) → HasCall x y op
+        → IsWorldOf more t actors.servers.items (set actors.sessions.items (u.0 - 1) y) actors.coordinator log.waiting.items
+    submitted valid sound y has = record {
       past = record { valid = valid; sound = sound; run = runs script more longer.grows t w.past.run; few = w.past.few };
-      servers_are = subst (λ (l : List CountedServer). AreAt more.space.servers (IsServerAt more t) l) (sym servers)
-          (at_each script.space.servers (IsServerAt script t) (IsServerAt more t) actors.servers.items w.servers_are
+      servers_are =
+          at_each script.space.servers (IsServerAt script t) (IsServerAt more t) actors.servers.items w.servers_are
           (λ i s lt at. record {
             space = at.space;
             state = at.state ∙ ap folded_server (sym (all_states.servers (server_at i)));
             in_order = subst (λ (state : ServerState). AreInOrder script.space state) (sym (all_states.servers (server_at i))) at.in_order;
             entries = at.entries;
-          }));
-      sessions_are = subst (λ n. AreAt n (IsSessionAt more t) after.sessions.items) (sym longer.grows.sessions)
-          (at_set (length script.sessions) (IsSessionAt script t) (IsSessionAt more t) actors.sessions.items after.sessions.items (u.0 - 1) y w.sessions_are sessions
+          });
+      sessions_are = subst (λ n. AreAt n (IsSessionAt more t) (set actors.sessions.items (u.0 - 1) y)) (sym longer.grows.sessions)
+          (at_set (length script.sessions) (IsSessionAt script t) (IsSessionAt more t) actors.sessions.items (set actors.sessions.items (u.0 - 1) y) (u.0 - 1) y w.sessions_are refl
           (record {
             space = has.space ∙ here.space;
             state = has.state
@@ -143,7 +142,7 @@ module _ (script : Script) (actors : Actors) (log : Log) (w : IsWorldOn script a
             entries = has.entries ∙ here.entries;
           })
           (λ j s ne at. record { space = at.space; state = at.state ∙ other (session_at j) (elsewhere j ne); entries = at.entries }));
-      coordinator_is = subst (IsCoordinatorAfter more t) (sym coordinator) (record { state = w.coordinator_is.state ∙ sym all_states.coordinator; entries = w.coordinator_is.entries });
+      coordinator_is = record { state = w.coordinator_is.state ∙ sym all_states.coordinator; entries = w.coordinator_is.entries };
       queue = record {
         ascending = w.queue.ascending;
         named = w.queue.named;
@@ -151,3 +150,14 @@ module _ (script : Script) (actors : Actors) (log : Log) (w : IsWorldOn script a
             ∙ (w.queue.same ∙ sym (filter_same (can_receive more t) (can_receive script t) receives (undelivered t)));
       };
     }
+
+    -- as the caller has it, whose script is equal to that with the call
+    pub world_with_call : ScriptsStay
+        → ((s : Script) → IsScript s → PostsStaySound s) → ((s : Script) → IsScript s → VersionsStaySmall s) → ((s : Script) → IsScript s → EpochsStaySmall s)
+        → Fits script.space op → calls_in script < 16384
+        → (after : Script) → after ≡ more → (y : CountedSession) → HasCall x y op
+        → IsWorldOf after t actors.servers.items (set actors.sessions.items (u.0 - 1) y) actors.coordinator log.waiting.items
+    world_with_call stay posts versions epochs fits few after same y has =
+        let valid : IsScript more = stay script u op actor w.past.valid fits few in
+        subst (λ (s : Script). IsWorldOf s t actors.servers.items (set actors.sessions.items (u.0 - 1) y) actors.coordinator log.waiting.items) (sym same)
+        (submitted valid (record { posts = posts more valid; versions = versions more valid; epochs = epochs more valid }) y has)
