@@ -100,9 +100,9 @@ impl World {
 
     /// The trace by itself.
     pub fn into_trace(self) -> Trace
-        ensures trace { result ≡ self.entry.trace }
-        ensures valid { IsScript self.entry.script }
-        ensures run { IsRun self.entry.script (reverse result) }
+        ensures trace { result ≡ self.trace }
+        ensures valid { IsScript self.script }
+        ensures run { IsRun self.script (reverse result) }
         ensures few { HasFewEntries (reverse result) }
     {
         let World { cluster } = self;
@@ -113,9 +113,9 @@ impl World {
     /// The trace by itself, for a program that is about to end: the memory of the actors is not given back, which
     /// would take long, but left to the system. Elsewhere use [`World::into_trace`].
     pub fn leave(self) -> Trace
-        ensures trace { result ≡ self.entry.trace }
-        ensures valid { IsScript self.entry.script }
-        ensures run { IsRun self.entry.script (reverse result) }
+        ensures trace { result ≡ self.trace }
+        ensures valid { IsScript self.script }
+        ensures run { IsRun self.script (reverse result) }
         ensures few { HasFewEntries (reverse result) }
     {
         let World { cluster } = self;

@@ -2,7 +2,7 @@ use Rattle.std.proofs.Common.{rules, sym, ◌∙◌}
 use Rattle.std.specs.Prelude.{reverse}
 use Rattle.hx_types.specs.declared.traces.Step.TheVariants as a_step
 use Rattle.hx_world.proofs.Delivering.{made_next, refused_next, running_next}
-use Rattle.hx_world.proofs.Queueing.{none_waiting, popped}
+use Rattle.hx_world.proofs.Queueing.{none_waiting}
 use Rattle.hx_world.proofs.Taking.{actor_here}
 use Rattle.hx_world.proofs.schedule.deliver_next.Goals as goal
 

@@ -1,7 +1,5 @@
-use Rattle.std.proofs.Common.{◌≡◌, true, false, Option, Some, None, sym, ap, ◌∙◌}
-use Rattle.std.specs.Borrow.{Bor}
-use Rattle.std.specs.Prelude.{is_some, reverse}
-use Rattle.hx_types.specs.declared.messages.Post.{Post}
+use Rattle.std.proofs.Common.{sym, ◌∙◌}
+use Rattle.std.specs.Prelude.{reverse}
 use Rattle.hx_world.proofs.Delivering.{found_receives, missed}
 use Rattle.hx_world.proofs.Queueing.{lowest_posted, none_waiting, popped}
 use Rattle.hx_world.proofs.schedule.first_waiting.Goals as goal
