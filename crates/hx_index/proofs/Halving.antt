@@ -3,7 +3,7 @@ use Rattle.std.proofs.Common.{◌≡◌, ℕ, zero, suc, ◌+◌, ◌/◌, ◌<�
 use Rattle.std.specs.List.Sorted.{IsPartitionedBy}
 use Rattle.std.proofs.lemmas.Bool.{cond_both, cond-false, cond-true, eq-eqb, eqb-true, false_from_ne_true, false≢true}
 use Rattle.hx_index.specs.Invariant.{IsEnd}
-use Rattle.hx_index.specs.Looks.{digits_of, digits_within, raised}
+use Rattle.hx_index.specs.Looks.{HaveCounted, digits_of, digits_within, raised}
 
 -- the test passes below a place and not from another on
 pub record IsBetween (p : ℕ → Bool) (order : List ℕ) (low high : ℕ) : Type 0 where
@@ -75,3 +75,9 @@ raised-most n = cond_both (eqb n 0xffff_ffff_ffff_ffff) n (n + 1) (λ x. x ≤ n
 
 pub raised-least : (n : ℕ) → n ≤ raised n
 raised-least n = cond_both (eqb n 0xffff_ffff_ffff_ffff) n (n + 1) (λ x. n ≤ x) (λ t. omega arith) (λ t. omega arith)
+
+-- one look more is one counted more
+pub counted_one : (n old now : ℕ) → HaveCounted n old now → HaveCounted (n + 1) old (raised now)
+counted_one n old now h = cond_both (eqb now 0xffff_ffff_ffff_ffff) now (now + 1) (HaveCounted (n + 1) old)
+    (λ t l. let e = eqb-true now 0xffff_ffff_ffff_ffff t in absurd (omega (arith, l, e)))
+    (λ f l. let more = h (omega (arith, l)) in omega (arith, more))

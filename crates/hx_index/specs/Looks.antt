@@ -1,10 +1,14 @@
 -- How looks at rows are counted.
-use Rattle.std.specs.Prelude.{ℕ, zero, suc, ◌+◌, ◌/◌, ◌==◌, List, if◌then◌else◌, Option}
+use Rattle.std.specs.Prelude.{ℕ, zero, suc, ◌+◌, ◌/◌, ◌<◌, ◌≤◌, ◌==◌, List, if◌then◌else◌, Option}
 use Rattle.hx_types.specs.declared.calls.Row.{Row}
 
 -- one look more; the count stays at the greatest `u64`
 abbrev pub raised : ℕ → ℕ
 raised looks = if looks == 0xffff_ffff_ffff_ffff then looks else looks + 1
+
+-- so many looks more were counted, or the count is at the greatest `u64`
+abbrev pub HaveCounted : ℕ → ℕ → ℕ → Type 0
+HaveCounted n old new = new < 0xffff_ffff_ffff_ffff → old + n ≤ new
 
 -- the number of binary digits of n, as far as so many
 abbrev pub digits_within : ℕ → ℕ → ℕ

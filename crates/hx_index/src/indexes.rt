@@ -2,7 +2,7 @@ ghost use Rattle.std.specs.Prelude.{◌≡◌, ◌<◌, ◌≤◌, ◌+◌, ◌-
 ghost use Rattle.std.specs.List.{IsDistinct, repeat};
 ghost use Rattle.hx_types.specs.Spaces.{attribute_of};
 ghost use Rattle.hx_index.specs.Invariant.{IsSpan};
-ghost use Rattle.hx_index.specs.Looks.{digits_of};
+ghost use Rattle.hx_index.specs.Looks.{HaveCounted, digits_of};
 ghost use Rattle.hx_index.specs.Orders.{IndexState, IsIndexOf, IsWithout, count_of, no_rows, order_of, rows_at, rows_with, rows_without, stands_in};
 ghost use Rattle.hx_index.specs.Runs.{IsRun};
 ghost use Rattle.hx_index.specs.Searches.{indexed_count, is_indexed, least_run, most_looks};
@@ -136,6 +136,7 @@ impl Index {
         ensures rows { L.rows look.new ≡ L.rows look.old }
         ensures counted { L.looks look.old ≤ L.looks look.new }
         ensures looks { L.looks look.new ≤ L.looks look.old + most_looks self.now (L.rows look.old) terms.now }
+        ensures each { IfOk result (λ ids. HaveCounted (least_run self.now (L.rows look.old) (count_of self.now) terms.now) (L.looks look.old) (L.looks look.new)) }
     {
         let span = self.narrowest(look, terms);
         let numbers = &self.order(span.attribute)[span.first as usize..span.end as usize];

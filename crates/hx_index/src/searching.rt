@@ -2,7 +2,7 @@ ghost use Rattle.std.specs.Prelude.{◌≡◌, ◌<◌, ◌≤◌, ◌+◌, ◌-
 ghost use Rattle.std.specs.List.{All, filter};
 ghost use Rattle.hx_types.specs.Spaces.{attribute_of};
 ghost use Rattle.hx_index.specs.Invariant.{IsEnd, is_part};
-ghost use Rattle.hx_index.specs.Looks.{digits_of};
+ghost use Rattle.hx_index.specs.Looks.{HaveCounted, digits_of};
 ghost use Rattle.hx_index.specs.Orders.{IsOrder};
 ghost use Rattle.hx_index.specs.Sides.{matches_at, side_at};
 
@@ -66,7 +66,8 @@ pub fn end_of_part<L: Look>(order: &[u32], look: &mut L, term: &Term, past: bool
     low
 }
 
-/// Those of the numbers at whose objects every term holds.
+/// Those of the numbers at whose objects every term holds. It looks at each once.
+#[tactic(auto, using(crate::proofs::Halving::counted_one))]
 pub fn matching<L: Look>(
     alloc: Global,
     numbers: &[u32],
@@ -78,6 +79,7 @@ pub fn matching<L: Look>(
     ensures rows { L.rows look.new ≡ L.rows look.old }
     ensures counted { L.looks look.old ≤ L.looks look.new }
     ensures looks { L.looks look.new ≤ L.looks look.old + length numbers.now }
+    ensures each { IfOk result (λ ids. HaveCounted (length numbers.now) (L.looks look.old) (L.looks look.new)) }
 {
     let mut found = Vec::new(alloc);
     for id in numbers {

@@ -19,7 +19,6 @@ use Rattle.hx_model.specs.Slots.{top_of}
 use Rattle.hx_clock.specs.declared.parts.Stamped.{Stamped}
 use Rattle.hx_law_folds.specs.Folding.{InputFits, IsReplicaOf, IsServerOf as AreInOrder, IsSlotIn, folded, folded_replica, folded_server}
 use Rattle.hx_law_folds.proofs.Folds.{top-folded}
-use Rattle.hx_law_folds.proofs.Servers.{folded-server-twice}
 use Rattle.hx_law_folds.proofs.Sound.{sound-fits}
 use Rattle.hx_law_lemmas.proofs.Lists.{in-map}
 use Rattle.hx_law_threads.specs.Feeding.{IsFedBy, IsSoundAfter, entries_in, latest}
@@ -71,7 +70,6 @@ serves script s past input order c =
       running = c.running;
       input_to = subst (λ (x : ServerId). server.IsInputTo script.space x input) (sym sound.0) (input_to_server script c.stamp s input few c.input_to);
       small = small_folded script.space (server_of script s (entries_in past)) order (λ r i t j. let top = sound.1 r i t j in omega (arith, top, later, few));
-      bare = folded-server-twice (server_of script s (entries_in past));
     }
 
 -- a session

@@ -1,7 +1,8 @@
 //! Calls of a session.
 
-ghost use Rattle.std.specs.Prelude.{◌≡◌, ◌++◌, IfOk, OnOk};
+ghost use Rattle.std.specs.Prelude.{◌≡◌, ◌++◌, IfOk, OnErr, OnOk};
 ghost use Rattle.std.specs.List.{flat_map};
+ghost use Rattle.hx_print.specs.Prefixes.{IsPrefix};
 ghost use Rattle.hx_print.specs.Printing.{add_text, assigns_text, cput_text, edit_text, edit_word, edits_text, name_of, op_text, range_text, term_text, terms_text};
 
 use crate::numbers::{put_number, put_signed};
@@ -25,8 +26,10 @@ pub fn name_of(space: &Space, attribute: u32) -> &[u8]
 }
 
 /// Appends each assignment with a blank before it.
+#[tactic(auto, using(crate::proofs::Prefixes::same, crate::proofs::Prefixes::further))]
 pub fn put_assigns(out: &mut Vec<u8>, space: &Space, assigns: &Assigns) -> Result<(), Memory>
-    ensures { OnOk result (out.new.items ≡ out.old.items ++ assigns_text space.now assigns.now) }
+    ensures appends { OnOk result (out.new.items ≡ out.old.items ++ assigns_text space.now assigns.now) }
+    ensures prefix { OnErr result (IsPrefix out.old.items out.new.items) }
 {
     for assign in assigns.as_slice() {
         put_named(out, name_of(space, assign.attribute), &assign.value)?;
@@ -34,9 +37,10 @@ pub fn put_assigns(out: &mut Vec<u8>, space: &Space, assigns: &Assigns) -> Resul
     Ok(())
 }
 
-#[tactic(auto, unfolding(crate::specs::Printing::range_text))]
+#[tactic(auto, unfolding(crate::specs::Printing::range_text), using(crate::proofs::Prefixes::same, crate::proofs::Prefixes::further))]
 fn put_range(out: &mut Vec<u8>, name: &[u8], lo: i64, hi: i64) -> Result<(), Memory>
-    ensures { OnOk result (out.new.items ≡ out.old.items ++ range_text name.now lo hi) }
+    ensures appends { OnOk result (out.new.items ≡ out.old.items ++ range_text name.now lo hi) }
+    ensures prefix { OnErr result (IsPrefix out.old.items out.new.items) }
 {
     put_bytes(out, b" ")?;
     put_bytes(out, name)?;
@@ -46,8 +50,10 @@ fn put_range(out: &mut Vec<u8>, name: &[u8], lo: i64, hi: i64) -> Result<(), Mem
     put_signed(out, hi)
 }
 
+#[tactic(auto, using(crate::proofs::Prefixes::same, crate::proofs::Prefixes::further))]
 fn put_term(out: &mut Vec<u8>, space: &Space, term: &Term) -> Result<(), Memory>
-    ensures { OnOk result (out.new.items ≡ out.old.items ++ term_text space.now term.now) }
+    ensures appends { OnOk result (out.new.items ≡ out.old.items ++ term_text space.now term.now) }
+    ensures prefix { OnErr result (IsPrefix out.old.items out.new.items) }
 {
     match term {
         Term::Equal { attribute, value } => { put_named(out, name_of(space, *attribute), value) }
@@ -58,8 +64,10 @@ fn put_term(out: &mut Vec<u8>, space: &Space, term: &Term) -> Result<(), Memory>
 }
 
 /// Appends each term with a blank before it.
+#[tactic(auto, using(crate::proofs::Prefixes::same, crate::proofs::Prefixes::further))]
 pub fn put_terms(out: &mut Vec<u8>, space: &Space, terms: &Terms) -> Result<(), Memory>
-    ensures { OnOk result (out.new.items ≡ out.old.items ++ terms_text space.now terms.now) }
+    ensures appends { OnOk result (out.new.items ≡ out.old.items ++ terms_text space.now terms.now) }
+    ensures prefix { OnErr result (IsPrefix out.old.items out.new.items) }
 {
     for term in terms.as_slice() {
         put_term(out, space, term)?;
@@ -67,7 +75,7 @@ pub fn put_terms(out: &mut Vec<u8>, space: &Space, terms: &Terms) -> Result<(), 
     Ok(())
 }
 
-#[tactic(auto, unfolding(crate::specs::Printing::cput_text))]
+#[tactic(auto, unfolding(crate::specs::Printing::cput_text), using(crate::proofs::Prefixes::same, crate::proofs::Prefixes::further))]
 fn put_cput(
     out: &mut Vec<u8>,
     space: &Space,
@@ -75,8 +83,9 @@ fn put_cput(
     tests: &Assigns,
     sets: &Assigns,
 ) -> Result<(), Memory>
-    ensures { OnOk result
+    ensures appends { OnOk result
         (out.new.items ≡ out.old.items ++ cput_text space.now key.now tests.now sets.now) }
+    ensures prefix { OnErr result (IsPrefix out.old.items out.new.items) }
 {
     put_bytes(out, b"cput ")?;
     put_text(out, key)?;
@@ -86,9 +95,10 @@ fn put_cput(
     put_assigns(out, space, sets)
 }
 
-#[tactic(auto, unfolding(crate::specs::Printing::add_text))]
+#[tactic(auto, unfolding(crate::specs::Printing::add_text), using(crate::proofs::Prefixes::same, crate::proofs::Prefixes::further))]
 fn put_add(out: &mut Vec<u8>, server: ServerId, region: RegionId) -> Result<(), Memory>
-    ensures { OnOk result (out.new.items ≡ out.old.items ++ add_text server region) }
+    ensures appends { OnOk result (out.new.items ≡ out.old.items ++ add_text server region) }
+    ensures prefix { OnErr result (IsPrefix out.old.items out.new.items) }
 {
     put_bytes(out, b"add ")?;
     put_number(out, u64::from(server.0))?;
@@ -107,9 +117,10 @@ fn edit_word(what: EditKind) -> &'static [u8]
     }
 }
 
-#[tactic(auto, unfolding(crate::specs::Printing::edit_text))]
+#[tactic(auto, unfolding(crate::specs::Printing::edit_text), using(crate::proofs::Prefixes::same, crate::proofs::Prefixes::further))]
 fn put_edit(out: &mut Vec<u8>, space: &Space, edit: &Edit) -> Result<(), Memory>
-    ensures { OnOk result (out.new.items ≡ out.old.items ++ edit_text space.now edit.now) }
+    ensures appends { OnOk result (out.new.items ≡ out.old.items ++ edit_text space.now edit.now) }
+    ensures prefix { OnErr result (IsPrefix out.old.items out.new.items) }
 {
     put_bytes(out, b" ")?;
     put_bytes(out, edit_word(edit.what))?;
@@ -117,8 +128,10 @@ fn put_edit(out: &mut Vec<u8>, space: &Space, edit: &Edit) -> Result<(), Memory>
 }
 
 /// Appends each edit with a blank before it.
+#[tactic(auto, using(crate::proofs::Prefixes::same, crate::proofs::Prefixes::further))]
 fn put_edits(out: &mut Vec<u8>, space: &Space, edits: &Edits) -> Result<(), Memory>
-    ensures { OnOk result (out.new.items ≡ out.old.items ++ edits_text space.now edits.now) }
+    ensures appends { OnOk result (out.new.items ≡ out.old.items ++ edits_text space.now edits.now) }
+    ensures prefix { OnErr result (IsPrefix out.old.items out.new.items) }
 {
     for edit in edits.as_slice() {
         put_edit(out, space, edit)?;
@@ -127,9 +140,10 @@ fn put_edits(out: &mut Vec<u8>, space: &Space, edits: &Edits) -> Result<(), Memo
 }
 
 /// Appends a call without a newline.
-#[tactic(auto, unfolding(crate::specs::Printing::op_text))]
+#[tactic(auto, unfolding(crate::specs::Printing::op_text), using(crate::proofs::Prefixes::same, crate::proofs::Prefixes::further))]
 pub fn put_op(out: &mut Vec<u8>, space: &Space, op: &Op) -> Result<(), Memory>
-    ensures { OnOk result (out.new.items ≡ out.old.items ++ op_text space.now op.now) }
+    ensures appends { OnOk result (out.new.items ≡ out.old.items ++ op_text space.now op.now) }
+    ensures prefix { OnErr result (IsPrefix out.old.items out.new.items) }
 {
     match op {
         Op::Put { key, sets } => {

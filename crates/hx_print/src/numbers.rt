@@ -1,8 +1,9 @@
 //! Numbers in decimal, and lists of them.
 
-ghost use Rattle.std.specs.Prelude.{◌≡◌, ◌++◌, ℕ, map, OnOk};
+ghost use Rattle.std.specs.Prelude.{◌≡◌, ◌++◌, ℕ, map, OnErr, OnOk};
 ghost use Rattle.std.specs.Fmt.{decimal, signed_decimal};
 ghost use Rattle.std.specs.List.{flat_map};
+ghost use Rattle.hx_print.specs.Prefixes.{IsPrefix};
 ghost use Rattle.hx_print.specs.Printing.{next_number_text, numbers_text};
 
 use crate::texts::put_bytes;
@@ -10,15 +11,19 @@ use hx_types::{Memory, RegionId, ServerId};
 use itoa::Buffer;
 
 /// Appends a number in decimal. Its digits are made on the stack.
+#[tactic(auto, using(crate::proofs::Prefixes::same, crate::proofs::Prefixes::further))]
 pub fn put_number(out: &mut Vec<u8>, number: u64) -> Result<(), Memory>
-    ensures { OnOk result (out.new.items ≡ out.old.items ++ decimal number) }
+    ensures appends { OnOk result (out.new.items ≡ out.old.items ++ decimal number) }
+    ensures prefix { OnErr result (IsPrefix out.old.items out.new.items) }
 {
     put_bytes(out, Buffer::new().format(number).as_bytes())
 }
 
 /// Appends a number in decimal, with `-` before it if it is negative.
+#[tactic(auto, using(crate::proofs::Prefixes::same, crate::proofs::Prefixes::further))]
 pub fn put_signed(out: &mut Vec<u8>, number: i64) -> Result<(), Memory>
-    ensures { OnOk result (out.new.items ≡ out.old.items ++ signed_decimal number) }
+    ensures appends { OnOk result (out.new.items ≡ out.old.items ++ signed_decimal number) }
+    ensures prefix { OnErr result (IsPrefix out.old.items out.new.items) }
 {
     put_bytes(out, Buffer::new().format(number).as_bytes())
 }
@@ -57,10 +62,11 @@ impl Numbered for RegionId {
     }
 }
 
-#[tactic(auto, unfolding(crate::specs::Printing::next_number_text))]
+#[tactic(auto, unfolding(crate::specs::Printing::next_number_text), using(crate::proofs::Prefixes::same, crate::proofs::Prefixes::further))]
 fn put_next_numbers<T: Numbered>(out: &mut Vec<u8>, items: &[T]) -> Result<(), Memory>
-    ensures { OnOk result
+    ensures appends { OnOk result
         (out.new.items ≡ out.old.items ++ flat_map next_number_text (map T.number items.now)) }
+    ensures prefix { OnErr result (IsPrefix out.old.items out.new.items) }
 {
     for item in items {
         put_bytes(out, b",")?;
@@ -70,10 +76,11 @@ fn put_next_numbers<T: Numbered>(out: &mut Vec<u8>, items: &[T]) -> Result<(), M
 }
 
 /// Appends the numbers of a list with commas between them, or `-` where there is none.
-#[tactic(auto, unfolding(crate::specs::Printing::numbers_text))]
+#[tactic(auto, unfolding(crate::specs::Printing::numbers_text), using(crate::proofs::Prefixes::same, crate::proofs::Prefixes::further))]
 pub fn put_numbers<T: Numbered>(out: &mut Vec<u8>, items: &[T]) -> Result<(), Memory>
-    ensures { OnOk result
+    ensures appends { OnOk result
         (out.new.items ≡ out.old.items ++ numbers_text (map T.number items.now)) }
+    ensures prefix { OnErr result (IsPrefix out.old.items out.new.items) }
 {
     match items.split_first() {
         None => put_bytes(out, b"-"),

@@ -1,7 +1,8 @@
 //! Whole scripts.
 
-ghost use Rattle.std.specs.Prelude.{◌≡◌, ◌++◌, IfOk, OnOk};
+ghost use Rattle.std.specs.Prelude.{◌≡◌, ◌++◌, IfOk, OnErr, OnOk};
 ghost use Rattle.std.specs.List.{flat_map};
+ghost use Rattle.hx_print.specs.Prefixes.{IsPrefix};
 ghost use Rattle.hx_print.specs.Printing.{actor_text, call_line, caller_text, post_name, script_text, session_text, sessions_text, step_line, step_text, steps_text};
 
 use crate::calls::put_op;
@@ -50,9 +51,10 @@ fn put_sessions(out: &mut Vec<u8>, space: &Space, sessions: &Sessions) -> Result
 }
 
 /// Appends `c`, or `s` or `u` with the number of the server or session.
-#[tactic(auto, unfolding(crate::specs::Printing::actor_text))]
+#[tactic(auto, unfolding(crate::specs::Printing::actor_text), using(crate::proofs::Prefixes::same, crate::proofs::Prefixes::further))]
 pub fn put_actor(out: &mut Vec<u8>, actor: &Actor) -> Result<(), Memory>
-    ensures { OnOk result (out.new.items ≡ out.old.items ++ actor_text actor.now) }
+    ensures appends { OnOk result (out.new.items ≡ out.old.items ++ actor_text actor.now) }
+    ensures prefix { OnErr result (IsPrefix out.old.items out.new.items) }
 {
     match actor {
         Actor::Coordinator => put_bytes(out, b"c"),
@@ -68,9 +70,10 @@ pub fn put_actor(out: &mut Vec<u8>, actor: &Actor) -> Result<(), Memory>
 }
 
 /// Appends `u` with the number of the session, a dot, and the number of the call.
-#[tactic(auto, unfolding(crate::specs::Printing::caller_text))]
+#[tactic(auto, unfolding(crate::specs::Printing::caller_text), using(crate::proofs::Prefixes::same, crate::proofs::Prefixes::further))]
 pub fn put_call_name(out: &mut Vec<u8>, session: u64, number: u64) -> Result<(), Memory>
-    ensures { OnOk result (out.new.items ≡ out.old.items ++ caller_text (record { session = record { 0 = session }; number = number })) }
+    ensures appends { OnOk result (out.new.items ≡ out.old.items ++ caller_text (record { session = record { 0 = session }; number = number })) }
+    ensures prefix { OnErr result (IsPrefix out.old.items out.new.items) }
 {
     put_bytes(out, b"u")?;
     put_number(out, session)?;
@@ -79,16 +82,19 @@ pub fn put_call_name(out: &mut Vec<u8>, session: u64, number: u64) -> Result<(),
 }
 
 /// Appends the name of a call by its caller, as [`put_call_name`] does.
+#[tactic(auto, using(crate::proofs::Prefixes::same, crate::proofs::Prefixes::further))]
 pub fn put_caller(out: &mut Vec<u8>, caller: &Caller) -> Result<(), Memory>
-    ensures { OnOk result (out.new.items ≡ out.old.items ++ caller_text caller.now) }
+    ensures appends { OnOk result (out.new.items ≡ out.old.items ++ caller_text caller.now) }
+    ensures prefix { OnErr result (IsPrefix out.old.items out.new.items) }
 {
     put_call_name(out, u64::from(caller.session.0), u64::from(caller.number))
 }
 
 /// Appends the entry and the place of a post with a dot between them.
-#[tactic(auto, unfolding(crate::specs::Printing::post_name))]
+#[tactic(auto, unfolding(crate::specs::Printing::post_name), using(crate::proofs::Prefixes::same, crate::proofs::Prefixes::further))]
 pub fn put_post_name(out: &mut Vec<u8>, id: &PostId) -> Result<(), Memory>
-    ensures { OnOk result (out.new.items ≡ out.old.items ++ post_name id.now) }
+    ensures appends { OnOk result (out.new.items ≡ out.old.items ++ post_name id.now) }
+    ensures prefix { OnErr result (IsPrefix out.old.items out.new.items) }
 {
     put_number(out, id.entry)?;
     put_bytes(out, b".")?;

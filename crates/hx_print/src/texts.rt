@@ -1,8 +1,9 @@
 //! Texts in quotes, and values.
 
-ghost use Rattle.std.specs.Prelude.{◌≡◌, ◌++◌, IfOk, OnOk};
+ghost use Rattle.std.specs.Prelude.{◌≡◌, ◌++◌, IfOk, OnErr, OnOk};
 ghost use Rattle.std.specs.List.{flat_map, list_all};
 ghost use Rattle.hx_print.specs.Plain.{is_plain};
+ghost use Rattle.hx_print.specs.Prefixes.{IsPrefix};
 ghost use Rattle.hx_print.specs.Printing.{escape, named_text, quoted, value_text};
 
 use crate::numbers::put_signed;
@@ -10,15 +11,19 @@ use hx_types::{Memory, Text, Value};
 use std::alloc::Global;
 
 /// Appends bytes as they are.
+#[tactic(auto, using(crate::proofs::Prefixes::same, crate::proofs::Prefixes::further))]
 pub fn put_bytes(out: &mut Vec<u8>, bytes: &[u8]) -> Result<(), Memory>
-    ensures { OnOk result (out.new.items ≡ out.old.items ++ bytes.now) }
+    ensures appends { OnOk result (out.new.items ≡ out.old.items ++ bytes.now) }
+    ensures prefix { OnErr result (IsPrefix out.old.items out.new.items) }
 {
     out.extend_from_slice(bytes)?;
     Ok(())
 }
 
+#[tactic(auto, using(crate::proofs::Prefixes::same, crate::proofs::Prefixes::further))]
 fn put_escaped(out: &mut Vec<u8>, byte: u8) -> Result<(), Memory>
-    ensures { OnOk result (out.new.items ≡ out.old.items ++ escape byte) }
+    ensures appends { OnOk result (out.new.items ≡ out.old.items ++ escape byte) }
+    ensures prefix { OnErr result (IsPrefix out.old.items out.new.items) }
 {
     match byte {
         b'"' => put_bytes(out, b"\\\""),
@@ -44,8 +49,10 @@ fn are_plain(bytes: &[u8]) -> bool
 }
 
 /// Appends the bytes of a text, as they stand between quotes: at once where all stand as they are.
+#[tactic(auto, using(crate::proofs::Prefixes::same, crate::proofs::Prefixes::further))]
 fn put_between(out: &mut Vec<u8>, bytes: &[u8]) -> Result<(), Memory>
-    ensures { OnOk result (out.new.items ≡ out.old.items ++ flat_map escape bytes.now) }
+    ensures appends { OnOk result (out.new.items ≡ out.old.items ++ flat_map escape bytes.now) }
+    ensures prefix { OnErr result (IsPrefix out.old.items out.new.items) }
 {
     if are_plain(bytes) {
         return put_bytes(out, bytes);
@@ -57,9 +64,10 @@ fn put_between(out: &mut Vec<u8>, bytes: &[u8]) -> Result<(), Memory>
 }
 
 /// Appends a text in quotes.
-#[tactic(auto, unfolding(crate::specs::Printing::quoted))]
+#[tactic(auto, unfolding(crate::specs::Printing::quoted), using(crate::proofs::Prefixes::same, crate::proofs::Prefixes::further))]
 pub fn put_text(out: &mut Vec<u8>, text: &Text) -> Result<(), Memory>
-    ensures { OnOk result (out.new.items ≡ out.old.items ++ quoted text.now) }
+    ensures appends { OnOk result (out.new.items ≡ out.old.items ++ quoted text.now) }
+    ensures prefix { OnErr result (IsPrefix out.old.items out.new.items) }
 {
     put_bytes(out, b"\"")?;
     put_between(out, text.as_bytes())?;
@@ -67,9 +75,10 @@ pub fn put_text(out: &mut Vec<u8>, text: &Text) -> Result<(), Memory>
 }
 
 /// Appends a value: a text in quotes or a number.
-#[tactic(auto, unfolding(crate::specs::Printing::value_text))]
+#[tactic(auto, unfolding(crate::specs::Printing::value_text), using(crate::proofs::Prefixes::same, crate::proofs::Prefixes::further))]
 pub fn put_value(out: &mut Vec<u8>, value: &Value) -> Result<(), Memory>
-    ensures { OnOk result (out.new.items ≡ out.old.items ++ value_text value.now) }
+    ensures appends { OnOk result (out.new.items ≡ out.old.items ++ value_text value.now) }
+    ensures prefix { OnErr result (IsPrefix out.old.items out.new.items) }
 {
     match value {
         Value::Text(text) => put_text(out, text),
@@ -78,9 +87,10 @@ pub fn put_value(out: &mut Vec<u8>, value: &Value) -> Result<(), Memory>
 }
 
 /// Appends a blank, the name, `=` and the value.
-#[tactic(auto, unfolding(crate::specs::Printing::named_text))]
+#[tactic(auto, unfolding(crate::specs::Printing::named_text), using(crate::proofs::Prefixes::same, crate::proofs::Prefixes::further))]
 pub fn put_named(out: &mut Vec<u8>, name: &[u8], value: &Value) -> Result<(), Memory>
-    ensures { OnOk result (out.new.items ≡ out.old.items ++ named_text name.now value.now) }
+    ensures appends { OnOk result (out.new.items ≡ out.old.items ++ named_text name.now value.now) }
+    ensures prefix { OnErr result (IsPrefix out.old.items out.new.items) }
 {
     put_bytes(out, b" ")?;
     put_bytes(out, name)?;

@@ -1,3 +1,4 @@
+pub mod Bareness
 pub mod Placed
 pub mod Turns
 pub mod Walking
@@ -23,6 +24,7 @@ pub mod Joined
 pub mod Snapped
 pub mod Roomy
 pub mod Sounding
+pub mod StayingSound
 pub mod NamedMembers
 pub mod NamedSlots
 pub mod NamedSteps

@@ -121,7 +121,7 @@ moved_planned v from m number n place key slot made hears at is few room k e =
       found = at.at_place;
       room = less_room number (key_in m) n (room_of slot.change) v place few (subst (λ (x : List ℕ). HasRoomAt number x n v place) k room);
       fits = so.fits;
-      state = ap (λ (t : ServerStep). folded_server t.state) (was ∙ step) ∙ ap (λ (moves : List Move). folded_server (with_slot v.state r (moved_all moves s))) (sym so.moves) ∙ (let here = found-lean v.state number r can.bare at.at_place in with-slot-lean v.state r (moved_all (moves_by r.region s slot.change) s) (stepped slot.change r.region s) can.bare here (stepped_lean slot.change r.region s (state-lean v.space r (key_in m) here)));
+      state = ap (λ (t : ServerStep). folded_server t.state) (was ∙ step) ∙ ap (λ (moves : List Move). folded_server (with_slot v.state r (moved_all moves s))) (sym so.moves) ∙ (let here = found-lean v.state number r hears.bare at.at_place in with-slot-lean v.state r (moved_all (moves_by r.region s slot.change) s) (stepped slot.change r.region s) hears.bare here (stepped_lean slot.change r.region s (state-lean v.space r (key_in m) here)));
     }
     )
     e
@@ -130,7 +130,7 @@ moved_planned v from m number n place key slot made hears at is few room k e =
 pub nothing_prepared : (v : ServerValue) (from : Actor) (m : Message) (made : ServerOutput) → CanHear v.space v.state from m → IsOfOneSlot m → None ≡ option_map (λ (r : Replica). Some r) (heard v.space v.state m) → made ≡ unmoved_made
     → IsStepOutput v (message_step v.space v.state from m) made
 nothing_prepared v from m made hears one none e =
-    nothing_made v (message_step v.space v.state from m) made hears.can.bare (message_unheard v.space v.state from m one (found_nowhere (heard v.space v.state m) none)) e
+    nothing_made v (message_step v.space v.state from m) made hears.bare (message_unheard v.space v.state from m one (found_nowhere (heard v.space v.state m) none)) e
 
 -- room was made since the message came
 module _ (old new : ServerValue) (from : Actor) (m : Message) (space : new.space ≡ old.space) (state : new.state ≡ old.state) where
@@ -166,8 +166,8 @@ pub on_input : (old v : ServerValue) (input : Input) (step : ServerStep) (made :
 on_input old v input step made state can e h = h input (running_step v input (ap (λ (s : ServerState). s.halted) state ∙ can.running) ∙ e)
 
 -- a post of a message that can be taken
-pub can_hear : (space : Space) (s : ServerState) (input : Input) (id : PostId) (from : Actor) (m : Message) → CanTake space s input → input ≡ Deliver id from m → CanHear space s from m
-can_hear space s input id from m can is = record { id = id; can = subst (CanTake space s) is can }
+pub can_hear : (space : Space) (s : ServerState) (input : Input) (id : PostId) (from : Actor) (m : Message) → CanTake space s input → folded_server s ≡ s → input ≡ Deliver id from m → CanHear space s from m
+can_hear space s input id from m can bare is = record { id = id; can = subst (CanTake space s) is can; bare = bare }
 
 -- a search changes nothing
 pub asked_made : (v : ServerValue) (from : Actor) (epoch : Epoch) (number : ℕ) (terms : List Term) (o : Option Replica) (posts : List Post) (made : ServerOutput) → folded_server v.state ≡ v.state → posts ≡ (asked v.state from epoch number terms o).posts

@@ -54,10 +54,10 @@ module _ (space : Space) (sessions n : ℕ) where
   replica : (r : Replica) → IsSoundReplica space sessions n r → a_server.IsSoundReplica space sessions n r
   replica r h = record { region = h.region; slots = λ t i. slot r.region t (h.slots t i); ascend = ascends r.states h.ascend }
 
-  server : (s : ServerState) → IsSoundServer space sessions n s → a_server.IsSoundServer space sessions n s.id s
+  pub server : (s : ServerState) → IsSoundServer space sessions n s → a_server.IsSoundServer space sessions n s.id s
   server s h = record { id = refl; config = record { of_space = h.config; epoch = h.epoch }; replicas = λ r i. replica r (h.replicas r i) }
 
-  given : (s : ServerState) (input : Input) → IsSoundInput space sessions n s.id input → (id : PostId) (from : Actor) (message : Message) → input ≡ Deliver id from message → (k : ℕ) × (k ≤ n) × IsSoundPost space sessions k (post from (Server s.id) message)
+  pub given : (s : ServerState) (input : Input) → IsSoundInput space sessions n s.id input → (id : PostId) (from : Actor) (message : Message) → input ≡ Deliver id from message → (k : ℕ) × (k ≤ n) × IsSoundPost space sessions k (post from (Server s.id) message)
   given s input h id from message e = (n, omega arith, subst (IsSoundInput space sessions n s.id) e h)
 
   -- the posts of the step

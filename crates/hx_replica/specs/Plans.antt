@@ -1,5 +1,5 @@
 -- A step of a server that is ready to be made.
-use Rattle.std.specs.Prelude.{◌≡◌, ℕ, ◌<◌, true, List, IsSomeAnd, Some, length, map, slice_get}
+use Rattle.std.specs.Prelude.{◌≡◌, ℕ, zero, suc, ◌<◌, ⊤, true, List, [], ◌∷◌, IsSomeAnd, Some, length, map, slice_get}
 use Rattle.hx_types.specs.declared.configs.Config.{Config}
 use Rattle.hx_types.specs.declared.messages.Message.{Message}
 use Rattle.hx_types.specs.declared.messages.PostId.{PostId}
@@ -18,17 +18,19 @@ use Rattle.hx_replica.specs.declared.prepared.ServerOutput.{ServerOutput}
 use Rattle.hx_replica.specs.Outputs.{ChangeFits, HasRoomFor, IsOutputOf, IsSlotInput, key_in, room_of, slot_step_of, stepped}
 use Rattle.hx_replica.specs.declared.replicas.Replica.{Replica}
 use Rattle.hx_replica.specs.Adopting.{lean_with_config}
-use Rattle.hx_replica.specs.Replicas.{IsReplicaIn, new_replica, view_of}
+use Rattle.hx_store.specs.Stores.{KeepsRooms, Room, UsesRoom}
+use Rattle.hx_replica.specs.Replicas.{IsReplicaIn, KeepAllRooms, new_replica, view_of}
 use Rattle.hx_replica.specs.Servers.{CanTake, ServerValue, server_entry}
 
 -- the replica with a number among the server's has at a place room for n more updates of the key
 abbrev pub HasRoomAt : ℕ → List ℕ → ℕ → ServerValue → ℕ → Type 0
 HasRoomAt number key n s place = IsSomeAnd (slice_get s.rooms number) (HasRoomFor key n place)
 
--- the server can take a post of the message
+-- the server can take a post of the message, and its slots have no past
 pub record CanHear (space : Space) (s : ServerState) (from : Actor) (m : Message) : Type 0 where
   pub id : PostId
   pub can : CanTake space s (Deliver id from m)
+  pub bare : folded_server s ≡ s
 
 -- the replica at the place hears the message, and its slot can be asked
 pub record CanStep (space : Space) (s : ServerState) (place : ℕ) (key : List ℕ) (from : Actor) (m : Message) : Type 0 where
@@ -81,6 +83,29 @@ pub record IsServerOutput (s : ServerValue) (input : Input) (made : ServerOutput
 -- that is so on each input of which the server's step is this one
 abbrev pub IsStepOutput : ServerValue → ServerStep → ServerOutput → Type 0
 IsStepOutput s step made = (input : Input) → server_step s.space s.state input ≡ step → IsServerOutput s input made
+
+-- the replica with a number uses the room at a place for one update, and no other room falls
+abbrev pub UseRoomAt : ℕ → ℕ → List (List Room) → List (List Room) → Type 0
+UseRoomAt number place [] new = ⊤
+UseRoomAt number place (x ∷ old) [] = ⊥
+UseRoomAt zero place (x ∷ old) (y ∷ new) = UsesRoom place x y × KeepAllRooms old new
+UseRoomAt (suc number) place (x ∷ old) (y ∷ new) = KeepsRooms x y × UseRoomAt number place old new
+
+-- no room falls but those of the replica with a number
+abbrev pub KeepRoomsBut : ℕ → List (List Room) → List (List Room) → Type 0
+KeepRoomsBut number [] new = ⊤
+KeepRoomsBut number (x ∷ old) [] = ⊥
+KeepRoomsBut zero (x ∷ old) (y ∷ new) = KeepAllRooms old new
+KeepRoomsBut (suc number) (x ∷ old) (y ∷ new) = KeepsRooms x y × KeepRoomsBut number old new
+
+-- the rooms after a change: a slot uses some, a replica that joins begins anew, and so do those of a configuration that is adopted
+abbrev pub AreRoomsAfter : Change → List (List Room) → List (List Room) → Type 0
+AreRoomsAfter Nothing old new = new ≡ old
+AreRoomsAfter Seal old new = new ≡ old
+AreRoomsAfter Halt old new = new ≡ old
+AreRoomsAfter (Adopt config replicas) old new = ⊤
+AreRoomsAfter (Join number replica) old new = KeepRoomsBut number old new
+AreRoomsAfter (Slot number place change) old new = UseRoomAt number place old new
 
 -- the plan is that of the server's step, and there is room for its change
 pub record IsPlanOn (s : ServerValue) (plan : Plan) : Type 0 where

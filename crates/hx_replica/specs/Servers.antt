@@ -13,7 +13,6 @@ use Rattle.hx_types.specs.Words.{IsIn, post}
 use Rattle.hx_model.specs.Runs.{entry_of}
 use Rattle.hx_model.specs.ServerSteps.{Replica, ServerState, server_step}
 use Rattle.hx_model.specs.Slots.{KeyState, top_of}
-use Rattle.hx_law_folds.specs.Folding.{folded_server}
 use Rattle.hx_store.specs.Stores.{Room}
 
 -- rooms: for how many more updates the slots of each replica have room
@@ -43,9 +42,8 @@ IsInputTo space s Tick = ⊤
 IsInputTo space s Halt = ⊤
 IsInputTo space s (Deliver id from m) = IsSoundDelivery space s from m
 
--- the server can take the input: its slots have no past
+-- the server can take the input
 pub record CanTake (space : Space) (s : ServerState) (input : Input) : Type 0 where
   pub running : s.halted ≡ false
   pub input_to : IsInputTo space s.id input
   pub small : HasSmallVersions s
-  pub bare : folded_server s ≡ s

@@ -4,7 +4,7 @@ ghost use Rattle.hx_types.specs.declared.limits.TheConstants.{MOST_ATTRIBUTES};
 ghost use Rattle.hx_types.specs.Spaces.{IsSpace};
 ghost use Rattle.hx_types.specs.Subspaces.{region_count};
 ghost use Rattle.hx_model.specs.ServerSteps.{listed_regions, replica_of};
-ghost use Rattle.hx_store.specs.Stores.{after_step, key_at, state_at};
+ghost use Rattle.hx_store.specs.Stores.{UsesRoom, after_step, key_at, state_at};
 ghost use Rattle.hx_replica.specs.Outputs.{ChangeFits, HasRoomFor, room_of, stepped};
 ghost use Rattle.hx_replica.specs.Replicas.{AscendByRegion, first_replica, new_replica, views_of};
 
@@ -118,12 +118,14 @@ pub fn put_replica(place: &mut Replica, replica: Box<Replica>)
 }
 
 /// The slot at a place makes its part of a step. It takes no memory.
+#[tactic(auto, using(crate::proofs::Roomy::kept_uses, crate::proofs::Roomy::same_uses))]
 pub fn change_slot(store: &mut Store, place: usize, change: SlotChange)
     requires room { HasRoomFor (key_at store.old place) (room_of change) place store.old.rooms }
     requires fits { ChangeFits store.old.region (state_at store.old (key_at store.old place)) (key_at store.old place) change }
     ensures region { store.new.region ≡ store.old.region }
     ensures marks { store.new.marks ≡ store.old.marks }
     ensures states { store.new.states ≡ after_step store.old (key_at store.old place) (stepped change) }
+    ensures rooms { UsesRoom place store.old.rooms store.new.rooms }
 {
     match change {
         SlotChange::Open => store.open(place),

@@ -9,7 +9,7 @@ ghost use Rattle.hx_types.specs.Spaces.{IsConfigOf, IsServerOf, IsSpace};
 ghost use Rattle.hx_types.specs.Subspaces.{is_key_region};
 ghost use Rattle.hx_types.specs.Words.{when_some};
 ghost use Rattle.hx_law_folds.specs.Folding.{folded_server};
-ghost use Rattle.hx_model.specs.ServerSteps.{Replica as ReplicaState, asked, halting, replica_in_epoch, if_installed, install_at, listed_regions, message_step, replica_of, seal_at, server_at_start, server_step, snapped, state_in, tick_step};
+ghost use Rattle.hx_model.specs.ServerSteps.{Replica as ReplicaState, ServerState, asked, halting, replica_in_epoch, if_installed, install_at, listed_regions, message_step, replica_of, seal_at, server_at_start, server_step, snapped, state_in, tick_step};
 ghost use Rattle.hx_model.specs.Slots.{found_in, new_state};
 ghost use Rattle.hx_replica.specs.Hearing.{IsOfOneSlot, heard, leading};
 ghost use Rattle.hx_replica.specs.Installing.{IsSnapshot};
@@ -19,7 +19,7 @@ ghost use Rattle.hx_replica.specs.Named.{known_to};
 ghost use Rattle.hx_replica.specs.Replicas.{KeepAllRooms, first_replica, new_replica};
 ghost use Rattle.hx_replica.specs.Sound.{IsSoundInput, IsSoundServer};
 ghost use Rattle.hx_store.specs.Stores.{has_slot};
-ghost use Rattle.hx_replica.specs.Plans.{CanHear, CanStep, HasRoomAt, IsOutputAt, IsPlanOn, IsServerOutput, IsStepOutput};
+ghost use Rattle.hx_replica.specs.Plans.{AreRoomsAfter, CanHear, CanStep, HasRoomAt, IsOutputAt, IsPlanOn, IsServerOutput, IsStepOutput};
 ghost use Rattle.hx_replica.specs.Servers.{CanTake};
 
 use crate::adopting::post_adoption;
@@ -181,6 +181,7 @@ impl Server {
         ensures space { self.new.space ≡ self.old.space }
         ensures state { self.new.state ≡ self.old.state }
     {
+        let _ = &self.id;
         match input {
             Input::Tick => self.tick(alloc),
             Input::Halt => self.halt(alloc),
@@ -188,12 +189,29 @@ impl Server {
         }
     }
 
-    /// Makes a prepared step, and gives its entry. It takes no memory.
+    /// Makes a prepared step, and gives its entry. It takes no memory. Where all that the server
+    /// holds and the post that it got are of the space, exist and have no epoch and no version above
+    /// a bound, that is so of what it then holds, with a bound higher by 1. Room is used by the slot
+    /// that accepts an update, and given up by a replica that joins or that the server has no more.
     pub fn apply(&mut self, plan: Plan) -> Entry
         requires { IsPlanOn self.old plan }
         ensures entry { result ≡ plan.entry }
         ensures space { self.new.space ≡ self.old.space }
         ensures state { self.new.state ≡ folded_server (server_step self.old.space self.old.state plan.entry.input).state }
+        ensures sound { (sessions n : ℕ) → IsSoundServer self.old.space sessions n self.old.state → IsSoundInput self.old.space sessions n self.old.state.id plan.entry.input → IsSoundServer self.new.space sessions (n + 1) self.new.state }
+        ensures rooms { AreRoomsAfter plan.change self.old.rooms self.new.rooms }
+    {
+        self.make(plan)
+    }
+
+    /// Makes a prepared step.
+    #[inline]
+    fn make(&mut self, plan: Plan) -> Entry
+        requires { IsPlanOn self.old plan }
+        ensures entry { result ≡ plan.entry }
+        ensures space { self.new.space ≡ self.old.space }
+        ensures state { self.new.state ≡ folded_server (server_step self.old.space self.old.state plan.entry.input).state }
+        ensures rooms { AreRoomsAfter plan.change self.old.rooms self.new.rooms }
     {
         let Plan { entry, change } = plan;
         match change {
@@ -216,7 +234,8 @@ impl Server {
 
     /// The server adopts a configuration, in which these are new replicas of its regions.
     fn adopt(&mut self, config: Shared<Config>, replicas: Vec<Replica>)
-        requires { replicas.items ≡ map (new_replica self.old.space) (listed_regions config self.old.state.id) }
+        requires new { replicas.items ≡ map (new_replica self.old.space) (listed_regions config self.old.state.id) }
+        requires bare { (s : ServerState) × (folded_server s ≡ lean_with_config self.old.space self.old.state config) }
         ensures space { self.new.space ≡ self.old.space }
         ensures state { self.new.state ≡ lean_with_config self.old.space self.old.state config }
     {

@@ -1,15 +1,17 @@
 //! Objects.
 
-ghost use Rattle.std.specs.Prelude.{◌≡◌, ◌++◌, OnOk};
+ghost use Rattle.std.specs.Prelude.{◌≡◌, ◌++◌, OnErr, OnOk};
+ghost use Rattle.hx_print.specs.Prefixes.{IsPrefix};
 ghost use Rattle.hx_report.specs.Reporting.{object_text};
 
 use hx_print::put_named;
 use hx_types::{Attributes, Memory, Object};
 
 /// Appends each value of an object after the name of its attribute.
-#[tactic(auto, unfolding(crate::specs::Reporting::object_text))]
+#[tactic(auto, unfolding(crate::specs::Reporting::object_text), using(hx_print::proofs::Prefixes::begun, hx_print::proofs::Prefixes::longer, hx_print::proofs::Prefixes::longer_by))]
 pub fn put_object(out: &mut Vec<u8>, attributes: &Attributes, object: &Object) -> Result<(), Memory>
-    ensures { OnOk result (out.new.items ≡ out.old.items ++ object_text attributes.now object.now) }
+    ensures appends { OnOk result (out.new.items ≡ out.old.items ++ object_text attributes.now object.now) }
+    ensures prefix { OnErr result (IsPrefix out.old.items out.new.items) }
 {
     let mut declared = attributes.as_slice();
     let mut values = object.as_slice();

@@ -20,7 +20,7 @@ use Rattle.hx_slot.specs.declared.slots.Slot.TheInside.{Inside}
 use Rattle.hx_slot.specs.Acks.{AreAcked, count_unacked}
 use Rattle.hx_slot.specs.Bases.{IsFolded, kept_in}
 use Rattle.hx_slot.specs.Invariant.{IsLine, IsSlot, seen, updates_of, versions_of}
-use Rattle.hx_slot.specs.States.{IsOrderly, IsRowUpTo}
+use Rattle.hx_slot.specs.States.{IsOrderly, IsRowUpTo, IsSettledInto, SlotState}
 use Rattle.hx_slot.specs.MarksAndTouches.{AscendByRegion, marks_over, touches_over}
 use Rattle.hx_slot.specs.Updates.{Ascends, IsPlaced, last_version, newest_first, places_in, row_by, row_over}
 use Rattle.hx_slot.proofs.Carrying.{marks_after-over, row-weaker, row_by-upto, touches_after-over}
@@ -187,12 +187,15 @@ module _ (a : Inside) (h : IsSlot a) (base : Base) (t : AcceptedUpdate) (rest : 
   abbrev pub after : Inside
   after = record a { base = base; accepted = accepted; committed = c }
 
-  pub committed-seen : seen after ≡ seen a
-  committed-seen =
+  pub committed-seen : (s : SlotState) → seen a ≡ s → IsSettledInto s (seen after)
+  committed-seen s view =
       let now = ap (λ (ts : List AcceptedUpdate). folded a.region (state_with a base ts)) items in
       let was = ap (λ (ts : List AcceptedUpdate). folded a.region (state_with a a.base ts)) (sym is) in
       let state = now ∙ folded-same a base t rest c line f ∙ was in
-      λ j. record { region = a.region; state = state j; spare = a.spare }
+      let region : a.region ≡ s.region = ap (λ (x : SlotState). x.region) view in
+      let spare : a.spare ≡ s.spare = ap (λ (x : SlotState). x.spare) view in
+      let held : a.committed ≡ s.held = ap (λ (x : SlotState). x.held) view in
+      record { region = region; state = state ∙ ap (λ (x : SlotState). x.state) view; spare = spare; held = omega (arith, count, held) }
 
   pub committed-slot : IsSlot after
   committed-slot =

@@ -34,11 +34,12 @@ whole a =
         early = updates_of a.early.items;
       };
       spare = a.spare;
+      held = a.committed;
     }
 
 -- the slot as contracts see it: without its past
 abbrev pub seen : Inside → SlotState
-seen a = record { region = a.region; state = folded a.region (whole a).state; spare = a.spare }
+seen a = record { region = a.region; state = folded a.region (whole a).state; spare = a.spare; held = a.committed }
 
 -- versions ascend from that of the base, each update has its place, and the first ones are committed
 pub record IsLine (g : RegionId) (base : ℕ) (accepted : List AcceptedUpdate) (committed floor : ℕ) : Type 0 where

@@ -1,5 +1,5 @@
 -- What contracts see of a slot, and what always holds of it.
-use Rattle.std.specs.Prelude.{ℕ, ◌<◌, ◌≤◌, ⊤, List, map, length, if◌then◌else◌, ◌==◌, Option, None, Some}
+use Rattle.std.specs.Prelude.{◌≡◌, ℕ, ◌<◌, ◌≤◌, ⊤, List, map, length, if◌then◌else◌, ◌==◌, Option, None, Some}
 use Rattle.std.specs.Borrow.{Bor}
 use Rattle.std.specs.List.{All}
 use Rattle.std.specs.Option.{IfSome, option_map}
@@ -20,11 +20,25 @@ use Rattle.hx_types.specs.Spaces.{IsAscending}
 use Rattle.hx_model.specs.Neighbours.{place_number}
 use Rattle.hx_model.specs.Slots.{KeyState, after_at, kept_of}
 
--- a key at a replica of a region, and for how many offers there is room
+-- a key at a replica of a region, for how many offers there is room, and how many committed updates aren't in the base: none,
+-- but where a count of owners was full when they were to go there
 pub record SlotState : Type 0 where
   pub region : RegionId
   pub state : KeyState
   pub spare : ℕ
+  pub held : ℕ
+
+-- the same slot, with no more committed updates outside of its base
+pub record IsSettledInto (old new : SlotState) : Type 0 where
+  pub region : new.region ≡ old.region
+  pub state : new.state ≡ old.state
+  pub spare : new.spare ≡ old.spare
+  pub held : new.held ≤ old.held
+
+-- and still with some of them there
+pub record IsHeldUp (old new : SlotState) : Type 0 where
+  pub same : IsSettledInto old new
+  pub some : 0 < new.held
 
 -- the update has a place in the region
 abbrev pub IsPlacedIn : RegionId → Update → Type 0

@@ -8,7 +8,7 @@ ghost use Rattle.hx_model.specs.ServerSteps.{state_from};
 ghost use Rattle.hx_model.specs.Slots.{Acknowledge, Forget, Hold, KeyState, Take, ack_answer, acknowledged, follows, is_pending, latest_of, mark_of, moved, moved_all, new_state, object_of, offer_answer, offered, pending_of, settled, state_of_kept, taken, top_of, touches_of, turns};
 ghost use Rattle.hx_slot.specs.Updates.{IsHeld, row_seen};
 ghost use Rattle.hx_slot.specs.Rooms.{IsGrown};
-ghost use Rattle.hx_slot.specs.States.{HasFewPlaces, IsLater, IsOrderly, IsPlacedIn, accepted_count, call_at, call_seen, committed_count, committed_state, object_at, object_seen};
+ghost use Rattle.hx_slot.specs.States.{HasFewPlaces, IsHeldUp, IsLater, IsOrderly, IsPlacedIn, IsSettledInto, accepted_count, call_at, call_seen, committed_count, committed_state, object_at, object_seen};
 ghost use Rattle.hx_types.specs.declared.calls.Answer.{Answer};
 ghost use Rattle.hx_types.specs.declared.ids.Version.{Version};
 ghost use Rattle.hx_types.specs.declared.updates.Place.{Place};
@@ -95,6 +95,7 @@ impl Slot {
     pub fn new(alloc: Global, region: RegionId, key: Text, marks: bool) -> Slot
         ensures region { result.region ≡ region }
         ensures state { result.state ≡ new_state marks key }
+        ensures held { result.held ≡ 0 }
     {
         let base = Kept {
             key,
@@ -112,6 +113,7 @@ impl Slot {
         requires { IsOrderly kept }
         ensures region { result.region ≡ region }
         ensures state { result.state ≡ state_from marks kept }
+        ensures held { result.held ≡ 0 }
     {
         if marks {
             return Slot::over(alloc, region, kept, marks);
@@ -124,6 +126,7 @@ impl Slot {
         requires bare { IsBare region (state_of_kept marks base) }
         ensures region { result.region ≡ region }
         ensures state { result.state ≡ state_of_kept marks base }
+        ensures held { result.held ≡ 0 }
     {
         let floor = base.floor;
         Slot {
@@ -224,12 +227,21 @@ impl Slot {
         }))
     }
 
+    /// How many committed updates aren't in the base. There are some only where a count of owners was
+    /// full when they were to go there.
+    pub fn held_count(&self) -> u32
+        ensures { result ≡ self.now.held }
+    {
+        self.committed as u32
+    }
+
     /// The committed state, or `None` where nothing is committed; all else of the slot is dropped. It
-    /// takes no memory. Where a count of owners is full the slot comes back, as it was.
+    /// takes no memory. The slot comes back exactly where a committed update still can't go into the
+    /// base, since a count of owners is full; it is as it was.
     pub fn into_kept(mut self) -> Result<Option<Kept>, Slot>
         ensures kept { IfOk result (λ kept. kept ≡ committed_state self.region self.state) }
         ensures orderly { IfOk result (λ kept. IfSome kept IsOrderly) }
-        ensures back { IfErr result (λ slot. slot ≡ self) }
+        ensures back { IfErr result (IsHeldUp self) }
     {
         self.fold();
         if self.committed > 0 {
@@ -264,6 +276,7 @@ impl Slot {
     pub fn renewed(&self, alloc: Global) -> Result<Slot, Memory>
         ensures state { IfOk result (λ slot. slot.state ≡ moved Forget self.now.state) }
         ensures region { IfOk result (λ slot. slot.region ≡ self.now.region) }
+        ensures held { IfOk result (λ slot. slot.held ≡ self.now.held) }
     {
         let mut acked = Vec::new(alloc);
         grow(&mut acked, self.accepted.len() - self.committed)?;
@@ -350,6 +363,7 @@ impl Slot {
         ensures state { self.new.state ≡ self.old.state }
         ensures room { OnOk result (n ≤ self.new.spare) }
         ensures spare { self.old.spare ≤ self.new.spare }
+        ensures held { self.new.held ≡ self.old.held }
     {
         if n <= self.spare {
             return Ok(());
@@ -417,6 +431,7 @@ impl Slot {
         ensures state { self.new.state ≡ moved_all (offered self.old.region self.old.state update) self.old.state }
         ensures region { self.new.region ≡ self.old.region }
         ensures spare { self.old.spare ≤ self.new.spare + 1 }
+        ensures held { self.new.held ≡ self.old.held }
         ensures stands { (s : KeyState) → StandsFor self.old.region self.old.state s → StandsFor self.new.region self.new.state (moved_all (offered self.old.region s update) s) }
     {
         let top = self.top();
@@ -475,6 +490,7 @@ impl Slot {
         ensures state { self.new.state ≡ folded self.old.region (moved_all (acknowledged self.old.state version.0) self.old.state) }
         ensures region { self.new.region ≡ self.old.region }
         ensures spare { self.old.spare ≤ self.new.spare }
+        ensures held { self.new.held ≤ self.old.held + committed_count result }
         ensures stands { (s : KeyState) → StandsFor self.old.region self.old.state s → StandsFor self.new.region self.new.state (moved_all (acknowledged s version.0) s) }
     {
         let pending = rest_of(self.accepted.as_slice(), self.committed);
@@ -509,6 +525,7 @@ impl Slot {
         ensures state { self.new.state ≡ moved (Acknowledge version.0) self.old.state }
         ensures region { self.new.region ≡ self.old.region }
         ensures spare { self.old.spare ≤ self.new.spare }
+        ensures held { self.new.held ≡ self.old.held }
         ensures stands { (s : KeyState) → StandsFor self.old.region self.old.state s → StandsFor self.new.region self.new.state (moved (Acknowledge version.0) s) }
     {
         let pending = rest_of(self.accepted.as_slice(), self.committed);
@@ -527,6 +544,7 @@ impl Slot {
         ensures state { self.new.state ≡ folded self.old.region (moved_all (settled self.old.state) self.old.state) }
         ensures region { self.new.region ≡ self.old.region }
         ensures spare { self.old.spare ≤ self.new.spare }
+        ensures held { self.new.held ≤ self.old.held + result }
         ensures stands { (s : KeyState) → StandsFor self.old.region self.old.state s → StandsFor self.new.region self.new.state (moved_all (settled s) s) }
     {
         let pending = rest_of(self.accepted.as_slice(), self.committed);
@@ -544,6 +562,7 @@ impl Slot {
         ensures state { self.new.state ≡ moved Forget self.old.state }
         ensures region { self.new.region ≡ self.old.region }
         ensures spare { self.old.spare ≤ self.new.spare }
+        ensures held { self.new.held ≡ self.old.held }
         ensures stands { (s : KeyState) → StandsFor self.old.region self.old.state s → StandsFor self.new.region self.new.state (moved Forget s) }
     {
         self.acked.clear();
@@ -553,7 +572,7 @@ impl Slot {
 
     /// The committed updates go into the base, the lowest first, as far as they can.
     fn fold(&mut self)
-        ensures { self.new ≡ self.old }
+        ensures { IsSettledInto self.old self.new }
     {
         for _ in 0..self.committed {
             if !self.fold_lowest() {
@@ -565,7 +584,7 @@ impl Slot {
     /// The lowest committed update goes into the base, if there is one and no count of owners is
     /// full.
     fn fold_lowest(&mut self) -> bool
-        ensures { self.new ≡ self.old }
+        ensures { IsSettledInto self.old self.new }
     {
         if self.committed == 0 {
             return false;
@@ -602,6 +621,7 @@ impl Slot {
         ensures state { self.new.state ≡ moved_all (turns self.old.region most (top_of self.old.state) self.old.state.early) self.old.state }
         ensures region { self.new.region ≡ self.old.region }
         ensures spare { self.new.spare ≡ self.old.spare }
+        ensures held { self.new.held ≡ self.old.held }
     {
         for count in 0..most {
             if !self.accept_next_early() {
@@ -618,6 +638,7 @@ impl Slot {
         ensures later { AllByRecursion (IsLater self.old.region) self.old.state.early }
         ensures region { self.new.region ≡ self.old.region }
         ensures spare { self.new.spare ≡ self.old.spare }
+        ensures held { self.new.held ≡ self.old.held }
     {
         let top = self.top();
         let Some(place) = early_after(self.early.as_slice(), top) else {
@@ -637,6 +658,7 @@ impl Slot {
         ensures state { self.new.state ≡ moved (Take placed.update) self.old.state }
         ensures region { self.new.region ≡ self.old.region }
         ensures spare { self.new.spare + 1 ≡ self.old.spare }
+        ensures held { self.new.held ≡ self.old.held }
     {
         let PlacedUpdate { update, place } = placed;
         drop_version(&mut self.early, update.version);
@@ -656,6 +678,7 @@ impl Slot {
         ensures state { self.new.state ≡ moved (Hold placed.update) self.old.state }
         ensures region { self.new.region ≡ self.old.region }
         ensures spare { self.new.spare + 1 ≡ self.old.spare }
+        ensures held { self.new.held ≡ self.old.held }
     {
         drop_version(&mut self.early, placed.update.version);
         self.early.push_reserved(placed);

@@ -1,25 +1,17 @@
 -- A snapshot that is installed gives each key what was committed of it.
-use Rattle.std.proofs.Common.{◌≡◌, ℕ, ◌<◌, nat_lt, Bool, true, false, cond, List, [], ◌∷◌, map, refl, ap, sym, ◌∙◌, subst, arith}
+use Rattle.std.proofs.Common.{◌≡◌, ℕ, ◌<◌, nat_lt, Bool, true, false, cond, eqb, List, [], ◌∷◌, map, Option, None, Some, refl, ap, sym, ◌∙◌, subst, arith}
 use Rattle.std.specs.List.{AllByRecursion, filter}
-use Rattle.std.proofs.lemmas.Bool.{cond_both, cond-false, lt-ltb, false≢true}
+use Rattle.std.proofs.lemmas.Bool.{cond_both, cond-false, cond-true, eq-eqb, lt-ltb, ltb-true, ne_eqb, false≢true}
 use Rattle.hx_types.specs.declared.ids.RegionId.{RegionId}
-use Rattle.hx_types.specs.Words.{same_text, text_below}
+use Rattle.hx_types.specs.declared.snapshots.Kept.{Kept}
+use Rattle.hx_types.specs.Words.{same_text, text_below, when_some}
 use Rattle.hx_law_folds.specs.Folding.{KeysAscend}
 use Rattle.hx_law_folds.proofs.Texts.{below-differs}
 use Rattle.hx_model.proofs.States.{eq_of_same_text}
 use Rattle.hx_model.specs.ServerSteps.{state_from}
-use Rattle.hx_model.specs.Slots.{KeyState, kept_of, new_state, no_kept, snapshot_of, state_among}
-use Rattle.hx_store.specs.Reading.{IsEmptyBelow}
+use Rattle.hx_model.specs.Slots.{KeyState, kept_of, new_state, snapshot_of, state_among}
+use Rattle.hx_store.specs.Reading.{come_back}
 use Rattle.hx_store.proofs.Reading.{from-key}
-
--- nothing is kept of a key without a slot
-bare-key : (g : RegionId) (marks : Bool) (key : List ℕ) → state_from marks (kept_of g (new_state marks key)) ≡ new_state marks key
-bare-key g true key = refl
-bare-key g false key = refl
-
-from-none : (marks : Bool) (key : List ℕ) → state_from marks (no_kept key) ≡ new_state marks key
-from-none true key = refl
-from-none false key = refl
 
 -- a key below all others has no slot
 absent : (marks : Bool) (key : List ℕ) (states : List KeyState) → AllByRecursion (λ (t : KeyState). text_below key t.base.key ≡ true) states → state_among marks key states ≡ new_state marks key
@@ -39,26 +31,34 @@ module _ (g : RegionId) (marks : Bool) (key : List ℕ) where
       by : (n : ℕ) → nat_lt 0 n ≡ false → n ≡ 0
       by n f = (let no : 0 < n → ⊥ = λ l. false≢true (sym f ∙ lt-ltb 0 n l) in omega (arith, no))
 
-  pub comes-back : (states : List KeyState) → KeysAscend states → AllByRecursion (IsEmptyBelow g) states → back states ≡ state_from marks (kept_of g (state_among marks key states))
-  comes-back [] h e = sym (bare-key g marks key)
-  comes-back (s ∷ rest) h e =
-      let more = comes-back rest h.1 e.1 in
-      cond_both (above_zero s) (s ∷ filter above_zero rest) (filter above_zero rest) (λ (l : List KeyState). state_among marks key (map (state_from marks) (map (kept_of g) l)) ≡ state_from marks (kept_of g (state_among marks key (s ∷ rest))))
+  -- of a slot something is committed, or nothing
+  some-back : (s : KeyState) → above_zero s ≡ true → come_back g marks key s ≡ state_from marks (kept_of g s)
+  some-back s t =
+      let l = ltb-true 0 s.floor t in
+      ap (λ (o : Option Kept). when_some o (new_state marks key) (state_from marks)) (cond-false (eqb s.floor 0) None (Some (kept_of g s)) (ne_eqb s.floor 0 (λ e. omega (arith, l, e))))
+
+  none-back : (s : KeyState) → above_zero s ≡ false → come_back g marks key s ≡ new_state marks key
+  none-back s f = ap (λ (o : Option Kept). when_some o (new_state marks key) (state_from marks)) (cond-true (eqb s.floor 0) None (Some (kept_of g s)) (eq-eqb s.floor 0 (zero-floor s f)))
+
+  pub comes-back : (states : List KeyState) → KeysAscend states → back states ≡ come_back g marks key (state_among marks key states)
+  comes-back [] h = refl
+  comes-back (s ∷ rest) h =
+      let more = comes-back rest h.1 in
+      cond_both (above_zero s) (s ∷ filter above_zero rest) (filter above_zero rest) (λ (l : List KeyState). state_among marks key (map (state_from marks) (map (kept_of g) l)) ≡ come_back g marks key (state_among marks key (s ∷ rest)))
       (
       λ t. ap (λ (k : List ℕ). cond (same_text k key) (state_from marks (kept_of g s)) (back rest)) (from-key marks (kept_of g s))
-      ∙ pick (same_text s.base.key key) more
+      ∙ pick (same_text s.base.key key) (some-back s t) more
       )
       (
-      λ f. cond_both (same_text s.base.key key) s (state_among marks key rest) (λ (x : KeyState). back rest ≡ state_from marks (kept_of g x))
+      λ f. cond_both (same_text s.base.key key) s (state_among marks key rest) (λ (x : KeyState). back rest ≡ come_back g marks key x)
       (
       λ t. more
-      ∙ ap (λ (x : KeyState). state_from marks (kept_of g x)) (absent marks key rest (subst (λ (k : List ℕ). AllByRecursion (λ (u : KeyState). text_below k u.base.key ≡ true) rest) (eq_of_same_text s.base.key key t) h.0))
-      ∙ bare-key g marks key
-      ∙ sym (ap (state_from marks) (e.0 (zero-floor s f)) ∙ from-none marks s.base.key ∙ ap (new_state marks) (eq_of_same_text s.base.key key t))
+      ∙ ap (come_back g marks key) (absent marks key rest (subst (λ (k : List ℕ). AllByRecursion (λ (u : KeyState). text_below k u.base.key ≡ true) rest) (eq_of_same_text s.base.key key t) h.0))
+      ∙ sym (none-back s f)
       )
       (λ t. more)
       )
     where
-      pick : (b : Bool) → back rest ≡ state_from marks (kept_of g (state_among marks key rest)) → cond b (state_from marks (kept_of g s)) (back rest) ≡ state_from marks (kept_of g (cond b s (state_among marks key rest)))
-      pick true more = refl
-      pick false more = more
+      pick : (b : Bool) → come_back g marks key s ≡ state_from marks (kept_of g s) → back rest ≡ come_back g marks key (state_among marks key rest) → cond b (state_from marks (kept_of g s)) (back rest) ≡ come_back g marks key (cond b s (state_among marks key rest))
+      pick true here more = sym here
+      pick false here more = more

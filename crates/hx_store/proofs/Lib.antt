@@ -12,4 +12,6 @@ pub mod Showing
 pub mod Reading
 pub mod Finding
 pub mod ComingBack
+pub mod OwnKeys
+pub mod Installing
 pub mod Prefixes

@@ -21,7 +21,7 @@ use Rattle.hx_index.specs.Orders.{IndexState, IsIndexOf, IsOrder, compare_at, co
 use Rattle.hx_index.specs.Searches as index
 use Rattle.hx_index.specs.Sides.{matches_at}
 use Rattle.hx_store.specs.Invariant.{AscendAt, IsStoreSlot, is_listed, state_in, states_in}
-use Rattle.hx_store.specs.Looks.{indexed_count, is_indexed, least_count, meeting_count, most_looks_at}
+use Rattle.hx_store.specs.Looks.{indexed_count, is_indexed, least_count, least_looks_at, meeting_count, most_looks_at}
 use Rattle.hx_store.specs.Slots.{Entry, rows_in}
 use Rattle.hx_store.proofs.Lists.{all-at}
 use Rattle.hx_store.proofs.Order.{listed-there}
@@ -180,6 +180,10 @@ module _ (g : RegionId) (marks : Bool) (es : List Entry) (each : AllByRecursion 
       -- the bound of the index is that of the store
       pub looks-same : (terms : List Term) → 0 < length index_state.orders → index.most_looks index_state (rows_in es) terms ≡ most_looks_at (length index_state.orders) rows terms
       looks-same terms l = λ k. least-same terms (count_of index_state) (length rows) (count-same l) k + 2 * indexed_count (length index_state.orders) terms * digits_of (count-same l k)
+
+      -- and so is the least number of looks
+      pub looks-least : (terms : List Term) → 0 < length index_state.orders → index.least_run index_state (rows_in es) (count_of index_state) terms ≡ least_looks_at (length index_state.orders) rows terms
+      looks-least terms l = least-same terms (count_of index_state) (length rows) (count-same l)
 
       none-indexed : length index_state.orders ≡ 0 → (term : Term) → index.is_indexed index_state term ≡ false
       none-indexed e term = and_right (nat_lt 0 (attribute_of term)) _ (false_from_ne_true (nat_lt (attribute_of term) (length index_state.orders)) (λ t. (let l = ltb-true (attribute_of term) (length index_state.orders) t in omega (arith, l, e))))

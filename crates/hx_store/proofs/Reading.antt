@@ -1,8 +1,8 @@
 -- What is read of a store's slots, one after another.
 use Rattle.std.proofs.Common.{◌≡◌, ℕ, zero, suc, ◌+◌, ◌==◌, nat_lt, Bool, true, false, cond, List, [], ◌∷◌, ◌++◌, map, take, None, Some, refl, ap, sym, ◌∙◌, arith, append_assoc, append-nil}
-use Rattle.std.specs.List.{AllByRecursion, filter, slice_get}
+use Rattle.std.specs.List.{All, AllByRecursion, filter, slice_get}
 use Rattle.std.proofs.lemmas.Bool.{cond-true, cond-false, lt-ltb, ne_eqb}
-use Rattle.std.proofs.lemmas.List.Elements.{filter-append}
+use Rattle.std.proofs.lemmas.List.Elements.{All-push, filter-append}
 use Rattle.hx_types.specs.declared.ids.RegionId.{RegionId}
 use Rattle.hx_types.specs.declared.snapshots.Kept.{Kept}
 use Rattle.hx_types.specs.declared.updates.Update.{Update}
@@ -58,7 +58,7 @@ ascend-take (suc i) [] h = tt
 ascend-take (suc i) (s ∷ rest) h = (all-take (λ (t : KeyState). text_below s.base.key t.base.key ≡ true) i rest h.0, ascend-take i rest h.1)
 
 -- a slot above all others stands at their end
-put-last : (s : KeyState) (states : List KeyState) → AllByRecursion (λ (t : KeyState). text_below t.base.key s.base.key ≡ true) states → with_state s states ≡ states ++ s ∷ []
+pub put-last : (s : KeyState) (states : List KeyState) → AllByRecursion (λ (t : KeyState). text_below t.base.key s.base.key ≡ true) states → with_state s states ≡ states ++ s ∷ []
 put-last s [] h = refl
 put-last s (x ∷ rest) h =
     cond-false (same_text x.base.key s.base.key) _ _ (differ-back s.base.key x.base.key (below-differs x.base.key s.base.key h.0))
@@ -85,3 +85,7 @@ installed-next marks snapshot i k h at =
     put-last (state_from marks k) (map (state_from marks) (take i snapshot)) (below-front marks snapshot i k h at)
     ∙ sym (map-more (state_from marks) (take i snapshot) (k ∷ []))
     ∙ ap (map (state_from marks)) (sym (take_next snapshot i k at))
+
+-- what holds of all holds with one more
+pub all_more : {A : Type 0} (P : A → Type 0) (xs : List A) (x : A) → All P xs → P x → All P (xs ++ x ∷ [])
+all_more P xs x h p = All-push P xs x h p

@@ -25,6 +25,10 @@ least_count attributes rows least [] = least
 least_count attributes rows least (term ∷ rest) =
     least_count attributes rows (if is_indexed attributes term then min (meeting_count term rows) least else least) rest
 
+-- one look at each object that meets the term which fewest do, or at all where no term is on an attribute above 0
+abbrev pub least_looks_at : ℕ → List Row → List Term → ℕ
+least_looks_at attributes rows terms = least_count attributes rows (length rows) terms
+
 -- one look at each object that meets the term which fewest do, or at all where no term is on an attribute above 0, and for each
 -- such term two for each binary digit of the number of objects
 abbrev pub most_looks_at : ℕ → List Row → List Term → ℕ

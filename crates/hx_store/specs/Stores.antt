@@ -3,11 +3,13 @@ use Rattle.std.specs.Prelude.{◌≡◌, ℕ, zero, suc, ◌+◌, ◌<◌, ◌�
 use Rattle.std.specs.List.{All, list_any, slice_get}
 use Rattle.hx_types.specs.declared.ids.RegionId.{RegionId}
 use Rattle.hx_types.specs.declared.ids.Version.{Version}
+use Rattle.hx_types.specs.declared.snapshots.Kept.{Kept}
 use Rattle.hx_types.specs.declared.updates.Place.{Place}
 use Rattle.hx_types.specs.declared.updates.Update.{Update}
 use Rattle.hx_types.specs.Words.{same_text, when_some}
 use Rattle.hx_model.specs.Neighbours.{place_number}
 use Rattle.hx_law_folds.specs.Folding.{folded}
+use Rattle.hx_slot.specs.States.{SlotState}
 use Rattle.hx_model.specs.Slots.{Acknowledge, Forget, KeyState, acknowledged, Move, is_pending, moved, moved_all, offered, settled, state_among, with_state}
 
 -- a key of which a replica has heard, and for how many more updates there is room at its slot
@@ -56,12 +58,35 @@ KeepsOtherRooms key [] new = ⊤
 KeepsOtherRooms key (r ∷ old) [] = ⊥
 KeepsOtherRooms key (r ∷ old) (q ∷ new) = (q.key ≡ r.key) × (same_text r.key key ≡ false → r.spare ≤ q.spare) × KeepsOtherRooms key old new
 
+-- nor does any but those of some keys
+abbrev pub KeepsRoomsBut : (List ℕ → Bool) → List Room → List Room → Type 0
+KeepsRoomsBut free [] new = ⊤
+KeepsRoomsBut free (r ∷ old) [] = ⊥
+KeepsRoomsBut free (r ∷ old) (q ∷ new) = (q.key ≡ r.key) × (free r.key ≡ false → r.spare ≤ q.spare) × KeepsRoomsBut free old new
+
 -- nor does any but that at a place, which falls by at most 1
 abbrev pub UsesRoom : ℕ → List Room → List Room → Type 0
 UsesRoom place [] new = ⊤
 UsesRoom place (r ∷ old) [] = ⊥
 UsesRoom zero (r ∷ old) (q ∷ new) = (q.key ≡ r.key) × (r.spare ≤ q.spare + 1) × KeepsRooms old new
 UsesRoom (suc place) (r ∷ old) (q ∷ new) = (q.key ≡ r.key) × (r.spare ≤ q.spare) × UsesRoom place old new
+
+-- the key has a state in a snapshot, or is that of one of these slots
+abbrev pub has_kept : List Kept → List ℕ → Bool
+has_kept snapshot key = list_any (λ (k : Kept). same_text k.key key) snapshot
+
+abbrev pub is_key_of : List SlotState → List ℕ → Bool
+is_key_of slots key = list_any (λ (x : SlotState). same_text x.state.base.key key) slots
+
+-- the slots without their regions and rooms
+abbrev pub states_of : List SlotState → List KeyState
+states_of slots = map (λ (x : SlotState). x.state) slots
+
+-- a slot of the store's region and kind, whose key has a place
+pub record IsReady (s : StoreState) (x : SlotState) : Type 0 where
+  pub region : x.region ≡ s.region
+  pub marks : x.state.marks ≡ s.marks
+  pub place : has_room s x.state.base.key ≡ true
 
 -- the slot of a key, an empty one where there is none
 abbrev pub state_at : StoreState → List ℕ → KeyState

@@ -1,5 +1,7 @@
 ghost use Rattle.std.specs.Prelude.{◌≡◌, ◌++◌, IfOk, OnOk};
 ghost use Rattle.hx_model.specs.Slots.{object_of, pending_of};
+ghost use Rattle.std.specs.List.{All};
+ghost use Rattle.hx_slot.specs.States.{IsOrderly};
 ghost use Rattle.hx_store.specs.Reading.{committed_of};
 
 use hx_slot::Slot;
@@ -21,9 +23,11 @@ pub fn copy_row(alloc: Global, slot: &Slot) -> Result<Option<Row>, Memory>
     }
 }
 
-/// Adds the committed state of a slot, where something is committed.
+/// Adds the committed state of a slot, where something is committed. It is one that can be installed.
+#[tactic(auto, using(crate::proofs::Reading::all_more))]
 pub fn add_kept(alloc: Global, slot: &Slot, snapshot: &mut Snapshot) -> Result<(), Memory>
-    ensures { OnOk result (snapshot.new ≡ snapshot.old ++ committed_of slot.now) }
+    ensures more { OnOk result (snapshot.new ≡ snapshot.old ++ committed_of slot.now) }
+    ensures orderly { OnOk result (All IsOrderly snapshot.old → All IsOrderly snapshot.new) }
 {
     if let Some(kept) = slot.kept(alloc)? {
         snapshot.push(kept)?;

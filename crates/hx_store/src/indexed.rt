@@ -1,8 +1,9 @@
 ghost use Rattle.std.specs.Prelude.{◌≡◌, ℕ, ◌<◌, ◌≤◌, ◌+◌, [], IfOk, OnOk, length, nat_eq, slice_set, true};
 ghost use Rattle.std.specs.List.{IsDistinct, flat_map};
 ghost use Rattle.hx_types.specs.Words.{list_of};
-ghost use Rattle.hx_index.specs.Orders.{IsIndexOf, rows_at, stands_in};
-ghost use Rattle.hx_index.specs.Searches.{most_looks};
+ghost use Rattle.hx_index.specs.Looks.{HaveCounted};
+ghost use Rattle.hx_index.specs.Orders.{IsIndexOf, count_of, rows_at, stands_in};
+ghost use Rattle.hx_index.specs.Searches.{least_run, most_looks};
 ghost use Rattle.hx_index.specs.Sides.{matches_at};
 ghost use Rattle.hx_store.specs.Indexed.{IndexedState, IsKept, IsKeptAs, IsOf, IsWider, kept_at, marked_count};
 
@@ -148,6 +149,7 @@ impl Indexed {
         ensures index { IsIndexOf (rows_at self.now.rows) self.now.index }
         ensures counted { looks.old ≤ looks.new }
         ensures looks { looks.new ≤ looks.old + most_looks self.now.index (rows_at self.now.rows) terms.now }
+        ensures each { IfOk result (λ ids. HaveCounted (least_run self.now.index (rows_at self.now.rows) (count_of self.now.index) terms.now) looks.old looks.new) }
     {
         let mut view = View::new(self.rows.as_slice(), *looks);
         let found = self.index.find(alloc, &mut view, terms);

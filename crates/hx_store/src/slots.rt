@@ -4,8 +4,9 @@ ghost use Rattle.std.specs.List.{IsDistinct, flat_map, list_any};
 ghost use Rattle.std.specs.Ordering.{nat_cmp};
 ghost use Rattle.hx_model.specs.Slots.{is_pending, moved_all, offered};
 ghost use Rattle.hx_types.specs.Words.{list_of, same_text, text_below};
-ghost use Rattle.hx_index.specs.Orders.{IsIndexOf, stands_in};
-ghost use Rattle.hx_index.specs.Searches.{most_looks};
+ghost use Rattle.hx_index.specs.Looks.{HaveCounted};
+ghost use Rattle.hx_index.specs.Orders.{IsIndexOf, count_of, stands_in};
+ghost use Rattle.hx_index.specs.Searches.{least_run, most_looks};
 ghost use Rattle.hx_index.specs.Sides.{matches_at};
 ghost use Rattle.hx_store.specs.Invariant.{AscendAt, HasMoved, IsAdded, IsListedAt, IsReplacedAt, IsSplit, KeysApart, is_listed, key_in, stored_at};
 ghost use Rattle.hx_store.specs.Prefixes.{IsPrefixOf};
@@ -276,6 +277,7 @@ impl Slots {
         ensures index { IsIndexOf (rows_in self.now.entries) self.now.index }
         ensures counted { looks.old ≤ looks.new }
         ensures looks { looks.new ≤ looks.old + most_looks self.now.index (rows_in self.now.entries) terms.now }
+        ensures each { IfOk result (λ ids. HaveCounted (least_run self.now.index (rows_in self.now.entries) (count_of self.now.index) terms.now) looks.old looks.new) }
     {
         let mut ids = self.indexed.find(alloc, terms, looks)?;
         self.sort_by_keys(&mut ids);

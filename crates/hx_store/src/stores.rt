@@ -1,14 +1,16 @@
-ghost use Rattle.std.specs.Prelude.{◌≡◌, ℕ, ◌+◌, ◌<◌, ◌≤◌, [], IfNone, IfOk, IfSome, OnErr, OnOk, Some, false, is_some, length, map, slice_get, take, true};
+ghost use Rattle.std.specs.Prelude.{◌≡◌, ℕ, ◌+◌, ◌<◌, ◌≤◌, [], IfNone, IfOk, IfSome, OnErr, OnOk, Some, false, is_some, length, map, slice_get, true};
 ghost use Rattle.std.specs.Borrow.{Bor};
-ghost use Rattle.std.specs.List.{All};
+ghost use Rattle.std.specs.List.{All, AllByRecursion};
 ghost use Rattle.std.specs.Option.{option_map};
 ghost use Rattle.hx_types.specs.declared.limits.TheConstants.{MOST_ATTRIBUTES};
 ghost use Rattle.hx_law_folds.specs.Folding.{KeptsAscend, KeysAscend};
 ghost use Rattle.hx_model.specs.ServerSteps.{state_from};
 ghost use Rattle.hx_model.specs.Slots.{found_in, is_pending, moved_all, offered, pending_of_all, rows_of, snapshot_of, with_state};
-ghost use Rattle.hx_store.specs.Looks.{most_looks_at};
+ghost use Rattle.hx_index.specs.Looks.{HaveCounted};
+ghost use Rattle.hx_store.specs.Looks.{least_looks_at, most_looks_at};
+ghost use Rattle.hx_store.specs.Reading.{HasOwnRow, RowsAscend};
 ghost use Rattle.hx_slot.specs.States.{IsOrderly, SlotState};
-ghost use Rattle.hx_store.specs.Stores.{ArePending, CanBeOffered, IsPlace, KeepsOtherRooms, KeepsRooms, UsesRoom, accepted_at, acknowledged_at, after_step, forgotten_at, has_room, has_slot, key_at, marked_at, no_moves, settled_at, spare_at, state_at};
+ghost use Rattle.hx_store.specs.Stores.{ArePending, CanBeOffered, IsPlace, IsReady, KeepsOtherRooms, KeepsRooms, KeepsRoomsBut, UsesRoom, accepted_at, acknowledged_at, after_step, forgotten_at, has_kept, has_room, has_slot, is_key_of, key_at, marked_at, no_moves, settled_at, spare_at, state_at, states_of};
 
 use crate::copying::{add_kept, add_pending};
 use crate::slots::Slots;
@@ -18,6 +20,7 @@ use hx_types::{
     insert_within,
 };
 use std::alloc::Global;
+use std::collections::VecDeque;
 use std::marker::Model;
 
 /// The slots of a region. A key is looked up once: its place, the number of the key in the order of
@@ -126,17 +129,21 @@ impl Store {
         }
     }
 
-    /// The committed objects of which every term holds, in byte order of keys: what a search finds
-    /// in the region, as in HyperDex. It goes through the objects that meet the term which fewest
-    /// meet, and counts each look at an object. The store stays, whatever comes.
+    /// The committed objects of which every term holds, in byte order of their slots' keys: what a
+    /// search finds in the region, as in HyperDex. Where each slot's object is of its key, as in every
+    /// run, that is the order of the objects' own keys too. It goes through the objects that meet the
+    /// term which fewest meet, looks at each once, and counts each look at an object. The store stays,
+    /// whatever comes.
     ///
     /// Its index is brought up to date first, which is not counted: for each slot that was changed
     /// since the last search two binary searches in each order whose value is another one.
     pub fn find(&mut self, alloc: Global, terms: &Terms, looks: &mut u64) -> Result<Rows, Memory>
         ensures rows { IfOk result (λ rows. rows ≡ found_in self.old.region terms.now self.old.states) }
         ensures ascend { KeysAscend self.old.states }
+        ensures keys { AllByRecursion (HasOwnRow self.old.region) self.old.states → IfOk result RowsAscend }
         ensures counted { looks.old ≤ looks.new }
         ensures looks { looks.new ≤ looks.old + most_looks_at self.old.attributes (rows_of self.old.region self.old.states) terms.now }
+        ensures each { IfOk result (λ rows. 0 < self.old.attributes → HaveCounted (least_looks_at self.old.attributes (rows_of self.old.region self.old.states) terms.now) looks.old looks.new) }
         ensures stays { self.new ≡ self.old }
     {
         self.slots.refresh(alloc)?;
@@ -149,6 +156,7 @@ impl Store {
     pub fn snapshot(&self, alloc: Global) -> Result<Snapshot, Memory>
         ensures states { IfOk result (λ snapshot. snapshot ≡ snapshot_of self.now.region self.now.states) }
         ensures ascend { IfOk result KeptsAscend }
+        ensures orderly { IfOk result (All IsOrderly) }
     {
         let mut snapshot = Snapshot::new(alloc);
         for i in 0..self.len() {
@@ -347,14 +355,32 @@ impl Store {
         ensures stays { OnErr result (self.new.states ≡ self.old.states) }
         ensures others { KeepsOtherRooms slot.state.base.key self.old.rooms self.new.rooms }
     {
-        let place = self.ensure(alloc, slot.key())?;
-        self.slots.replace_at(place, slot);
+        let _ = self.give_place(alloc, slot.key())?;
+        self.put_ready(slot);
         Ok(())
     }
 
+    /// Puts a slot at its key, which has a place, in place of the one that is there. It takes no
+    /// memory.
+    fn put_ready(&mut self, slot: Slot)
+        requires { IsReady self.old slot }
+        ensures region { self.new.region ≡ self.old.region }
+        ensures marks { self.new.marks ≡ self.old.marks }
+        ensures attributes { self.new.attributes ≡ self.old.attributes }
+        ensures states { self.new.states ≡ with_state slot.state self.old.states }
+        ensures others { KeepsOtherRooms slot.state.base.key self.old.rooms self.new.rooms }
+    {
+        let Some(place) = self.place_of(slot.key()) else {
+            unreachable!()
+        };
+        self.open(place);
+        self.slots.replace_at(place, slot);
+    }
+
     /// Installs a snapshot in a store without slots: afterwards it has exactly those of the
-    /// snapshot, with nothing pending, and marks and touches only where it keeps them. Where there
-    /// is no memory it has those of a part of the snapshot, from its front on.
+    /// snapshot, with nothing pending, and marks and touches only where it keeps them. The room of
+    /// their keys begins anew, and no other falls. Where there is no memory it stays without slots,
+    /// and no room falls.
     pub fn install(&mut self, alloc: Global, snapshot: &Snapshot) -> Result<(), Memory>
         requires empty { self.old.states ≡ [] }
         requires ascend { KeptsAscend snapshot.now }
@@ -363,12 +389,48 @@ impl Store {
         ensures marks { self.new.marks ≡ self.old.marks }
         ensures attributes { self.new.attributes ≡ self.old.attributes }
         ensures states { OnOk result (self.new.states ≡ map (state_from self.old.marks) snapshot.now) }
-        ensures part { OnErr result ((n : ℕ) × (self.new.states ≡ map (state_from self.old.marks) (take n snapshot.now))) }
+        ensures stays { OnErr result (self.new.states ≡ self.old.states) }
+        ensures rooms { OnErr result (KeepsRooms self.old.rooms self.new.rooms) }
+        ensures others { KeepsRoomsBut (has_kept snapshot.now) self.old.rooms self.new.rooms }
     {
-        for kept in snapshot.as_slice() {
-            let slot = Slot::of_kept(alloc, self.region, kept.copy(alloc)?, self.marks);
-            self.put(alloc, slot)?;
-        }
+        let slots = self.slots_of(alloc, snapshot)?;
+        self.put_all(slots);
         Ok(())
+    }
+
+    /// The slots of a snapshot, each of whose keys has a place then.
+    fn slots_of(&mut self, alloc: Global, snapshot: &Snapshot) -> Result<VecDeque<Slot>, Memory>
+        requires { All IsOrderly snapshot.now }
+        ensures region { self.new.region ≡ self.old.region }
+        ensures marks { self.new.marks ≡ self.old.marks }
+        ensures attributes { self.new.attributes ≡ self.old.attributes }
+        ensures states { self.new.states ≡ self.old.states }
+        ensures rooms { KeepsRooms self.old.rooms self.new.rooms }
+        ensures slots { IfOk result (λ slots. states_of slots.items ≡ map (state_from self.old.marks) snapshot.now) }
+        ensures ready { IfOk result (λ slots. AllByRecursion (IsReady self.new) slots.items) }
+    {
+        let mut slots = VecDeque::new(alloc);
+        for kept in snapshot.as_slice() {
+            let _ = self.give_place(alloc, &kept.key)?;
+            let slot = Slot::of_kept(alloc, self.region, kept.copy(alloc)?, self.marks);
+            slots.push_back(slot)?;
+        }
+        Ok(slots)
+    }
+
+    /// Puts slots in byte order of keys, each of whose keys has a place, in a store without slots.
+    fn put_all(&mut self, mut slots: VecDeque<Slot>)
+        requires empty { self.old.states ≡ [] }
+        requires ascend { KeysAscend (states_of slots.items) }
+        requires ready { AllByRecursion (IsReady self.old) slots.items }
+        ensures region { self.new.region ≡ self.old.region }
+        ensures marks { self.new.marks ≡ self.old.marks }
+        ensures attributes { self.new.attributes ≡ self.old.attributes }
+        ensures states { self.new.states ≡ states_of slots.items }
+        ensures others { KeepsRoomsBut (is_key_of slots.items) self.old.rooms self.new.rooms }
+    {
+        'places: while let Some(slot) = slots.pop_front() {
+            self.put_ready(slot);
+        }
     }
 }

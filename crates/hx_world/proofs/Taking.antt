@@ -32,7 +32,6 @@ use Rattle.hx_types.specs.Subspaces.{is_key_region}
 use Rattle.hx_model.specs.Slots.{top_of}
 use Rattle.hx_law_folds.specs.Folding.{InputFits, IsAfter, IsReplicaOf, IsServerOf as AreInOrder, IsSlotIn, MessageFits, folded, folded_replica, folded_server}
 use Rattle.hx_law_folds.proofs.Folds.{top-folded}
-use Rattle.hx_law_folds.proofs.Servers.{folded-server-twice}
 use Rattle.hx_law_lemmas.proofs.Lists.{in-map}
 use Rattle.hx_world.specs.Invariant.{IsFewRun}
 use Rattle.hx_world.proofs.Naming.{named_within}
@@ -126,7 +125,6 @@ module _ (script : Script) (t : List Entry) (w : IsFewRun script t) where
     running = running;
     input_to = subst (λ (x : ServerId). server.IsInputTo script.space x input) (sym (server_id s)) (input_to_server s input may);
     small = small_folded script.space (server_of script s t) order (small_here s);
-    bare = folded-server-twice (server_of script s t);
   }
 
   -- what it is given comes after lower versions

@@ -1,11 +1,18 @@
 use Rattle.std.proofs.Common.{refl, ap}
 use Rattle.std.proofs.lemmas.Result.{IfOk-weaker}
 use Rattle.hx_model.specs.ServerSteps.{halting, input_step, message_step, tick_step}
+use Rattle.hx_replica.proofs.Bareness.{bare_seen}
 use Rattle.hx_replica.proofs.Planning.{can_hear, on_input}
 use Rattle.hx_replica.proofs.servers.Server.made_on.Goals as goal
 
 pub deliver-requires : goal.deliver-requires
-deliver-requires c = can_hear c.args.self.now.space c.args.self.now.state c.args.input.now _ c.in-Deliver.from c.in-Deliver.message c.requires c.in-Deliver.is
+deliver-requires c = can_hear c.args.self.now.space c.args.self.now.state c.args.input.now _ c.in-Deliver.from c.in-Deliver.message c.requires (bare_seen c.self.inside c.args.self.now c.self.view_is c.self.invariant) c.in-Deliver.is
+
+pub tick-requires : goal.tick-requires
+tick-requires c = bare_seen c.self.inside c.args.self.now c.self.view_is c.self.invariant
+
+pub halt-requires : goal.halt-requires
+halt-requires c = bare_seen c.self.inside c.args.self.now c.self.view_is c.self.invariant
 
 pub returns-in-Tick-clause-made : goal.returns-in-Tick-clause-made
 returns-in-Tick-clause-made c =

@@ -2,6 +2,7 @@ use Rattle.std.proofs.Common.{List, ap, set, subst, ◌∙◌}
 use Rattle.hx_store.specs.Stores.{Room}
 use Rattle.hx_replica.specs.Replicas.{KeepAllRooms, rooms_of}
 use Rattle.hx_replica.specs.Servers.{ServerValue}
+use Rattle.hx_replica.proofs.Bareness.{bare_same}
 use Rattle.hx_replica.proofs.Changing.{put, reserved, reserved_views}
 use Rattle.hx_replica.proofs.Invariant.{ok_both, room_there, with_views, within}
 use Rattle.hx_replica.proofs.Roomy.{set_rooms}
@@ -12,6 +13,7 @@ invariant_of-self c = record {
   valid = c.self.invariant.valid;
   map_is = c.self.invariant.map_is;
   replicas_are = reserved c.self.inside.space c.self.inside.replicas.items c.args.addressee.now.replica c.index_mut-replica.result.now c.reserve.new.self c.self.invariant.replicas_are (within c.self.inside c.args.self.now c.args.addressee.now.replica c.self.view_is c.requires) c.index_mut-replica.ensures.value c.reserve.ensures.region c.reserve.ensures.marks c.reserve.ensures.states;
+  bare = bare_same _ _ (reserved_views c.self.inside.space c.self.inside.replicas.items c.args.addressee.now.replica c.index_mut-replica.result.now c.reserve.new.self c.self.invariant.replicas_are (within c.self.inside c.args.self.now c.args.addressee.now.replica c.self.view_is c.requires) c.index_mut-replica.ensures.value c.reserve.ensures.states) c.self.invariant.bare;
 }
 
 pub returns-clause-room : goal.returns-clause-room

@@ -1,6 +1,7 @@
 use Rattle.std.proofs.Common.{List, ap, sym, subst, ◌∙◌}
 use Rattle.hx_replica.specs.declared.replicas.Replica.{Replica}
 use Rattle.hx_replica.specs.Replicas.{AreReplicas, rooms_of, views_of}
+use Rattle.hx_replica.proofs.Bareness.{bare_same}
 use Rattle.hx_replica.proofs.Invariant.{within}
 use Rattle.hx_replica.proofs.Searching.{if_found, rows_there, set_same}
 use Rattle.hx_replica.proofs.servers.Server.rows_of.Goals as goal
@@ -10,6 +11,9 @@ invariant_of-self c = record {
   valid = c.self.invariant.valid;
   map_is = c.self.invariant.map_is;
   replicas_are = subst (AreReplicas c.self.inside.space) (sym (set_same c.self.inside.replicas.items c.args.place c.index_mut-replica.result.now c.find.new.self (within c.self.inside c.args.self.now c.args.place c.self.view_is c.requires) c.index_mut-replica.ensures.value c.find.ensures.stays)) c.self.invariant.replicas_are;
+  bare =
+      bare_same (views_of c.self.inside.replicas.items) _ (ap views_of (set_same c.self.inside.replicas.items c.args.place c.index_mut-replica.result.now c.find.new.self (within c.self.inside c.args.self.now c.args.place c.self.view_is c.requires) c.index_mut-replica.ensures.value c.find.ensures.stays))
+      c.self.invariant.bare;
 }
 
 pub returns-clause-rows : goal.returns-clause-rows

@@ -23,4 +23,5 @@ loop-count-preserved c =
           ∙ c.loop-count.invariant.state;
       region = region ∙ c.loop-count.invariant.region;
       spare = c.accept_next_early.ensures.spare ∙ c.loop-count.invariant.spare;
+      held = c.accept_next_early.ensures.held ∙ c.loop-count.invariant.held;
     }

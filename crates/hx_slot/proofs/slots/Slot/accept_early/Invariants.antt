@@ -10,4 +10,5 @@ invariant-loop-count l = record {
       ≡ moved_all (turns l.initial.self.region l.most (top_of l.initial.self.state) l.initial.self.state.early) l.initial.self.state;
   region : l.self.region ≡ l.initial.self.region;
   spare : l.self.spare ≡ l.initial.self.spare;
+  held : l.self.held ≡ l.initial.self.held;
 }

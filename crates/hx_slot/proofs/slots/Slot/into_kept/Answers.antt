@@ -21,7 +21,8 @@ pub returns-clause-kept : goal.returns-clause-kept
 returns-clause-kept c =
     ap (λ (k : Kept). Some k) (made c)
     ∙ committed-state c.self.inside.region (seen c.self.inside).state c.if-self-eq0.false
-    ∙ ap (λ (s : SlotState). committed_state s.region s.state) (c.self.view_is ∙ c.fold.ensures)
+    ∙ ap (λ (s : SlotState). committed_state s.region s.state) c.self.view_is
+    ∙ (λ j. committed_state (c.fold.ensures.region j) (c.fold.ensures.state j))
 
 pub returns-clause-orderly : goal.returns-clause-orderly
 returns-clause-orderly c = subst IsOrderly (sym (made c)) (kept-orderly c.self.inside c.self.invariant)

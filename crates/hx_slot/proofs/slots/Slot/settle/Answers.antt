@@ -32,7 +32,7 @@ returns-clause-state c =
     let a = c.self.inside in
     let n = c.acknowledged_front-count.result in
     let rest = c.rest_of-pending.ensures ∙ ap (drop a.committed) c.as_slice.ensures.value in
-    ap (λ (s : SlotState). s.state) c.fold.ensures
+    c.fold.ensures.state
     ∙ settled-state a n c.last_version-self-inside.result c.drop_acks_upto.new.acked c.self.invariant
     (c.acknowledged_front-count.ensures.front ∙ ap front_acked rest)
     (c.last_version-self-inside.ensures ∙ ap (λ (ts : List AcceptedUpdate). last_version a.floor.0 (take n ts)) rest)
@@ -40,4 +40,4 @@ returns-clause-state c =
     ∙ ap (λ (s : SlotState). folded s.region (moved_all (settled s.state) s.state)) c.self.view_is
 
 pub returns-clause-stands : goal.returns-clause-stands
-returns-clause-stands c = λ s h. stands-settle c.args.self.now.region _ c.args.self.now.state _ s (returns-clause-state c) (ap (λ (x : SlotState). x.region) c.fold.ensures ∙ ap (λ (x : SlotState). x.region) c.self.view_is) h
+returns-clause-stands c = λ s h. stands-settle c.args.self.now.region _ c.args.self.now.state _ s (returns-clause-state c) (c.fold.ensures.region ∙ ap (λ (x : SlotState). x.region) c.self.view_is) h

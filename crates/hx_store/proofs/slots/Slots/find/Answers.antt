@@ -1,7 +1,7 @@
 use Rattle.std.proofs.Common.{◌≡◌, ℕ, Option, ap, arith, subst, sym, ◌∙◌}
 use Rattle.hx_types.specs.declared.calls.Row.{Row}
-use Rattle.hx_index.specs.Orders.{IndexState, IsIndexOf, rows_at}
-use Rattle.hx_index.specs.Searches.{most_looks}
+use Rattle.hx_index.specs.Orders.{IndexState, IsIndexOf, count_of, rows_at}
+use Rattle.hx_index.specs.Searches.{least_run, most_looks}
 use Rattle.hx_index.specs.Sides.{matches_at}
 use Rattle.hx_store.specs.Slots.{SlotsState, rows_in}
 use Rattle.hx_store.proofs.Matching.{match-within}
@@ -42,3 +42,10 @@ returns-clause-looks c =
     let most = c.find.ensures.looks in
     let same : most_looks c.self.inside.indexed.index (rows_at c.self.inside.indexed.rows) c.args.terms.now ≡ most_looks c.args.self.now.index (rows_in c.args.self.now.entries) c.args.terms.now = (λ k. most_looks (ap (λ (s : SlotsState). s.index) c.self.view_is k) (seen k) c.args.terms.now) in
     omega (arith, most, same)
+
+pub returns-clause-each : goal.returns-clause-each
+returns-clause-each c =
+    let seen : rows_at c.self.inside.indexed.rows ≡ rows_in c.args.self.now.entries = ap (λ (s : SlotsState). rows_at s.rows) c.self.view_is ∙ c.requires.fresh in
+    let index = ap (λ (s : SlotsState). s.index) c.self.view_is in
+    let same : least_run c.self.inside.indexed.index (rows_at c.self.inside.indexed.rows) (count_of c.self.inside.indexed.index) c.args.terms.now ≡ least_run c.args.self.now.index (rows_in c.args.self.now.entries) (count_of c.args.self.now.index) c.args.terms.now = (λ k. least_run (index k) (seen k) (count_of (index k)) c.args.terms.now) in
+    λ l. let more = c.in_ok-ids.ensures.each l in omega (arith, more, same)

@@ -1,13 +1,16 @@
-use Rattle.std.proofs.Common.{◌≡◌, ℕ, List, ap, arith, length, subst, sym, ◌∙◌, vec_capacity}
+use Rattle.std.proofs.Common.{◌≡◌, ◌<◌, ℕ, List, ap, arith, length, subst, sym, ◌∙◌, vec_capacity}
 use Rattle.std.specs.List.{flat_map}
 use Rattle.hx_types.specs.Words.{list_of}
+use Rattle.hx_law_folds.specs.Folding.{KeysAscend}
 use Rattle.hx_model.specs.Slots.{found_in, rows_of}
 use Rattle.hx_index.proofs.Matched.{if-ok}
 use Rattle.hx_store.specs.Invariant.{IsStore, rooms_in, states_in}
-use Rattle.hx_store.specs.Looks.{most_looks_at}
+use Rattle.hx_store.specs.Reading.{RowsAscend}
+use Rattle.hx_store.specs.Looks.{least_looks_at, most_looks_at}
 use Rattle.hx_store.specs.Slots.{Entry, rows_in}
 use Rattle.hx_store.specs.Stores.{StoreState}
-use Rattle.hx_store.proofs.Matching.{found-rows, looks-most}
+use Rattle.hx_store.proofs.Matching.{found-rows, looks-least, looks-most}
+use Rattle.hx_store.proofs.OwnKeys.{found-ascend, if-any}
 use Rattle.hx_store.proofs.Setting.{are-there}
 use Rattle.hx_store.proofs.Showing.{order-ascends}
 use Rattle.hx_store.proofs.stores.Store.find.Goals as goal
@@ -46,3 +49,21 @@ returns-in_err-places-clause-looks c =
     let bound = looks-most c.self.inside.region c.self.inside.marks c.refresh.new.self.entries store.each order store.listed (are-there store) (order-ascends c.self.inside.region c.self.inside.marks c.refresh.new.self.entries order (vec_capacity c.self.inside.order) c.args.self.now view store) c.refresh.new.self.index c.find.ensures.index c.args.terms.now in
     let seen = ap (λ (s : StoreState). most_looks_at s.attributes (rows_of s.region s.states) c.args.terms.now) view in
     omega (arith, most, bound, seen)
+
+pub returns-clause-keys : goal.returns-clause-keys
+returns-clause-keys c = λ own.
+    if-ok c.rows.result
+    (λ rows e. subst RowsAscend (sym e) (found-ascend c.args.self.now.region c.args.terms.now c.args.self.now.states (subst (λ (s : StoreState). KeysAscend s.states) c.self.view_is c.self.invariant.ascend) own))
+    (returns-clause-rows c)
+
+pub returns-clause-each : goal.returns-clause-each
+returns-clause-each c =
+    let same = c.refresh.ensures.entries in
+    let order = c.self.inside.order.items in
+    let store = subst (λ (es : List Entry). IsStore c.self.inside.region c.self.inside.marks es order (vec_capacity c.self.inside.order)) (sym same) c.self.invariant in
+    let view : record { region = c.self.inside.region; marks = c.self.inside.marks; attributes = length c.refresh.new.self.index.orders; states = states_in c.refresh.new.self.entries order; rooms = rooms_in c.refresh.new.self.entries } ≡ c.args.self.now =
+    (λ k. record { region = c.self.inside.region; marks = c.self.inside.marks; attributes = c.refresh.ensures.attributes k; states = states_in (same k) order; rooms = rooms_in (same k) }) ∙ c.self.view_is in
+    let least = looks-least c.self.inside.region c.self.inside.marks c.refresh.new.self.entries store.each order store.listed (are-there store) (order-ascends c.self.inside.region c.self.inside.marks c.refresh.new.self.entries order (vec_capacity c.self.inside.order) c.args.self.now view store) c.refresh.new.self.index c.find.ensures.index c.args.terms.now in
+    let seen = ap (λ (s : StoreState). least_looks_at s.attributes (rows_of s.region s.states) c.args.terms.now) view in
+    let count = ap (λ (s : StoreState). s.attributes) view in
+    if-any c.rows.result _ (λ l m. let enough = least (omega (arith, l, count)) in let more = c.in_ok-places.ensures.each m in omega (arith, more, enough, seen))

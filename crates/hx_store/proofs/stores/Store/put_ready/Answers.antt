@@ -1,0 +1,24 @@
+use Rattle.std.proofs.Common.{ℕ, List, ap, refl, sym, ◌∙◌, vec_capacity}
+use Rattle.std.proofs.lemmas.Bool.{false≢true}
+use Rattle.hx_store.specs.Invariant.{rooms_in}
+use Rattle.hx_store.specs.Stores.{after_step, has_room, has_slot, no_moves}
+use Rattle.hx_store.proofs.Installing.{opened-key}
+use Rattle.hx_store.proofs.Showing.{kept-others, keeps-same, opened-put, opened-there, others-kept, put-others, set-there}
+use Rattle.hx_store.proofs.stores.Store.put_ready.Goals as goal
+
+pub unreachable-requires : goal.unreachable-requires
+unreachable-requires c = false≢true (sym c.in_default.ensures.none ∙ ap (λ (q : List ℕ). has_room c.args.self.now q) c.key.ensures ∙ c.requires.place)
+
+pub invariant_of-self : goal.invariant_of-self
+invariant_of-self c = (set-there c.self.inside.region c.self.inside.marks c.self.inside.slots.entries c.self.inside.order.items (vec_capacity c.self.inside.order) c.open.new.self c.self.view_is c.self.invariant c.in-Some.place c.replace_at.ensures.replaced.before (record c.replace_at.ensures.replaced.before { slot = c.args.slot }) c.replace_at.new.self.entries c.replace_at.ensures.replaced.found c.replace_at.ensures.replaced.set refl (sym c.key.ensures ∙ sym (opened-key c.args.self.now c.open.new.self c.in-Some.place c.key.result.now c.open.ensures.rooms c.in-Some.ensures.some.key_is)) (c.requires.region ∙ sym c.open.ensures.region) (c.requires.marks ∙ sym c.open.ensures.marks) (ap (λ (q : List ℕ). has_slot q c.open.new.self.states) (opened-key c.args.self.now c.open.new.self c.in-Some.place c.key.result.now c.open.ensures.rooms c.in-Some.ensures.some.key_is) ∙ opened-there c.args.self.now c.open.new.self c.key.result.now (c.open.ensures.states ∙ ap (λ (k : List ℕ). after_step c.args.self.now k no_moves) c.in-Some.ensures.some.key_is))).0
+
+pub returns-clause-states : goal.returns-clause-states
+returns-clause-states c = sym (set-there c.self.inside.region c.self.inside.marks c.self.inside.slots.entries c.self.inside.order.items (vec_capacity c.self.inside.order) c.open.new.self c.self.view_is c.self.invariant c.in-Some.place c.replace_at.ensures.replaced.before (record c.replace_at.ensures.replaced.before { slot = c.args.slot }) c.replace_at.new.self.entries c.replace_at.ensures.replaced.found c.replace_at.ensures.replaced.set refl (sym c.key.ensures ∙ sym (opened-key c.args.self.now c.open.new.self c.in-Some.place c.key.result.now c.open.ensures.rooms c.in-Some.ensures.some.key_is)) (c.requires.region ∙ sym c.open.ensures.region) (c.requires.marks ∙ sym c.open.ensures.marks) (ap (λ (q : List ℕ). has_slot q c.open.new.self.states) (opened-key c.args.self.now c.open.new.self c.in-Some.place c.key.result.now c.open.ensures.rooms c.in-Some.ensures.some.key_is) ∙ opened-there c.args.self.now c.open.new.self c.key.result.now (c.open.ensures.states ∙ ap (λ (k : List ℕ). after_step c.args.self.now k no_moves) c.in-Some.ensures.some.key_is))).1 ∙ opened-put c.args.self.now c.open.new.self c.key.result.now c.args.slot.state (c.open.ensures.states ∙ ap (λ (k : List ℕ). after_step c.args.self.now k no_moves) c.in-Some.ensures.some.key_is) (sym c.key.ensures)
+
+pub returns-clause-others : goal.returns-clause-others
+returns-clause-others c =
+    others-kept c.args.slot.state.base.key c.args.self.now.rooms c.open.new.self.rooms (rooms_in c.replace_at.new.self.entries) (keeps-same c.args.self.now.rooms c.open.new.self.rooms c.open.ensures.rooms)
+    (
+    put-others c.self.inside.region c.self.inside.marks c.self.inside.slots.entries c.self.inside.order.items (vec_capacity c.self.inside.order) c.open.new.self c.self.view_is c.self.invariant c.in-Some.place c.replace_at.ensures.replaced.before (record c.replace_at.ensures.replaced.before { slot = c.args.slot }) c.replace_at.new.self.entries c.args.slot.state.base.key c.replace_at.ensures.replaced.found c.replace_at.ensures.replaced.set
+    ((opened-key c.args.self.now c.open.new.self c.in-Some.place c.key.result.now c.open.ensures.rooms c.in-Some.ensures.some.key_is) ∙ c.key.ensures)
+    )
