@@ -311,16 +311,13 @@ fn submit<R: Abort + AllocGlobal>(rt: &R, world: &mut World, op: &Op) -> u32
         panic!(rt; "a call that can't be made");
     }
     let op = op.copy(rt.alloc()).expect(rt, "memory");
-    world.submit(rt.alloc(), SessionId(1), op).expect(rt, "memory")
+    world
+        .submit(rt.alloc(), SessionId(1), op)
+        .expect(rt, "memory")
 }
 
 /// Submits a call of a script to a world, which gives it the number that it has there, and drains the world.
-fn submit_and_drain<R: Abort + AllocGlobal>(
-    rt: &R,
-    world: &mut World,
-    script: &Script,
-    number: u32,
-)
+fn submit_and_drain<R: Abort + AllocGlobal>(rt: &R, world: &mut World, script: &Script, number: u32)
     requires { length world.old.script.sessions ≡ 1 }
     ensures { length world.new.script.sessions ≡ 1 }
 {
