@@ -93,12 +93,13 @@ struct Addressee<'a> {
 
 impl Server {
     /// The server of a number at the start: in the configuration of epoch 1, with an empty replica
-    /// of each of its regions.
+    /// of each of its regions. All that it holds is of the space and exists.
     pub fn start(alloc: Global, space: &Space, id: ServerId) -> Result<Server, Memory>
         requires space { IsSpace space.now }
         requires server { IsServerOf space.now id }
         ensures space { IfOk result (λ server. server.space ≡ space.now) }
         ensures state { IfOk result (λ server. server.state ≡ server_at_start space.now id) }
+        ensures sound { IfOk result (λ server. (sessions : ℕ) → IsSoundServer server.space sessions 0 server.state) }
     {
         let Ok(map) = RegionMap::new(alloc, space) else {
             return Err(Memory);
