@@ -67,7 +67,6 @@ put_fits epoch l = record {
     };
   };
   small = small_at_start small first;
-  bare = refl;
 }
 
 -- a server that started so can take what one at the start can
@@ -93,17 +92,16 @@ ask_fits = record {
     };
   };
   small = small_at_start small first;
-  bare = refl;
 }
 
 pub can_ask : (input : Input) → input ≡ ask_of → Takes input
 can_ask input g = subst Takes (sym g) ask_fits
 
 pub can_tick : Takes Tick
-can_tick = record { running = refl; input_to = tt; small = small_at_start small first; bare = refl }
+can_tick = record { running = refl; input_to = tt; small = small_at_start small first }
 
 pub can_halt : Takes Halt
-can_halt = record { running = refl; input_to = tt; small = small_at_start small first; bare = refl }
+can_halt = record { running = refl; input_to = tt; small = small_at_start small first }
 
 -- what the coordinator sends
 sent : (m : Message) → goes_between Coordinator (Server first) m ≡ true → IsSoundMessage (record { space = small; sessions = 1; most = 2 }) m → Takes (from_coordinator m)
@@ -111,7 +109,6 @@ sent m b message = record {
   running = refl;
   input_to = record { sessions = 1; entry = 1; few = omega arith; sound = record { from = tt; to = (omega arith, omega arith); between = b; message = message } };
   small = small_at_start small first;
-  bare = refl;
 }
 
 pub can_seal : (input : Input) → input ≡ from_coordinator (a_message.Seal (record { 0 = 1 })) → Takes input

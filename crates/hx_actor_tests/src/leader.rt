@@ -1,9 +1,13 @@
 use crate::chain::config;
-use crate::spaces::{books, text};
+use crate::slot::{change, give};
+use crate::spaces::{books, shared_list, text};
+use crate::updates::places_of_1;
 use hx_chain::*;
 use hx_region::RegionMap;
 use hx_slot::Slot;
-use hx_types::{Answer, Assigns, Caller, Decision, Op, RegionId, SessionId};
+use hx_types::{
+    Answer, Assigns, Caller, Decision, Edit, EditKind, Op, RegionId, SessionId, Value, Version,
+};
 use std::alloc::Global;
 use std::process::Abort;
 
@@ -64,4 +68,62 @@ fn a_put_through_a_lost_region_changes_nothing(rt: HostRuntime) {
     };
     drop(decided);
     assert!(rt; is_refused);
+}
+
+/// What the leader of the key decides on an atomic operation that raises the year by 1, the call of
+/// session 1 with this number. It is the leader of its key, and few updates were accepted.
+fn raised(rt: &impl Abort, alloc: Global, slot: &Slot, number: u32) -> Decision {
+    if !slot.keeps_marks() || slot.top().0 > 9 {
+        panic!(rt; "another slot");
+    }
+    let space = books(rt, alloc);
+    let map = RegionMap::new(alloc, &space).expect(rt, "no memory");
+    let config = config(rt, alloc, &[1, 2, 3, 4]);
+    let caller = Caller {
+        session: SessionId(1),
+        number,
+    };
+    let edit = Edit {
+        what: EditKind::Add,
+        attribute: 2,
+        value: Value::Int(1),
+    };
+    let atomic = Op::Atomic {
+        key: text(rt, alloc, "a"),
+        edits: shared_list(rt, alloc, [edit]),
+    };
+    let decided = decide(alloc, &space, &map, &config, slot, caller, &atomic);
+    drop(atomic);
+    drop(config);
+    drop(map);
+    drop(space);
+    decided.expect(rt, "no memory")
+}
+
+/// Its update is pending, and then committed. The next call of the session raises the year of 1999.
+#[test]
+fn an_atomic_operation_that_is_called_again_is_carried_out_once(rt: HostRuntime) {
+    let alloc = rt.alloc();
+    let mut slot = Slot::new(alloc, RegionId(0), text(&rt, alloc, "a"), true);
+    let first = change(&rt, alloc, 1, "b", places_of_1(&rt, alloc));
+    give(&rt, alloc, &mut slot, first, 0);
+    let pending = raised(&rt, alloc, &slot, 1);
+    slot.ack(Version(1));
+    let committed = raised(&rt, alloc, &slot, 1);
+    let next = raised(&rt, alloc, &slot, 2);
+    let is_raised = match &next {
+        Decision::Assign(update) => match &update.object {
+            Some(object) => matches!(object.as_slice(), [_, Value::Int(year)] if *year == 2000),
+            None => false,
+        },
+        _ => false,
+    };
+    let waits = matches!(pending, Decision::Wait(Version(1)));
+    let is_answered_again = matches!(&committed, Decision::Again(Version(1), Answer::Done));
+    drop(next);
+    drop(committed);
+    drop(slot);
+    assert!(rt; waits);
+    assert!(rt; is_answered_again);
+    assert!(rt; is_raised);
 }

@@ -15,7 +15,7 @@ use std::alloc::Global;
 use std::process::Abort;
 
 /// Makes room for an update, and offers it at the place of this number.
-fn give(rt: &impl Abort, alloc: Global, slot: &mut Slot, update: Update, place: u32) -> Offer
+pub fn give(rt: &impl Abort, alloc: Global, slot: &mut Slot, update: Update, place: u32) -> Offer
     requires place { place ≡ place_number slot.old.region update.places }
     requires placed { IsPlacedIn slot.old.region update }
     requires after { All (λ (p : Placed). p.after.0 < update.version.0) update.places }
@@ -129,7 +129,7 @@ fn gives_what_is_committed(rt: HostRuntime) {
 
 /// The update with this version of a call of session 1 with the same number, with an object of this
 /// genre.
-fn change(rt: &impl Abort, alloc: Global, version: u32, genre: &str, places: Places) -> Update
+pub fn change(rt: &impl Abort, alloc: Global, version: u32, genre: &str, places: Places) -> Update
     ensures version { result.version.0 ≡ version }
     ensures places { result.places ≡ places }
 {
@@ -150,7 +150,7 @@ fn an_object_that_moves_away_leaves(rt: HostRuntime) {
     let stood = slot.object().is_some();
     let acked = slot.ack(Version(2));
     let stands = slot.object().is_some();
-    let floor = slot.floor().0;
+    let (floor, held) = (slot.floor().0, slot.held_count());
     let kept = slot.into_kept();
     let is_empty = match &kept {
         Ok(Some(kept)) => {
@@ -164,7 +164,7 @@ fn an_object_that_moves_away_leaves(rt: HostRuntime) {
     drop(kept);
     assert!(rt; matches!((offer, acked), (Offer::Accepted(1), Acked::Committed(1))));
     assert!(rt; stood && !stands);
-    assert_eq!(rt; floor, 2);
+    assert_eq!(rt; (floor, held), (2, 0));
     assert!(rt; is_empty);
 }
 

@@ -1,4 +1,4 @@
-ghost use Rattle.std.specs.Prelude.{◌≡◌, false};
+ghost use Rattle.std.specs.Prelude.{◌≡◌, [], false};
 
 use crate::rows::{between, object};
 use crate::spaces::{list, text};
@@ -14,6 +14,7 @@ use std::process::Abort;
 fn empty(rt: &impl Abort, alloc: Global, marks: bool) -> Store
     ensures region { result.region ≡ record { 0 = 3 } }
     ensures marks { result.marks ≡ marks }
+    ensures empty { result.states ≡ [] }
 {
     let word = Attribute {
         name: text(rt, alloc, "v"),
@@ -180,4 +181,35 @@ fn an_object_is_found_by_its_last_value(rt: HostRuntime) {
     assert!(rt; matches!(first, Some((1, _))));
     assert!(rt; matches!(others, Some((0, _))));
     assert!(rt; matches!(last, Some((1, _))));
+}
+
+/// Whether an empty store could install what is committed in another one.
+fn install(alloc: Global, store: &Store, joiner: &mut Store) -> bool
+    requires { joiner.old.states ≡ [] }
+{
+    match store.snapshot(alloc) {
+        Ok(snapshot) => joiner.install(alloc, &snapshot).is_ok(),
+        Err(_) => false,
+    }
+}
+
+/// Keys come in byte order, each with what is committed of it; one of which nothing is has no part
+/// in it. Another store has the same afterwards.
+#[test]
+fn a_snapshot_is_installed(rt: HostRuntime) {
+    let alloc = rt.alloc();
+    let mut store = empty(&rt, alloc, false);
+    put(&rt, alloc, &mut store, "b", 2);
+    put(&rt, alloc, &mut store, "a", 1);
+    let slot = Slot::new(alloc, RegionId(3), text(&rt, alloc, "c"), false);
+    let is_put = store.put(alloc, slot).is_ok();
+    let mut joiner = empty(&rt, alloc, false);
+    let is_installed = install(alloc, &store, &mut joiner);
+    let found = finds(&rt, alloc, &mut joiner, None, &["a", "b"]);
+    let slots = joiner.len();
+    drop(joiner);
+    drop(store);
+    assert!(rt; is_put && is_installed);
+    assert_eq!(rt; slots, 2);
+    assert_eq!(rt; found, Some((2, 2)));
 }

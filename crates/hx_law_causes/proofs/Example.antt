@@ -46,18 +46,18 @@ abbrev pub sets : List Assign
 sets = record { attribute = 1; value = a_value.Text (98 ∷ []) } ∷ record { attribute = 2; value = a_value.Int (pos 1999) } ∷ []
 
 -- two writes of keys of the second region, and a replica to be added to it
-abbrev script : Script
+abbrev pub script : Script
 script = record { space = space; sessions = (Put (98 ∷ []) sets ∷ Put (100 ∷ []) sets ∷ []) ∷ (Add (record { 0 = 4 }) (record { 0 = 1 }) ∷ []) ∷ []; steps = [] }
 
 -- the key's leader, server 2, assigns the first write; the next replica, server 3, takes it and passes it on; then servers 1 and 2 halt
-abbrev first_part : List Entry
+abbrev pub first_part : List Entry
 first_part = stepped script [] (
     a_step.Tick (Session (record { 0 = 1 })) ∷ a_step.Deliver (record { entry = 1; place = 0 }) ∷ a_step.Deliver (record { entry = 2; place = 0 })
     ∷ a_step.Halt (Server (record { 0 = 1 })) ∷ a_step.Halt (Server (record { 0 = 2 })) ∷ []
     )
 
 -- then all goes by the schedule
-abbrev trace : List Entry
+abbrev pub trace : List Entry
 trace = scheduled script first_part 60
 
 key_is : key_region space (98 ∷ []) ≡ record { 0 = 1 }
@@ -97,7 +97,7 @@ sets_fit = record {
 }
 
 -- the script is valid
-its_script : IsScript script
+pub its_script : IsScript script
 its_script = record {
   space = small_books_are (98 ∷ []) (110 ∷ []) space.attributes space.subspaces refl refl refl refl;
   sessions = omega arith;
@@ -110,7 +110,7 @@ its_script = record {
 }
 
 -- and the trace is a run of it
-its_start : IsRun script first_part
+pub its_start : IsRun script first_part
 its_start = (record { actor = refl; running = refl; input = tt; made = refl; enough = refl }, (record { actor = refl; running = refl; input = tt; made = refl; enough = refl }, (record { actor = refl; running = refl; input = refl; made = refl; enough = refl }, (record { actor = refl; running = refl; input = refl; made = refl; enough = refl }, (record { actor = refl; running = refl; input = tt; made = refl; enough = refl }, tt)))))
 
 its_run : IsRun script trace

@@ -10,7 +10,7 @@ use Rattle.hx_replica.specs.declared.servers.Server.TheInside.{Inside}
 use Rattle.hx_replica.specs.Invariant.{IsServer, value_of}
 use Rattle.hx_replica.specs.Adopting.{lean_replica, lean_with_config}
 use Rattle.hx_replica.specs.declared.replicas.Replica.{Replica}
-use Rattle.hx_replica.specs.Replicas.{first_replica, views_of}
+use Rattle.hx_replica.specs.Replicas.{KeepRegionRooms, first_replica, rooms_of, views_of}
 use Rattle.hx_replica.specs.Servers.{ServerValue}
 use Rattle.hx_replica.specs.Ticking.{standing}
 
@@ -39,3 +39,10 @@ pub adopted_views : (i : Inside) (v : ServerValue) (config shown : Config) (old 
 adopted_views i v config shown old seen same is =
     (λ j. map (λ (g : RegionId). lean_replica i.space (standing (same j) i.id) (replica_or_new (views_of (is j)) g)) (listed_regions (same j) i.id))
     ∙ ap (λ (x : ServerValue). (lean_with_config x.space x.state config).replicas) seen
+
+-- and their rooms
+pub adopted_rooms : (i : Inside) (v : ServerValue) (old next : List Replica) → value_of i ≡ v → old ≡ i.replicas.items → KeepRegionRooms (views_of old) (rooms_of old) (views_of next) (rooms_of next)
+    → KeepRegionRooms v.state.replicas v.rooms (views_of next) (rooms_of next)
+adopted_rooms i v old next seen is k =
+    subst (λ (x : ServerValue). KeepRegionRooms x.state.replicas x.rooms (views_of next) (rooms_of next)) seen
+    (subst (λ (rs : List Replica). KeepRegionRooms (views_of rs) (rooms_of rs) (views_of next) (rooms_of next)) is k)

@@ -1,25 +1,28 @@
 -- A server's step leaves it sound, where it and its input are.
-use Rattle.std.proofs.Common.{◌≡◌, ℕ, ◌+◌, ◌<◌, ◌≤◌, List, [], ◌∷◌, map, true, false, inl, inr, refl, sym, ◌∙◌, subst, arith, leb}
+use Rattle.std.proofs.Common.{◌≡◌, ℕ, ◌+◌, ◌<◌, ◌≤◌, List, [], ◌∷◌, length, map, true, false, inl, inr, refl, sym, ◌∙◌, subst, arith, leb}
 use Rattle.std.specs.List.{AllByRecursion}
 use Rattle.std.proofs.lemmas.Bool.{cond_both, false≢true, le-leb}
 use Rattle.hx_types.specs.declared.ids.RegionId.{RegionId}
 use Rattle.hx_types.specs.declared.spaces.Space.{Space}
 use Rattle.hx_types.specs.declared.traces.Input.{Input}
 use Rattle.hx_types.specs.declared.updates.Update.{Update}
-use Rattle.hx_types.specs.Words.{IsIn, text_below}
-use Rattle.hx_types.specs.Spaces.{IsServerOf}
+use Rattle.hx_types.specs.Configs.{first_config, lists}
+use Rattle.hx_types.specs.Words.{IsIn, below, text_below}
+use Rattle.hx_types.specs.Spaces.{IsRegionOf, IsServerOf, IsSpace}
 use Rattle.hx_types.specs.declared.ids.ServerId.{ServerId}
-use Rattle.hx_model.specs.ServerSteps.{Replica, ServerState, server_step}
+use Rattle.hx_model.specs.ServerSteps.{Replica, ServerState, listed_regions, server_at_start, server_step}
 use Rattle.hx_model.specs.Slots.{KeyState, top_above}
 use Rattle.hx_law_folds.specs.Folding.{Descends, KeysAscend, above, folded, folded_replica, folded_server}
-use Rattle.hx_law_lemmas.proofs.Lists.{in-map}
+use Rattle.hx_law_lemmas.proofs.Lists.{in-below, in-filter, in-map}
 use Rattle.hx_law_lemmas.proofs.Texts as a_text
 use Rattle.hx_law_posts.proofs.Bounds as a_bound
+use Rattle.hx_law_posts.proofs.Configs.{first-of_space}
 use Rattle.hx_law_posts.proofs.Kept.{kept_of-sound}
 use Rattle.hx_law_posts.proofs.Moves as a_move
 use Rattle.hx_law_posts.proofs.Servers as a_server
 use Rattle.hx_law_posts.proofs.ServerSteps.{server-good}
 use Rattle.hx_law_posts.proofs.Slots as a_slot
+use Rattle.hx_replica.specs.Servers.{ServerValue}
 use Rattle.hx_replica.specs.Sound.{IsSoundAt, IsSoundInput, IsSoundReplica, IsSoundServer, IsSoundSlot}
 use Rattle.hx_replica.proofs.Sounding.{given, server}
 
@@ -91,3 +94,25 @@ stays_sound space sessions n s input h k =
       epoch = next.config.epoch;
       replicas = replicas space sessions (n + 1) (server_step space s input).state next.replicas;
     }
+
+-- what it holds at the start
+pub starts_sound : (space : Space) (s : ServerId) → IsSpace space → IsServerOf space s → (sessions : ℕ) → IsSoundServer space sessions 0 (server_at_start space s)
+starts_sound space s valid exists sessions = record {
+  valid = valid;
+  exists = exists;
+  config = first-of_space space valid;
+  epoch = omega arith;
+  replicas = λ r i. (
+      let m = in-map (λ (g : RegionId). record { region = g; installed = true; states = [] }) (listed_regions (first_config space) s) r i in
+      let f = in-filter (λ (g : RegionId). lists (first_config space) g s) _ m.0 m.1 in
+      let k = in-map (λ n. record { 0 = n }) (below (length (first_config space).regions)) m.0 f.0 in
+      let b = in-below (length (first_config space).regions) k.0 k.1 in
+      let c = (first-of_space space valid).count in
+      subst (IsSoundReplica space sessions 0) (sym m.2)
+      (record { region = subst (IsRegionOf space) (sym k.2) (omega (arith, b, c)); slots = λ t j. absurd j; ascend = tt })
+      );
+}
+
+pub server_sound : (space : Space) (s : ServerId) (v : ServerValue) → IsSpace space → IsServerOf space s → v.space ≡ space → v.state ≡ server_at_start space s → (sessions : ℕ) → IsSoundServer v.space sessions 0 v.state
+server_sound space s v valid exists at is sessions =
+    subst (λ (x : Space). IsSoundServer x sessions 0 v.state) (sym at) (subst (IsSoundServer space sessions 0) (sym is) (starts_sound space s valid exists sessions))

@@ -19,7 +19,7 @@ use Rattle.hx_replica.specs.Outputs.{ChangeFits, HasRoomFor, IsOutputOf, IsSlotI
 use Rattle.hx_replica.specs.declared.replicas.Replica.{Replica}
 use Rattle.hx_replica.specs.Adopting.{lean_with_config}
 use Rattle.hx_store.specs.Stores.{KeepsRooms, Room, UsesRoom}
-use Rattle.hx_replica.specs.Replicas.{IsReplicaIn, KeepAllRooms, new_replica, view_of}
+use Rattle.hx_replica.specs.Replicas.{IsReplicaIn, KeepAllRooms, KeepRegionRooms, new_replica, view_of}
 use Rattle.hx_replica.specs.Servers.{CanTake, ServerValue, server_entry}
 
 -- the replica with a number among the server's has at a place room for n more updates of the key
@@ -98,14 +98,14 @@ KeepRoomsBut number (x ∷ old) [] = ⊥
 KeepRoomsBut zero (x ∷ old) (y ∷ new) = KeepAllRooms old new
 KeepRoomsBut (suc number) (x ∷ old) (y ∷ new) = KeepsRooms x y × KeepRoomsBut number old new
 
--- the rooms after a change: a slot uses some, a replica that joins begins anew, and so do those of a configuration that is adopted
-abbrev pub AreRoomsAfter : Change → List (List Room) → List (List Room) → Type 0
-AreRoomsAfter Nothing old new = new ≡ old
-AreRoomsAfter Seal old new = new ≡ old
-AreRoomsAfter Halt old new = new ≡ old
-AreRoomsAfter (Adopt config replicas) old new = ⊤
-AreRoomsAfter (Join number replica) old new = KeepRoomsBut number old new
-AreRoomsAfter (Slot number place change) old new = UseRoomAt number place old new
+-- the rooms after a change: a slot uses some, and a replica that joins begins anew
+abbrev pub AreRoomsAfter : Change → ServerValue → ServerValue → Type 0
+AreRoomsAfter Nothing old new = new.rooms ≡ old.rooms
+AreRoomsAfter Seal old new = new.rooms ≡ old.rooms
+AreRoomsAfter Halt old new = new.rooms ≡ old.rooms
+AreRoomsAfter (Adopt config replicas) old new = KeepRegionRooms old.state.replicas old.rooms new.state.replicas new.rooms
+AreRoomsAfter (Join number replica) old new = KeepRoomsBut number old.rooms new.rooms
+AreRoomsAfter (Slot number place change) old new = UseRoomAt number place old.rooms new.rooms
 
 -- the plan is that of the server's step, and there is room for its change
 pub record IsPlanOn (s : ServerValue) (plan : Plan) : Type 0 where

@@ -1,10 +1,11 @@
 -- The replicas of a server, in ascending order of regions.
-use Rattle.std.specs.Prelude.{◌≡◌, ◌+◌, true, false, ⊤, List, [], ◌∷◌, length, map}
+use Rattle.std.specs.Prelude.{◌≡◌, ◌+◌, true, false, ⊤, List, [], ◌∷◌, if◌then◌else◌, length, map}
 use Rattle.std.specs.List.{AllByRecursion}
 use Rattle.hx_types.specs.declared.ids.RegionId.{RegionId}
 use Rattle.hx_types.specs.declared.spaces.Space.{Space}
 use Rattle.hx_types.specs.Spaces.{IsAscending}
 use Rattle.hx_types.specs.Subspaces.{is_key_region}
+use Rattle.hx_types.specs.Words.{same_region}
 use Rattle.hx_model.specs.ServerSteps.{Replica as ReplicaState}
 use Rattle.hx_model.specs.Slots.{KeyState}
 use Rattle.hx_store.specs.Stores.{KeepsRooms, Room}
@@ -27,6 +28,29 @@ KeepAllRooms [] [] = ⊤
 KeepAllRooms [] (y ∷ ys) = ⊥
 KeepAllRooms (x ∷ xs) [] = ⊥
 KeepAllRooms (x ∷ xs) (y ∷ ys) = KeepsRooms x y × KeepAllRooms xs ys
+
+-- the rooms of the replica of a region
+abbrev pub region_rooms : RegionId → List ReplicaState → List (List Room) → List Room
+region_rooms g [] rooms = []
+region_rooms g (r ∷ rs) [] = []
+region_rooms g (r ∷ rs) (x ∷ rooms) = if same_region r.region g then x else region_rooms g rs rooms
+
+-- each replica keeps the rooms that one of its region had
+abbrev pub KeepRegionRooms : List ReplicaState → List (List Room) → List ReplicaState → List (List Room) → Type 0
+KeepRegionRooms rs rooms [] new = ⊤
+KeepRegionRooms rs rooms (q ∷ qs) [] = ⊥
+KeepRegionRooms rs rooms (q ∷ qs) (y ∷ new) = KeepsRooms (region_rooms q.region rs rooms) y × KeepRegionRooms rs rooms qs new
+
+-- the replica of one's region keeps the rooms of that one, and the others are as they were
+abbrev pub HasKeptRooms : Replica → List Replica → List Replica → Type 0
+HasKeptRooms r [] [] = ⊤
+HasKeptRooms r [] (y ∷ ys) = ⊥
+HasKeptRooms r (x ∷ xs) [] = ⊥
+HasKeptRooms r (x ∷ xs) (y ∷ ys) =
+    (y.region ≡ x.region)
+    × (same_region r.region x.region ≡ true → KeepsRooms r.store.rooms y.store.rooms)
+    × (same_region r.region x.region ≡ false → y.store.rooms ≡ x.store.rooms)
+    × HasKeptRooms r xs ys
 
 abbrev pub AscendByRegion : List Replica → Type 0
 AscendByRegion rs = IsAscending (map (λ (r : Replica). r.region.0) rs)

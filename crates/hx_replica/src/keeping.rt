@@ -5,10 +5,10 @@ ghost use Rattle.hx_model.specs.ServerSteps.{tail_acks, listed_regions, replica_
 ghost use Rattle.hx_model.specs.Slots.{Acknowledge, Forget, KeyState, moved, moved_all, pending_of};
 ghost use Rattle.std.specs.Prelude.{slice_get, Some, true, []};
 ghost use Rattle.std.specs.Option.{option_map};
-ghost use Rattle.hx_store.specs.Stores.{acknowledging, settled_at};
+ghost use Rattle.hx_store.specs.Stores.{KeepsRooms, acknowledging, settled_at};
 ghost use Rattle.hx_replica.specs.Adopting.{IsPendingAt, changed_at, lean_adopted, lean_replica, marked_end};
 ghost use Rattle.hx_replica.specs.Outputs.{tail_version, context_seen};
-ghost use Rattle.hx_replica.specs.Replicas.{AreReplicas, IsReplicaIn, new_replica, view_of, views_of};
+ghost use Rattle.hx_replica.specs.Replicas.{AreReplicas, HasKeptRooms, IsReplicaIn, KeepRegionRooms, new_replica, rooms_of, view_of, views_of};
 ghost use Rattle.hx_replica.specs.Ticking.{standing};
 
 use crate::adopting::is_active;
@@ -34,6 +34,7 @@ pub fn keep_all(
     requires next { next.old.items ≡ map (new_replica space.now) (listed_regions config.now server) }
     ensures views { views_of next.new.items ≡ map (λ (g : Numbered). lean_replica space.now (standing config.now server) (replica_or_new (views_of old.items) g)) (listed_regions config.now server) }
     ensures are { AreReplicas space.now next.new.items }
+    ensures rooms { KeepRegionRooms (views_of old.items) (rooms_of old.items) (views_of next.new.items) (rooms_of next.new.items) }
 {
     'replicas: while let Some(replica) = old.pop() {
         let mut kept = replica;
@@ -54,6 +55,7 @@ fn keep(
     requires next { AreReplicas space.now next.old.items }
     ensures views { views_of next.new.items ≡ with_replica (lean_replica space.now (standing config.now server) (view_of replica.old)) (views_of next.old.items) }
     ensures are { AreReplicas space.now next.new.items }
+    ensures rooms { HasKeptRooms replica.old next.old.items next.new.items }
 {
     if let Some(number) = place_of(next.as_slice(), replica.region) {
         let context = SlotContext {
@@ -75,6 +77,7 @@ fn adopt_replica(context: &SlotContext, replica: &mut Replica)
     requires is { IsReplicaIn context.now.space.now replica.old }
     ensures view { view_of replica.new ≡ lean_replica context.now.space.now (standing context.now.config.now context.now.server) (view_of replica.old) }
     ensures is { IsReplicaIn context.now.space.now replica.new }
+    ensures rooms { KeepsRooms replica.old.store.rooms replica.new.store.rooms }
 {
     let active = is_active(context.config, replica);
     adopt_slots(context, &mut replica.store, active);
@@ -85,6 +88,7 @@ fn adopt_slots(context: &SlotContext, store: &mut Store, active: bool)
     ensures region { store.new.region ≡ store.old.region }
     ensures marks { store.new.marks ≡ store.old.marks }
     ensures states { store.new.states ≡ map (lean_adopted (context_seen context.now) active) store.old.states }
+    ensures rooms { KeepsRooms store.old.rooms store.new.rooms }
 {
     for i in 0..store.len() {
         adopt_slot(context, store, i, active);
@@ -93,12 +97,14 @@ fn adopt_slots(context: &SlotContext, store: &mut Store, active: bool)
 
 /// A slot forgets its acknowledgements and early updates. Where it goes on, its pending updates
 /// whose chain ends here are acknowledged, and what can be committed is.
+#[tactic(auto, using(crate::proofs::Roomy::kept_self, crate::proofs::Roomy::kept_twice))]
 fn adopt_slot(context: &SlotContext, store: &mut Store, i: usize, active: bool)
     requires region { store.old.region ≡ context.now.region }
     requires number { i < length store.old.states }
     ensures region { store.new.region ≡ store.old.region }
     ensures marks { store.new.marks ≡ store.old.marks }
     ensures states { store.new.states ≡ changed_at (lean_adopted (context_seen context.now) active) i store.old.states }
+    ensures rooms { KeepsRooms store.old.rooms store.new.rooms }
 {
     reset_acks(store, i);
     if active {
@@ -113,6 +119,7 @@ fn reset_acks(store: &mut Store, i: usize)
     ensures region { store.new.region ≡ store.old.region }
     ensures marks { store.new.marks ≡ store.old.marks }
     ensures states { store.new.states ≡ changed_at (moved Forget) i store.old.states }
+    ensures rooms { KeepsRooms store.old.rooms store.new.rooms }
 {
     let place = store.place_at(i);
     store.reset_acks(place);
@@ -124,6 +131,7 @@ fn settle(store: &mut Store, i: usize)
     ensures region { store.new.region ≡ store.old.region }
     ensures marks { store.new.marks ≡ store.old.marks }
     ensures states { store.new.states ≡ changed_at (settled_at store.old.region) i store.old.states }
+    ensures rooms { KeepsRooms store.old.rooms store.new.rooms }
 {
     let place = store.place_at(i);
     store.settle(place);
@@ -136,6 +144,7 @@ fn mark_ends(context: &SlotContext, store: &mut Store, i: usize)
     ensures region { store.new.region ≡ store.old.region }
     ensures marks { store.new.marks ≡ store.old.marks }
     ensures states { store.new.states ≡ changed_at (λ (s : KeyState). moved_all (tail_acks (context_seen context.now) (pending_of s)) s) i store.old.states }
+    ensures rooms { KeepsRooms store.old.rooms store.new.rooms }
 {
     for k in 0..pending_count(store, i) {
         mark_end(context, store, i, k);
@@ -154,12 +163,14 @@ fn pending_count(store: &Store, i: usize) -> u32
 
 /// Of the slot with this number the pending update with a number is acknowledged, where its chain
 /// ends here.
+#[tactic(auto, using(crate::proofs::Roomy::kept_self, crate::proofs::Roomy::kept_twice))]
 fn mark_end(context: &SlotContext, store: &mut Store, i: usize, k: u32)
     requires region { store.old.region ≡ context.now.region }
     requires number { i < length store.old.states }
     ensures region { store.new.region ≡ store.old.region }
     ensures marks { store.new.marks ≡ store.old.marks }
     ensures states { store.new.states ≡ changed_at (marked_end (context_seen context.now) k) i store.old.states }
+    ensures rooms { KeepsRooms store.old.rooms store.new.rooms }
 {
     if let Some(version) = end_at(context, store, i, k) {
         mark(store, i, version);
@@ -189,6 +200,7 @@ fn mark(store: &mut Store, i: usize, version: Version)
     ensures region { store.new.region ≡ store.old.region }
     ensures marks { store.new.marks ≡ store.old.marks }
     ensures states { store.new.states ≡ changed_at (moved (Acknowledge version.0)) i store.old.states }
+    ensures rooms { KeepsRooms store.old.rooms store.new.rooms }
 {
     let place = store.place_at(i);
     store.mark(place, version);

@@ -16,7 +16,7 @@ ghost use Rattle.hx_replica.specs.Installing.{IsSnapshot};
 ghost use Rattle.hx_replica.specs.Adopting.{lean_with_config};
 ghost use Rattle.hx_replica.specs.Outputs.{key_in, room_by, room_of};
 ghost use Rattle.hx_replica.specs.Named.{known_to};
-ghost use Rattle.hx_replica.specs.Replicas.{KeepAllRooms, first_replica, new_replica};
+ghost use Rattle.hx_replica.specs.Replicas.{KeepAllRooms, KeepRegionRooms, first_replica, new_replica};
 ghost use Rattle.hx_replica.specs.Sound.{IsSoundInput, IsSoundServer};
 ghost use Rattle.hx_store.specs.Stores.{has_slot};
 ghost use Rattle.hx_replica.specs.Plans.{AreRoomsAfter, CanHear, CanStep, HasRoomAt, IsOutputAt, IsPlanOn, IsServerOutput, IsStepOutput};
@@ -93,12 +93,13 @@ struct Addressee<'a> {
 
 impl Server {
     /// The server of a number at the start: in the configuration of epoch 1, with an empty replica
-    /// of each of its regions.
+    /// of each of its regions. All that it holds is of the space and exists.
     pub fn start(alloc: Global, space: &Space, id: ServerId) -> Result<Server, Memory>
         requires space { IsSpace space.now }
         requires server { IsServerOf space.now id }
         ensures space { IfOk result (λ server. server.space ≡ space.now) }
         ensures state { IfOk result (λ server. server.state ≡ server_at_start space.now id) }
+        ensures sound { IfOk result (λ server. (sessions : ℕ) → IsSoundServer server.space sessions 0 server.state) }
     {
         let Ok(map) = RegionMap::new(alloc, space) else {
             return Err(Memory);
@@ -199,7 +200,7 @@ impl Server {
         ensures space { self.new.space ≡ self.old.space }
         ensures state { self.new.state ≡ folded_server (server_step self.old.space self.old.state plan.entry.input).state }
         ensures sound { (sessions n : ℕ) → IsSoundServer self.old.space sessions n self.old.state → IsSoundInput self.old.space sessions n self.old.state.id plan.entry.input → IsSoundServer self.new.space sessions (n + 1) self.new.state }
-        ensures rooms { AreRoomsAfter plan.change self.old.rooms self.new.rooms }
+        ensures rooms { AreRoomsAfter plan.change self.old self.new }
     {
         self.make(plan)
     }
@@ -211,7 +212,7 @@ impl Server {
         ensures entry { result ≡ plan.entry }
         ensures space { self.new.space ≡ self.old.space }
         ensures state { self.new.state ≡ folded_server (server_step self.old.space self.old.state plan.entry.input).state }
-        ensures rooms { AreRoomsAfter plan.change self.old.rooms self.new.rooms }
+        ensures rooms { AreRoomsAfter plan.change self.old self.new }
     {
         let Plan { entry, change } = plan;
         match change {
@@ -238,6 +239,7 @@ impl Server {
         requires bare { (s : ServerState) × (folded_server s ≡ lean_with_config self.old.space self.old.state config) }
         ensures space { self.new.space ≡ self.old.space }
         ensures state { self.new.state ≡ lean_with_config self.old.space self.old.state config }
+        ensures rooms { KeepRegionRooms self.old.state.replicas self.old.rooms self.new.state.replicas self.new.rooms }
     {
         let old = std::mem::replace(&mut self.replicas, replicas);
         keep_all(

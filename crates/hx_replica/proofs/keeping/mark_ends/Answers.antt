@@ -2,10 +2,11 @@ use Rattle.std.proofs.Common.{◌<◌, ap, arith, length, refl, subst, sym, ◌�
 use Rattle.hx_replica.specs.Adopting.{changed_at, marked_end}
 use Rattle.hx_replica.specs.Outputs.{context_seen}
 use Rattle.hx_replica.proofs.Kept.{all_marked_ends, changed_length, changed_not, marked_upto, one_marked}
+use Rattle.hx_replica.proofs.Roomy.{kept_self, kept_twice}
 use Rattle.hx_replica.proofs.keeping.mark_ends.Goals as goal
 
 pub loop-k-init : goal.loop-k-init
-loop-k-init c = record { region = refl; marks = refl; states = sym (changed_not c.args.i c.args.store.now.states) }
+loop-k-init c = record { region = refl; marks = refl; states = sym (changed_not c.args.i c.args.store.now.states); rooms = kept_self c.args.store.now.rooms }
 
 pub mark_end-requires-clause-number : goal.mark_end-requires-clause-number
 mark_end-requires-clause-number c =
@@ -18,6 +19,7 @@ loop-k-preserved c = record {
   marks = c.mark_end.ensures.marks ∙ c.loop-k.invariant.marks;
   states = c.mark_end.ensures.states ∙ ap (changed_at (marked_end (context_seen c.args.context.now) c.loop-k.k) c.args.i) c.loop-k.invariant.states
       ∙ one_marked (context_seen c.args.context.now) c.loop-k.k c.args.i c.args.store.now.states (subst (λ m. c.loop-k.k < m) c.pending_count-k-end.ensures c.loop-k-test.true);
+  rooms = kept_twice c.args.store.now.rooms c.loop-k.store.rooms c.mark_end.new.store.rooms c.loop-k.invariant.rooms c.mark_end.ensures.rooms;
 }
 
 pub returns-clause-states : goal.returns-clause-states

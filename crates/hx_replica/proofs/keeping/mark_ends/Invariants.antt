@@ -1,4 +1,5 @@
 use Rattle.std.proofs.Common.{◌≡◌}
+use Rattle.hx_store.specs.Stores.{KeepsRooms}
 use Rattle.hx_replica.specs.Adopting.{changed_at}
 use Rattle.hx_replica.specs.Outputs.{context_seen}
 use Rattle.hx_replica.proofs.Kept.{marked_upto}
@@ -9,4 +10,5 @@ invariant-loop-k l = record {
   region : l.store.region ≡ l.fn.store.region;
   marks : l.store.marks ≡ l.fn.store.marks;
   states : l.store.states ≡ changed_at (marked_upto (context_seen l.context) l.k) l.i l.fn.store.states;
+  rooms : KeepsRooms l.fn.store.rooms l.store.rooms;
 }

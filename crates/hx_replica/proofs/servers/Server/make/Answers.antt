@@ -8,7 +8,7 @@ use Rattle.hx_model.specs.ServerSteps.{ServerState, server_step}
 use Rattle.hx_replica.specs.Outputs.{stepped}
 use Rattle.hx_replica.specs.Plans.{IsChangeOn, IsJoinOn}
 use Rattle.hx_replica.specs.Servers.{ServerValue}
-use Rattle.hx_replica.proofs.Roomy.{join_rooms, set_other, set_uses, slot_rooms}
+use Rattle.hx_replica.proofs.Roomy.{adopt_rooms, join_rooms, set_other, set_uses, slot_rooms}
 use Rattle.hx_replica.proofs.servers.Server.make.Goals as goal
 
 pub change_slot-requires-clause-room : goal.change_slot-requires-clause-room
@@ -89,10 +89,13 @@ pub returns-in-Slot-clause-rooms : goal.returns-in-Slot-clause-rooms
 returns-in-Slot-clause-rooms c =
     let h : IsChangeOn c.args.self.now c.args.plan.entry.input c.in-Slot.replica c.in-Slot.place c.in-Slot.change =
     planned c.args.self.now c.args.plan.entry.input c.args.plan.change c.in-Slot.replica c.in-Slot.place c.in-Slot.change c.in-Slot.is c.requires.change in
-    slot_rooms c.args.plan.change c.in-Slot.replica c.in-Slot.place c.in-Slot.change c.args.self.now.rooms _ _ c.in-Slot.is (ap (λ (v : ServerValue). v.rooms) c.self-in-Slot.view_is)
+    slot_rooms c.args.plan.change c.in-Slot.replica c.in-Slot.place c.in-Slot.change c.args.self.now _ _ c.in-Slot.is (ap (λ (v : ServerValue). v.rooms) c.self-in-Slot.view_is)
     (set_uses c.self-in-Slot.inside.replicas.items c.in-Slot.replica c.in-Slot.place c.index_mut-replica.result.now _ (change_within c.self-in-Slot.inside c.args.self.now c.args.plan.entry.input c.in-Slot.replica c.in-Slot.place c.in-Slot.change c.self-in-Slot.view_is h) c.index_mut-replica.ensures.value c.change_slot.ensures.rooms)
 
 pub returns-in-Join-clause-rooms : goal.returns-in-Join-clause-rooms
 returns-in-Join-clause-rooms c =
-    join_rooms c.args.plan.change c.in-Join.number c.in-Join.replica c.args.self.now.rooms _ _ c.in-Join.is (ap (λ (v : ServerValue). v.rooms) c.self-in-Join.view_is)
+    join_rooms c.args.plan.change c.in-Join.number c.in-Join.replica c.args.self.now _ _ c.in-Join.is (ap (λ (v : ServerValue). v.rooms) c.self-in-Join.view_is)
     (set_other c.self-in-Join.inside.replicas.items c.in-Join.number c.put_replica.new.place)
+
+pub returns-in-Adopt-clause-rooms : goal.returns-in-Adopt-clause-rooms
+returns-in-Adopt-clause-rooms c = adopt_rooms c.args.plan.change c.in-Adopt.config c.in-Adopt.replicas c.args.self.now c.adopt.new.self c.in-Adopt.is c.adopt.ensures.rooms
