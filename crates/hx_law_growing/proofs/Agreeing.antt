@@ -27,7 +27,8 @@ not-empty x [] i = absurd i
 not-empty x (y ∷ ys) i = refl
 
 -- the lowest idle session among the first or else among the rest
-idle-among_both : (script : Script) (t : List Entry) (xs ys : List ℕ) → idle_among script t (xs ++ ys) ≡ first_some (idle_among script t xs) (idle_among script t ys)
+idle-among_both : (script : Script) (t : List Entry) (xs ys : List ℕ)
+    → idle_among script t (xs ++ ys) ≡ first_some (idle_among script t xs) (idle_among script t ys)
 idle-among_both script t [] ys = refl
 idle-among_both script t (n ∷ xs) ys = by (is_idle (session_of script (record { 0 = n + 1 }) t)) (idle-among_both script t xs ys)
   where
@@ -50,7 +51,8 @@ module _ (script more : Script) (g : GrowsTo script more) (order : AreInOrder sc
   idle-left : (u : SessionId) → is_idle (session_of script u t) ≡ true → (session_of script u t).begun < length (calls_of script u)
   idle-left u e =
       let s = session_of script u t in
-      subst (λ (l : List Op). s.begun < length l) (within script more g u t).calls_stay (ltb-true s.begun (length s.calls) (and_parts (not s.under_way) (ltb s.begun (length s.calls)) e).1)
+      subst (λ (l : List Op). s.begun < length l) (within script more g u t).calls_stay
+      (ltb-true s.begun (length s.calls) (and_parts (not s.under_way) (ltb s.begun (length s.calls)) e).1)
 
   -- and is idle in the grown script
   still-idle : (u : SessionId) → is_idle (session_of script u t) ≡ true → is_idle (session_of more u t) ≡ true
@@ -65,7 +67,8 @@ module _ (script more : Script) (g : GrowsTo script more) (order : AreInOrder sc
       (lt-ltb s.begun (length (calls_of more u)) (omega (arith, left, longer)))
 
   -- lower sessions than one with calls are as idle in the grown script
-  none-below : (n : ℕ) → ((u : SessionId) → u.0 ≤ n → calls_of more u ≡ calls_of script u) → idle_among script t (below n) ≡ None → idle_among more t (below n) ≡ None
+  none-below : (n : ℕ) → ((u : SessionId) → u.0 ≤ n → calls_of more u ≡ calls_of script u) → idle_among script t (below n) ≡ None
+      → idle_among more t (below n) ≡ None
   none-below zero same e = refl
   none-below (suc n) same e =
       by (idle_among script t (below n)) (is_idle (session_of script (session n) t)) refl refl (sym (idle-among_both script t (below n) (n ∷ [])) ∙ e)
@@ -91,7 +94,10 @@ module _ (script more : Script) (g : GrowsTo script more) (order : AreInOrder sc
     where
       lower : is_idle (session_of script (session n) t) ≡ true → (u : SessionId) → u.0 ≤ n → calls_of more u ≡ calls_of script u
       lower i u le = elim (order u (session n) (omega (arith, le))) [
-        | inl none ↦ absurd (let left = idle-left (session n) i in let no : length (calls_of script (session n)) ≡ 0 = ap (λ (l : List Op). length l) none in omega (arith, left, no))
+        | inl none ↦
+            let left = idle-left (session n) i in
+            let no : length (calls_of script (session n)) ≡ 0 = ap (λ (l : List Op). length l) none in
+            absurd (omega (arith, left, no))
         | inr same ↦ same
       ]
 
@@ -158,4 +164,5 @@ same-way script more g order t start (suc n) run so_far = by (next_entry script 
     by None e r further = further r so_far
     by (Some x) e r further =
         let here = further r.1 so_far in
-        (suc here.0, sym (ap (with_entry before) (same-next script more g order before r.1 x e)) ∙ ap (λ (l : List Entry). with_entry l (next_entry more l)) here.1)
+        let next = ap (with_entry before) (same-next script more g order before r.1 x e) in
+        (suc here.0, sym next ∙ ap (λ (l : List Entry). with_entry l (next_entry more l)) here.1)

@@ -41,10 +41,12 @@ get-or (x ∷ xs) zero none = refl
 get-or (x ∷ xs) (suc i) none = get-or xs i none
 
 -- sessions are numbered from 1
-pub numbered_from_1 : (script : Script) (session : SessionId) → is_actor script (Session session) ≡ true → (0 < session.0) × (session.0 ≤ length script.sessions)
+pub numbered_from_1 : (script : Script) (session : SessionId) → is_actor script (Session session) ≡ true
+    → (0 < session.0) × (session.0 ≤ length script.sessions)
 numbered_from_1 script session is = by (ltb 0 session.0) (leb session.0 (length script.sessions)) refl refl is
   where
-    by : (low high : Bool) → ltb 0 session.0 ≡ low → leb session.0 (length script.sessions) ≡ high → (low && high) ≡ true → (0 < session.0) × (session.0 ≤ length script.sessions)
+    by : (low high : Bool) → ltb 0 session.0 ≡ low → leb session.0 (length script.sessions) ≡ high → (low && high) ≡ true
+        → (0 < session.0) × (session.0 ≤ length script.sessions)
     by true true l h e = (ltb-true 0 session.0 l, leb-true session.0 (length script.sessions) h)
     by true false l h e = absurd (false≢true e)
     by false high l h e = absurd (false≢true e)
@@ -53,7 +55,8 @@ pub same_session : (u v : SessionId) → u.0 ≡ v.0 → u ≡ v
 same_session u v e = λ i. record { 0 = e i }
 
 -- the calls that a session has stand at its place
-calls-at : (script : Script) (session : SessionId) → 0 < session.0 → session.0 ≤ length script.sessions → calls_of script session ≡ get_or script.sessions (session.0 - 1) []
+calls-at : (script : Script) (session : SessionId) → 0 < session.0 → session.0 ≤ length script.sessions
+    → calls_of script session ≡ get_or script.sessions (session.0 - 1) []
 calls-at script session low high = by session.0 refl
   where
     by : (n : ℕ) → session.0 ≡ n → when_some (numbered script.sessions n) [] (λ (calls : List Op). calls) ≡ get_or script.sessions (session.0 - 1) []
@@ -104,7 +107,8 @@ module _ (script : Script) (session : SessionId) (op : Op) (low : 0 < session.0)
   count =
       let sum = sum_by-set (λ (calls : List Op). length calls) script.sessions (session.0 - 1) calls [] (omega (arith, low, high)) in
       let long : length calls ≡ length (calls_of script session) + 1 = length-append (calls_of script session) (op ∷ []) in
-      let here : length (calls_of script session) ≡ length (get_or script.sessions (session.0 - 1) []) = ap (λ (l : List Op). length l) (calls-at script session low high) in
+      let here : length (calls_of script session) ≡ length (get_or script.sessions (session.0 - 1) []) =
+      ap (λ (l : List Op). length l) (calls-at script session low high) in
       omega (arith, sum, long, here)
 
   stays : IsScript script → Fits script.space op → calls_in script < 16384 → IsScript more
@@ -115,13 +119,15 @@ module _ (script : Script) (session : SessionId) (op : Op) (low : 0 < session.0)
       record {
         space = s.space;
         sessions = subst (λ n. n ≤ 16) (sym grows.sessions) s.sessions;
-        calls = All-set (λ (l : List Op). All (Fits script.space) l) script.sessions (session.0 - 1) calls (All-push (Fits script.space) (calls_of script session) op so_far fits) s.calls;
+        calls = All-set (λ (l : List Op). All (Fits script.space) l) script.sessions (session.0 - 1) calls
+            (All-push (Fits script.space) (calls_of script session) op so_far fits) s.calls;
         few_calls = let n = count in omega (arith, n, few);
         few_steps = s.few_steps;
       }
 
 -- the calls of one of the script's sessions stand at its place
-pub own_calls : (script : Script) (session : SessionId) → is_actor script (Session session) ≡ true → calls_of script session ≡ get_or script.sessions (session.0 - 1) []
+pub own_calls : (script : Script) (session : SessionId) → is_actor script (Session session) ≡ true
+    → calls_of script session ≡ get_or script.sessions (session.0 - 1) []
 own_calls script session is = let n = numbered_from_1 script session is in calls-at script session n.0 n.1
 
 -- a session's calls are among all

@@ -21,7 +21,7 @@ use Rattle.hx_types.specs.Fitting.{numbered}
 use Rattle.hx_types.specs.Words.{when_some}
 use Rattle.hx_model.specs.Planning.{plan_of}
 use Rattle.hx_model.specs.Regions.{key_region}
-use Rattle.hx_model.specs.SessionSteps.{SessionState, all_parts, ask_regions, awaits, begin, call_to, call_under_way, end_with_parts, ending, is_administrative, is_key_call, is_search, lacks_part, lost_answer, merged_parts, no_version, send, send_to, session_message, session_step, session_tick, staying, with_part, with_poll}
+use Rattle.hx_model.specs.SessionSteps.{SessionState, SessionStep, all_parts, ask_regions, awaits, begin, call_to, call_under_way, end_with_parts, ending, is_administrative, is_key_call, is_search, lacks_part, lost_answer, merged_parts, no_version, send, send_to, session_message, session_step, session_tick, staying, with_part, with_poll}
 use Rattle.hx_law_growing.proofs.Numbers.{numbered-within}
 
 -- the calls stay, and so many began
@@ -32,7 +32,10 @@ pub record Keeps (calls : List Op) (begun : ℕ) (s : SessionState) : Type 0 whe
 sends-key : (s : SessionState) (op : Op) (g : RegionId) → Keeps s.calls s.begun (send_to s op g).state
 sends-key s op g = by (is_lost s.config g)
   where
-    by : (b : Bool) → Keeps s.calls s.begun (cond b (ending s no_version (lost_answer s op g)) (record { state = record s { sent = true }; posts = call_to s op (head_of s.config g); notes = [] })).state
+    called : SessionStep
+    called = record { state = record s { sent = true }; posts = call_to s op (head_of s.config g); notes = [] }
+
+    by : (b : Bool) → Keeps s.calls s.begun (cond b (ending s no_version (lost_answer s op g)) called).state
     by true = record { calls_stay = refl; begun_is = refl }
     by false = record { calls_stay = refl; begun_is = refl }
 
@@ -73,7 +76,8 @@ ticks space s le = by s.under_way (numbered s.calls s.begun) (numbered s.calls (
         let k = sends space (record s { begun = s.begun + 1; under_way = true; sent = false; parts = [] }) op in
         record { calls_stay = k.calls_stay; within = subst (λ n. n ≤ length s.calls) (sym k.begun_is) (numbered-within s.calls (s.begun + 1) op f) }
 
-ends : (s : SessionState) (b : Bool) (version : Version) (answer : Answer) → s.begun ≤ length s.calls → Within s.calls (cond b (ending s version answer) (staying s)).state
+ends : (s : SessionState) (b : Bool) (version : Version) (answer : Answer) → s.begun ≤ length s.calls
+    → Within s.calls (cond b (ending s version answer) (staying s)).state
 ends s true version answer le = record { calls_stay = refl; within = le }
 ends s false version answer le = same s le
 
@@ -82,12 +86,16 @@ finds : (s : SessionState) (b : Bool) (g : RegionId) (rows : List Row) → s.beg
 finds s false g rows le = same s le
 finds s true g rows le = by (all_parts (map (with_part g rows) s.parts))
   where
-    by : (b : Bool) → Within s.calls (cond b (ending (record s { parts = map (with_part g rows) s.parts }) no_version (an_answer.Rows (merged_parts (map (with_part g rows) s.parts)))) (staying (record s { parts = map (with_part g rows) s.parts }))).state
+    found : SessionState
+    found = record s { parts = map (with_part g rows) s.parts }
+
+    by : (b : Bool) → Within s.calls (cond b (ending found no_version (an_answer.Rows (merged_parts found.parts))) (staying found)).state
     by true = record { calls_stay = refl; within = le }
     by false = record { calls_stay = refl; within = le }
 
 installs : (space : Space) (s : SessionState) (config : Config) (b : Bool) (o : Option Op) → s.begun ≤ length s.calls
-    → Within s.calls (cond b (when_some o (staying (record s { config = config })) (λ (op : Op). cond (is_administrative op) (staying (record s { config = config })) (send space (record s { config = config }) op))) (staying s)).state
+    → let there = record s { config = config } in
+    Within s.calls (cond b (when_some o (staying there) (λ (op : Op). cond (is_administrative op) (staying there) (send space there op))) (staying s)).state
 installs space s config false o le = same s le
 installs space s config true None le = record { calls_stay = refl; within = le }
 installs space s config true (Some op) le = by (is_administrative op)
@@ -102,7 +110,8 @@ hears space s (a_message.Reply number version answer) le = ends s (awaits s numb
 hears space s (a_message.Update epoch region update) le = same s le
 hears space s (a_message.Ack epoch region key version) le = same s le
 hears space s (a_message.Ask epoch number region terms) le = same s le
-hears space s (a_message.Found epoch number g rows) le = finds s (awaits s number is_search && eqb epoch.0 s.config.epoch.0 && list_any (lacks_part g) s.parts) g rows le
+hears space s (a_message.Found epoch number g rows) le =
+    finds s (awaits s number is_search && eqb epoch.0 s.config.epoch.0 && list_any (lacks_part g) s.parts) g rows le
 hears space s (a_message.Seal epoch) le = same s le
 hears space s (a_message.Sealed epoch) le = same s le
 hears space s (a_message.Install config) le = installs space s config (ltb s.config.epoch.0 config.epoch.0) (call_under_way s) le

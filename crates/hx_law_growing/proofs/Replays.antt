@@ -1,5 +1,5 @@
 -- What one caller makes of a script alone is its replay, and a script has one replay.
-use Rattle.std.proofs.Common.{◌≡◌, ◌≢◌, refl, ℕ, zero, suc, ◌≤◌, Bool, true, false, ◌&&◌, ◌⊎◌, inl, inr, List, [], ◌∷◌, ◌++◌, length, map, leb, ltb, None, Some, sym, ap, ◌∙◌, subst, arith, add-one, slice_get}
+use Rattle.std.proofs.Common.{◌≡◌, ◌≢◌, refl, ℕ, zero, suc, ◌≤◌, Bool, true, false, ◌&&◌, ◌⊎◌, inl, inr, List, [], ◌∷◌, ◌++◌, length, map, replicate, leb, ltb, None, Some, sym, ap, ◌∙◌, subst, arith, add-one, slice_get}
 use Rattle.std.proofs.lemmas.Bool.{cases_eq, leb-false, leb-true}
 use mathlib.Core.List.{IsPrefix}
 use Rattle.hx_types.specs.declared.calls.Op.{Op}
@@ -18,15 +18,15 @@ use Rattle.hx_law_growing.proofs.Calls.{calls_grow, same_session}
 use Rattle.hx_law_growing.proofs.Runs.{quiet_stays}
 
 -- without calls no session has one
-no-calls : (lists : List (List Op)) (n : ℕ) → when_some (numbered (map (λ (calls : List Op). []) lists) n) [] (λ (calls : List Op). calls) ≡ []
-no-calls lists zero = refl
-no-calls [] (suc n) = refl
-no-calls (calls ∷ rest) (suc zero) = refl
-no-calls (calls ∷ rest) (suc (suc n)) = no-calls rest (suc n)
+no-calls : (count n : ℕ) → when_some (numbered {A = List Op} (replicate count []) n) [] (λ (calls : List Op). calls) ≡ []
+no-calls count zero = refl
+no-calls zero (suc n) = refl
+no-calls (suc count) (suc zero) = refl
+no-calls (suc count) (suc (suc n)) = no-calls count (suc n)
 
-length-map : {A B : Type 0} (f : A → B) (xs : List A) → length (map f xs) ≡ length xs
-length-map f [] = refl
-length-map f (x ∷ xs) = ap suc (length-map f xs)
+length-replicate : (count : ℕ) (calls : List Op) → length (replicate count calls) ≡ count
+length-replicate zero calls = refl
+length-replicate (suc count) calls = ap suc (length-replicate count calls)
 
 -- the front of a list with its next item is the front of it
 next-in-front : (xs rest : List Op) (op : Op) → slice_get (xs ++ rest) (length xs) ≡ Some op → IsPrefix (xs ++ op ∷ []) (xs ++ rest)
@@ -43,13 +43,14 @@ begins : (plan : Script) → Goes plan (without_calls plan)
 begins plan = record {
   grows = record {
     space = refl;
-    sessions = sym (length-map (λ (calls : List Op). []) plan.sessions);
-    calls = λ u. subst (λ (l : List Op). IsPrefix l (calls_of plan u)) (sym (no-calls plan.sessions u.0)) (calls_of plan u, refl);
+    sessions = sym (length-replicate (length plan.sessions) []);
+    calls = λ u. subst (λ (l : List Op). IsPrefix l (calls_of plan u)) (sym (no-calls (length plan.sessions) u.0)) (calls_of plan u, refl);
   };
-  order = λ u v lower. inl (no-calls plan.sessions v.0);
+  order = λ u v lower. inl (no-calls (length plan.sessions) v.0);
 }
 
-goes-on : (plan : Script) (older : List Made) (m : Made) → IsNextCall plan older m → Goes plan (script_made plan older) → Goes plan (with_call_of (script_made plan older) m.session m.op)
+goes-on : (plan : Script) (older : List Made) (m : Made) → IsNextCall plan older m → Goes plan (script_made plan older)
+    → Goes plan (with_call_of (script_made plan older) m.session m.op)
 goes-on plan older m next so_far = record {
   grows = record {
     space = so_far.grows.space;
@@ -101,7 +102,10 @@ goes-on plan older m next so_far = record {
     past (x ∷ xs) = past xs
 
     all_made : calls_of plan m.session ≡ calls_of (script_made plan older) m.session → ⊥
-    all_made e = let none = past (calls_of plan m.session) in let f = ap (λ (l : List Op). slice_get (calls_of plan m.session) (length l)) e ∙ at_end in absurd (cc)
+    all_made e =
+        let none = past (calls_of plan m.session) in
+        let some = ap (λ (l : List Op). slice_get (calls_of plan m.session) (length l)) e ∙ at_end in
+        absurd (cc)
 
 pub goes : (plan : Script) (made : List Made) → AreAlone plan made → Goes plan (script_made plan made)
 goes plan [] alone = begins plan

@@ -73,7 +73,10 @@ no_second_tick = λ s. s.0.1
 abbrev its_name : PostId
 its_name = record { entry = 1; place = 0 }
 
-no_second_delivery : ¬ IsServed (made (scheduled script [] 2) (Server (server 1)) (Deliver its_name (Session (session 1)) (a_message.Call (epoch 1) 1 (Get the_key))) ∷ scheduled script [] 2)
+abbrev its_delivery : Input
+its_delivery = Deliver its_name (Session (session 1)) (a_message.Call (epoch 1) 1 (Get the_key))
+
+no_second_delivery : ¬ IsServed (made (scheduled script [] 2) (Server (server 1)) its_delivery ∷ scheduled script [] 2)
 no_second_delivery = λ s. never s.0
 
 -- one caller makes the call of session 1 and then that of session 2, with room for nine entries each
@@ -95,4 +98,7 @@ nothing_left = refl
 
 -- session 2 may not come first
 lower_first : ¬ IsNextCall plan [] (record { session = session 2; op = Get the_key; entries = 9 })
-lower_first = λ n. let e = n.lower (session 1) (omega arith) in let no : length (calls_of (script_made plan []) (session 1)) ≡ length (calls_of plan (session 1)) = ap (λ (l : List Op). length l) e in absurd (omega (arith, no))
+lower_first = λ n.
+    let no : length (calls_of (script_made plan []) (session 1)) ≡ length (calls_of plan (session 1)) =
+    ap (λ (l : List Op). length l) (n.lower (session 1) (omega arith)) in
+    absurd (omega (arith, no))

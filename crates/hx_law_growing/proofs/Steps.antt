@@ -39,9 +39,12 @@ grown calls step = record { state = with_calls calls step.state; posts = step.po
 sends-key : (calls : List Op) (s : SessionState) (op : Op) (g : RegionId) → send_to (with_calls calls s) op g ≡ grown calls (send_to s op g)
 sends-key calls s op g = by (is_lost s.config g)
   where
+    called : SessionState → SessionStep
+    called t = record { state = record t { sent = true }; posts = call_to s op (head_of s.config g); notes = [] }
+
     by : (b : Bool)
-        → cond b (ending (with_calls calls s) no_version (lost_answer s op g)) (record { state = record (with_calls calls s) { sent = true }; posts = call_to s op (head_of s.config g); notes = [] })
-        ≡ grown calls (cond b (ending s no_version (lost_answer s op g)) (record { state = record s { sent = true }; posts = call_to s op (head_of s.config g); notes = [] }))
+        → cond b (ending (with_calls calls s) no_version (lost_answer s op g)) (called (with_calls calls s))
+        ≡ grown calls (cond b (ending s no_version (lost_answer s op g)) (called s))
     by true = refl
     by false = refl
 
@@ -75,7 +78,8 @@ ticks space calls s p does = by s.under_way (numbered s.calls s.begun) (numbered
         → turn space (with_calls calls s) busy (numbered calls s.begun) (numbered calls (s.begun + 1)) ≡ grown calls (turn space s busy now next)
     by true None next e f d = absurd (false≢true d)
     by true (Some op) next e f d =
-        ap (λ o. when_some o (staying (with_calls calls s)) (λ (op : Op). with_poll (send space (with_calls calls s) op))) (numbered-grows s.calls calls s.begun op p e)
+        ap (λ o. when_some o (staying (with_calls calls s)) (λ (op : Op). with_poll (send space (with_calls calls s) op)))
+        (numbered-grows s.calls calls s.begun op p e)
         ∙ ap with_poll (sends space calls s op)
     by false now None e f d = absurd (false≢true d)
     by false now (Some op) e f d =
@@ -95,13 +99,16 @@ same-wait : (calls : List Op) (s : SessionState) (number : ℕ) (test : Op → B
 same-wait calls s number test p le = ap (λ o. eqb number s.begun && when_some o false test) (same-call calls s p le)
 
 -- where the session waits for it, the call ends
-ends : (calls : List Op) (s : SessionState) (number : ℕ) (test : Op → Bool) (version : Version) (answer : Answer) → IsPrefix s.calls calls → s.begun ≤ length s.calls
+ends : (calls : List Op) (s : SessionState) (number : ℕ) (test : Op → Bool) (version : Version) (answer : Answer) → IsPrefix s.calls calls
+    → s.begun ≤ length s.calls
     → cond (awaits (with_calls calls s) number test) (ending (with_calls calls s) version answer) (staying (with_calls calls s))
     ≡ grown calls (cond (awaits s number test) (ending s version answer) (staying s))
 ends calls s number test version answer p le =
-    ap (λ b. cond b (ending (with_calls calls s) version answer) (staying (with_calls calls s))) (same-wait calls s number test p le) ∙ by (awaits s number test)
+    ap (λ b. cond b (ending (with_calls calls s) version answer) (staying (with_calls calls s))) (same-wait calls s number test p le)
+    ∙ by (awaits s number test)
   where
-    by : (b : Bool) → cond b (ending (with_calls calls s) version answer) (staying (with_calls calls s)) ≡ grown calls (cond b (ending s version answer) (staying s))
+    by : (b : Bool)
+        → cond b (ending (with_calls calls s) version answer) (staying (with_calls calls s)) ≡ grown calls (cond b (ending s version answer) (staying s))
     by true = refl
     by false = refl
 
@@ -117,7 +124,9 @@ gathers calls s = by (all_parts s.parts)
 finds : (calls : List Op) (s : SessionState) (epoch : Epoch) (number : ℕ) (g : RegionId) (rows : List Row) → IsPrefix s.calls calls → s.begun ≤ length s.calls
     → found_step (with_calls calls s) epoch number g rows ≡ grown calls (found_step s epoch number g rows)
 finds calls s epoch number g rows p le =
-    ap (λ b. cond (b && eqb epoch.0 s.config.epoch.0 && list_any (lacks_part g) s.parts) (end_with_parts (with_calls calls taken)) (staying (with_calls calls s))) (same-wait calls s number is_search p le)
+    ap (λ b. cond (b && eqb epoch.0 s.config.epoch.0 && list_any (lacks_part g) s.parts)
+    (end_with_parts (with_calls calls taken)) (staying (with_calls calls s)))
+    (same-wait calls s number is_search p le)
     ∙ by (awaits s number is_search && eqb epoch.0 s.config.epoch.0 && list_any (lacks_part g) s.parts)
   where
     taken : SessionState
@@ -131,7 +140,9 @@ finds calls s epoch number g rows p le =
 installs : (space : Space) (calls : List Op) (s : SessionState) (config : Config) → IsPrefix s.calls calls → s.begun ≤ length s.calls
     → session_install space (with_calls calls s) config ≡ grown calls (session_install space s config)
 installs space calls s config p le =
-    ap (λ o. cond (ltb s.config.epoch.0 config.epoch.0) (when_some o (staying (with_calls calls there)) (again (with_calls calls there))) (staying (with_calls calls s))) (same-call calls s p le)
+    ap (λ o. cond (ltb s.config.epoch.0 config.epoch.0)
+    (when_some o (staying (with_calls calls there)) (again (with_calls calls there))) (staying (with_calls calls s)))
+    (same-call calls s p le)
     ∙ by (ltb s.config.epoch.0 config.epoch.0) (call_under_way s)
   where
     there : SessionState
@@ -140,7 +151,8 @@ installs space calls s config p le =
     again : SessionState → Op → SessionStep
     again t op = cond (is_administrative op) (staying t) (send space t op)
 
-    sent : (b : Bool) (op : Op) → cond b (staying (with_calls calls there)) (send space (with_calls calls there) op) ≡ grown calls (cond b (staying there) (send space there op))
+    sent : (b : Bool) (op : Op)
+        → cond b (staying (with_calls calls there)) (send space (with_calls calls there) op) ≡ grown calls (cond b (staying there) (send space there op))
     sent true op = refl
     sent false op = sends space calls there op
 

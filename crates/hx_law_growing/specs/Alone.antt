@@ -1,5 +1,5 @@
 -- One caller alone makes the calls of a script: session after session, each submitted once the schedule has gone on from the one before.
-use Rattle.std.specs.Prelude.{◌≡◌, ℕ, ◌+◌, ◌<◌, true, List, [], ◌∷◌, length, map, Some, ⊤}
+use Rattle.std.specs.Prelude.{◌≡◌, ℕ, ◌+◌, ◌<◌, true, List, [], ◌∷◌, length, replicate, Some, ⊤}
 use Rattle.hx_types.specs.declared.calls.Op.{Op}
 use Rattle.hx_types.specs.declared.ids.Actor.TheVariants.{Session}
 use Rattle.hx_types.specs.declared.ids.SessionId.{SessionId}
@@ -18,7 +18,7 @@ pub record Made : Type 0 where
 
 -- the space of a script and its sessions, without a call
 abbrev pub without_calls : Script → Script
-without_calls plan = record { space = plan.space; sessions = map (λ (calls : List Op). []) plan.sessions; steps = [] }
+without_calls plan = record { space = plan.space; sessions = replicate (length plan.sessions) []; steps = [] }
 
 -- the script of the calls made, the newest first
 abbrev pub script_made : Script → List Made → Script

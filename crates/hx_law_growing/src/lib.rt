@@ -16,7 +16,8 @@ pub fn states_grow()
     ensures { StatesGrow }
 {}
 
-/// After a run of a script with nothing left to do, nothing is left of a script that it grows to either, where each session has a call under way or no further calls.
+/// After a run of a script with nothing left to do, nothing is left of a script that it grows to either, where each session has a
+/// call under way or no further calls.
 pub fn quiet_stays()
     ensures { QuietStays }
 {}

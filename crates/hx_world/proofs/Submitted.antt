@@ -56,7 +56,8 @@ call_appended script session op is before after calls more taken read longer put
     ∙ ap (set script.sessions (session.0 - 1)) (longer ∙ ap (λ (l : List Op). l ++ op ∷ []) own)) in
     ap (λ (l : List (List Op)). record { space = script.space; sessions = l; steps = script.steps }) all
 
-module _ (script : Script) (actors : Actors) (log : Log) (w : IsWorldOn script actors log) (u : SessionId) (actor : is_actor script (Session u) ≡ true) (x : CountedSession) (read : x ≡ get_or actors.sessions.items (u.0 - 1) x) where
+module _ (script : Script) (actors : Actors) (log : Log) (w : IsWorldOn script actors log) (u : SessionId) (actor : is_actor script (Session u) ≡ true)
+    (x : CountedSession) (read : x ≡ get_or actors.sessions.items (u.0 - 1) x) where
   abbrev t : List Entry
   t = reverse log.trace
 
@@ -99,7 +100,8 @@ module _ (script : Script) (actors : Actors) (log : Log) (w : IsWorldOn script a
     receives : (id : PostId) → can_receive more t id ≡ can_receive script t id
     receives id = by (post_named id t)
       where
-        by : (o : Option Post) → when_some o false (λ (p : Post). not (has_halted more t p.to)) ≡ when_some o false (λ (p : Post). not (has_halted script t p.to))
+        by : (o : Option Post)
+            → when_some o false (λ (p : Post). not (has_halted more t p.to)) ≡ when_some o false (λ (p : Post). not (has_halted script t p.to))
         by None = refl
         by (Some p) = ap not (halted p.to)
 
@@ -133,11 +135,13 @@ module _ (script : Script) (actors : Actors) (log : Log) (w : IsWorldOn script a
             entries = at.entries;
           });
       sessions_are = subst (λ n. AreAt n (IsSessionAt more t) (set actors.sessions.items (u.0 - 1) y)) (sym longer.grows.sessions)
-          (at_set (length script.sessions) (IsSessionAt script t) (IsSessionAt more t) actors.sessions.items (set actors.sessions.items (u.0 - 1) y) (u.0 - 1) y w.sessions_are refl
+          (at_set (length script.sessions) (IsSessionAt script t) (IsSessionAt more t) actors.sessions.items (set actors.sessions.items (u.0 - 1) y) (u.0 - 1) y
+          w.sessions_are refl
           (record {
             space = has.space ∙ here.space;
             state = has.state
-                ∙ called (session_of script u t) (session_of more u t) x.session.state (all_states.sessions u) (here.state ∙ ap (λ (v : SessionId). session_of script v t) is) (all_states.calls u)
+                ∙ called (session_of script u t) (session_of more u t) x.session.state (all_states.sessions u)
+                (here.state ∙ ap (λ (v : SessionId). session_of script v t) is) (all_states.calls u)
                 ∙ ap (λ (v : SessionId). session_of more v t) (sym is);
             entries = has.entries ∙ here.entries;
           })

@@ -11,7 +11,8 @@ extend_script-requires-clause-fits c =
 pub extend_script-requires-clause-few : goal.extend_script-requires-clause-few
 extend_script-requires-clause-few c =
     few_own c.args.cluster.now.script c.args.cluster.now.actors c.args.cluster.now.log c.requires.world c.args.session c.requires.actor
-    c.index_mut-counted.result.now c.index_mut-counted.ensures.value c.args.op c.runs_grow.ensures c.states_grow.ensures c.calls_grow.ensures.grows c.requires.few
+    c.index_mut-counted.result.now c.index_mut-counted.ensures.value c.args.op
+    c.runs_grow.ensures c.states_grow.ensures c.calls_grow.ensures.grows c.requires.few
 
 pub returns-clause-world : goal.returns-clause-world
 returns-clause-world c =
