@@ -15,3 +15,4 @@ pub mod Lowest
 pub mod Ranks
 pub mod Unique
 pub mod Truth
+mod ClauseRows
