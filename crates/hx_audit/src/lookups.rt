@@ -1,0 +1,83 @@
+//! The calls of callers.
+
+ghost use Rattle.std.specs.Prelude.{◌≡◌, ◌↔◌, ℕ, true, false, length, slice_get, IsTrue};
+ghost use Rattle.std.specs.List.{AllWithin};
+ghost use Rattle.std.specs.Option.{option_copied};
+ghost use Rattle.hx_types.specs.Words.{when_some};
+ghost use Rattle.hx_report_lines.specs.Values.{caller_below};
+ghost use Rattle.hx_audit.specs.Told.{call_at, same_caller};
+ghost use Rattle.hx_audit.specs.Walking.{CallsAscend, place_at};
+
+use hx_report_lines::CallLine;
+use hx_types::Caller;
+
+/// Whether a caller stands before another: by session, and within one by number.
+fn is_before(caller: Caller, other: Caller) -> bool
+    ensures { result ≡ caller_below caller other }
+{
+    caller.session.0 < other.session.0
+        || (caller.session.0 == other.session.0 && caller.number < other.number)
+}
+
+fn is_same(caller: Caller, other: Caller) -> bool
+    ensures { result ≡ same_caller caller other }
+{
+    caller.session.0 == other.session.0 && caller.number == other.number
+}
+
+/// Whether two callers are one.
+pub fn is_one(caller: Caller, other: Caller) -> bool
+    ensures { IsTrue result ↔ (caller ≡ other) }
+{
+    is_same(caller, other)
+}
+
+/// Where the calls of lower callers end.
+fn lower_calls(calls: &[CallLine], caller: Caller) -> usize
+    requires { CallsAscend calls.now }
+    ensures low { AllWithin (λ l. caller_below l.caller caller ≡ true) calls.now 0 result }
+    ensures high { AllWithin (λ l. caller_below l.caller caller ≡ false) calls.now result (length calls.now) }
+{
+    calls.partition_point(|call| is_before(call.caller, caller))
+}
+
+/// Whether the call at a place is the caller's.
+fn is_call_of(calls: &[CallLine], place: usize, caller: Caller) -> bool
+    ensures { result ≡ when_some (slice_get calls.now place) false (λ l. same_caller l.caller caller) }
+{
+    match calls.get(place) {
+        Some(call) => is_same(call.caller, caller),
+        None => false,
+    }
+}
+
+/// The place of a caller's call among calls by caller, found by halving.
+pub fn place_of(calls: &[CallLine], caller: Caller) -> Option<usize>
+    requires { CallsAscend calls.now }
+    ensures { result ≡ place_at calls.now caller }
+{
+    let place = lower_calls(calls, caller);
+    if is_call_of(calls, place, caller) {
+        Some(place)
+    } else {
+        None
+    }
+}
+
+/// The line at a place.
+pub fn line_at(calls: &[CallLine], place: usize) -> Option<&CallLine>
+    ensures { option_copied result ≡ slice_get calls.now place }
+{
+    calls.get(place)
+}
+
+/// The line of a caller's call.
+pub fn call_of(calls: &[CallLine], caller: Caller) -> Option<&CallLine>
+    requires { CallsAscend calls.now }
+    ensures { option_copied result ≡ call_at calls.now caller }
+{
+    match place_of(calls, caller) {
+        Some(place) => line_at(calls, place),
+        None => None,
+    }
+}

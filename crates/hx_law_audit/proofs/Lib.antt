@@ -1,0 +1,7 @@
+mod Single
+mod Pieces
+mod Along
+mod Consistent
+mod Meant
+mod Kept
+mod Ordering

@@ -1,0 +1,25 @@
+//! What a verdict on a report means.
+#![tactic(auto)]
+
+ghost use Rattle.hx_law_audit.specs.Meaning.{VerdictsAreUnique, YesMeansLinear, YesMeansOneOrder};
+
+/// A report has one verdict: where no clause is broken it is yes, and else it names the first
+/// clause that is broken anywhere and the lowest line at which it is.
+pub fn verdicts_are_unique()
+    ensures { VerdictsAreUnique }
+{}
+
+/// The verdict is yes exactly where the report is consistent: by the calls, the histories and the rows
+/// that it has, the history of each key of each space is linear, and each finished search is whole
+/// and true. The order of time is one of different calls, since a report may have a call that ended
+/// before it began.
+pub fn yes_means_linear()
+    ensures { YesMeansLinear }
+{}
+
+/// Where the verdict is yes, and no call ended before it began, the items of all keys of a space
+/// have one order: it has each key's history as it is, and what ended before another began,
+/// whatever their keys, stands before it. So the histories are one history of one store.
+pub fn yes_means_one_order()
+    ensures { YesMeansOneOrder }
+{}
