@@ -2,7 +2,7 @@
 
 ghost use Rattle.std.specs.Prelude.{◌≡◌, ◌++◌, OnOk};
 ghost use Rattle.std.specs.List.{flat_map};
-ghost use Rattle.hx_report.specs.Reporting.{answer_lines, found_line, in_epoch_line, region_line, row_line, rows_lines, version_line, version_text};
+ghost use Rattle.hx_report.specs.Reporting.{answer_lines, found_line, in_epoch_line, maybe_answer_lines, region_line, row_line, rows_lines, version_line, version_text};
 
 use crate::labels::put_labeled;
 use crate::objects::put_object;
@@ -40,8 +40,9 @@ fn put_found(
     put_bytes(out, b"\n")
 }
 
+/// Appends the line of a row.
 #[tactic(auto, unfolding(crate::specs::Reporting::row_line))]
-fn put_row(out: &mut Vec<u8>, space: &Space, row: &Row) -> Result<(), Memory>
+pub fn put_row(out: &mut Vec<u8>, space: &Space, row: &Row) -> Result<(), Memory>
     ensures { OnOk result (out.new.items ≡ out.old.items ++ row_line space.now row.now) }
 {
     put_bytes(out, b"row ")?;
@@ -96,7 +97,7 @@ fn put_in_epoch(out: &mut Vec<u8>, word: &[u8], epoch: Epoch) -> Result<(), Memo
 
 /// Appends what a call was answered, with the version that its end names.
 #[tactic(auto, unfolding(crate::specs::Reporting::answer_lines))]
-pub fn put_answer(
+fn put_answer(
     out: &mut Vec<u8>,
     space: &Space,
     version: Version,
@@ -120,5 +121,22 @@ pub fn put_answer(
         Answer::Member { epoch } => put_in_epoch(out, b"member", *epoch),
         Answer::Joining { epoch } => put_in_epoch(out, b"joining", *epoch),
         Answer::Lost { epoch } => put_in_epoch(out, b"lost", *epoch),
+    }
+}
+
+/// Appends what a call was answered, if anything, with the version that its end names.
+#[tactic(auto, unfolding(crate::specs::Reporting::maybe_answer_lines))]
+pub fn put_maybe_answer(
+    out: &mut Vec<u8>,
+    space: &Space,
+    version: Version,
+    answer: &Option<Answer>,
+) -> Result<(), Memory>
+    ensures { OnOk result
+        (out.new.items ≡ out.old.items ++ maybe_answer_lines space.now version answer.now) }
+{
+    match answer {
+        Some(answer) => put_answer(out, space, version, answer),
+        None => put_bytes(out, b"open\n"),
     }
 }

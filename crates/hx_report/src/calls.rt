@@ -2,12 +2,12 @@
 
 ghost use Rattle.std.specs.Prelude.{◌≡◌, ◌++◌, OnOk};
 ghost use Rattle.std.specs.List.{flat_map};
-ghost use Rattle.hx_report.specs.Reporting.{called_text, end_text, maybe_answer_lines, record_lines, span_text};
+ghost use Rattle.hx_report.specs.Reporting.{called_text, end_text, record_lines, span_text};
 
-use crate::answers::put_answer;
+use crate::answers::put_maybe_answer;
 use crate::labels::put_labeled;
 use hx_print::{put_bytes, put_caller, put_number, put_op};
-use hx_types::{Answer, Caller, Memory, Op, Record, Records, Script, Space, Version};
+use hx_types::{Caller, Memory, Op, Record, Records, Script};
 
 #[tactic(auto, unfolding(crate::specs::Reporting::called_text))]
 fn put_called(out: &mut Vec<u8>, script: &Script, caller: Caller) -> Result<(), Memory>
@@ -19,8 +19,9 @@ fn put_called(out: &mut Vec<u8>, script: &Script, caller: Caller) -> Result<(), 
     }
 }
 
+/// Appends when a call ended, or `-` where it has no end.
 #[tactic(auto, unfolding(crate::specs::Reporting::end_text))]
-fn put_end(out: &mut Vec<u8>, end: &Option<u64>) -> Result<(), Memory>
+pub fn put_end(out: &mut Vec<u8>, end: &Option<u64>) -> Result<(), Memory>
     ensures { OnOk result (out.new.items ≡ out.old.items ++ end_text end.now) }
 {
     match end {
@@ -38,22 +39,6 @@ fn put_span(out: &mut Vec<u8>, call: &Record) -> Result<(), Memory>
     put_labeled(out, b" begin ", call.begin)?;
     put_bytes(out, b" end ")?;
     put_end(out, &call.end)
-}
-
-#[tactic(auto, unfolding(crate::specs::Reporting::maybe_answer_lines))]
-fn put_maybe_answer(
-    out: &mut Vec<u8>,
-    space: &Space,
-    version: Version,
-    answer: &Option<Answer>,
-) -> Result<(), Memory>
-    ensures { OnOk result
-        (out.new.items ≡ out.old.items ++ maybe_answer_lines space.now version answer.now) }
-{
-    match answer {
-        Some(answer) => put_answer(out, space, version, answer),
-        None => put_bytes(out, b"open\n"),
-    }
 }
 
 #[tactic(auto, unfolding(crate::specs::Reporting::record_lines))]

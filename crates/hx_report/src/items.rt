@@ -26,8 +26,9 @@ fn word_of(answer: &Answer) -> &'static [u8]
     }
 }
 
+/// Appends the object after a call, or that there is none.
 #[tactic(auto, unfolding(crate::specs::Reporting::state_text))]
-fn put_state(out: &mut Vec<u8>, space: &Space, object: &Option<Object>) -> Result<(), Memory>
+pub fn put_state(out: &mut Vec<u8>, space: &Space, object: &Option<Object>) -> Result<(), Memory>
     ensures { OnOk result (out.new.items ≡ out.old.items ++ state_text space.now object.now) }
 {
     match object {

@@ -29,6 +29,11 @@ use hx_history::records_and_histories;
 use hx_print::{put_bytes, put_space};
 use hx_trace::Trace;
 use hx_types::{Memory, Script, Space, Totals};
+pub use answers::{put_maybe_answer, put_row};
+pub use calls::put_end;
+pub use drivers::put_driver;
+pub use items::put_state;
+pub use labels::put_labeled;
 pub use objects::put_object;
 use std::alloc::Global;
 

@@ -1,5 +1,5 @@
 -- The text of a report: what it has of each space, in the words of the reports that the program writes.
-use Rattle.std.specs.Prelude.{ℕ, List, ◌++◌, map, codes, Option}
+use Rattle.std.specs.Prelude.{ℕ, List, ◌++◌, map, codes}
 use Rattle.std.specs.List.{flat_map}
 use Rattle.std.specs.Fmt.{decimal}
 use Rattle.hx_types.specs.declared.ids.RegionId.{RegionId}
@@ -18,14 +18,13 @@ use Rattle.hx_report_lines.specs.declared.histories.ItemWord.{ItemWord}
 use Rattle.hx_report_lines.specs.declared.histories.ItemWord.TheVariants as words
 use Rattle.hx_report_lines.specs.Values.{ReportValue}
 
--- `call uS.N begin B end E OP -> `
+-- `call uS.N begin B end E`
+unfoldable pub span_text : CallLine → List ℕ
+span_text c = codes "call " ++ caller_text c.caller ++ codes " begin " ++ decimal c.begin ++ codes " end " ++ end_text c.end
+
+-- ` OP -> ` after it
 unfoldable pub called_text : Space → CallLine → List ℕ
-called_text space c =
-    codes "call " ++ caller_text c.caller
-    ++ codes " begin " ++ decimal c.begin
-    ++ codes " end " ++ end_text c.end
-    ++ codes " " ++ op_text space c.op
-    ++ codes " -> "
+called_text space c = span_text c ++ codes " " ++ op_text space c.op ++ codes " -> "
 
 -- the line of a call; the rows of a search have lines of their own
 unfoldable pub call_text : Space → CallLine → List ℕ
@@ -39,26 +38,33 @@ word_text words.Found = codes "found"
 word_text words.Overflow = codes "overflow"
 word_text words.TooLong = codes "toolong"
 
+-- `item V uS.N WORD `
+unfoldable pub item_head : ItemLine → List ℕ
+item_head x = codes "item " ++ decimal x.version.0 ++ codes " " ++ caller_text x.caller ++ codes " " ++ word_text x.word ++ codes " "
+
 -- `item V uS.N WORD OBJECT`
 unfoldable pub item_text : Space → ItemLine → List ℕ
-item_text space x =
-    codes "item " ++ decimal x.version.0
-    ++ codes " " ++ caller_text x.caller
-    ++ codes " " ++ word_text x.word
-    ++ codes " " ++ state_text space x.object
-    ++ codes "\n"
+item_text space x = item_head x ++ state_text space x.object ++ codes "\n"
+
+-- `history T`
+unfoldable pub key_text : List ℕ → List ℕ
+key_text key = codes "history " ++ quoted key ++ codes "\n"
 
 -- `history T`, and its items
 unfoldable pub history_text : Space → HistoryLines → List ℕ
-history_text space h = codes "history " ++ quoted h.key ++ codes "\n" ++ flat_map (item_text space) h.items
+history_text space h = key_text h.key ++ flat_map (item_text space) h.items
+
+-- ` servers LIST`
+unfoldable pub servers_text : EpochLine → List ℕ
+servers_text e = codes " servers " ++ numbers_text (map (λ (s : ServerId). s.0) e.servers)
+
+-- ` lost LIST`
+unfoldable pub lost_text : EpochLine → List ℕ
+lost_text e = codes " lost " ++ numbers_text (map (λ (g : RegionId). g.0) e.lost)
 
 -- `epoch E servers LIST lost LIST`
 unfoldable pub epoch_text : EpochLine → List ℕ
-epoch_text e =
-    codes "epoch " ++ decimal e.epoch.0
-    ++ codes " servers " ++ numbers_text (map (λ (s : ServerId). s.0) e.servers)
-    ++ codes " lost " ++ numbers_text (map (λ (g : RegionId). g.0) e.lost)
-    ++ codes "\n"
+epoch_text e = codes "epoch " ++ decimal e.epoch.0 ++ servers_text e ++ lost_text e ++ codes "\n"
 
 -- a line of the trace
 unfoldable pub raw_text : List ℕ → List ℕ

@@ -1,5 +1,5 @@
--- Where a text that no report has is refused.
-use Rattle.std.specs.Prelude.{◌≡◌, ◌≢◌, ℕ, ◌+◌, ◌-◌, ◌≤◌, List, ◌++◌, length, take, ◌⊎◌}
+-- Where a text is refused, and what stands before that line.
+use Rattle.std.specs.Prelude.{◌≡◌, ℕ, ◌+◌, ◌-◌, ◌≤◌, List, ◌++◌, length, take}
 use Rattle.hx_script.specs.Texts.{lines_of}
 use Rattle.hx_report_lines.specs.Printed.{text_of}
 use Rattle.hx_report_lines.specs.Values.{IsReportValue, ReportValue}
@@ -12,9 +12,7 @@ report_lines r = lines_of (text_of r)
 abbrev pub Begins : List (List ℕ) → Type 0
 Begins lines = (r : ReportValue) × IsReportValue r × ((rest : List (List ℕ)) × (report_lines r ≡ lines ++ rest))
 
--- no report has the text, and the line, from 1, is the first with which none begins, or the one after the last where only more lines are wanting
-pub record IsUnreadAt (text : List ℕ) (line : ℕ) : Type 0 where
+-- the line, from 1, is one of the text or the one after its last, and some report begins with the lines before it
+pub record IsBegunAt (text : List ℕ) (line : ℕ) : Type 0 where
   pub within : (1 ≤ line) × (line ≤ length (lines_of text) + 1)
-  pub no_report : (r : ReportValue) → IsReportValue r → text_of r ≢ text
   pub before : Begins (take (line - 1) (lines_of text))
-  pub here : line ≤ length (lines_of text) → ¬ Begins (take line (lines_of text))

@@ -1,13 +1,11 @@
 -- Which values a report has: those that a text of lines can tell.
-use Rattle.std.specs.Prelude.{◌≡◌, ◌≢◌, ℕ, ◌<◌, ◌≤◌, ◌^◌, Bool, true, false, not, ◌&&◌, ◌||◌, ◌⊎◌, List, [], ◌∷◌, ◌++◌, map, length, codes, nat_lt, ◌==◌, is_some, Option, None, Some, ⊤}
+use Rattle.std.specs.Prelude.{◌≡◌, ◌≢◌, ℕ, ◌<◌, ◌^◌, Bool, true, false, not, ◌&&◌, ◌||◌, ◌⊎◌, List, [], ◌∷◌, ◌++◌, map, length, codes, nat_lt, ◌==◌, is_some, Option, None, Some, ⊤}
 use Rattle.std.specs.List.{All}
 use Rattle.std.specs.Str.{IsUtf8}
 use Rattle.hx_types.specs.declared.calls.Answer.{Answer}
 use Rattle.hx_types.specs.declared.calls.Answer.TheVariants as an_answer
 use Rattle.hx_types.specs.declared.calls.Caller.{Caller}
 use Rattle.hx_types.specs.declared.calls.Row.{Row}
-use Rattle.hx_types.specs.declared.ids.Epoch.{Epoch}
-use Rattle.hx_types.specs.declared.ids.RegionId.{RegionId}
 use Rattle.hx_types.specs.declared.ids.ServerId.{ServerId}
 use Rattle.hx_types.specs.declared.ids.Version.{Version}
 use Rattle.hx_types.specs.declared.spaces.Attribute.{Attribute}
@@ -111,13 +109,13 @@ abbrev pub MaybeIs64 : Option ℕ → Type 0
 MaybeIs64 None = ⊤
 MaybeIs64 (Some n) = Is64 n
 
+abbrev pub VersionBy : Bool → Version → Type 0
+VersionBy true version = Is64 version.0
+VersionBy false version = version.0 ≡ 0
+
 -- the version of an answer that names none is 0
 abbrev pub VersionFits : Option Answer → Version → Type 0
-VersionFits answer version = if_named (when_some answer false names_version)
-  where
-    if_named : Bool → Type 0
-    if_named true = Is64 version.0
-    if_named false = version.0 ≡ 0
+VersionFits answer version = VersionBy (when_some answer false names_version) version
 
 pub record IsCallOf (space : Space) (c : CallLine) : Type 0 where
   pub caller : IsCaller c.caller

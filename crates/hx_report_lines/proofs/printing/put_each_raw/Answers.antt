@@ -1,0 +1,9 @@
+use Rattle.std.proofs.Common.{◌∙◌}
+use Rattle.hx_report.proofs.Appending.{one_more}
+use Rattle.hx_report_lines.specs.Printed.{raw_text}
+use Rattle.hx_report_lines.proofs.printing.put_each_raw.Goals as goal
+
+pub loop-line-preserved : goal.loop-line-preserved
+loop-line-preserved c =
+    c.in_ok-put_raw.ensures
+    ∙ one_more raw_text c.loop-line.out.items c.args.out.now.items c.args.lines.now c.loop-line.line-index c.line-item.result c.loop-line.invariant c.loop-line-test.true c.line-item.is
