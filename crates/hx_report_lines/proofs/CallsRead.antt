@@ -194,7 +194,14 @@ head_valid space line h is e =
     let op = op_part_valid space s.0.1 q.0 is q.1 in
     let answered = answer_valid space q.0.1 a.0 is a.1 in
     let call : IsCallOf space (call_with s.0.0 q.0.0 a.0).call = record {
-      caller = spanned.caller; begin = spanned.begin; end = spanned.end; ended = t.0; op = op.0; said = op.1; version = answered.version; answer = answered.answer;
+      caller = spanned.caller;
+      begin = spanned.begin;
+      end = spanned.end;
+      ended = t.0;
+      op = op.0;
+      said = op.1;
+      version = answered.version;
+      answer = answered.answer;
     } in
     (subst (IsHead space) p.0 (subst (IsHead space) t.1 (record { call = call; rows = answered.rows; bare = answered.bare })), p.1)
 

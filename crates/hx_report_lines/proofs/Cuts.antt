@@ -47,7 +47,8 @@ cuts whole n line d (l ∷ ls) one is h = by (after_line d l) refl h (λ m good.
           place = suc c.place;
           at = omega (arith, c.at);
           within = omega (arith, c.within);
-          draft = c.draft; good = c.good;
+          draft = c.draft;
+          good = c.good;
           text = c.text ∙ (ap (λ t. t ++ flat_map with_newline (take c.place ls)) (line_adds d m l is q) ∙ append_assoc (draft_text d) (with_newline l) (flat_map with_newline (take c.place ls)));
         }
 

@@ -50,45 +50,77 @@ call_more b c is of follows = record {
   space = is.space;
   calls = All-push (IsCallOf b.space) b.calls c is.calls of;
   calls_ascend = ascends_more caller_below (λ (x : CallLine). x.caller) b.calls c is.calls_ascend follows;
-  histories = is.histories; histories_ascend = is.histories_ascend; epochs = is.epochs; epochs_ascend = is.epochs_ascend; raw = is.raw; drivers = is.drivers;
+  histories = is.histories;
+  histories_ascend = is.histories_ascend;
+  epochs = is.epochs;
+  epochs_ascend = is.epochs_ascend;
+  raw = is.raw;
+  drivers = is.drivers;
 }
 
 pub history_more : (b : Block) (h : HistoryLines) → IsBlock b → IsHistoryOf b.space h → is_after text_below (option_map (λ (x : HistoryLines). x.key) (last_of b.histories)) h.key ≡ true → IsBlock (record b { histories = b.histories ++ h ∷ [] })
 history_more b h is of follows = record {
-  space = is.space; calls = is.calls; calls_ascend = is.calls_ascend;
+  space = is.space;
+  calls = is.calls;
+  calls_ascend = is.calls_ascend;
   histories = All-push (IsHistoryOf b.space) b.histories h is.histories of;
   histories_ascend = ascends_more text_below (λ (x : HistoryLines). x.key) b.histories h is.histories_ascend follows;
-  epochs = is.epochs; epochs_ascend = is.epochs_ascend; raw = is.raw; drivers = is.drivers;
+  epochs = is.epochs;
+  epochs_ascend = is.epochs_ascend;
+  raw = is.raw;
+  drivers = is.drivers;
 }
 
 epoch_more : (b : Block) (e : EpochLine) → IsBlock b → IsEpochOf b.space e → is_after nat_lt (option_map (λ (x : EpochLine). x.epoch.0) (last_of b.epochs)) e.epoch.0 ≡ true → IsBlock (record b { epochs = b.epochs ++ e ∷ [] })
 epoch_more b e is of follows = record {
-  space = is.space; calls = is.calls; calls_ascend = is.calls_ascend; histories = is.histories; histories_ascend = is.histories_ascend;
+  space = is.space;
+  calls = is.calls;
+  calls_ascend = is.calls_ascend;
+  histories = is.histories;
+  histories_ascend = is.histories_ascend;
   epochs = All-push (IsEpochOf b.space) b.epochs e is.epochs of;
   epochs_ascend = ascends_more nat_lt (λ (x : EpochLine). x.epoch.0) b.epochs e is.epochs_ascend follows;
-  raw = is.raw; drivers = is.drivers;
+  raw = is.raw;
+  drivers = is.drivers;
 }
 
 raw_more : (b : Block) (line : List ℕ) → IsBlock b → IsRawLine line → IsBlock (record b { raw = b.raw ++ line ∷ [] })
 raw_more b line is of = record {
-  space = is.space; calls = is.calls; calls_ascend = is.calls_ascend; histories = is.histories; histories_ascend = is.histories_ascend; epochs = is.epochs; epochs_ascend = is.epochs_ascend;
+  space = is.space;
+  calls = is.calls;
+  calls_ascend = is.calls_ascend;
+  histories = is.histories;
+  histories_ascend = is.histories_ascend;
+  epochs = is.epochs;
+  epochs_ascend = is.epochs_ascend;
   raw = All-push IsRawLine b.raw line is.raw of;
   drivers = is.drivers;
 }
 
 driver_more : (b : Block) (d : DriverLine) → IsBlock b → IsDriverLine d → IsBlock (record b { drivers = b.drivers ++ d ∷ [] })
 driver_more b d is of = record {
-  space = is.space; calls = is.calls; calls_ascend = is.calls_ascend; histories = is.histories; histories_ascend = is.histories_ascend; epochs = is.epochs; epochs_ascend = is.epochs_ascend; raw = is.raw;
+  space = is.space;
+  calls = is.calls;
+  calls_ascend = is.calls_ascend;
+  histories = is.histories;
+  histories_ascend = is.histories_ascend;
+  epochs = is.epochs;
+  epochs_ascend = is.epochs_ascend;
+  raw = is.raw;
   drivers = All-push IsDriverLine b.drivers d is.drivers of;
 }
 
 pub block_begun : (space : Space) → IsSpaceValue space → IsBlock (block_of space)
 block_begun space is = record {
   space = is;
-  calls = All-nil (IsCallOf space); calls_ascend = tt;
-  histories = All-nil (IsHistoryOf space); histories_ascend = tt;
-  epochs = All-nil (IsEpochOf space); epochs_ascend = tt;
-  raw = All-nil IsRawLine; drivers = All-nil IsDriverLine;
+  calls = All-nil (IsCallOf space);
+  calls_ascend = tt;
+  histories = All-nil (IsHistoryOf space);
+  histories_ascend = tt;
+  epochs = All-nil (IsEpochOf space);
+  epochs_ascend = tt;
+  raw = All-nil IsRawLine;
+  drivers = All-nil IsDriverLine;
 }
 
 -- ---- what is pending
@@ -152,9 +184,12 @@ pub record IsSettled (d : Draft) : Type 0 where
 
 pub rows_called : (space : Space) (c : CallLine) (rows : List Row) → IsCallOf space c → c.answer ≡ Some (an_answer.Rows []) → All (IsRow space) rows → length rows < 2 ^ 64 → IsCallOf space (with_rows c rows)
 rows_called space c rows is same all few = record {
-  caller = is.caller; begin = is.begin; end = is.end;
+  caller = is.caller;
+  begin = is.begin;
+  end = is.end;
   ended = subst (λ (o : Option Answer). is_some c.end ≡ has_end o) same is.ended;
-  op = is.op; said = is.said;
+  op = is.op;
+  said = is.said;
   version = subst (λ (o : Option Answer). VersionFits o c.version) same is.version;
   answer = ((λ k d lt. (all k d lt).of), (few, (λ k d lt. (all k d lt).said)));
 }
@@ -175,7 +210,8 @@ settled_by d e (opens.Rows c rows left) body front is pending h =
         block = call_more d.block (with_rows c rows) is (rows_called d.block.space c rows pending.call pending.answer pending.all few) pending.follows;
         pending = tt;
       };
-      section = body; nothing = refl;
+      section = body;
+      nothing = refl;
     })
 settled_by d e (opens.History key items) body front is pending h = by (is_none items) refl h
   where
@@ -187,7 +223,8 @@ settled_by d e (opens.History key items) body front is pending h = by (is_none i
         block = history_more d.block (record { key = key; items = items }) is (record { key = pending.fits; said = pending.said; some = some_items key items q; items = pending.all }) pending.follows;
         pending = tt;
       };
-      section = body; nothing = refl;
+      section = body;
+      nothing = refl;
     })
 
 pub settles : (d e : Draft) → d.section ≡ sections.Body → HasBody d → settled d ≡ Some e → IsSettled e
@@ -262,10 +299,12 @@ row_good d e line (opens.Rows c rows left) body front is pending h = by (eqb lef
           front = record { version = front.version; blocks = front.blocks };
           block = is;
           pending = record {
-            call = pending.call; answer = pending.answer;
+            call = pending.call;
+            answer = pending.answer;
             all = All-push (IsRow d.block.space) rows b.0 pending.all v.0;
             few = omega (arith, pending.few, length-append rows (b.0 ∷ []), some);
-            follows = pending.follows; before = pending.before;
+            follows = pending.follows;
+            before = pending.before;
           };
         }))
 

@@ -87,15 +87,17 @@ with_block_text d b =
 
 -- a block whose text begins with what was read of it
 closes : (d : Draft) (b : Block) (read more : List ℕ) → HasFront d → IsBlock b → block_text b ≡ read ++ more → BeginsText (front_text d ++ read)
-closes d b read more front is text =
-    (
-    with_block d b, with_block_valid d b front is,
-    (more ++ codes "end\n",
-     with_block_text d b
-     ∙ ap (λ t. (front_text d ++ t) ++ codes "end\n") text
-     ∙ ap (λ t. t ++ codes "end\n") (sym (append_assoc (front_text d) read more))
-     ∙ append_assoc (front_text d ++ read) more (codes "end\n"))
-    )
+closes d b read more front is text = (
+  with_block d b,
+  with_block_valid d b front is,
+  (
+    more ++ codes "end\n",
+    with_block_text d b
+        ∙ ap (λ t. (front_text d ++ t) ++ codes "end\n") text
+        ∙ ap (λ t. t ++ codes "end\n") (sym (append_assoc (front_text d) read more))
+        ∙ append_assoc (front_text d ++ read) more (codes "end\n"),
+  ),
+)
 
 rows_open : (d : Draft) (c : CallLine) (rows : List Row) (left : ℕ) → HasFront d → IsBlock d.block → IsOpenCall d c rows left → BeginsText (front_text d ++ (block_text d.block ++ open_text d.block.space (opens.Rows c rows left)))
 rows_open d c rows left front is o =
@@ -106,14 +108,14 @@ rows_open d c rows left front is o =
     let call = rows_called space c (rows ++ fill) o.call o.answer (All-append (IsRow space) rows fill o.all (All-replicate (IsRow space) left (some_row space) (row_fits space is.space))) (omega (arith, long, o.few)) in
     let head : List ℕ = rows_head space c (length rows + left) in
     closes d (record d.block { calls = d.block.calls ++ all ∷ [] }) (block_text d.block ++ (head ++ flat_map (row_line space) rows)) (flat_map (row_line space) fill) front
-      (call_more d.block all is call o.follows)
-      (call_text_more d all o.before
-      ∙ ap (λ t. block_text d.block ++ t)
-        (with_rows_text space c (rows ++ fill)
-        ∙ ap (λ n. rows_head space c n ++ flat_map (row_line space) (rows ++ fill)) long
-        ∙ ap (λ t. head ++ t) (flat_map-append (row_line space) rows fill)
-        ∙ sym (append_assoc head (flat_map (row_line space) rows) (flat_map (row_line space) fill)))
-      ∙ sym (append_assoc (block_text d.block) (head ++ flat_map (row_line space) rows) (flat_map (row_line space) fill)))
+    (call_more d.block all is call o.follows)
+    (call_text_more d all o.before
+    ∙ ap (λ t. block_text d.block ++ t)
+    (with_rows_text space c (rows ++ fill)
+    ∙ ap (λ n. rows_head space c n ++ flat_map (row_line space) (rows ++ fill)) long
+    ∙ ap (λ t. head ++ t) (flat_map-append (row_line space) rows fill)
+    ∙ sym (append_assoc head (flat_map (row_line space) rows) (flat_map (row_line space) fill)))
+    ∙ sym (append_assoc (block_text d.block) (head ++ flat_map (row_line space) rows) (flat_map (row_line space) fill)))
 
 some_more : (items : List ItemLine) (x : ItemLine) → items ++ x ∷ [] ≢ []
 some_more [] x e = absurd cc
@@ -124,13 +126,13 @@ history_open d key items front is o =
     let space : Space = d.block.space in
     let one : HistoryLines = record { key = key; items = items ++ some_item ∷ [] } in
     closes d (record d.block { histories = d.block.histories ++ one ∷ [] }) (block_text d.block ++ (key_text key ++ flat_map (item_text space) items)) (item_text space some_item) front
-      (history_more d.block one is (record { key = o.fits; said = o.said; some = some_more items some_item; items = All-push (IsItemOf space) items some_item o.all (item_fits space) }) o.follows)
-      (history_text_more d one o.before
-      ∙ ap (λ t. block_text d.block ++ t)
-        (history_is space key (items ++ some_item ∷ [])
-        ∙ ap (λ t. key_text key ++ t) (flat_map-append (item_text space) items (some_item ∷ []) ∙ ap (λ t. flat_map (item_text space) items ++ t) (append-nil (item_text space some_item)))
-        ∙ sym (append_assoc (key_text key) (flat_map (item_text space) items) (item_text space some_item)))
-      ∙ sym (append_assoc (block_text d.block) (key_text key ++ flat_map (item_text space) items) (item_text space some_item)))
+    (history_more d.block one is (record { key = o.fits; said = o.said; some = some_more items some_item; items = All-push (IsItemOf space) items some_item o.all (item_fits space) }) o.follows)
+    (history_text_more d one o.before
+    ∙ ap (λ t. block_text d.block ++ t)
+    (history_is space key (items ++ some_item ∷ [])
+    ∙ ap (λ t. key_text key ++ t) (flat_map-append (item_text space) items (some_item ∷ []) ∙ ap (λ t. flat_map (item_text space) items ++ t) (append-nil (item_text space some_item)))
+    ∙ sym (append_assoc (key_text key) (flat_map (item_text space) items) (item_text space some_item)))
+    ∙ sym (append_assoc (block_text d.block) (key_text key ++ flat_map (item_text space) items) (item_text space some_item)))
 
 body_opens : (d : Draft) (o : Open) → HasFront d → IsBlock d.block → IsOpen d o → BeginsText (front_text d ++ (block_text d.block ++ open_text d.block.space o))
 body_opens d opens.Nothing front is o = closes d d.block (block_text d.block ++ []) [] front is (sym (append-nil (block_text d.block)) ∙ sym (append-nil (block_text d.block ++ [])))

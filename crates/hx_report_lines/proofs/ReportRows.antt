@@ -21,9 +21,13 @@ use Rattle.hx_report_lines.specs.Values.{caller_below, has_end, names_version}
 
 abbrev one : Space
 one = record {
-  name = codes "one"; key_name = codes "k"; key_parts = 1;
+  name = codes "one";
+  key_name = codes "k";
+  key_parts = 1;
   attributes = record { name = codes "v"; kind = a_kind.Text } ∷ [];
-  subspaces = []; servers = 1; tolerate = 0;
+  subspaces = [];
+  servers = 1;
+  tolerate = 0;
 }
 
 abbrev caller : ℕ → ℕ → Caller

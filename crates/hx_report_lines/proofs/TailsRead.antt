@@ -132,7 +132,7 @@ tells_driver =
     tells_then Is64 (tells_field (codes " lose ")) (λ l l64.
     tells_then Is64 (tells_field (codes " twice ")) (λ t t64.
     tells_give {Q = IsDriverLine} (record { driver = d; totals = record { posts = p; deliver = q; lose = l; twice = t } })
-      (record { driver = d32; posts = p64; deliver = q64; lose = l64; twice = t64 })))))))
+    (record { driver = d32; posts = p64; deliver = q64; lose = l64; twice = t64 })))))))
 
 pub driver_valid : (line : List ℕ) (d : DriverLine) → driver_of line ≡ Some d → IsDriverLine d × (driver_text d ≡ line ++ 10 ∷ [])
 unfolding driver_of

@@ -155,9 +155,9 @@ settled_text_by d e (opens.Rows c rows left) is h =
     let all : length rows ≡ length rows + left = omega (arith, eqb-true left 0 w.0) in
     subst (λ (x : Draft). body_text x ≡ front_text d ++ (block_text d.block ++ open_text d.block.space (opens.Rows c rows left))) (some_is (with_call d (with_rows c rows)) e w.1)
     (ap (λ t. front_text d ++ t)
-      (append-nil (block_text (record d.block { calls = d.block.calls ++ with_rows c rows ∷ [] }))
-      ∙ call_text_more d (with_rows c rows) is.before
-      ∙ ap (λ t. block_text d.block ++ t) (with_rows_text d.block.space c rows ∙ ap (λ n. rows_head d.block.space c n ++ flat_map (row_line d.block.space) rows) all)))
+    (append-nil (block_text (record d.block { calls = d.block.calls ++ with_rows c rows ∷ [] }))
+    ∙ call_text_more d (with_rows c rows) is.before
+    ∙ ap (λ t. block_text d.block ++ t) (with_rows_text d.block.space c rows ∙ ap (λ n. rows_head d.block.space c n ++ flat_map (row_line d.block.space) rows) all)))
 settled_text_by d e (opens.History key items) is h = by (is_none items) h
   where
     one : HistoryLines
@@ -168,8 +168,8 @@ settled_text_by d e (opens.History key items) is h = by (is_none items) h
     by false f =
         subst (λ (x : Draft). body_text x ≡ front_text d ++ (block_text d.block ++ open_text d.block.space (opens.History key items))) (some_is (with_history d one) e f)
         (ap (λ t. front_text d ++ t)
-          (append-nil (block_text (record d.block { histories = d.block.histories ++ one ∷ [] }))
-          ∙ history_text_more d one is.before ∙ ap (λ t. block_text d.block ++ t) (history_is d.block.space key items)))
+        (append-nil (block_text (record d.block { histories = d.block.histories ++ one ∷ [] }))
+        ∙ history_text_more d one is.before ∙ ap (λ t. block_text d.block ++ t) (history_is d.block.space key items)))
 
 settled_text : (d e : Draft) → HasBody d → settled d ≡ Some e → body_text e ≡ body_text d
 settled_text d e is h = settled_text_by d e d.pending is.pending h
@@ -222,14 +222,14 @@ call_adds d e line is h =
     plain none x printed same g =
         subst (Adds (body_text d) line) (some_is (with_call d x.call) e g)
         (adds d (with_call d x.call) line (call_text d.block.space x.call) is is.section refl
-          (append-nil (block_text (record d.block { calls = d.block.calls ++ x.call ∷ [] })) ∙ call_text_more d x.call none) (sym same ∙ printed))
+        (append-nil (block_text (record d.block { calls = d.block.calls ++ x.call ∷ [] })) ∙ call_text_more d x.call none) (sym same ∙ printed))
 
     by : no_histories d ≡ true → (x : CallHead) → head_text d.block.space x ≡ with_newline line → (o : Option Answer) → x.call.answer ≡ o → Some (begun d x o) ≡ Some e → Adds (body_text d) line e
     by none x printed None q g = plain none x printed (head_plain d.block.space x None q refl) g
     by none x printed (Some (an_answer.Rows rows)) q g =
         subst (Adds (body_text d) line) (some_is (record d { pending = opens.Rows x.call [] x.rows }) e g)
         (adds d (record d { pending = opens.Rows x.call [] x.rows }) line (rows_head d.block.space x.call x.rows) is is.section refl
-          (ap (λ n. block_text d.block ++ (rows_head d.block.space x.call n ++ [])) (let z : length {A = Row} [] + x.rows ≡ x.rows = omega arith in z) ∙ ap (λ t. block_text d.block ++ t) (append-nil (rows_head d.block.space x.call x.rows))) (sym (head_rows d.block.space x rows q) ∙ printed))
+        (ap (λ n. block_text d.block ++ (rows_head d.block.space x.call n ++ [])) (let z : length {A = Row} [] + x.rows ≡ x.rows = omega arith in z) ∙ ap (λ t. block_text d.block ++ t) (append-nil (rows_head d.block.space x.call x.rows))) (sym (head_rows d.block.space x rows q) ∙ printed))
     by none x printed (Some an_answer.Done) q g = plain none x printed (head_plain d.block.space x (Some an_answer.Done) q refl) g
     by none x printed (Some an_answer.NotFound) q g = plain none x printed (head_plain d.block.space x (Some an_answer.NotFound) q refl) g
     by none x printed (Some an_answer.CmpFail) q g = plain none x printed (head_plain d.block.space x (Some an_answer.CmpFail) q refl) g
@@ -266,7 +266,7 @@ row_adds d e line (opens.Rows c rows left) pending body space h = by (eqb left 0
         let some : 0 < left = not_none left q in
         let all : length (rows ++ b.0 ∷ []) + (left - 1) ≡ length rows + left = omega (arith, length-append rows (b.0 ∷ []), some) in
         let here : open_text d.block.space (opens.Rows c (rows ++ b.0 ∷ []) (left - 1)) ≡ open_text d.block.space (opens.Rows c rows left) ++ row_line d.block.space b.0 =
-            ap (λ n. rows_head d.block.space c n ++ flat_map (row_line d.block.space) (rows ++ b.0 ∷ [])) all ∙ behind (row_line d.block.space) (rows_head d.block.space c (length rows + left)) rows b.0 in
+        ap (λ n. rows_head d.block.space c n ++ flat_map (row_line d.block.space) (rows ++ b.0 ∷ [])) all ∙ behind (row_line d.block.space) (rows_head d.block.space c (length rows + left)) rows b.0 in
         subst (Adds (body_text d) line) (some_is (record d { pending = opens.Rows c (rows ++ b.0 ∷ []) (left - 1) }) e b.2)
         (opened d (opens.Rows c (rows ++ b.0 ∷ []) (left - 1)) line (row_line d.block.space b.0) body (here ∙ ap (λ (o : Open). open_text d.block.space o ++ row_line d.block.space b.0) (sym pending)) v.1)
 
@@ -278,7 +278,7 @@ item_adds d e line (opens.History key items) pending body space h =
     let v = item_valid d.block.space line b.0 space b.1 in
     subst (Adds (body_text d) line) (some_is (record d { pending = opens.History key (items ++ b.0 ∷ []) }) e b.2)
     (opened d (opens.History key (items ++ b.0 ∷ [])) line (item_text d.block.space b.0) body
-      (behind (item_text d.block.space) (key_text key) items b.0 ∙ ap (λ (o : Open). open_text d.block.space o ++ item_text d.block.space b.0) (sym pending)) v.1)
+    (behind (item_text d.block.space) (key_text key) items b.0 ∙ ap (λ (o : Open). open_text d.block.space o ++ item_text d.block.space b.0) (sym pending)) v.1)
 
 key_adds : (d e : Draft) (line : List ℕ) → IsSettled d → key_after line d ≡ Some e → Adds (body_text d) line e
 key_adds d e line is h =
@@ -297,7 +297,7 @@ epoch_adds d e line is h =
     let new : Block = record d.block { epochs = d.block.epochs ++ b.0 ∷ [] } in
     let f = where_so (follows_epoch d b.0.epoch.0) (Some (record d { block = new })) e b.2 in
     let text : block_text new ≡ block_text d.block ++ epoch_text b.0 =
-        epochs_last (record d { block = new }) w.0 ∙ behind epoch_text (upto_histories d.block) d.block.epochs b.0 ∙ ap (λ t. t ++ epoch_text b.0) (sym (epochs_last d w.0)) in
+    epochs_last (record d { block = new }) w.0 ∙ behind epoch_text (upto_histories d.block) d.block.epochs b.0 ∙ ap (λ t. t ++ epoch_text b.0) (sym (epochs_last d w.0)) in
     subst (Adds (body_text d) line) (some_is (record d { block = new }) e f.1)
     (adds d (record d { block = new }) line (epoch_text b.0) is is.section refl (pushed d new (epoch_text b.0) is text) v.1)
 
@@ -312,7 +312,7 @@ raw_adds d e line is h =
     let v = raw_valid line b.0 b.1 in
     let new : Block = record d.block { raw = d.block.raw ++ b.0 ∷ [] } in
     let text : block_text new ≡ block_text d.block ++ raw_text b.0 =
-        raw_last (record d { block = new }) w.0 ∙ behind raw_text (upto_epochs d.block) d.block.raw b.0 ∙ ap (λ t. t ++ raw_text b.0) (sym (raw_last d w.0)) in
+    raw_last (record d { block = new }) w.0 ∙ behind raw_text (upto_epochs d.block) d.block.raw b.0 ∙ ap (λ t. t ++ raw_text b.0) (sym (raw_last d w.0)) in
     subst (Adds (body_text d) line) (some_is (record d { block = new }) e b.2)
     (adds d (record d { block = new }) line (raw_text b.0) is is.section refl (pushed d new (raw_text b.0) is text) (raw_is b.0 ∙ ap with_newline v.1))
 
@@ -322,7 +322,7 @@ driver_adds d e line is h =
     let v = driver_valid line b.0 b.1 in
     let new : Block = record d.block { drivers = d.block.drivers ++ b.0 ∷ [] } in
     let text : block_text new ≡ block_text d.block ++ driver_text b.0 =
-        block_is new ∙ behind driver_text (upto_raw d.block) d.block.drivers b.0 ∙ ap (λ t. t ++ driver_text b.0) (sym (block_is d.block)) in
+    block_is new ∙ behind driver_text (upto_raw d.block) d.block.drivers b.0 ∙ ap (λ t. t ++ driver_text b.0) (sym (block_is d.block)) in
     subst (Adds (body_text d) line) (some_is (record d { block = new }) e b.2)
     (adds d (record d { block = new }) line (driver_text b.0) is is.section refl (pushed d new (driver_text b.0) is text) v.1)
 
@@ -381,7 +381,7 @@ version_adds d e line none empty h =
     let b = bound (version_of line) (λ version. Some (record d { section = sections.Head; version = version })) e h in
     subst (Adds [] line) (some_is (record d { section = sections.Head; version = b.0 }) e b.2)
     (ap (λ (bs : List Block). (first_text b.0 ++ flat_map block_text bs) ++ d.head) none ∙ ap (λ t. (first_text b.0 ++ []) ++ t) empty
-      ∙ append-nil (first_text b.0 ++ []) ∙ append-nil (first_text b.0) ∙ by b.0 (bytes_eq line (codes "report 1")) refl b.1)
+    ∙ append-nil (first_text b.0 ++ []) ∙ append-nil (first_text b.0) ∙ by b.0 (bytes_eq line (codes "report 1")) refl b.1)
   where
     by_two : (n : ℕ) (b : Bool) → bytes_eq line (codes "report 2") ≡ b → cond b (Some 2) None ≡ Some n → first_text n ≡ with_newline line
     by_two n true q f = ap first_text (sym (some_is 2 n f)) ∙ first_two ∙ ap with_newline (sym ((bytes_eq-Decides line (codes "report 2")).0 q))

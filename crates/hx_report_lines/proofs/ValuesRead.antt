@@ -74,11 +74,10 @@ in_turn front (a ∷ left) (s ∷ sets) o l h =
     let here : s.attribute ≡ n = eqb-true s.attribute n (and_left (eqb s.attribute n) (in_order (n + 1) sets) o) in
     let p = (All-head (DeclaredAt (front ++ a ∷ left)) s sets h).1 in
     let q : slice_get (front ++ a ∷ left) (s.attribute - 1) ≡ Some a = at_front front left a s.attribute here in
-    let longer : suc (length (front ++ a ∷ [])) ≡ n + 1 = omega (arith, length-append front (a ∷ [])) in
-    (
-    subst (λ (o : Option Attribute). IsSomeAnd o (λ (x : Attribute). IsOfKind x.kind s.value)) q p,
-    in_turn (front ++ a ∷ []) left sets (subst (λ (m : ℕ). in_order m sets ≡ true) (sym longer) (and_right (eqb s.attribute n) (in_order (n + 1) sets) o)) (omega arith)
-      (subst (λ (ds : List Attribute). All (DeclaredAt ds) sets) (sym (append_assoc front (a ∷ []) left)) (All-tail (DeclaredAt (front ++ a ∷ left)) s sets h))
+    let longer : suc (length (front ++ a ∷ [])) ≡ n + 1 = omega (arith, length-append front (a ∷ [])) in (
+      subst (λ (o : Option Attribute). IsSomeAnd o (λ (x : Attribute). IsOfKind x.kind s.value)) q p,
+      in_turn (front ++ a ∷ []) left sets (subst (λ (m : ℕ). in_order m sets ≡ true) (sym longer) (and_right (eqb s.attribute n) (in_order (n + 1) sets) o)) (omega arith)
+          (subst (λ (ds : List Attribute). All (DeclaredAt ds) sets) (sym (append_assoc front (a ∷ []) left)) (All-tail (DeclaredAt (front ++ a ∷ left)) s sets h)),
     )
 
 sets_valid : (space : Space) (sets : List Assign) (o : List Value) → AssignsFit space sets → ValuesAreSayable sets → values_in space sets ≡ Some o → IsObjectOf space o × ObjectIsSayable o

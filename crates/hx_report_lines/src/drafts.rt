@@ -17,9 +17,7 @@ use crate::kinds::{Kind, kind_of};
 use crate::tails::{driver_of, epoch_of, raw_of, rest_of_head, space_of};
 use crate::values::is;
 use hx_print::put_bytes;
-use hx_types::{
-    Answer, Caller, Epoch, Memory, Row, Sequence, SharedList, Space, Subspaces, Text,
-};
+use hx_types::{Answer, Caller, Epoch, Memory, Row, Sequence, SharedList, Space, Subspaces, Text};
 use std::alloc::Global;
 use std::mem;
 
@@ -41,9 +39,16 @@ pub enum Section {
 pub enum Open {
     Nothing,
     /// A call of which so many rows are wanted after those that were read.
-    Rows { call: CallLine, rows: Sequence<Row>, left: u64 },
+    Rows {
+        call: CallLine,
+        rows: Sequence<Row>,
+        left: u64,
+    },
     /// A history.
-    History { key: Text, items: ItemLines },
+    History {
+        key: Text,
+        items: ItemLines,
+    },
 }
 
 /// What was read.

@@ -44,4 +44,5 @@ pub use printing::print_report;
 pub use reading::read_report;
 pub use reports::Report;
 
-
+#[cfg(test)]
+mod tests;

@@ -15,8 +15,8 @@ use crate::values::is;
 use hx_print::{print_space, put_bytes};
 use hx_script::{ScriptError, read};
 use hx_types::{
-    Epoch, Exact, Memory, RegionId, RegionList, Sequence, ServerId, ServerList, Space, Text, Totals,
-    count_regions,
+    Epoch, Exact, Memory, RegionId, RegionList, Sequence, ServerId, ServerList, Space, Text,
+    Totals, count_regions,
 };
 use std::alloc::Global;
 use std::str;
