@@ -1,5 +1,12 @@
 //! The audit of a report: which clause of the promise on histories and searches it breaks, and at
 //! which line.
+//!
+//! A report tells calls, histories and rows. [`audit`] judges these alone, whoever made the report:
+//! six clauses, one after another over the whole report. An item finds its call, and a row its
+//! history, by halving; a call looks through the history of its key for its item, and a search
+//! through each key's history from the newest item down to the change that it has to show.
+//!
+//! No contract says that there is memory, so an audit that always answered `Memory` would be proved.
 #![tactic(auto)]
 
 mod foreign;

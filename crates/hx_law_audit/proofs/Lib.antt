@@ -5,3 +5,4 @@ mod Consistent
 mod Meant
 mod Kept
 mod Ordering
+mod Modelled

@@ -2,16 +2,20 @@
 use Rattle.std.specs.Prelude.{◌≡◌, ℕ, ◌≤◌, ◌↔◌, List, Some}
 use Rattle.std.specs.Option.{option_map}
 use Rattle.hx_types.specs.declared.histories.Item.{Item}
+use Rattle.hx_types.specs.declared.traces.Entry.{Entry}
+use Rattle.hx_types.specs.declared.traces.Script.{Script}
+use Rattle.hx_types.specs.Fitting.{call_of}
 use Rattle.hx_types.specs.Words.{IsIn}
-use Rattle.hx_model.specs.Histories.{CallEnd}
-use Rattle.hx_model.specs.Searching.{FinishedSearch}
+use Rattle.hx_model.specs.Histories.{CallEnd, begin_of, end_of, history_of}
+use Rattle.hx_model.specs.Linear.{IsLinear}
+use Rattle.hx_model.specs.Searching.{FinishedSearch, IsSearchTrue, IsSearchWhole}
 use Rattle.hx_law_order.specs.Order.{IsOneOrder, Keyed, Times}
 use Rattle.hx_report_lines.specs.declared.blocks.Block.{Block}
 use Rattle.hx_report_lines.specs.declared.calls.CallLine.{CallLine}
 use Rattle.hx_report_lines.specs.Values.{IsReportValue, ReportValue}
 use Rattle.hx_audit.specs.declared.verdicts.Verdict.{Verdict}
 use Rattle.hx_audit.specs.declared.verdicts.Verdict.TheVariants as verdicts
-use Rattle.hx_audit.specs.Accounts.{IsLinearBy, IsSearchTrueBy, IsSearchWholeBy}
+use Rattle.hx_audit.specs.Accounts.{Account, IsLinearBy, IsSearchTrueBy, IsSearchWholeBy}
 use Rattle.hx_audit.specs.Told.{account_of, search_told}
 use Rattle.hx_audit.specs.Verdicts.{IsVerdict}
 
@@ -46,3 +50,22 @@ abbrev pub YesMeansOneOrder : Type 0
 YesMeansOneOrder =
     (r : ReportValue) → IsReportValue r → IsVerdict r verdicts.Yes → (b : Block) → IsIn b r.blocks → EndsFollow b
     → (order : List (Keyed Item)) × IsOneOrder (times_told b) (λ key. (account_of b).history_of key) order
+
+-- what a run of a script tells of calls and histories
+abbrev pub run_account : Script → List Entry → Account
+run_account script trace =
+    record {
+      op_of = call_of script;
+      begin_of = λ c. begin_of c trace;
+      end_of = λ c. end_of c trace;
+      history_of = λ key. history_of script key trace;
+    }
+
+-- by what a run tells, linear histories are linear, and the same searches are whole and true
+pub record Agrees (script : Script) (trace : List Entry) : Type 0 where
+  pub linear : (key : List ℕ) → IsLinear script trace key → IsLinearBy (run_account script trace) script.space key
+  pub whole : (key : List ℕ) (s : FinishedSearch) → IsSearchWhole script trace key s ↔ IsSearchWholeBy (run_account script trace) key s
+  pub true_search : (s : FinishedSearch) → IsSearchTrue script trace s ↔ IsSearchTrueBy (run_account script trace) s
+
+abbrev pub AccountsAgree : Type 0
+AccountsAgree = (script : Script) (trace : List Entry) → Agrees script trace

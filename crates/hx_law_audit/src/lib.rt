@@ -1,7 +1,7 @@
 //! What a verdict on a report means.
 #![tactic(auto)]
 
-ghost use Rattle.hx_law_audit.specs.Meaning.{VerdictsAreUnique, YesMeansLinear, YesMeansOneOrder};
+ghost use Rattle.hx_law_audit.specs.Meaning.{AccountsAgree, VerdictsAreUnique, YesMeansLinear, YesMeansOneOrder};
 
 /// A report has one verdict: where no clause is broken it is yes, and else it names the first
 /// clause that is broken anywhere and the lowest line at which it is.
@@ -22,4 +22,11 @@ pub fn yes_means_linear()
 /// whatever their keys, stands before it. So the histories are one history of one store.
 pub fn yes_means_one_order()
     ensures { YesMeansOneOrder }
+{}
+
+/// By what a run of a script tells of calls and histories, the definitions that reports are judged
+/// by say what the store's own promise says: a history that is linear in the run is linear, and the
+/// same searches are whole and true.
+pub fn accounts_agree()
+    ensures { AccountsAgree }
 {}
