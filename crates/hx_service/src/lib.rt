@@ -1,0 +1,18 @@
+//! A store that one program calls.
+#![tactic(auto)]
+
+mod advancing;
+mod booking;
+mod calling;
+mod counting;
+mod errors;
+mod laws;
+mod progress;
+mod receipts;
+mod services;
+mod starting;
+
+pub use errors::ServiceError;
+pub use laws::{free_sessions_are_at_rest, runs_are_booked, runs_show_progress};
+pub use receipts::{Receipt, ReceiptRef};
+pub use services::Service;
