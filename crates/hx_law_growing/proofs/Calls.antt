@@ -3,7 +3,7 @@ use Rattle.std.proofs.Common.{◌≡◌, ◌≢◌, refl, ℕ, zero, suc, ◌+�
 use Rattle.std.proofs.lemmas.Bool.{cases_eq, false≢true, leb-true, ltb-true}
 use Rattle.std.proofs.lemmas.List.{append-nil, length-append}
 use Rattle.std.proofs.lemmas.List.Elements.{All-get_or, All-push, All-set}
-use Rattle.std.proofs.lemmas.List.Sums.{sum_by-set}
+use Rattle.std.proofs.lemmas.List.Sums.{get_or-le-sum_by, sum_by-set}
 use Rattle.std.specs.List.{All}
 use mathlib.Core.List.{IsPrefix}
 use Rattle.hx_types.specs.declared.calls.Op.{Op}
@@ -52,22 +52,22 @@ numbered_from_1 script session is = by (ltb 0 session.0) (leb session.0 (length 
 pub same_session : (u v : SessionId) → u.0 ≡ v.0 → u ≡ v
 same_session u v e = λ i. record { 0 = e i }
 
+-- the calls that a session has stand at its place
+calls-at : (script : Script) (session : SessionId) → 0 < session.0 → session.0 ≤ length script.sessions → calls_of script session ≡ get_or script.sessions (session.0 - 1) []
+calls-at script session low high = by session.0 refl
+  where
+    by : (n : ℕ) → session.0 ≡ n → when_some (numbered script.sessions n) [] (λ (calls : List Op). calls) ≡ get_or script.sessions (session.0 - 1) []
+    by zero e = absurd (omega (arith, low, e))
+    by (suc n) e =
+        let place : n ≡ session.0 - 1 = omega (arith, e) in
+        get-or script.sessions n [] ∙ ap (λ i. get_or script.sessions i []) place
+
 module _ (script : Script) (session : SessionId) (op : Op) (low : 0 < session.0) (high : session.0 ≤ length script.sessions) where
   abbrev calls : List Op
   calls = calls_of script session ++ op ∷ []
 
   abbrev more : Script
   more = with_call_of script session op
-
-  -- the calls that the session has so far stand at its place
-  calls-at : calls_of script session ≡ get_or script.sessions (session.0 - 1) []
-  calls-at = by session.0 refl
-    where
-      by : (n : ℕ) → session.0 ≡ n → when_some (numbered script.sessions n) [] (λ (calls : List Op). calls) ≡ get_or script.sessions (session.0 - 1) []
-      by zero e = absurd (omega (arith, low, e))
-      by (suc n) e =
-          let place : n ≡ session.0 - 1 = omega (arith, e) in
-          get-or script.sessions n [] ∙ ap (λ i. get_or script.sessions i []) place
 
   calls-here : calls_of more session ≡ calls
   calls-here = by session.0 refl
@@ -104,13 +104,13 @@ module _ (script : Script) (session : SessionId) (op : Op) (low : 0 < session.0)
   count =
       let sum = sum_by-set (λ (calls : List Op). length calls) script.sessions (session.0 - 1) calls [] (omega (arith, low, high)) in
       let long : length calls ≡ length (calls_of script session) + 1 = length-append (calls_of script session) (op ∷ []) in
-      let here : length (calls_of script session) ≡ length (get_or script.sessions (session.0 - 1) []) = ap (λ (l : List Op). length l) calls-at in
+      let here : length (calls_of script session) ≡ length (get_or script.sessions (session.0 - 1) []) = ap (λ (l : List Op). length l) (calls-at script session low high) in
       omega (arith, sum, long, here)
 
   stays : IsScript script → Fits script.space op → calls_in script < 16384 → IsScript more
   stays s fits few =
       let so_far : All (Fits script.space) (calls_of script session) =
-      subst (λ (l : List Op). All (Fits script.space) l) (sym calls-at)
+      subst (λ (l : List Op). All (Fits script.space) l) (sym (calls-at script session low high))
       (All-get_or (λ (l : List Op). All (Fits script.space) l) script.sessions (session.0 - 1) [] (omega (arith, low, high)) s.calls) in
       record {
         space = s.space;
@@ -119,6 +119,17 @@ module _ (script : Script) (session : SessionId) (op : Op) (low : 0 < session.0)
         few_calls = let n = count in omega (arith, n, few);
         few_steps = s.few_steps;
       }
+
+-- the calls of one of the script's sessions stand at its place
+pub own_calls : (script : Script) (session : SessionId) → is_actor script (Session session) ≡ true → calls_of script session ≡ get_or script.sessions (session.0 - 1) []
+own_calls script session is = let n = numbered_from_1 script session is in calls-at script session n.0 n.1
+
+-- a session's calls are among all
+pub few_calls_of : (script : Script) (session : SessionId) → is_actor script (Session session) ≡ true → length (calls_of script session) ≤ calls_in script
+few_calls_of script session is =
+    let n = numbered_from_1 script session is in
+    subst (λ (l : List Op). length l ≤ calls_in script) (sym (own_calls script session is))
+    (get_or-le-sum_by (λ (l : List Op). length l) script.sessions (session.0 - 1) [] (omega (arith, n.0, n.1)))
 
 pub calls_grow : CallsGrow
 calls_grow script session op is =

@@ -4,3 +4,6 @@ pub mod Kept
 pub mod Runs
 pub mod Serves
 pub mod Calls
+pub mod Agreeing
+pub mod Replays
+pub mod Rows

@@ -2,6 +2,7 @@
 //! none of a run's entries tells that there was no further call.
 #![tactic(auto)]
 
+ghost use Rattle.hx_law_growing.specs.Alone.{LoneCallersReplay, ReplaysAreOne};
 ghost use Rattle.hx_law_growing.specs.Growing.{CallsGrow, QuietStays, RunsGrow, ScriptsStay, StatesGrow};
 ghost use Rattle.hx_law_growing.specs.Serving.{SchedulesServe};
 
@@ -30,4 +31,11 @@ pub fn calls_grow()
 /// The schedule makes no entries but ticks that begin calls and deliveries of posts that were never delivered.
 pub fn schedules_serve()
     ensures { SchedulesServe }
+{}
+
+/// One caller that makes the calls of a script alone, session after session, and lets the schedule go on after each, comes to the
+/// trace of the script's replay; and a script has one replay.
+pub fn lone_callers_replay()
+    ensures replay { LoneCallersReplay }
+    ensures one { ReplaysAreOne }
 {}
