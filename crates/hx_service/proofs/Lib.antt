@@ -10,3 +10,5 @@ pub mod EndNotes
 pub mod Answered
 pub mod Finding
 pub mod Outcomes
+pub mod Empty
+pub mod Plans

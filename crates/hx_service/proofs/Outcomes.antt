@@ -63,7 +63,7 @@ module _ (old : ServiceState) (u : SessionId) (op : Op) (new : ServiceState) (ac
       )
 
   -- the script has the call, or nothing changed
-  script-after : (result : Result Receipt ServiceError) → Calls old u op new result → (new ≡ old) ⊎ IsSubmitted old u op new
+  pub script-after : (result : Result Receipt ServiceError) → Calls old u op new result → (new ≡ old) ⊎ IsSubmitted old u op new
   script-after (Ok r) h = inr h.0.submitted
   script-after (Err an_error.Memory) h = elim h.left [ inl e ↦ inl e | inr p ↦ inr p.0 ]
   script-after (Err an_error.Full) h = inl h.same

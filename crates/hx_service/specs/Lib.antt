@@ -5,4 +5,5 @@ pub mod Laws
 pub mod Progress
 pub mod Reading
 pub mod Receipts
+pub mod Rosters
 pub mod Services

@@ -7,12 +7,15 @@ mod calling;
 mod counting;
 mod errors;
 mod laws;
+mod planned;
 mod progress;
 mod receipts;
+mod rosters;
 mod services;
 mod starting;
 
 pub use errors::ServiceError;
 pub use laws::{free_sessions_are_at_rest, runs_are_booked, runs_show_progress};
 pub use receipts::{Receipt, ReceiptRef};
+pub use rosters::{Charter, Roster};
 pub use services::Service;
