@@ -1,8 +1,11 @@
 -- A service at its start.
-use Rattle.std.proofs.Common.{◌≡◌, ℕ, zero, suc, ◌+◌, ◌<◌, List, [], ◌∷◌, length, Option, Some, refl, sym, ap, ◌∙◌, subst, arith}
+use Rattle.std.proofs.Common.{◌≡◌, ℕ, zero, suc, ◌+◌, ◌<◌, List, [], ◌∷◌, ◌++◌, length, Option, Some, refl, sym, ap, ◌∙◌, subst, arith}
 use Rattle.std.specs.Prelude.{replicate, reverse, slice_get}
 use Rattle.hx_types.specs.declared.calls.Op.{Op}
 use Rattle.hx_types.specs.declared.traces.Script.{Script}
+use Rattle.hx_types.specs.Fitting.{calls_of, numbered}
+use Rattle.hx_types.specs.Words.{when_some}
+use Rattle.hx_law_growing.specs.Growing.{GrowsTo}
 use Rattle.hx_world.specs.Worlds.{WorldState}
 use Rattle.hx_service.specs.declared.progress.Progress.{Progress}
 use Rattle.hx_service.specs.declared.receipts.Booked.{Booked}
@@ -32,3 +35,20 @@ at-start script w n xs bs e count f g =
       };
       booked_is = g;
     })
+
+-- the empty script grows to the script
+pub empty-grows : (script : Script) → GrowsTo (emptied script) script
+empty-grows script = record {
+  space = refl;
+  sessions = sym (length-copies (length script.sessions) []);
+  calls = λ u. (calls_of script u, ap (λ (l : List Op). l ++ calls_of script u) (none (length script.sessions) u.0));
+}
+  where
+    at : (n i : ℕ) → when_some (slice_get (replicate n []) i) [] (λ (calls : List Op). calls) ≡ []
+    at zero i = refl
+    at (suc n) zero = refl
+    at (suc n) (suc i) = at n i
+
+    none : (n m : ℕ) → when_some (numbered (replicate n []) m) [] (λ (calls : List Op). calls) ≡ []
+    none n zero = refl
+    none n (suc m) = at n m

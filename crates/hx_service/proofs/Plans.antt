@@ -1,8 +1,9 @@
 -- The next call of a plan.
 use Rattle.std.proofs.Common.{◌≡◌, ℕ, zero, suc, ◌+◌, ◌<◌, ◌≤◌, ◌⊎◌, inl, inr, Bool, true, false, List, [], ◌∷◌, ◌++◌, length, Option, Some, None, Ok, Err, refl, sym, ap, ◌∙◌, subst, arith, eqb}
-use Rattle.std.specs.Prelude.{Result, slice_get, sum_by}
+use Rattle.std.specs.Prelude.{Result, nat_le, nat_lt, slice_get, sum_by, ◌&&◌, ◌-◌}
 use Rattle.std.proofs.lemmas.Bool.{eq-eqb, eqb-true, true≢false}
 use Rattle.std.proofs.lemmas.List.{append-nil, append_assoc, length-append}
+use Rattle.std.proofs.lemmas.List.Sums.{sum_by-cons}
 use mathlib.Core.List.{IsPrefix}
 use Rattle.hx_types.specs.declared.calls.Op.{Op}
 use Rattle.hx_types.specs.declared.ids.Actor.TheVariants.{Session}
@@ -16,7 +17,7 @@ use Rattle.hx_types.specs.Words.{IsIn, when_some}
 use Rattle.std.specs.List.{All}
 use Rattle.hx_model.specs.Runs.{is_actor}
 use Rattle.hx_law_growing.specs.Growing.{GrowsTo, calls_in, with_call_of}
-use Rattle.hx_law_growing.proofs.Calls.{calls_grow, numbered_from_1, same_session}
+use Rattle.hx_law_growing.proofs.Calls.{calls_grow, numbered_from_1, own_calls, same_session}
 use Rattle.hx_law_lemmas.proofs.Lists.{all-in, in-slice_get}
 use Rattle.hx_service.specs.declared.errors.ServiceError.{ServiceError}
 use Rattle.hx_service.specs.declared.receipts.Receipt.{Receipt}
@@ -99,14 +100,16 @@ sum-grows (x ∷ xs) [] e f = absurd (omega (arith, e))
 sum-grows (x ∷ xs) (y ∷ ys) e f =
     let a : length x ≤ length y = f 0 in
     let b = sum-grows xs ys (omega (arith, e)) (λ i. f (suc i)) in
-    omega (arith, a, b)
+    let p = sum_by-cons (λ (calls : List Op). length calls) x xs in
+    let q = sum_by-cons (λ (calls : List Op). length calls) y ys in
+    omega (arith, a, b, p, q)
 
 -- a script that grows has no fewer calls
 pub calls-grow-in : (a b : Script) → GrowsTo a b → calls_in a ≤ calls_in b
-calls-grow-in a b g = sum-grows a.sessions b.sessions (sym g.sessions) (λ i. longer (g.calls (record { 0 = suc i })))
+calls-grow-in a b g = sum-grows a.sessions b.sessions (sym g.sessions) (λ i. longer (calls_at a.sessions i) (calls_at b.sessions i) (g.calls (record { 0 = suc i })))
   where
-    longer : {xs ys : List Op} → IsPrefix xs ys → length xs ≤ length ys
-    longer {xs = xs} p = let q = ap length p.1 in let r = length-append xs p.0 in omega (arith, q, r)
+    longer : (xs ys : List Op) → IsPrefix xs ys → length xs ≤ length ys
+    longer xs ys p = let q = ap length p.1 in let r = length-append xs p.0 in omega (arith, q, r)
 
 -- so a plan's next call finds room
 pub few-planned : (script plan : Script) → Follows plan script → (u : SessionId) (op : Op) → is_actor script (Session u) ≡ true
@@ -123,18 +126,28 @@ pub actor-of : (script plan : Script) → GrowsTo script plan → (u : SessionId
 actor-of script plan g u e = subst (λ (n : ℕ). nat_lt 0 u.0 && nat_le u.0 n ≡ true) g.sessions e
 
 -- the plan's calls fit
-pub planned-fits : (script plan : Script) → Follows plan script → (u : SessionId) (op : Op) → call_of plan (next_caller script u) ≡ Some op → Fits script.space op
-planned-fits script plan f u op planned =
+pub planned-fits : (script plan : Script) → Follows plan script → (u : SessionId) (op : Op) → is_actor plan (Session u) ≡ true
+    → call_of plan (next_caller script u) ≡ Some op → Fits script.space op
+planned-fits script plan f u op actor planned =
     subst (λ (s : Space). Fits s op) f.grows.space
-    (all-in (Fits plan.space) (calls_of plan u) op (own u.0 refl) (in-numbered (calls_of plan u) (length (calls_of script u) + 1) planned))
+    (all-in (Fits plan.space) (calls_of plan u) op own (in-numbered (calls_of plan u) (length (calls_of script u) + 1) planned))
   where
     in-numbered : (xs : List Op) (n : ℕ) → numbered xs n ≡ Some op → IsIn op xs
     in-numbered xs zero e = absurd (cc)
     in-numbered xs (suc n) e = in-slice_get xs n op e
 
-    own : (n : ℕ) → u.0 ≡ n → All (Fits plan.space) (when_some (numbered plan.sessions n) [] (λ (calls : List Op). calls))
-    own zero e = ?
-    own (suc n) e = ?
+    own : All (Fits plan.space) (calls_of plan u)
+    own =
+        let n = numbered_from_1 plan u actor in
+        let low = n.0 in
+        let high : u.0 ≤ length plan.sessions = n.1 in
+        subst (All (Fits plan.space)) (sym (own_calls plan u actor)) (f.valid.calls (u.0 - 1) [] (omega (arith, low, high)))
+
+-- the call that a plan gives at the number behind those of the script
+pub planned-is : (script seen plan : Script) (calls : List Op) (u : SessionId) (o : Option Op) → calls ≡ calls_of seen u → seen ≡ script
+    → o ≡ call_of plan (record { session = u; number = length calls + 1 }) → call_of plan (next_caller script u) ≡ o
+planned-is script seen plan calls u o e f g =
+    ap (λ (l : List Op). call_of plan (record { session = u; number = length l + 1 })) (sym (e ∙ ap (λ (s : Script). calls_of s u) f)) ∙ sym g
 
 -- the plan is followed still
 pub follows-on : (old new : ServiceState) (plan : Script) → Follows plan old.script → (u : SessionId) (op : Op) → is_actor old.script (Session u) ≡ true

@@ -16,6 +16,6 @@ mod starting;
 
 pub use errors::ServiceError;
 pub use laws::{free_sessions_are_at_rest, runs_are_booked, runs_show_progress};
-pub use receipts::{Receipt, ReceiptRef};
+pub use receipts::{Receipt, ReceiptRef, Receipts};
 pub use rosters::{Charter, Roster};
 pub use services::Service;

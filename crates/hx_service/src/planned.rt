@@ -1,4 +1,4 @@
-ghost use Rattle.std.specs.Prelude.{◌≡◌, true};
+ghost use Rattle.std.specs.Prelude.{◌≡◌, IsErrOf, true};
 ghost use Rattle.hx_types.specs.declared.ids.Actor.TheVariants as an_actor;
 ghost use Rattle.hx_model.specs.Runs.{is_actor};
 ghost use Rattle.hx_service.specs.Rosters.{Follows, Nexts};
@@ -21,6 +21,7 @@ pub fn make_next(
     requires session { is_actor plan.now (an_actor.Session session) ≡ true }
     ensures follows { Follows plan.now service.new.script }
     ensures nexts { Nexts plan.now service.old session service.new result }
+    ensures not_full { ¬ IsErrOf result ServiceError.Full }
     ensures grows { Grows service.old service.new }
 {
     if !service.free(session) {

@@ -1,4 +1,4 @@
-ghost use Rattle.std.specs.Prelude.{◌≡◌, ℕ, IfOk, reverse, Some};
+ghost use Rattle.std.specs.Prelude.{◌≡◌, ℕ, [], IfOk, length, reverse, slice_get, Some, true};
 ghost use Rattle.std.specs.Option.{option_map};
 ghost use Rattle.hx_model.specs.Histories.{ends_in, note_of_end};
 ghost use Rattle.hx_service.specs.Reading.{IsNoted, end_seen, receipt_seen};
@@ -6,6 +6,7 @@ ghost use Rattle.hx_service.specs.Reading.{IsNoted, end_seen, receipt_seen};
 use hx_trace::Trace;
 use hx_types::{Answer, Caller, Exact, Memory, Note, Version};
 use std::alloc::Global;
+use std::marker::Model;
 
 /// That a call has ended: which entry of the trace began it, which one noted its end, and how. The version is that of
 /// the update or of the object that the answer tells of, or 0.
@@ -104,5 +105,52 @@ pub fn receipt_in<'a>(trace: &'a Trace, booked: &Booked) -> ReceiptRef<'a>
         end: booked.end,
         version,
         answer,
+    }
+}
+
+/// The receipts of a trace, in the order in which the calls ended. Contracts see the list of them.
+#[derive(Drop)]
+pub struct Receipts<'a> {
+    pub(crate) booked: &'a [Booked],
+    pub(crate) trace: &'a Trace,
+}
+
+impl<'a> Model for Receipts<'a> {
+    ghost use Rattle.std.specs.Prelude.{List, reverse};
+    ghost use Rattle.hx_service.specs.declared.receipts.Receipt.{Receipt};
+    ghost use Rattle.hx_service.specs.Reading.{AreReceipts};
+    ghost use Rattle.hx_service.specs.Receipts.{receipts_of};
+
+    ghost Value = { List Receipt };
+
+    ghost view = { λ r. receipts_of (reverse r.trace.now) };
+
+    ghost invariant = { λ r. AreReceipts (reverse r.trace.now) r.booked.now };
+}
+
+impl<'a> Receipts<'a> {
+    /// How many calls have ended.
+    pub fn len(&self) -> usize
+        ensures { result ≡ length self.now }
+    {
+        self.booked.len()
+    }
+
+    /// Whether no call has ended.
+    pub fn is_empty(&self) -> bool
+        ensures { result ≡ true → self.now ≡ [] }
+    {
+        self.booked.is_empty()
+    }
+
+    /// The receipt at a place from 0, or `None` past the end.
+    pub fn get(&self, place: usize) -> Option<ReceiptRef<'a>>
+        ensures { option_map receipt_seen result ≡ slice_get self.now place }
+    {
+        let trace = self.trace;
+        match self.booked.get(place) {
+            Some(booked) => Some(receipt_in(trace, booked)),
+            None => None,
+        }
     }
 }

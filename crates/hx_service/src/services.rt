@@ -1,4 +1,4 @@
-ghost use Rattle.std.specs.Prelude.{◌≡◌, ◌↔◌, ℕ, [], IfErr, IfOk, IsTrue, OnOk, Err, length, reverse, true};
+ghost use Rattle.std.specs.Prelude.{◌≡◌, ◌↔◌, ℕ, [], IfErr, IfOk, IsTrue, OnOk, Err, false, length, reverse, true};
 ghost use Rattle.hx_types.specs.declared.ids.Actor.TheVariants as an_actor;
 ghost use Rattle.hx_types.specs.declared.limits.TheConstants.{MOST_CALLS};
 ghost use Rattle.hx_types.specs.Fitting.{IsScript};
@@ -9,15 +9,19 @@ ghost use Rattle.hx_law_growing.specs.Growing.{calls_in};
 ghost use Rattle.hx_law_growing.specs.Serving.{IsServed};
 ghost use Rattle.hx_world.specs.Worlds.{HasFewEntries};
 ghost use Rattle.hx_service.specs.Lawful.{IsLawful};
-ghost use Rattle.hx_service.specs.Receipts.{IsFree};
+ghost use Rattle.hx_report.specs.Reporting.{IsReport};
+ghost use Rattle.hx_service.specs.Laws.{IsBooked};
+ghost use Rattle.hx_service.specs.Receipts.{IsFree, receipts_of};
 ghost use Rattle.hx_service.specs.Services.{Calls, Grows, IsDrained, IsUnanswered, Stops, emptied, newest};
 
 use crate::advancing::settle;
 use crate::calling::make_call;
 use crate::errors::ServiceError;
 use crate::progress::{Progress, is_free};
-use crate::receipts::{Booked, Receipt};
+use crate::laws::runs_are_booked;
+use crate::receipts::{Booked, Receipt, Receipts};
 use crate::starting::{empty_script, start_progress};
+use hx_report::report;
 use hx_trace::Trace;
 use hx_types::{Memory, Op, Script, SessionId};
 use hx_world::{DrainError, World};
@@ -105,6 +109,43 @@ impl Service {
         hx_law_epochs::lost_regions_have_lost_their_replicas();
         let _ = &self.booked;
         self.world.trace()
+    }
+
+    /// The receipts of the calls that have ended, in the order in which they did: of each exactly one.
+    pub fn receipts(&self) -> Receipts<'_>
+        ensures exact { result ≡ receipts_of (newest self.now) }
+        ensures booked { IsBooked self.now.script (newest self.now) }
+    {
+        runs_are_booked();
+        Receipts {
+            booked: self.booked.as_slice(),
+            trace: self.world.trace(),
+        }
+    }
+
+    /// The report of what was done so far: its space, its calls, histories and configurations.
+    ///
+    /// # Errors
+    ///
+    /// [`Memory`] alone.
+    pub fn report(&self, alloc: Global) -> Result<Vec<u8>, Memory>
+        ensures { IfOk result (λ bytes. IsReport self.now.script (newest self.now) [] bytes.items false) }
+    {
+        let trace = self.trace();
+        report(alloc, self.script(), trace, &[], false)
+    }
+
+    /// The trace by itself.
+    pub fn into_trace(self) -> Trace
+        ensures trace { result ≡ self.trace }
+        ensures run { IsRun self.script (reverse result) }
+    {
+        let Service {
+            world,
+            progress: _,
+            booked: _,
+        } = self;
+        world.into_trace()
     }
 
     /// Whether each call that was submitted to the session has ended.
