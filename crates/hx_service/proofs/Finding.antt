@@ -1,6 +1,6 @@
 -- The receipt that is found for a call.
 use Rattle.std.proofs.Common.{◌≡◌, ℕ, zero, suc, ◌-◌, ◌<◌, Bool, true, false, ◌&&◌, List, [], ◌∷◌, length, map, cond, Option, Some, None, refl, sym, ap, ◌∙◌, subst, arith, eqb, inl, inr, ◌⊎◌}
-use Rattle.std.specs.Prelude.{drop, reverse, take}
+use Rattle.std.specs.Prelude.{drop, reverse, slice_get, take, ◌≤◌}
 use Rattle.std.proofs.Math.Seq.{take-length}
 use Rattle.std.specs.List.{find}
 use Rattle.std.proofs.lemmas.Bool.{and_from, and_parts, cond_both, eq-eqb, eqb-true, true≢false}
@@ -10,13 +10,15 @@ use Rattle.hx_types.specs.declared.ids.Version.{Version}
 use Rattle.hx_types.specs.declared.traces.Entry.{Entry}
 use Rattle.hx_types.specs.declared.traces.Script.{Script}
 use Rattle.hx_types.specs.Words.{IsIn}
-use Rattle.hx_law_lemmas.proofs.Lists.{in-find, in-map, map-in}
+use Rattle.hx_law_lemmas.proofs.Lists.{in-find, in-map, in-slice_get, map-in}
 use Rattle.hx_model.specs.Histories.{CallEnd, note_of_end}
 use Rattle.hx_model.specs.Runs.{IsRun}
 use Rattle.hx_service.specs.declared.receipts.Booked.{Booked}
 use Rattle.hx_service.specs.declared.receipts.Receipt.{Receipt}
 use Rattle.hx_service.specs.Booking.{booked_as, is_of}
-use Rattle.hx_service.specs.Reading.{IsNoted}
+use Rattle.std.specs.Option.{option_map}
+use Rattle.hx_service.specs.Reading.{AreReceipts, IsNoted}
+use Rattle.hx_service.proofs.Answered.{mapped}
 use Rattle.hx_service.specs.Receipts.{receipts_of}
 use Rattle.hx_service.proofs.Booked.{runs_are_booked}
 
@@ -116,3 +118,61 @@ module _ (script : Script) (trace : List Entry) (run : IsRun script trace) (book
       let r : f.receipt ≡ record { caller = caller; begin = begin; end = end; version = v; answer = a }
       = λ i. record { caller = sym cs i; begin = sym bs i; end = sym es i; version = sym vs i; answer = sym answers i } in
       (subst (λ (x : Receipt). IsIn x (drop n (receipts_of trace))) r f.among, e ∙ f.caller)
+
+-- an item of a map
+map-at : {A B : Type 0} (f : A → B) (xs : List A) (i : ℕ) → slice_get (map f xs) i ≡ option_map f (slice_get xs i)
+map-at f [] i = refl
+map-at f (x ∷ xs) zero = refl
+map-at f (x ∷ xs) (suc i) = map-at f xs i
+
+past : {A : Type 0} (xs : List A) (i : ℕ) → length xs ≤ i → slice_get xs i ≡ None
+past [] i le = refl
+past (x ∷ xs) zero le = absurd (omega (arith, le))
+past (x ∷ xs) (suc i) le = past xs i (omega (arith, le))
+
+-- the receipt that is booked at a place
+pub record Placed (trace : List Entry) (place : ℕ) (b : Booked) : Type 0 where
+  pub receipt : Receipt
+  pub stands : slice_get (receipts_of trace) place ≡ Some receipt
+  pub booked_so : b ≡ booked_as receipt
+  pub ended : note_of_end receipt.caller trace ≡ Some (record { entry = receipt.end; version = receipt.version; answer = receipt.answer })
+
+pub placed : (trace : List Entry) (booked : List Booked) → AreReceipts trace booked → (place : ℕ) (b : Booked) → slice_get booked place ≡ Some b → Placed trace place b
+placed trace booked a place b e = by (slice_get (receipts_of trace) place) refl
+  where
+    brought : option_map booked_as (slice_get (receipts_of trace) place) ≡ Some b
+    brought = sym (map-at booked_as (receipts_of trace) place) ∙ ap (λ (l : List Booked). slice_get l place) (sym a.booked_is) ∙ e
+
+    by : (o : Option Receipt) → slice_get (receipts_of trace) place ≡ o → Placed trace place b
+    by None f = absurd (let q : None ≡ Some b = sym (ap (option_map booked_as) f) ∙ brought in cc)
+    by (Some r) f =
+        let q : Some (booked_as r) ≡ Some b = sym (ap (option_map booked_as) f) ∙ brought in
+        let same : booked_as r ≡ b = cc in
+        record { receipt = r; stands = f; booked_so = sym same; ended = (a.each r (in-slice_get (receipts_of trace) place r f)).ended }
+
+pub noted-at : (trace : List Entry) (place : ℕ) (b : Booked) → Placed trace place b → IsNoted trace b
+noted-at trace place b p = subst (IsNoted trace) (sym p.booked_so) (record { version = p.receipt.version; answer = p.receipt.answer; ended = p.ended })
+
+-- what is read so is that receipt
+pub read-at : (trace : List Entry) (place : ℕ) (b : Booked) → Placed trace place b → (caller : Caller) (begin end : ℕ) (v : Version) (a : Answer)
+    → caller ≡ b.caller → begin ≡ b.begin → end ≡ b.end → note_of_end b.caller trace ≡ Some (record { entry = b.end; version = v; answer = a })
+    → Some (record { caller = caller; begin = begin; end = end; version = v; answer = a }) ≡ slice_get (receipts_of trace) place
+read-at trace place b p caller begin end v a e g h noted =
+    let r = p.receipt in
+    let same : Some (record { entry = b.end; version = v; answer = a }) ≡ Some (record { entry = r.end; version = r.version; answer = r.answer })
+    = sym noted ∙ ap (λ (d : Booked). note_of_end d.caller trace) p.booked_so ∙ p.ended in
+    let q : (record { entry = b.end; version = v; answer = a }) ≡ record { entry = r.end; version = r.version; answer = r.answer } = cc in
+    let vs : v ≡ r.version = ap (λ (d : CallEnd). d.version) q in
+    let answers : a ≡ r.answer = ap (λ (d : CallEnd). d.answer) q in
+    let cs : caller ≡ r.caller = e ∙ ap (λ (d : Booked). d.caller) p.booked_so in
+    let bs : begin ≡ r.begin = g ∙ ap (λ (d : Booked). d.begin) p.booked_so in
+    let es : end ≡ r.end = h ∙ ap (λ (d : Booked). d.end) p.booked_so in
+    let t : record { caller = caller; begin = begin; end = end; version = v; answer = a } ≡ r
+    = λ i. record { caller = cs i; begin = bs i; end = es i; version = vs i; answer = answers i } in
+    ap (λ (x : Receipt). Some x) t ∙ sym p.stands
+
+-- past the end there is none
+pub none-at : (trace : List Entry) (booked : List Booked) → AreReceipts trace booked → (place : ℕ) → length booked ≤ place → None ≡ slice_get (receipts_of trace) place
+none-at trace booked a place le =
+    let q : length booked ≡ length (receipts_of trace) = ap length a.booked_is ∙ mapped booked_as (receipts_of trace) in
+    sym (past (receipts_of trace) place (omega (arith, q, le)))

@@ -7,3 +7,4 @@ pub mod Reading
 pub mod Receipts
 pub mod Rosters
 pub mod Services
+pub mod Trying

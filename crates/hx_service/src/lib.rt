@@ -13,9 +13,11 @@ mod receipts;
 mod rosters;
 mod services;
 mod starting;
+mod trying;
 
 pub use errors::ServiceError;
 pub use laws::{free_sessions_are_at_rest, runs_are_booked, runs_show_progress};
 pub use receipts::{Receipt, ReceiptRef, Receipts};
 pub use rosters::{Charter, Roster};
 pub use services::Service;
+pub use trying::CallError;

@@ -6,6 +6,7 @@ use Rattle.hx_types.specs.Fitting.{calls_of}
 use Rattle.hx_types.specs.Spaces.{Fits}
 use Rattle.hx_law_growing.specs.Growing.{calls_in}
 use Rattle.hx_law_growing.proofs.Calls.{few_calls_of}
+use Rattle.hx_service.specs.declared.errors.ServiceError.TheVariants as an_error
 use Rattle.hx_service.proofs.Plans.{actor-of, few-planned, follows-on, none-left, planned-fits, planned-is}
 use Rattle.hx_service.proofs.planned.make_next.Goals as goal
 
@@ -53,5 +54,6 @@ pub returns-in-Err-clause-not_full : goal.returns-in-Err-clause-not_full
 returns-in-Err-clause-not_full c e =
     let few : calls_in c.args.service.now.script < MOST_CALLS = few-planned c.args.service.now.script c.args.plan.now c.requires.follows c.args.session c.in-Some.op.now
     (actor-of c.args.service.now.script c.args.plan.now c.requires.follows.grows c.args.session c.requires.session) (planned-is c.args.service.now.script c.script.result.now c.args.plan.now c.calls-made.result.now c.args.session _ c.calls-made.ensures c.script.ensures.script c.in-Some.ensures) in
-    let most : calls_in c.args.service.now.script ≡ MOST_CALLS = c.in-Err.ensures.full.0 e in
+    let full : c.in-Err.error ≡ an_error.Full = cc in
+    let most : calls_in c.args.service.now.script ≡ MOST_CALLS = c.in-Err.ensures.full.0 (λ i. Err (full i)) in
     omega (arith, few, most)
