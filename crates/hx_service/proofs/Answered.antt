@@ -1,9 +1,9 @@
 -- What the receipts of a session are after one more call of it was submitted and the world was drained.
-use Rattle.std.proofs.Common.{◌≡◌, ℕ, zero, suc, ◌+◌, ◌-◌, ◌<◌, ◌≤◌, ◌⊎◌, inl, inr, Bool, true, false, List, [], ◌∷◌, ◌++◌, length, map, cond, Option, Some, None, refl, sym, ap, ◌∙◌, subst, arith}
-use Rattle.std.specs.Prelude.{IsSome, drop, reverse}
+use Rattle.std.proofs.Common.{◌≡◌, ℕ, zero, suc, ◌+◌, ◌≤◌, inl, inr, true, false, List, [], ◌∷◌, ◌++◌, length, map, Option, Some, None, refl, sym, ap, ◌∙◌, subst, arith}
+use Rattle.std.specs.Prelude.{drop, reverse}
 use Rattle.std.specs.List.{filter}
-use Rattle.std.proofs.lemmas.Bool.{eq-eqb, eqb-true, true≢false}
-use Rattle.std.proofs.lemmas.List.{append-nil, append_assoc, length-append, map-append, reverse-append, reverse-reverse}
+use Rattle.std.proofs.lemmas.Bool.{eq-eqb}
+use Rattle.std.proofs.lemmas.List.{append-nil, append_assoc, length-append, reverse-append, reverse-reverse}
 use Rattle.std.proofs.lemmas.List.Elements.{filter-append}
 use mathlib.Core.List.{IsPrefix}
 use Rattle.hx_types.specs.declared.calls.Caller.{Caller}
@@ -16,7 +16,6 @@ use Rattle.hx_types.specs.Words.{IsIn, below}
 use Rattle.hx_model.specs.Histories.{CallEnd, note_of_end}
 use Rattle.hx_model.specs.Runs.{IsRun, session_of}
 use Rattle.hx_model.specs.Schedule.{next_entry, scheduled, with_entry}
-use Rattle.hx_model.specs.SessionSteps.{SessionState}
 use Rattle.hx_law_lemmas.proofs.FoundRows.{filter-in}
 use Rattle.hx_law_lemmas.proofs.Lists.{in-append, in_right}
 use Rattle.hx_service.specs.declared.receipts.Receipt.{Receipt}
@@ -27,7 +26,6 @@ use Rattle.hx_model.specs.Runs.{is_actor}
 use Rattle.hx_model.specs.Schedule.{IsQuiet}
 use Rattle.hx_law_growing.specs.Growing.{CallsGrow, with_call_of}
 use Rattle.hx_world.specs.Worlds.{WorldState}
-use Rattle.hx_service.specs.Receipts.{IsReceiptOf}
 use Rattle.hx_service.specs.Services.{IsAnswered, IsDrained, IsUnanswered}
 use Rattle.hx_service.proofs.Booked.{few-ended, keeps, number-low, number_of, runs_are_booked}
 use Rattle.hx_service.proofs.Free.{free_sessions_rest, within}
@@ -211,8 +209,8 @@ module _ (old mid new : WorldState) (u : SessionId) (op : Op) (m : IsMade old mi
         submitted = script-is;
         quiet = quiet;
         receipt = (runs_are_booked grown (reverse new.trace) run).each r
-        (subst (IsIn r) (sym (receipts-split old.script grown u op longer-by (reverse old.trace) (reverse new.trace) m.run_old run m.free newer.0 newer.1))
-        (in_right (receipts_of (reverse old.trace)) (later-of newer.0 (reverse old.trace)).0 r j));
+            (subst (IsIn r) (sym (receipts-split old.script grown u op longer-by (reverse old.trace) (reverse new.trace) m.run_old run m.free newer.0 newer.1))
+            (in_right (receipts_of (reverse old.trace)) (later-of newer.0 (reverse old.trace)).0 r j));
         caller = d;
         booked = one-more old.script grown u op longer-by (reverse old.trace) (reverse new.trace) m.run_old run m.free newer.0 newer.1 r j d;
       }
@@ -225,5 +223,5 @@ module _ (old mid new : WorldState) (u : SessionId) (op : Op) (m : IsMade old mi
     quiet = quiet;
     number_is = k;
     open_still = still-open old.script grown u op longer-by (reverse old.trace) (reverse new.trace) m.run_old run m.free newer.0 newer.1
-    (λ r i d. none r (subst (IsIn r) (sym (dropped-is n e)) i) (d ∙ sym (caller-is number k)));
+        (λ r i d. none r (subst (IsIn r) (sym (dropped-is n e)) i) (d ∙ sym (caller-is number k)));
   }

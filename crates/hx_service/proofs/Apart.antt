@@ -1,5 +1,5 @@
 -- What an entry does for the calls of sessions that aren't its actor: nothing. And which receipts are a session's.
-use Rattle.std.proofs.Common.{◌≡◌, ℕ, ◌+◌, ◌⊎◌, inl, inr, Bool, true, false, ◌&&◌, List, [], ◌∷◌, ◌++◌, length, cond, Option, Some, None, refl, sym, ap, ◌∙◌, subst, eqb}
+use Rattle.std.proofs.Common.{◌≡◌, ℕ, ◌+◌, ◌⊎◌, inl, inr, Bool, true, false, ◌&&◌, List, [], ◌∷◌, length, cond, Some, refl, ap, ◌∙◌}
 use Rattle.std.specs.List.{filter}
 use Rattle.std.proofs.lemmas.Bool.{cond-true, cond-false, eq-eqb}
 use Rattle.hx_types.specs.declared.ids.Actor.{Actor}
@@ -15,7 +15,7 @@ use Rattle.hx_types.specs.declared.traces.Note.TheVariants as a_note
 use Rattle.hx_types.specs.Words.{first_some, same_session}
 use Rattle.hx_model.specs.Runs.{session_after, session_of}
 use Rattle.hx_model.specs.SessionSteps.{SessionState, session_step}
-use Rattle.hx_model.specs.Histories.{CallEnd, begin_of, begins_in, ends_in, is_session, note_of_end}
+use Rattle.hx_model.specs.Histories.{begin_of, begins_in, ends_in, is_session, note_of_end}
 use Rattle.hx_law_lemmas.proofs.Traces.{of_session}
 use Rattle.hx_service.specs.declared.receipts.Receipt.{Receipt}
 use Rattle.hx_service.specs.Progress.{after_notes, progress_of}

@@ -1,8 +1,8 @@
 -- Every run keeps what its receipts tell.
-use Rattle.std.proofs.Common.{◌≡◌, ℕ, ◌+◌, ◌-◌, ◌<◌, ◌≤◌, ◌⊎◌, inl, inr, Bool, true, false, ◌||◌, List, [], ◌∷◌, ◌++◌, length, map, cond, Option, Some, None, refl, sym, ap, ◌∙◌, subst, arith, eqb}
-use Rattle.std.specs.Prelude.{IsSome, unwrap_or}
+use Rattle.std.proofs.Common.{◌≡◌, ℕ, ◌+◌, ◌-◌, ◌<◌, ◌≤◌, inl, inr, Bool, true, false, ◌||◌, List, [], ◌∷◌, ◌++◌, length, map, cond, Option, Some, None, refl, sym, ap, ◌∙◌, subst, arith, eqb}
+use Rattle.std.specs.Prelude.{unwrap_or}
 use Rattle.std.specs.List.{filter}
-use Rattle.std.proofs.lemmas.Bool.{cond-true, cond-false, cond_both, eq-eqb, eqb-true, true≢false}
+use Rattle.std.proofs.lemmas.Bool.{cond-true, eq-eqb, eqb-true, true≢false}
 use Rattle.std.proofs.lemmas.List.{append-nil, map-append}
 use Rattle.std.proofs.lemmas.List.Elements.{filter-append}
 use Rattle.hx_types.specs.declared.calls.Answer.{Answer}
@@ -18,18 +18,17 @@ use Rattle.hx_types.specs.declared.traces.Note.TheVariants as a_note
 use Rattle.hx_types.specs.Words.{IsIn, first_some}
 use Rattle.hx_model.specs.Runs.{IsRun, IsStep, session_of}
 use Rattle.hx_model.specs.SessionSteps.{SessionState}
-use Rattle.hx_model.specs.Histories.{CallEnd, begin_of, begins_in, ends_in, is_session, note_of_end}
+use Rattle.hx_model.specs.Histories.{CallEnd, begin_of, ends_in, is_session, note_of_end}
 use Rattle.hx_law_lemmas.proofs.CallEnds.{CallStop}
 use Rattle.hx_law_lemmas.proofs.FoundRows.{filter-in}
 use Rattle.hx_law_lemmas.proofs.Lists.{in-append, in_left, in_right, map-in}
-use Rattle.hx_service.specs.declared.progress.Progress.{Progress}
 use Rattle.hx_service.specs.declared.receipts.Receipt.{Receipt}
 use Rattle.hx_service.specs.Laws.{RunsAreBooked, ended_count, numbers_to, progress_by}
 use Rattle.hx_service.specs.Progress.{after_notes, progress_of}
 use Rattle.hx_law_lemmas.proofs.Traces.{EndedAt, ended_at}
 use Rattle.hx_service.specs.Receipts.{IsReceiptOf, caller_of, is_by, receipt_at, receipts_among, receipts_by, receipts_now, receipts_of}
 use Rattle.hx_service.proofs.Apart.{acts_or, begin-apart, begin-own, end-apart, end-own, now-apart, now-is, now-own, progress-apart, progress-own, state-apart}
-use Rattle.hx_service.proofs.Moves.{Begins, BeginsAndEnds, Ends, Move, Rests, move}
+use Rattle.hx_service.proofs.Moves.{Begins, BeginsAndEnds, Ends, Rests, move}
 use Rattle.hx_service.proofs.Numbers.{ended-is, in-numbers, numbers-last, numbers-next}
 
 -- the number of a receipt's call
@@ -81,12 +80,12 @@ module _ (script : Script) (older : List Entry) (x : Entry) (had : Keeps script 
         low = k.low;
         begin = λ w. let b = k.begin w in (b.0, begin-apart older x (caller_of u (session_of script u older).begun) e ∙ b.1);
         numbers =
-        by-parts u ∙ ap (λ (l : List Receipt). map number_of (receipts_by u older) ++ map number_of l) (now-apart now u x.actor x.notes e)
-        ∙ append-nil (map number_of (receipts_by u older)) ∙ k.numbers;
+            by-parts u ∙ ap (λ (l : List Receipt). map number_of (receipts_by u older) ++ map number_of l) (now-apart now u x.actor x.notes e)
+            ∙ append-nil (map number_of (receipts_by u older)) ∙ k.numbers;
         progress =
-        progress-apart older x u e ∙ k.progress
-        ∙ ap (λ (o : Option ℕ). record { begun = (session_of script u older).begun; under_way = cond (session_of script u older).under_way o None })
-        (sym (begin-apart older x (caller_of u (session_of script u older).begun) e));
+            progress-apart older x u e ∙ k.progress
+            ∙ ap (λ (o : Option ℕ). record { begun = (session_of script u older).begun; under_way = cond (session_of script u older).under_way o None })
+            (sym (begin-apart older x (caller_of u (session_of script u older).begun) e));
       }
 
   module _ (u : SessionId) (acts : x.actor ≡ Session u) where
@@ -117,8 +116,8 @@ module _ (script : Script) (older : List Entry) (x : Entry) (had : Keeps script 
           begin = λ w. let b = k.begin (sym m.way ∙ w) in (b.0, ap (λ (n : ℕ). begin_of (caller_of u n) now) m.begun ∙ same s.begun ∙ b.1);
           numbers = numbered [] m.notes_are ∙ append-nil (numbers_to (ended_count s)) ∙ ap numbers_to (sym (ended-is t s.under_way s.begun m.way m.begun));
           progress =
-          far [] m.notes_are ∙ ap (λ (o : Option ℕ). record { begun = s.begun; under_way = cond s.under_way o None }) (sym (same s.begun))
-          ∙ sym (progress-is now u t s.under_way s.begun m.way m.begun);
+              far [] m.notes_are ∙ ap (λ (o : Option ℕ). record { begun = s.begun; under_way = cond s.under_way o None }) (sym (same s.begun))
+              ∙ sym (progress-is now u t s.under_way s.begun m.way m.begun);
         }
 
     begins : Begins s t x.notes → KeepsOf now u t
@@ -134,9 +133,9 @@ module _ (script : Script) (older : List Entry) (x : Entry) (had : Keeps script 
           begin = λ w. (length older + 1, ap (λ (n : ℕ). begin_of (caller_of u n) now) m.begun ∙ here);
           numbers = numbered _ m.notes_are ∙ append-nil (numbers_to (ended_count s)) ∙ ap numbers_to (sym count);
           progress =
-          far _ m.notes_are
-          ∙ ap (λ (o : Option ℕ). record { begun = s.begun + 1; under_way = o }) (sym here)
-          ∙ sym (progress-is now u t true (s.begun + 1) m.way m.begun);
+              far _ m.notes_are
+              ∙ ap (λ (o : Option ℕ). record { begun = s.begun + 1; under_way = o }) (sym here)
+              ∙ sym (progress-is now u t true (s.begun + 1) m.way m.begun);
         }
 
     ends : Ends s t x.notes → KeepsOf now u t
@@ -145,8 +144,8 @@ module _ (script : Script) (older : List Entry) (x : Entry) (had : Keeps script 
           low = λ w. absurd (true≢false (sym w ∙ m.way));
           begin = λ w. absurd (true≢false (sym w ∙ m.way));
           numbers =
-          numbered _ m.notes_are ∙ ap (λ (n : ℕ). numbers_to n ++ s.begun ∷ []) (ended-is s true s.begun m.was refl)
-          ∙ sym (numbers-last s.begun (k.low m.was)) ∙ ap numbers_to (sym (ended-is t false s.begun m.way m.begun));
+              numbered _ m.notes_are ∙ ap (λ (n : ℕ). numbers_to n ++ s.begun ∷ []) (ended-is s true s.begun m.was refl)
+              ∙ sym (numbers-last s.begun (k.low m.was)) ∙ ap numbers_to (sym (ended-is t false s.begun m.way m.begun));
           progress = far _ m.notes_are ∙ sym (progress-is now u t false s.begun m.way m.begun);
         }
 
@@ -156,8 +155,8 @@ module _ (script : Script) (older : List Entry) (x : Entry) (had : Keeps script 
           low = λ w. absurd (true≢false (sym w ∙ m.way));
           begin = λ w. absurd (true≢false (sym w ∙ m.way));
           numbers =
-          numbered _ m.notes_are ∙ ap (λ (n : ℕ). numbers_to n ++ (s.begun + 1) ∷ []) (ended-is s false s.begun m.was refl)
-          ∙ sym (numbers-next s.begun) ∙ ap numbers_to (sym (ended-is t false (s.begun + 1) m.way m.begun));
+              numbered _ m.notes_are ∙ ap (λ (n : ℕ). numbers_to n ++ (s.begun + 1) ∷ []) (ended-is s false s.begun m.was refl)
+              ∙ sym (numbers-next s.begun) ∙ ap numbers_to (sym (ended-is t false (s.begun + 1) m.way m.begun));
           progress = far _ m.notes_are ∙ sym (progress-is now u t false (s.begun + 1) m.way m.begun);
         }
 
@@ -208,12 +207,12 @@ module _ (script : Script) (older : List Entry) (x : Entry) (had : Keeps script 
         | inr (inr (inl m)) ↦ record {
           began = begin-own older x u k _ acts m.notes_are ∙ was.began;
           ended = end-own older x u k _ acts m.notes_are
-          ∙ ap (λ (b : Bool). first_some (cond b (Some (record { entry = length older + 1; version = m.stop.version; answer = m.stop.answer })) None) (note_of_end r.caller older)) (apart k s.begun (omega (arith, high, fewer m.was))) ∙ was.ended;
+              ∙ ap (λ (b : Bool). first_some (cond b (Some (record { entry = length older + 1; version = m.stop.version; answer = m.stop.answer })) None) (note_of_end r.caller older)) (apart k s.begun (omega (arith, high, fewer m.was))) ∙ was.ended;
         }
         | inr (inr (inr m)) ↦ record {
           began = begin-own older x u k _ acts m.notes_are ∙ ap (λ (b : Bool). cond (b || false) (Some (length older + 1)) (begin_of r.caller older)) (apart k (s.begun + 1) (omega (arith, high, few))) ∙ was.began;
           ended = end-own older x u k _ acts m.notes_are
-          ∙ ap (λ (b : Bool). first_some (cond b (Some (record { entry = length older + 1; version = m.stop.version; answer = m.stop.answer })) None) (note_of_end r.caller older)) (apart k (s.begun + 1) (omega (arith, high, few))) ∙ was.ended;
+              ∙ ap (λ (b : Bool). first_some (cond b (Some (record { entry = length older + 1; version = m.stop.version; answer = m.stop.answer })) None) (note_of_end r.caller older)) (apart k (s.begun + 1) (omega (arith, high, few))) ∙ was.ended;
         }
       ]
         where
@@ -323,11 +322,10 @@ ended-booked [] c v a n h = absurd h
 ended-booked (x ∷ older) c v a n (inr h) =
     let r = ended-booked older c v a n h in (r.0, in_left (receipts_of older) (receipts_now (x ∷ older) x.actor x.notes) r.0 r.1, r.2)
 ended-booked (x ∷ older) c v a n (inl h) =
-    let r = receipt_at (x ∷ older) c v a in
-    (
+    let r = receipt_at (x ∷ older) c v a in (
       r,
       in_right (receipts_of older) (receipts_now (x ∷ older) x.actor x.notes) r
-      (subst (IsIn r) (sym (now-is (x ∷ older) x c.session x.notes h.0 refl)) (among-in (x ∷ older) c.session c.number v a x.notes h.1)),
+          (subst (IsIn r) (sym (now-is (x ∷ older) x c.session x.notes h.0 refl)) (among-in (x ∷ older) c.session c.number v a x.notes h.1)),
       refl,
     )
 

@@ -1,5 +1,5 @@
 -- A service at its start.
-use Rattle.std.proofs.Common.{◌≡◌, ℕ, zero, suc, ◌+◌, ◌<◌, List, [], ◌∷◌, ◌++◌, length, Option, Some, refl, sym, ap, ◌∙◌, subst, arith}
+use Rattle.std.proofs.Common.{◌≡◌, ℕ, zero, suc, ◌<◌, List, [], ◌++◌, length, Some, refl, sym, ap, ◌∙◌, subst, arith}
 use Rattle.std.specs.Prelude.{replicate, reverse, slice_get}
 use Rattle.hx_types.specs.declared.calls.Op.{Op}
 use Rattle.hx_types.specs.declared.traces.Script.{Script}
@@ -9,7 +9,7 @@ use Rattle.hx_law_growing.specs.Growing.{GrowsTo}
 use Rattle.hx_world.specs.Worlds.{WorldState}
 use Rattle.hx_service.specs.declared.progress.Progress.{Progress}
 use Rattle.hx_service.specs.declared.receipts.Booked.{Booked}
-use Rattle.hx_service.specs.Booking.{AreProgress, IsServing}
+use Rattle.hx_service.specs.Booking.{IsServing}
 use Rattle.hx_service.specs.Progress.{no_progress}
 use Rattle.hx_service.specs.Services.{emptied}
 
@@ -31,7 +31,7 @@ at-start script w n xs bs e count f g =
       progress_is = record {
         count = ap length f ∙ length-copies n no_progress ∙ count ∙ sym (length-copies (length script.sessions) []);
         each = λ place lt. ap (λ (l : List Progress). slice_get l place) f
-        ∙ copy-at n place no_progress (let q = length-copies {A = List Op} (length script.sessions) [] in omega (arith, lt, q, count));
+            ∙ copy-at n place no_progress (let q = length-copies {A = List Op} (length script.sessions) [] in omega (arith, lt, q, count));
       };
       booked_is = g;
     })

@@ -1,7 +1,7 @@
 -- Which sessions are free.
-use Rattle.std.proofs.Common.{◌≡◌, ℕ, ◌+◌, ◌-◌, ◌<◌, ◌≤◌, ◌⊎◌, inl, inr, zero, suc, Bool, true, false, List, [], ◌∷◌, length, map, cond, Option, Some, None, refl, sym, ap, ◌∙◌, subst, arith, eqb}
-use Rattle.std.specs.Prelude.{IsSome, is_none, slice_get, ◌&&◌}
-use Rattle.std.proofs.lemmas.Bool.{and_from, and_parts, cond_both, eq-eqb, eqb-true, true≢false}
+use Rattle.std.proofs.Common.{◌≡◌, ℕ, ◌-◌, ◌<◌, ◌≤◌, zero, suc, Bool, true, false, List, [], ◌∷◌, length, cond, Option, Some, None, refl, sym, ap, ◌∙◌, subst, arith, eqb}
+use Rattle.std.specs.Prelude.{IsSome, is_none, slice_get}
+use Rattle.std.proofs.lemmas.Bool.{and_from, and_parts, eq-eqb, eqb-true, true≢false}
 use Rattle.hx_types.specs.declared.calls.Op.{Op}
 use Rattle.hx_types.specs.declared.ids.Actor.{Actor}
 use Rattle.hx_types.specs.declared.ids.SessionId.{SessionId}
@@ -16,7 +16,6 @@ use Rattle.hx_model.specs.SessionSteps.{SessionState, session_step}
 use Rattle.hx_law_growing.proofs.Kept.{Within, steps}
 use Rattle.hx_law_lemmas.proofs.Lists.{in-filter, in-map}
 use Rattle.hx_law_lemmas.proofs.Traces.{ended_at}
-use Rattle.hx_service.specs.declared.receipts.Receipt.{Receipt}
 use Rattle.hx_model.specs.Histories.{begin_of}
 use Rattle.hx_model.specs.Runs.{is_actor}
 use Rattle.hx_law_growing.proofs.Calls.{numbered_from_1, same_session as one_session}

@@ -1,5 +1,5 @@
 -- What booking the newest entry of a run leaves.
-use Rattle.std.proofs.Common.{◌≡◌, ℕ, ◌+◌, ◌-◌, ◌<◌, ◌≤◌, ◌⊎◌, inl, inr, zero, suc, Bool, true, false, ◌||◌, List, [], ◌∷◌, ◌++◌, length, map, cond, Option, Some, None, refl, sym, ap, ◌∙◌, subst, arith, eqb}
+use Rattle.std.proofs.Common.{◌≡◌, ℕ, ◌+◌, ◌-◌, ◌<◌, ◌≤◌, inl, inr, zero, suc, Bool, true, false, ◌||◌, List, [], ◌∷◌, ◌++◌, length, map, cond, Option, Some, refl, sym, ap, ◌∙◌, subst, arith, eqb}
 use Rattle.std.specs.Prelude.{reverse, slice_get, slice_set, unwrap_or}
 use Rattle.std.proofs.lemmas.Bool.{eq-eqb, eqb-true}
 use Rattle.std.proofs.lemmas.List.{append-nil, length-reverse, map-append, reverse-append, reverse-reverse}
@@ -9,16 +9,14 @@ use Rattle.hx_types.specs.declared.traces.Entry.{Entry}
 use Rattle.hx_types.specs.declared.traces.Note.{Note}
 use Rattle.hx_types.specs.declared.traces.Script.{Script}
 use Rattle.hx_types.specs.declared.ids.Actor.TheVariants.{Coordinator, Server, Session}
-use Rattle.hx_types.specs.declared.traces.Note.TheVariants as a_note
 use Rattle.hx_trace.proofs.Spans.{get_end}
-use Rattle.hx_model.specs.Histories.{begin_of, begins_in, is_session}
+use Rattle.hx_model.specs.Histories.{begin_of, is_session}
 use Rattle.hx_model.specs.Runs.{IsRun, is_actor, session_of}
 use Rattle.hx_model.specs.SessionSteps.{SessionState}
 use Rattle.hx_law_growing.proofs.Calls.{numbered_from_1, same_session}
 use Rattle.hx_service.specs.declared.progress.Progress.{Progress}
 use Rattle.hx_service.specs.declared.receipts.Booked.{Booked}
 use Rattle.hx_service.specs.Booking.{AreProgress, LacksLast, booked_among, booked_as, session_at}
-use Rattle.hx_service.specs.Laws.{progress_by}
 use Rattle.hx_service.specs.Progress.{after_notes, progress_of}
 use Rattle.hx_service.specs.Receipts.{caller_of, receipts_among, receipts_now, receipts_of}
 use Rattle.hx_service.proofs.Apart.{acts_or, begin-own, now-is, progress-apart, progress-own}

@@ -1,5 +1,5 @@
 -- What a call's outcome tells exactly.
-use Rattle.std.proofs.Common.{◌≡◌, ℕ, ◌<◌, ◌⊎◌, inl, inr, List, [], ◌++◌, Option, Some, None, Ok, Err, true, refl, sym, ap, ◌∙◌, subst, arith}
+use Rattle.std.proofs.Common.{◌≡◌, ℕ, ◌<◌, ◌⊎◌, inl, inr, [], Option, Some, None, Ok, Err, true, refl, sym, ap, ◌∙◌, subst, arith}
 use Rattle.std.specs.Prelude.{IsSome, IsSomeAnd, Result, is_some}
 use Rattle.std.proofs.lemmas.Bool.{true≢false}
 use Rattle.std.proofs.lemmas.List.{append-nil}
@@ -9,7 +9,7 @@ use Rattle.hx_types.specs.declared.ids.SessionId.{SessionId}
 use Rattle.hx_types.specs.declared.limits.TheConstants.{MOST_CALLS}
 use Rattle.hx_types.specs.declared.traces.Entry.{Entry}
 use Rattle.hx_types.specs.declared.traces.Script.{Script}
-use Rattle.hx_model.specs.Histories.{CallEnd, note_of_end}
+use Rattle.hx_model.specs.Histories.{note_of_end}
 use Rattle.hx_model.specs.Runs.{is_actor}
 use Rattle.hx_model.specs.Schedule.{next_entry}
 use Rattle.hx_law_growing.specs.Growing.{GrowsTo, calls_in, with_call_of}
@@ -45,22 +45,24 @@ module _ (old : ServiceState) (u : SessionId) (op : Op) (new : ServiceState) (ac
       → (result ≡ Err (an_error.Unanswered n) → IsUnanswered old u op new n) × (IsUnanswered old u op new n → result ≡ Err (an_error.Unanswered n))
   unanswered-exact (Ok r) h n =
       (λ e. absurd (cc), λ w. absurd (let q : Some _ ≡ None = sym h.0.receipt.ended ∙ ap (λ c. note_of_end c (newest new)) h.0.caller ∙ w.open_still in cc))
-  unanswered-exact (Err an_error.Memory) h n = (λ e. absurd (cc), λ w. absurd (elim h.left [
-    | inl same ↦ not-same same w.submitted
-    | inr (s, inl waiting) ↦ some-none (next_entry new.script (newest new)) waiting w.quiet
-    | inr (s, inr ended) ↦ some-none (note_of_end (next_caller old.script u) (newest new)) ended w.open_still
-  ]))
+  unanswered-exact (Err an_error.Memory) h n = (
+    λ e. absurd (cc),
+    λ w. absurd (elim h.left [
+      | inl same ↦ not-same same w.submitted
+      | inr (s, inl waiting) ↦ some-none (next_entry new.script (newest new)) waiting w.quiet
+      | inr (s, inr ended) ↦ some-none (note_of_end (next_caller old.script u) (newest new)) ended w.open_still
+    ]),
+  )
   unanswered-exact (Err an_error.Full) h n = (λ e. absurd (cc), λ w. absurd (not-same h.same w.submitted))
   unanswered-exact (Err (an_error.Worn a)) h n = (λ e. absurd (cc), λ w. absurd (let x = h.0.worn_out.next in let q = w.quiet in by (next_entry new.script (newest new)) x q))
     where
       by : (o : Option Entry) → IsSomeAnd o (λ (x : Entry). x.actor ≡ a) → o ≡ None → ⊥
       by None x q = x
       by (Some y) x q = cc
-  unanswered-exact (Err (an_error.Unanswered m)) h n =
-      (
-        λ e. let q : m ≡ n = cc in subst (IsUnanswered old u op new) q h.0,
-        λ w. ap (λ (k : ℕ). Err (an_error.Unanswered k)) (h.0.number_is ∙ sym w.number_is),
-      )
+  unanswered-exact (Err (an_error.Unanswered m)) h n = (
+    λ e. let q : m ≡ n = cc in subst (IsUnanswered old u op new) q h.0,
+    λ w. ap (λ (k : ℕ). Err (an_error.Unanswered k)) (h.0.number_is ∙ sym w.number_is),
+  )
 
   -- the script has the call, or nothing changed
   pub script-after : (result : Result Receipt ServiceError) → Calls old u op new result → (new ≡ old) ⊎ IsSubmitted old u op new

@@ -1,5 +1,5 @@
 -- The next call of a plan.
-use Rattle.std.proofs.Common.{◌≡◌, ℕ, zero, suc, ◌+◌, ◌<◌, ◌≤◌, ◌⊎◌, inl, inr, Bool, true, false, List, [], ◌∷◌, ◌++◌, length, Option, Some, None, Ok, Err, refl, sym, ap, ◌∙◌, subst, arith, eqb}
+use Rattle.std.proofs.Common.{◌≡◌, ℕ, zero, suc, ◌+◌, ◌<◌, ◌≤◌, inl, inr, Bool, true, false, List, [], ◌∷◌, ◌++◌, length, Option, Some, None, refl, sym, ap, ◌∙◌, subst, arith, eqb}
 use Rattle.std.specs.Prelude.{Result, nat_le, nat_lt, slice_get, sum_by, ◌&&◌, ◌-◌}
 use Rattle.std.proofs.lemmas.Bool.{eq-eqb, eqb-true, true≢false}
 use Rattle.std.proofs.lemmas.List.{append-nil, append_assoc, length-append}
@@ -11,7 +11,7 @@ use Rattle.hx_types.specs.declared.ids.SessionId.{SessionId}
 use Rattle.hx_types.specs.declared.limits.TheConstants.{MOST_CALLS}
 use Rattle.hx_types.specs.declared.spaces.Space.{Space}
 use Rattle.hx_types.specs.declared.traces.Script.{Script}
-use Rattle.hx_types.specs.Fitting.{IsScript, call_of, calls_of, numbered}
+use Rattle.hx_types.specs.Fitting.{call_of, calls_of, numbered}
 use Rattle.hx_types.specs.Spaces.{Fits}
 use Rattle.hx_types.specs.Words.{IsIn, when_some}
 use Rattle.std.specs.List.{All}
@@ -23,7 +23,7 @@ use Rattle.hx_service.specs.declared.errors.ServiceError.{ServiceError}
 use Rattle.hx_service.specs.declared.receipts.Receipt.{Receipt}
 use Rattle.hx_service.specs.Receipts.{next_caller}
 use Rattle.hx_service.specs.Rosters.{Follows}
-use Rattle.hx_service.specs.Services.{Calls, IsSubmitted, ServiceState}
+use Rattle.hx_service.specs.Services.{Calls, ServiceState}
 use Rattle.hx_service.proofs.Outcomes.{script-after}
 
 -- the item behind a front
@@ -76,11 +76,10 @@ module _ (script plan : Script) (g : GrowsTo script plan) (u : SessionId) where
         here : IsPrefix (calls_of (with_call_of script u op) u) (calls_of plan u)
         here =
             let h = calls_grow script u op actor in
-            let f = first-of rest op (sym next-is ∙ planned) in
-            (
+            let f = first-of rest op (sym next-is ∙ planned) in (
               f.0,
               ap (λ (l : List Op). l ++ f.0) h.here ∙ append_assoc (calls_of script u) (op ∷ []) f.0
-              ∙ ap (λ (l : List Op). calls_of script u ++ l) (sym f.1) ∙ (g.calls u).1,
+                  ∙ ap (λ (l : List Op). calls_of script u ++ l) (sym f.1) ∙ (g.calls u).1,
             )
 
         by : (v : SessionId) → (b : Bool) → eqb v.0 u.0 ≡ b → IsPrefix (calls_of (with_call_of script u op) v) (calls_of plan v)

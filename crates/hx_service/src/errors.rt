@@ -15,9 +15,7 @@ pub enum ServiceError {
     Worn(Actor),
     /// Nothing is left to do, and the call of this number hasn't ended. It may end later, when another call moves the
     /// world on.
-    Unanswered {
-        number: u32,
-    },
+    Unanswered { number: u32 },
 }
 
 impl From<Memory> for ServiceError {

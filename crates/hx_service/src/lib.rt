@@ -20,4 +20,4 @@ pub use laws::{free_sessions_are_at_rest, runs_are_booked, runs_show_progress};
 pub use receipts::{Receipt, ReceiptRef, Receipts};
 pub use rosters::{Charter, Roster};
 pub use services::Service;
-pub use trying::CallError;
+pub use trying::{CallError, TextError};

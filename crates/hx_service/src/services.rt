@@ -17,8 +17,8 @@ ghost use Rattle.hx_service.specs.Services.{Calls, Grows, IsDrained, IsUnanswere
 use crate::advancing::settle;
 use crate::calling::make_call;
 use crate::errors::ServiceError;
-use crate::progress::{Progress, is_free};
 use crate::laws::runs_are_booked;
+use crate::progress::{Progress, is_free};
 use crate::receipts::{Booked, Receipt, Receipts};
 use crate::starting::{empty_script, start_progress};
 use hx_report::report;
@@ -203,11 +203,6 @@ impl Service {
         ensures drained { IsDrained self.old.script (newest self.old) (newest self.new) }
         ensures grows { Grows self.old self.new }
     {
-        settle(
-            alloc,
-            &mut self.world,
-            &mut self.progress,
-            &mut self.booked,
-        )
+        settle(alloc, &mut self.world, &mut self.progress, &mut self.booked)
     }
 }

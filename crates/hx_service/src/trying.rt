@@ -1,11 +1,12 @@
 ghost use Rattle.std.specs.Prelude.{◌≡◌};
 ghost use Rattle.hx_types.specs.declared.ids.Actor.TheVariants as an_actor;
 ghost use Rattle.hx_model.specs.Runs.{is_actor};
-ghost use Rattle.hx_service.specs.Trying.{Tries};
+ghost use Rattle.hx_service.specs.Trying.{Asks, Tries};
 
 use crate::errors::ServiceError;
 use crate::receipts::Receipt;
 use crate::services::Service;
+use hx_script::{Reason, ScriptError, read_op};
 use hx_types::{Actor, Op, Script, SessionId, fits};
 use std::alloc::Global;
 
@@ -25,9 +26,16 @@ pub enum CallError {
     /// As [`ServiceError::Worn`].
     Worn(Actor),
     /// As [`ServiceError::Unanswered`].
-    Unanswered {
-        number: u32,
-    },
+    Unanswered { number: u32 },
+}
+
+/// Why a line has no receipt.
+#[derive(Clone, Copy)]
+pub enum TextError {
+    /// The line is no call of a session of the space, for the reason that the script language gives. Nothing changes.
+    Unread(Reason),
+    /// The call has no receipt, or there was no memory to read it.
+    Refused(CallError),
 }
 
 /// Whether the script has the session.
@@ -67,6 +75,31 @@ impl Service {
             Err(ServiceError::Full) => Err(CallError::Full),
             Err(ServiceError::Worn(actor)) => Err(CallError::Worn(actor)),
             Err(ServiceError::Unanswered { number }) => Err(CallError::Unanswered { number }),
+        }
+    }
+
+    /// Makes the call that a line of the script language says, as `put "a" genre="b"`.
+    ///
+    /// # Errors
+    ///
+    /// `Unread` exactly where the line is no call of a session of the space, `Memory` aside; else as
+    /// [`Service::try_call`].
+    pub fn call_text(
+        &mut self,
+        alloc: Global,
+        session: SessionId,
+        line: &[u8],
+    ) -> Result<Receipt, TextError>
+        ensures { Asks self.old session line.now self.new result }
+    {
+        let op = match read_op(alloc, &self.script().space, line) {
+            Ok(op) => op,
+            Err(ScriptError::Memory) => return Err(TextError::Refused(CallError::Memory)),
+            Err(ScriptError::Refused { reason, .. }) => return Err(TextError::Unread(reason)),
+        };
+        match self.try_call(alloc, session, op) {
+            Ok(receipt) => Ok(receipt),
+            Err(error) => Err(TextError::Refused(error)),
         }
     }
 }

@@ -48,7 +48,7 @@ returns-in_default-actor c =
     record {
       run = c.trace-trace.ensures.run;
       progress = last.progress-stays c.args.world.now.script c.args.world.now.trace c.args.progress.now.items c.args.booked.now.items c.requires.older c.trace-trace.ensures.run
-      c.trace-trace.result.now c.trace-trace.ensures.trace c.len-count.result c.len-count.ensures (entry_seen c.in-Some.entry) c.in-Some.ensures c.in_default-actor.not-Session;
+          c.trace-trace.result.now c.trace-trace.ensures.trace c.len-count.result c.len-count.ensures (entry_seen c.in-Some.entry) c.in-Some.ensures c.in_default-actor.not-Session;
       booked = last.booked-stays c.args.world.now.script c.args.world.now.trace c.args.progress.now.items c.args.booked.now.items c.requires.older c.trace-trace.ensures.run
-      c.trace-trace.result.now c.trace-trace.ensures.trace c.len-count.result c.len-count.ensures (entry_seen c.in-Some.entry) c.in-Some.ensures c.in_default-actor.not-Session;
+          c.trace-trace.result.now c.trace-trace.ensures.trace c.len-count.result c.len-count.ensures (entry_seen c.in-Some.entry) c.in-Some.ensures c.in_default-actor.not-Session;
     }

@@ -1,5 +1,5 @@
 -- The call was submitted and the world drained.
-use Rattle.std.proofs.Common.{◌≡◌, ◌≤◌, inl, inr, length, refl, reverse, sym, ap, ◌∙◌, subst, arith}
+use Rattle.std.proofs.Common.{◌≡◌, inr, length, refl, reverse, sym, ap, ◌∙◌, subst, arith}
 use Rattle.std.specs.Prelude.{IsSome}
 use Rattle.hx_model.specs.Histories.{note_of_end}
 use Rattle.hx_service.specs.Receipts.{receipts_of}
@@ -20,17 +20,34 @@ pub returns-in-None-clause-calls : goal.returns-in-None-clause-calls
 returns-in-None-clause-calls c =
     let before : c.len-before.result ≡ length (receipts_of (reverse c.args.world.now.trace)) = (let l = ap length c.requires.serving.booked_is ∙ mapped booked_as (receipts_of (reverse c.args.world.now.trace)) in omega (arith, l)) in
     let made : IsMade c.args.world.now c.submit.new.self c.settle.new.world c.args.session c.args.op = record {
-      actor = c.requires.session; free = c.requires.free; run_old = c.is_full.ensures.run; run_new = c.receipt_for.ensures.run; grow = c.calls_grow.ensures.grows;
-      submitted = c.in-Ok.ensures.script; same = c.in-Ok.ensures.trace; script = c.settle.ensures.script; drained = c.settle.ensures.drained } in
-    (unanswered c.args.world.now c.submit.new.self c.settle.new.world c.args.session c.args.op made c.len-before.result c.in-Ok.number before c.in-Ok.ensures.number c.in-None.ensures.none c.in_default.ensures.quiet,
-    c.is_full.ensures.few c.if-is_full.false)
+      actor = c.requires.session;
+      free = c.requires.free;
+      run_old = c.is_full.ensures.run;
+      run_new = c.receipt_for.ensures.run;
+      grow = c.calls_grow.ensures.grows;
+      submitted = c.in-Ok.ensures.script;
+      same = c.in-Ok.ensures.trace;
+      script = c.settle.ensures.script;
+      drained = c.settle.ensures.drained;
+    } in (
+      unanswered c.args.world.now c.submit.new.self c.settle.new.world c.args.session c.args.op made c.len-before.result c.in-Ok.number before c.in-Ok.ensures.number c.in-None.ensures.none c.in_default.ensures.quiet,
+      c.is_full.ensures.few c.if-is_full.false,
+    )
 
 pub returns-in-Ok-copied-clause-calls : goal.returns-in-Ok-copied-clause-calls
 returns-in-Ok-copied-clause-calls c =
     let before : c.len-before.result ≡ length (receipts_of (reverse c.args.world.now.trace)) = (let l = ap length c.requires.serving.booked_is ∙ mapped booked_as (receipts_of (reverse c.args.world.now.trace)) in omega (arith, l)) in
     let made : IsMade c.args.world.now c.submit.new.self c.settle.new.world c.args.session c.args.op = record {
-      actor = c.requires.session; free = c.requires.free; run_old = c.is_full.ensures.run; run_new = c.receipt_for.ensures.run; grow = c.calls_grow.ensures.grows;
-      submitted = c.in-Ok.ensures.script; same = c.in-Ok.ensures.trace; script = c.settle.ensures.script; drained = c.settle.ensures.drained } in
+      actor = c.requires.session;
+      free = c.requires.free;
+      run_old = c.is_full.ensures.run;
+      run_new = c.receipt_for.ensures.run;
+      grow = c.calls_grow.ensures.grows;
+      submitted = c.in-Ok.ensures.script;
+      same = c.in-Ok.ensures.trace;
+      script = c.settle.ensures.script;
+      drained = c.settle.ensures.drained;
+    } in
     let a = answered c.args.world.now c.submit.new.self c.settle.new.world c.args.session c.args.op made c.len-before.result c.in-Ok.number (receipt_seen c.in-Some.receipt) before c.in-Ok.ensures.number c.in-Some.ensures.found.0 c.in-Some.ensures.found.1 c.in_default.ensures.quiet in
     (rw c.in-Ok-copied.ensures a, c.is_full.ensures.few c.if-is_full.false)
 
@@ -38,8 +55,16 @@ pub returns-in-Err-copied-clause-calls : goal.returns-in-Err-copied-clause-calls
 returns-in-Err-copied-clause-calls c =
     let before : c.len-before.result ≡ length (receipts_of (reverse c.args.world.now.trace)) = (let l = ap length c.requires.serving.booked_is ∙ mapped booked_as (receipts_of (reverse c.args.world.now.trace)) in omega (arith, l)) in
     let made : IsMade c.args.world.now c.submit.new.self c.settle.new.world c.args.session c.args.op = record {
-      actor = c.requires.session; free = c.requires.free; run_old = c.is_full.ensures.run; run_new = c.receipt_for.ensures.run; grow = c.calls_grow.ensures.grows;
-      submitted = c.in-Ok.ensures.script; same = c.in-Ok.ensures.trace; script = c.settle.ensures.script; drained = c.settle.ensures.drained } in
+      actor = c.requires.session;
+      free = c.requires.free;
+      run_old = c.is_full.ensures.run;
+      run_new = c.receipt_for.ensures.run;
+      grow = c.calls_grow.ensures.grows;
+      submitted = c.in-Ok.ensures.script;
+      same = c.in-Ok.ensures.trace;
+      script = c.settle.ensures.script;
+      drained = c.settle.ensures.drained;
+    } in
     let a = answered c.args.world.now c.submit.new.self c.settle.new.world c.args.session c.args.op made c.len-before.result c.in-Ok.number (receipt_seen c.in-Some.receipt) before c.in-Ok.ensures.number c.in-Some.ensures.found.0 c.in-Some.ensures.found.1 c.in_default.ensures.quiet in
     record {
       few = c.is_full.ensures.few c.if-is_full.false;

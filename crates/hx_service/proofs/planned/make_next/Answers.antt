@@ -1,5 +1,5 @@
 -- The next call of the plan fits, finds room, and keeps to the plan.
-use Rattle.std.proofs.Common.{◌≡◌, ◌≤◌, ◌<◌, Ok, Err, None, Some, inl, inr, length, refl, sym, ap, ◌∙◌, subst, arith}
+use Rattle.std.proofs.Common.{◌≡◌, ◌≤◌, ◌<◌, Ok, Err, Some, inr, length, refl, sym, ap, ◌∙◌, subst, arith}
 use Rattle.hx_types.specs.declared.traces.Script.{Script}
 use Rattle.hx_types.specs.declared.limits.TheConstants.{MOST_CALLS}
 use Rattle.hx_types.specs.Fitting.{calls_of}
@@ -25,9 +25,11 @@ overflow_add-caller c =
     omega (arith, l, b, m)
 
 pub returns-in_default-clause-nexts : goal.returns-in_default-clause-nexts
-returns-in_default-clause-nexts c =
-    (inr (none-left c.args.service.now.script c.args.plan.now c.requires.follows.grows c.args.session
-    (planned-is c.args.service.now.script c.script.result.now c.args.plan.now c.calls-made.result.now c.args.session _ c.calls-made.ensures c.script.ensures.script c.in_default.ensures)), refl)
+returns-in_default-clause-nexts c = (
+  inr (none-left c.args.service.now.script c.args.plan.now c.requires.follows.grows c.args.session
+      (planned-is c.args.service.now.script c.script.result.now c.args.plan.now c.calls-made.result.now c.args.session _ c.calls-made.ensures c.script.ensures.script c.in_default.ensures)),
+  refl,
+)
 
 pub returns-in_default-copy-clause-nexts : goal.returns-in_default-copy-clause-nexts
 returns-in_default-copy-clause-nexts c =

@@ -1,5 +1,5 @@
 -- How far the session is tells it.
-use Rattle.std.proofs.Common.{◌≡◌, ◌-◌, Some, length, reverse, sym, ap, ◌∙◌}
+use Rattle.std.proofs.Common.{◌-◌, Some, length, reverse, sym, ap, ◌∙◌}
 use Rattle.std.proofs.lemmas.Bool.{ltb-true}
 use Rattle.std.proofs.lemmas.Option.{slice_get-get_or}
 use Rattle.hx_types.specs.Fitting.{calls_of}

@@ -1,7 +1,5 @@
 -- The note of the end lies where the receipt says.
-use Rattle.std.proofs.Common.{◌≡◌, Option, None, Some, sym, ◌∙◌, arith}
-use Rattle.hx_types.specs.declared.traces.Entry.{Entry}
-use Rattle.hx_model.specs.Histories.{CallEnd}
+use Rattle.std.proofs.Common.{◌≡◌, None, Some, sym, ◌∙◌, arith}
 use Rattle.hx_trace.specs.Entries.{entry_seen}
 use Rattle.hx_service.proofs.EndNotes.{end-at, same-notes}
 use Rattle.hx_service.proofs.receipts.receipt_in.Goals as goal

@@ -1,5 +1,5 @@
 -- What is booked at a place is that receipt.
-use Rattle.std.proofs.Common.{◌≡◌, ◌≤◌, ltb, false, Some, length, reverse, sym, ap, ◌∙◌, subst, arith}
+use Rattle.std.proofs.Common.{Some, reverse, sym, ap, ◌∙◌}
 use Rattle.std.proofs.lemmas.Bool.{ltb-false, ltb-true}
 use Rattle.std.proofs.lemmas.Option.{slice_get-get_or}
 use Rattle.hx_service.specs.declared.receipts.Receipt.{Receipt}
@@ -22,5 +22,5 @@ returns-in-Some c =
 
 pub returns-in-None : goal.returns-in-None
 returns-in-None c =
-    none-at (reverse c.self.inside.trace.now) c.self.inside.booked.now c.self.invariant c.args.place ?
+    none-at (reverse c.self.inside.trace.now) c.self.inside.booked.now c.self.invariant c.args.place (ltb-false _ _ (sym c.in-None.ensures.lookup.0))
     ∙ ap (λ (l : List Receipt). slice_get l c.args.place) c.self.view_is
