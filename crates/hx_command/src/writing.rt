@@ -25,6 +25,7 @@ fn handed(ran: Ran, outcome: Outcome) -> Finished
         totals,
         fates,
         ports,
+        met_worn: _,
         worn: _,
     } = ran;
     let done = Done {

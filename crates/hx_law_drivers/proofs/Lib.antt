@@ -9,3 +9,4 @@ pub mod Ended
 pub mod Shown
 pub mod Same
 pub mod Next
+pub mod Puts

@@ -41,21 +41,21 @@ use Rattle.hx_law_drivers.proofs.Same.{mailed}
 use Rattle.hx_law_drivers.proofs.Seen.{found_before, past_is_before}
 
 -- 1 for this post under this name, and 0 for any other
-abbrev counts : {P : Type 0} → Dec P → ℕ
+abbrev pub counts : {P : Type 0} → Dec P → ℕ
 counts (yes p) = 1
 counts (no n) = 0
 
-abbrev of_it : Mailed → Mailed → ℕ
+abbrev pub of_it : Mailed → Mailed → ℕ
 of_it m x = counts (mailed x m)
 
-itself : (m : Mailed) → of_it m m ≡ 1
+pub itself : (m : Mailed) → of_it m m ≡ 1
 itself m = by (mailed m m)
   where
     by : (d : Dec (m ≡ m)) → counts d ≡ 1
     by (yes p) = refl
     by (no n) = absurd (n refl)
 
-is_it : (m x : Mailed) → 1 ≤ of_it m x → x ≡ m
+pub is_it : (m x : Mailed) → 1 ≤ of_it m x → x ≡ m
 is_it m x = by (mailed x m)
   where
     by : (d : Dec (x ≡ m)) → 1 ≤ counts d → x ≡ m

@@ -85,13 +85,13 @@ outs_nothing : (h : Mailed → ℕ) (ps : List Ported) → ((n : ℕ) → n < le
 outs_nothing h [] f = refl
 outs_nothing h (p ∷ ps) f = omega (arith, f 0 (omega arith), outs_nothing h ps (λ n lt. f (suc n) (omega (arith, lt))))
 
-outs_least : (h : Mailed → ℕ) (n : ℕ) (ps : List Ported) → total h (outs_at n ps) ≤ out_weight h ps
+pub outs_least : (h : Mailed → ℕ) (n : ℕ) (ps : List Ported) → total h (outs_at n ps) ≤ out_weight h ps
 outs_least h n [] = omega arith
 outs_least h zero (p ∷ ps) = omega arith
 outs_least h (suc n) (p ∷ ps) = omega (arith, outs_least h n ps)
 
 -- what is put in a box is for its owner
-outs_owned : (j n : ℕ) (boxes : List Boxed) (ps : List Ported) (m : Mailed) → Both (IsOutPort j) boxes ps → IsIn m (outs_at n ps)
+pub outs_owned : (j n : ℕ) (boxes : List Boxed) (ps : List Ported) (m : Mailed) → Both (IsOutPort j) boxes ps → IsIn m (outs_at n ps)
     → (box : Boxed) × (box ≡ slice_index_or boxes n box) × (m.post.to ≡ box.names.owner)
 outs_owned j n [] [] m h i = absurd i
 outs_owned j n [] (p ∷ ps) m h i = absurd h

@@ -106,7 +106,7 @@ in_named entry place (p ∷ ps) m (inl e) =
     (0, ap (λ (x : Mailed). x.id.entry) e, omega (arith, at), ap (λ (x : Mailed). Some x.post) (sym e))
 in_named entry place (p ∷ ps) m (inr i) = let r = in_named entry (suc place) ps m i in (suc r.0, r.1, omega (arith, r.2), r.3)
 
-made_in_part : (part : List Stamped) (m : Mailed) → IsIn m (made_by part) → (z : Stamped) × IsIn z part × Posted z m.id m.post
+pub made_in_part : (part : List Stamped) (m : Mailed) → IsIn m (made_by part) → (z : Stamped) × IsIn z part × Posted z m.id m.post
 made_in_part [] m i = absurd i
 made_in_part (x ∷ part) m i =
     ⊎_elim

@@ -1,8 +1,9 @@
 -- The laws on a run of drivers: its trace is paced.
-use Rattle.std.specs.Prelude.{ℕ, ◌≡◌, ◌≢◌, List, [], ◌∷◌, ◌++◌, length, map}
+use Rattle.std.specs.Prelude.{ℕ, ◌≡◌, ◌≢◌, ◌≤◌, List, [], ◌∷◌, ◌++◌, length, map, slice_get, Some}
 use Rattle.std.specs.List.{AllByRecursion}
 use Rattle.atomic_table.specs.Seated.{TableId}
 use Rattle.hx_types.specs.declared.calls.Caller.{Caller}
+use Rattle.hx_types.specs.declared.messages.PostId.{PostId}
 use Rattle.hx_types.specs.declared.traces.Entry.{Entry}
 use Rattle.hx_types.specs.declared.traces.Script.{Script}
 use Rattle.hx_types.specs.Fitting.{IsScript, call_of}
@@ -10,12 +11,14 @@ use Rattle.hx_types.specs.Words.{IsIn}
 use Rattle.std.specs.Prelude.{IsSome}
 use Rattle.hx_types.specs.declared.traces.Input.TheVariants.{Halt}
 use Rattle.hx_model.specs.Histories.{note_of_end}
-use Rattle.hx_model.specs.Runs.{IsRun}
+use Rattle.hx_model.specs.Runs.{entry_at, IsRun}
 use Rattle.hx_model.specs.Schedule.{entries_of}
 use Rattle.hx_clock.specs.declared.parts.Stamped.{Stamped}
 use Rattle.hx_law_threads.specs.Own.{own_entries, past_of}
 use Rattle.hx_law_threads.specs.Merged.{parts_in, AreOwnParts, AreWholeParts, IsMerged}
+use Rattle.hx_law_threads.specs.Cuts.{times_named}
 use Rattle.hx_law_threads.specs.Pacing.{IsPaced, IsPacedToEnd}
+use Rattle.hx_mail.specs.declared.views.Mailed.{Mailed}
 use Rattle.hx_mail.specs.Boxes.{Boxed}
 use Rattle.hx_outbox.specs.Places.{AreBoxes}
 use Rattle.hx_desk.specs.declared.desks.Desk.{Desk}
@@ -27,7 +30,7 @@ use Rattle.hx_driver.specs.declared.crews.Crew.{Crew}
 use Rattle.hx_driver.specs.Crews.{IsCrew}
 use Rattle.hx_law_drivers.specs.Crews.{AreNumbered, HaveAllActors, desks_of, doubled_by, lost_by, parts_of}
 use Rattle.hx_law_drivers.specs.Courses.{IsCourse}
-use Rattle.hx_law_drivers.specs.Joined.{AreInOrder, AreOnce}
+use Rattle.hx_law_drivers.specs.Joined.{outs_at, AreInOrder, AreOnce}
 use Rattle.hx_law_drivers.specs.Rests.{AreAtRest, HaveAllEnded}
 
 -- drivers that began with no entry, ran, and whose ports were joined
@@ -90,6 +93,27 @@ TracesGoOn =
     → (d : Desk) → IsIn d (desks_of now) → HasMoreToMake script d
     → (trace : List Entry) → IsTraceOf now trace
     → (x : Entry) × MayComeNext script trace d x
+
+-- the post is one of the trace: an entry of one of the driver's actors made it
+pub record IsPostBy (c : Crew) (trace : List Entry) (m : Mailed) : Type 0 where
+  pub desk : Desk
+  pub is : IsIn desk c.desks.items
+  pub entry : Entry
+  pub actor : entry.actor ≡ desk.actor
+  pub made : entry_at m.id.entry trace ≡ Some entry
+  pub post : slice_get entry.outputs m.id.place ≡ Some m.post
+
+-- each of these is such a post, and none of them came more than twice
+pub record ArePostsBy (c : Crew) (trace : List Entry) (ms : List Mailed) : Type 0 where
+  pub each : (m : Mailed) → IsIn m ms → IsPostBy c trace m
+  pub twice : (id : PostId) → times_named id (map (λ (m : Mailed). m.id) ms) ≤ 2
+
+-- whatever a driver put into a box its actors posted
+abbrev pub PutsArePosts : Type 0
+PutsArePosts =
+    (script : Script) (clock : TableId) (boxes : List Boxed) (w : ℕ) (start now : List Crew) → HaveRun script clock boxes w start now
+    → (trace : List Entry) → IsTraceOf now trace
+    → (c : Crew) → IsIn c now → (n : ℕ) → ArePostsBy c trace (outs_at n c.out.ports.items)
 
 -- where they came to rest it is paced to its end
 abbrev pub RestedRunsArePacedToEnd : Type 0

@@ -2,7 +2,7 @@
 //! an actor retries only where nothing else can go on but for what was lost.
 #![tactic(auto)]
 
-ghost use Rattle.hx_law_drivers.specs.Laws.{EndedRunsEndCalls, PartsAreOwn, RestedRunsArePacedToEnd, RunsArePaced, TracesGoOn, TracesShowDesks};
+ghost use Rattle.hx_law_drivers.specs.Laws.{EndedRunsEndCalls, PartsAreOwn, PutsArePosts, RestedRunsArePacedToEnd, RunsArePaced, TracesGoOn, TracesShowDesks};
 
 /// The parts of all desks of drivers, merged by their stamps, are a run of the script in which no entry
 /// is a halt, and each actor's entries in it are those of its desk.
@@ -14,6 +14,12 @@ pub fn traces_show_desks()
 /// that makes something, there is an entry of it with which the trace of all parts is still a run.
 pub fn traces_go_on()
     ensures more { TracesGoOn }
+{}
+
+/// What a driver put into a box are posts that its own actors made in the trace of all parts, none of
+/// them more than twice.
+pub fn puts_are_posts()
+    ensures posts { PutsArePosts }
 {}
 
 /// What drivers made between retries that came all together, each where the drivers were at rest, is a

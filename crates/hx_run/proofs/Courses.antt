@@ -65,7 +65,7 @@ crew-trans c d e a b =
       twice = omega (arith, aw, bw);
     }
 
-get-some : {A : Type 0} (xs : List A) (n : ℕ) → n < length xs → (x : A) × (slice_get xs n ≡ Some x)
+pub get-some : {A : Type 0} (xs : List A) (n : ℕ) → n < length xs → (x : A) × (slice_get xs n ≡ Some x)
 get-some [] n lt = absurd (omega (arith, lt))
 get-some (x ∷ xs) zero lt = (x, refl)
 get-some (x ∷ xs) (suc n) lt = get-some xs n (omega (arith, lt))

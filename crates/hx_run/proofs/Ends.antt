@@ -22,20 +22,20 @@ use Rattle.hx_driver.specs.Slices.{IsLaterCrew}
 use Rattle.hx_law_drivers.specs.Crews.{parts_of, AreNumbered, HaveAllActors}
 use Rattle.hx_law_drivers.specs.Courses.{IsCourse}
 use Rattle.hx_law_drivers.specs.Joined.{AreInOrder, AreOnce}
-use Rattle.hx_law_drivers.specs.Laws.{EndedRunsEndCalls, PartsAreOwn, RestedRunsArePacedToEnd, RunsArePaced, TracesGoOn}
+use Rattle.hx_law_drivers.specs.Laws.{EndedRunsEndCalls, PartsAreOwn, PutsArePosts, RestedRunsArePacedToEnd, RunsArePaced, TracesGoOn}
 use Rattle.hx_cluster.specs.Clusters.{actors_dealt, AreNewCrews}
 use Rattle.hx_cluster.specs.Everyone.{actors_of}
 use Rattle.hx_gather.specs.declared.gathering.SeatedPart.{SeatedPart}
 use Rattle.hx_gather.specs.Gathered as gathered
 use Rattle.hx_gather.specs.Gathered.{part_by, parts_by, CountsAll, IsDrawn}
-use Rattle.hx_run.specs.Closed.{fault_of, AreClosed, HasPosted, IsLeft}
-use Rattle.hx_run.specs.Ran.{HasRisen, IsRan}
+use Rattle.hx_run.specs.Closed.{fault_of, worn_in, AreClosed, HasPosted, IsLeft}
+use Rattle.hx_run.specs.Ran.{lowest_of, HasRisen, HaveMetWorn, IsRan}
 use Rattle.hx_run.specs.Rounds.{AreOver, StayCrews}
 use Rattle.hx_run.proofs.Counted.{AreDealtFrom}
 use Rattle.hx_run.proofs.Courses.{stay-each}
 use Rattle.hx_run.proofs.Leaving.{have-indexes, how-many, map-map}
 use Rattle.hx_run.proofs.Starts.{are-closed, course-later, later-actors, later-dealt, later-numbered, posted-at, ran-later}
-use Rattle.hx_run.proofs.Traces.{has-risen, is-ran}
+use Rattle.hx_run.proofs.Traces.{has-risen, have-met, is-ran, lowest-told}
 
 -- ---- before the ports are joined
 module _ {D : Type 0} (f : D → Crew) (script : Script) (clock : TableId) (boxes : List Boxed) (w : ℕ) (xs lent news after : List D) (lends : lent ≡ xs) (stays : after ≡ news)
@@ -72,6 +72,9 @@ module _ {D : Type 0} (f : D → Crew) (script : Script) (clock : TableId) (boxe
       let m : length (map (λ (c : Crew). c.out) (map f xs)) ≡ length xs = map-length (λ (c : Crew). c.out) (map f xs) ∙ map-length f xs in
       ap length e ∙ map-length g after ∙ ap length stays ∙ long ∙ ap length lends ∙ sym m ∙ n
 
+  pub all-met : {X : Type 0} (g : Crew → X) (xs' : List D) (ms : List X) → ms ≡ map (λ (d : D). g (f d)) xs' → xs' ≡ news → ms ≡ map g (map f news)
+  all-met g xs' ms e same = e ∙ sym (map-map g f xs') ∙ ap (λ l. map g (map f l)) same
+
   pub all-posted : {X : Type 0} (fate : D → X) (state : X → FateState) (fates gs : List X) → Both (λ d d'. IsPosted (f d) (f d') (state (fate d)) (state (fate d'))) lent news
       → ((i : ℕ) (d : D) (u : X) → slice_get xs i ≡ Some d → slice_get fates i ≡ Some u → state (fate d) ≡ state u) → gs ≡ map fate after
       → (i : ℕ) (u v : X) (c : Crew) → slice_get fates i ≡ Some u → slice_get gs i ≡ Some v → slice_get (map f news) i ≡ Some c → HasPosted c (state u) (state v)
@@ -88,7 +91,7 @@ same-parts [] = refl
 same-parts (p ∷ actors) = ap (λ l. p.part ∷ l) (same-parts actors)
 
 module _ (script : Script) (clock : TableId) (w : ℕ) (start now : List Crew) (fault : Option Fault) (closed : AreClosed script clock w start now fault)
-    (own : PartsAreOwn) (paced : RunsArePaced) (rested : RestedRunsArePacedToEnd) (ended : EndedRunsEndCalls) (goes-on : TracesGoOn)
+    (own : PartsAreOwn) (paced : RunsArePaced) (rested : RestedRunsArePacedToEnd) (ended : EndedRunsEndCalls) (goes-on : TracesGoOn) (puts : PutsArePosts)
     (actors : List SeatedPart) (totals : List Totals) (ports : List Ported) (left : IsLeft script clock now actors totals ports)
     (trace : List Entry) (made : (merged : List Stamped) × IsMerged (gathered.parts_of actors) merged × HasStampsAsPlaces merged × (trace ≡ map (λ (x : Stamped). x.entry) merged))
     (whole : AreWholeParts (gathered.parts_of actors)) where
@@ -107,15 +110,26 @@ module _ (script : Script) (clock : TableId) (w : ℕ) (start now : List Crew) (
   dealt : AreDealtFrom script w 0 now
   dealt = later-dealt script w 0 start now later (λ i c g. closed.new.dealt i c g ∙ ap (actors_dealt script w) (let e : i ≡ 0 + i = omega arith in e))
 
+  numbered : AreNumbered w now
+  numbered = later-numbered w start now later closed.new.numbered
+
   many : length now ≡ w
-  many = sym (map-length (λ (c : Crew). c.out) now) ∙ (have-indexes w now (later-numbered w start now later closed.new.numbered)).0
+  many = sym (map-length (λ (c : Crew). c.out) now) ∙ (have-indexes w now numbered).0
 
   pub ran-of : (seat : Seated) → seat.clock ≡ clock → IsDrawn seat.view trace → (worn : Option Actor) → fault ≡ fault_of worn → IsRan script w trace seat totals ports worn
   ran-of seat same drawn worn e =
-      is-ran script clock w start now fault closed own paced rested ended goes-on trace made.0 is-whole is-merged made.3 totals left.totals_are dealt many seat same drawn worn e ports left.ports_are
+      is-ran script clock w start now fault closed own paced rested ended goes-on puts trace made.0 is-whole is-merged made.3 totals left.totals_are dealt numbered many seat same drawn worn e ports left.ports_are
+
+  pub met-of : (seat : Seated) → seat.clock ≡ clock → (met : List (Option Actor)) → met ≡ map (λ (c : Crew). worn_in c.fault) now → HaveMetWorn script w seat.clock trace ports met
+  met-of seat same met e =
+      have-met script clock w start now fault closed own paced rested ended goes-on puts trace made.0 is-whole is-merged made.3 totals left.totals_are dealt numbered many seat same met e ports left.ports_are
+
+  pub lowest-of : (worn : Option Actor) → fault ≡ fault_of worn → (met : List (Option Actor)) → met ≡ map (λ (c : Crew). worn_in c.fault) now → worn ≡ lowest_of met
+  lowest-of worn e met is =
+      lowest-told script clock w start now fault closed own paced rested ended goes-on puts trace made.0 is-whole is-merged made.3 totals left.totals_are dealt numbered many worn e met is
 
   pub risen-of : (i : ℕ) (t : Totals) (f f' : FateState) → ((c : Crew) → slice_get now i ≡ Some c → HasPosted c f f') → slice_get totals i ≡ Some t → HasRisen script w trace i t f f'
-  risen-of i t f f' posted g = has-risen script clock w start now fault closed own paced rested ended goes-on trace made.0 is-whole is-merged made.3 totals left.totals_are dealt many i t f f' posted g
+  risen-of i t f f' posted g = has-risen script clock w start now fault closed own paced rested ended goes-on puts trace made.0 is-whole is-merged made.3 totals left.totals_are dealt numbered many i t f f' posted g
 
 -- as many actors are counted as there are
 pub left-counts : (script : Script) (n k : ℕ) → n ≡ 1 + script.space.servers + length script.sessions → k < n → k < length (actors_of script)

@@ -37,6 +37,15 @@ list-took n (o ∷ outs) b i =
     ⊎_elim (λ (e : b ≡ lists_of (o.index + 1) (outs_at n o.ports.items) []). ap (λ (v : PortLists). v.taken) e) (λ (k : IsIn b []). absurd k) j)
     (in_append (joined_lists n outs) (lists_of (o.index + 1) (outs_at n o.ports.items) [] ∷ []) b i)
 
+-- they are those of one of the drivers
+pub list-of : (n : ℕ) (outs : List Outbox) (b : PortLists) → IsIn b (joined_lists n outs) → (o : Outbox) × IsIn o outs × (b ≡ lists_of (o.index + 1) (outs_at n o.ports.items) [])
+list-of n [] b i = absurd i
+list-of n (o ∷ outs) b i =
+    ⊎_elim (λ (j : IsIn b (joined_lists n outs)). let r = list-of n outs b j in (r.0, inr r.1, r.2))
+    (λ (j : IsIn b (lists_of (o.index + 1) (outs_at n o.ports.items) [] ∷ [])).
+    ⊎_elim (λ (e : b ≡ lists_of (o.index + 1) (outs_at n o.ports.items) []). (o, inl refl, e)) (λ (k : IsIn b []). absurd k) j)
+    (in_append (joined_lists n outs) (lists_of (o.index + 1) (outs_at n o.ports.items) [] ∷ []) b i)
+
 times-in : (k : ℕ) (lists : List PortLists) (b : PortLists) → IsIn b lists → b.name ≡ k → 1 ≤ times k lists
 times-in k [] b i e = absurd i
 times-in k (x ∷ lists) b (inl s) e = omega (arith, one-same k x.name (sym e ∙ ap (λ (v : PortLists). v.name) s))

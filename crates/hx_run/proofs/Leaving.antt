@@ -40,16 +40,17 @@ use Rattle.hx_driver.specs.declared.crews.Crew.{Crew}
 use Rattle.hx_driver.specs.Crews.{IsCrew, IsDeskOf}
 use Rattle.hx_law_drivers.specs.Crews.{desks_of, part_of, parts_of, AreNumbered, HaveAllActors}
 use Rattle.hx_law_drivers.specs.Joined.{outs_at, put_total, taken_weight, AreInOrder, AreOnce, IsInOrderOf}
+use Rattle.hx_law_drivers.proofs.Opens.{outs_owned}
 use Rattle.hx_cluster.specs.Everyone.{actors_of}
 use Rattle.hx_gather.specs.declared.gathering.SeatedPart.{SeatedPart}
 use Rattle.hx_gather.specs.Gathered.{part_by, parts_by, HasNumber, IsSeated}
 use Rattle.hx_run.specs.declared.joining.Taker.{Taker}
-use Rattle.hx_run.specs.Closed.{seated_of, taker_of, IsFirstPort, IsLeft}
+use Rattle.hx_run.specs.Closed.{seated_of, taker_of, HasPut, IsFirstPort, IsLeft}
 use Rattle.hx_run.specs.Joined.{joined_lists, place_at, AreInPlaces, HaveIndexes, IsJoined, IsKeptTaker, TookInOrder, TookOnce}
 use Rattle.hx_run.specs.Ran.{taken_under}
 use Rattle.hx_run.proofs.Arranged.{actor-at, actor-exists, filled, is-actor, place-apart, rises}
 use Rattle.hx_run.proofs.Courses.{below-or-not}
-use Rattle.hx_run.proofs.Joins.{joined-alone, joined-has, list-took, some-at}
+use Rattle.hx_run.proofs.Joins.{joined-alone, joined-has, list-of, list-took, some-at}
 use Rattle.hx_run.proofs.Onces.{total-perm}
 use Rattle.hx_run.proofs.Zipped.{each-map, map-each, no-eq}
 
@@ -61,7 +62,7 @@ pub total-map : {A B : Type 0} (h : B → ℕ) (f : A → B) (xs : List A) → t
 total-map h f [] = refl
 total-map h f (x ∷ xs) = omega (arith, total-map h f xs)
 
-length-below : (n : ℕ) → length (below n) ≡ n
+pub length-below : (n : ℕ) → length (below n) ≡ n
 length-below zero = refl
 length-below (suc n) = omega (arith, length-append (below n) (n ∷ []), length-below n)
 
@@ -257,20 +258,49 @@ module _ (script : Script) (clock : TableId) (boxes : List Boxed) (w : ℕ) wher
   not-empty outs some index (inl e) = let o = index 0 (omega (arith, some)) in absurd (subst (IsIn o.0) e o.1)
   not-empty outs some index (inr p) = p
 
-  first-one : AreBoxes script clock boxes → (crews : List Crew) (outs : List Outbox) → 1 ≤ w → HaveIndexes w outs → (t : Taker) (d : Desk) → IsIn d (desks_of crews) → t.actor ≡ d.actor → ins_of t.inbox ≡ ins_of d.inbox
-      → Exists script t.actor → IsJoined script w boxes outs t → IsFirstPort clock crews t.actor t.inbox
-  first-one are crews outs some index t d i actor ins exists j =
+  -- it is the outbox of one of the drivers
+  abbrev IsOutOf : List Crew → Outbox → Type 0
+  IsOutOf crews o = (c : Crew) × IsIn c crews × (o ≡ c.out) × IsOutbox boxes o
+
+  outs-of : (crews : List Crew) → AllByRecursion (IsCrew script clock boxes w) crews → (o : Outbox) → IsIn o (map (λ (c : Crew). c.out) crews) → IsOutOf crews o
+  outs-of crews h o i =
+      let c = of_map (λ (c : Crew). c.out) crews o i in
+      (c.0, c.1, c.2, subst (IsOutbox boxes) (sym c.2) (each_in (IsCrew script clock boxes w) crews c.0 h c.1).out)
+
+  -- what a driver put for an actor
+  put-at : (crews : List Crew) (a : Actor) (n : ℕ) (owned : (box : Boxed) → box ≡ slice_index_or boxes n box → box.names.owner ≡ a)
+      → (o : Outbox) → IsOutOf crews o → (b : PortLists) → b ≡ lists_of (o.index + 1) (outs_at n o.ports.items) [] → HasPut crews a b
+  put-at crews a n owned o from b e =
+      let same : b.put ≡ outs_at n o.ports.items = ap (λ (x : PortLists). x.put) e in
+      record {
+        crew = from.0;
+        is = from.1;
+        name = ap (λ (x : PortLists). x.name) e ∙ ap (λ (x : Outbox). x.index + 1) from.2;
+        place = n;
+        put = same ∙ ap (λ (x : Outbox). outs_at n x.ports.items) from.2;
+        to = each_all (λ (m : Mailed). m.post.to ≡ a) b.put
+            (λ m i. let r = outs_owned o.index n boxes o.ports.items m from.3.ports (subst (IsIn m) same i) in r.2 ∙ owned r.0 r.1);
+      }
+
+  first-one : AreBoxes script clock boxes → (crews : List Crew) (outs : List Outbox) → ((o : Outbox) → IsIn o outs → IsOutOf crews o) → 1 ≤ w → HaveIndexes w outs → (t : Taker) (d : Desk) → IsIn d (desks_of crews) → t.actor ≡ d.actor
+      → ins_of t.inbox ≡ ins_of d.inbox → Exists script t.actor → IsJoined script w boxes outs t → IsFirstPort clock crews t.actor t.inbox
+  first-one are crews outs from some index t d i actor ins exists j =
       let b = some-at boxes (place_at script t) j.place in
       let v = (j.inbox b.0 b.1).1 in
       let names : b.0.names ≡ names_for script clock t.actor = are.each t.actor exists b.0 b.1 in
       let n = place_at script t in
       let took : taken_under 0 (lists_of 0 [] (ins_of t.inbox) ∷ joined_lists n outs) ≡ ins_of t.inbox = first-taken n (ins_of t.inbox) outs in
+      let owned = λ (box : Boxed) (at : box ≡ slice_index_or boxes n box). ap (λ (x : BoxNames). x.owner) (are.each t.actor exists box at) in
       record {
         names = b.0.names;
         of_box = ap (λ (x : PortView). x.of_box) v;
         owner = ap (λ (x : BoxNames). x.owner) names;
         of_clock = ap (λ (x : BoxNames). x.clock) names;
         all = subst CarriesAll (sym v) (joined-has w (Some b.0.names) n (ins_of t.inbox) outs index);
+        put = λ l k.
+            ⊎_elim (λ (e : l ≡ lists_of 0 [] (ins_of t.inbox)). inl (ap (λ (x : PortLists). x.put) e))
+            (λ (q : IsIn l (joined_lists n outs)). let o = list-of n outs l q in inr (put-at crews t.actor n owned o.0 (from o.0 o.1) l o.2))
+            (subst (IsIn l) (ap (λ (x : PortView). x.lists) v) k);
         alone = subst (TookAlone 0) (sym v) (joined-alone w (Some b.0.names) n (ins_of t.inbox) outs);
         order = not-empty outs some index j.order;
         once = not-empty outs some index j.once;
@@ -283,17 +313,17 @@ module _ (script : Script) (clock : TableId) (boxes : List Boxed) (w : ℕ) wher
   abbrev IsDone : List Crew → Taker → Type 0
   IsDone crews t = Exists script t.actor × IsFirstPort clock crews t.actor t.inbox
 
-  done-each : AreBoxes script clock boxes → (crews : List Crew) (outs : List Outbox) → 1 ≤ w → HaveIndexes w outs → AllByRecursion IsSome (desks_of crews) → (sorted joined : List Taker) → ((t : Taker) → IsIn t sorted → IsIn t (map taker_of (desks_of crews)))
+  done-each : AreBoxes script clock boxes → (crews : List Crew) (outs : List Outbox) → ((o : Outbox) → IsIn o outs → IsOutOf crews o) → 1 ≤ w → HaveIndexes w outs → AllByRecursion IsSome (desks_of crews) → (sorted joined : List Taker) → ((t : Taker) → IsIn t sorted → IsIn t (map taker_of (desks_of crews)))
       → Both IsKeptTaker sorted joined → AllByRecursion (IsJoined script w boxes outs) joined → AllByRecursion (IsDone crews) joined
-  done-each are crews outs some index all [] [] from k j = tt
-  done-each are crews outs some index all [] (u ∷ joined) from k j = absurd k
-  done-each are crews outs some index all (t ∷ sorted) [] from k j = absurd k
-  done-each are crews outs some index all (t ∷ sorted) (u ∷ joined) from k j =
-      let d = of_map taker_of (desks_of crews) t (from t (inl refl)) in
+  done-each are crews outs from some index all [] [] back k j = tt
+  done-each are crews outs from some index all [] (u ∷ joined) back k j = absurd k
+  done-each are crews outs from some index all (t ∷ sorted) [] back k j = absurd k
+  done-each are crews outs from some index all (t ∷ sorted) (u ∷ joined) back k j =
+      let d = of_map taker_of (desks_of crews) t (back t (inl refl)) in
       let actor : u.actor ≡ d.0.actor = k.0.actor ∙ ap (λ (x : Taker). x.actor) d.2 in
       let ins : ins_of u.inbox ≡ ins_of d.0.inbox = k.0.ins ∙ ap (λ (x : Taker). ins_of x.inbox) d.2 in
       let exists : Exists script u.actor = subst (Exists script) (sym actor) (actor-exists script d.0.actor (each_in IsSome (desks_of crews) d.0 all d.1).1.exists) in
-      ((exists, first-one are crews outs some index u d.0 d.1 actor ins exists j.0), done-each are crews outs some index all sorted joined (λ x i. from x (inr i)) k.1 j.1)
+      ((exists, first-one are crews outs from some index u d.0 d.1 actor ins exists j.0), done-each are crews outs from some index all sorted joined (λ x i. back x (inr i)) k.1 j.1)
 
   in-order : (crews : List Crew) (n : ℕ) (xs : List Actor) (ts : List Taker) → PlacesFrom script n xs → AllByRecursion (Exists script) xs → AreInPlaces script n ts → AllByRecursion (IsDone crews) ts → length xs ≡ length ts
       → Both (IsFirstPort clock crews) xs (map (λ (t : Taker). t.inbox) ts)
@@ -327,7 +357,7 @@ module _ (script : Script) (clock : TableId) (boxes : List Boxed) (w : ℕ) wher
       let ds = all-desks crews h in
       let b = are.count in
       let many : length (actors_of script) ≡ length joined = omega (arith, how-many script, b, long, both-long IsKeptTaker sorted joined kept) in
-      let done = done-each are crews (map (λ (c : Crew). c.out) crews) some (have-indexes w crews numbered).1 ds sorted joined (λ t i. in_permuted sorted (map taker_of (desks_of crews)) t (IsPermutation-sym _ _ p) i) kept joins in
+      let done = done-each are crews (map (λ (c : Crew). c.out) crews) (outs-of crews h) some (have-indexes w crews numbered).1 ds sorted joined (λ t i. in_permuted sorted (map taker_of (desks_of crews)) t (IsPermutation-sym _ _ p) i) kept joins in
       record {
         parts = ap parts_by ea ∙ parts-are (desks_of crews);
         seats = subst (AllByRecursion (IsSeated clock)) (sym ea) (seats-are (desks_of crews) ds);

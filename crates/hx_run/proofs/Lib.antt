@@ -6,6 +6,7 @@ pub mod Arranged
 pub mod Leaving
 pub mod Apart
 pub mod Counted
+pub mod Putting
 pub mod Traces
 pub mod Starts
 pub mod Closes

@@ -18,7 +18,7 @@ use Rattle.hx_types.specs.declared.traces.Input.TheVariants.{Tick, Halt, Deliver
 use Rattle.hx_types.specs.Fitting.{call_of}
 use Rattle.hx_types.specs.Words.{first_some, same_actor, IsIn}
 use Rattle.hx_model.specs.Histories.{note_of_end}
-use Rattle.hx_model.specs.Runs.{is_actor, IsRun}
+use Rattle.hx_model.specs.Runs.{entry_at, is_actor, IsRun}
 use Rattle.hx_model.specs.Schedule.{entries_of}
 use Rattle.hx_clock.specs.declared.parts.Stamped.{Stamped}
 use Rattle.hx_clock.specs.Parts.{all_of}
@@ -49,17 +49,19 @@ use Rattle.hx_desk.specs.Told.{told_by}
 use Rattle.hx_desk.specs.Inboxes.{ins_of}
 use Rattle.hx_driver.specs.declared.crews.Crew.{Crew}
 use Rattle.hx_driver.specs.Crews.{HasFault, HasWorn, IsCrew}
-use Rattle.hx_law_drivers.specs.Crews.{desks_of, doubled_by, lost_by, part_of, parts_of}
-use Rattle.hx_law_drivers.specs.Laws.{EndedRunsEndCalls, HaveRun, IsTraceOf, MayComeNext, PartsAreOwn, RestedRunsArePacedToEnd, RunsArePaced, TracesGoOn}
+use Rattle.hx_law_drivers.specs.Crews.{desks_of, doubled_by, lost_by, part_of, parts_of, AreNumbered}
+use Rattle.hx_law_drivers.specs.Joined.{outs_at}
+use Rattle.hx_law_drivers.specs.Laws.{ArePostsBy, EndedRunsEndCalls, HaveRun, IsTraceOf, MayComeNext, PartsAreOwn, PutsArePosts, RestedRunsArePacedToEnd, RunsArePaced, TracesGoOn}
 use Rattle.hx_law_drivers.proofs.Desks.{one_desk}
 use Rattle.hx_law_drivers.proofs.Paced.{actors_now}
 use Rattle.hx_cluster.specs.Everyone.{actors_of}
 use Rattle.hx_gather.specs.Gathered.{IsDrawn}
-use Rattle.hx_run.specs.Closed.{fault_of, AreClosed, HasPosted, IsFirstPort, IsLeft}
-use Rattle.hx_run.specs.Ran.{delivered_to, doubled_in, is_any, is_asked, is_halt, lost_in, posts_by, taken_under, ArePortsOfActors, AreTotalsOf, HasEnd, HasNoHalts, HasOneMore, HasRisen, HaveCallsEnded, IsPortOfActor, IsRan, IsTotalOf}
+use Rattle.hx_run.specs.Closed.{fault_of, worn_in, AreClosed, HasPosted, IsFirstPort, IsLeft}
+use Rattle.hx_run.specs.Ran.{delivered_to, doubled_in, is_any, is_asked, is_dealt, is_halt, lost_in, lowest_of, posts_by, taken_under, ArePortsOfActors, AreTotalsOf, HasEnd, HasNoHalts, HasOneMore, HasRisen, HaveCallsEnded, HaveMetWorn, IsPortOfActor, IsRan, IsTotalOf, IsWorn}
 use Rattle.hx_run.specs.Rounds.{first_fault, AreOver}
 use Rattle.hx_run.proofs.Counted.{booked-posts, part-actor, posted-risen, posts-of-crew, worth, AreDealtFrom}
 use Rattle.hx_run.proofs.Leaving.{all-desks, total-map, IsSome as IsADesk}
+use Rattle.hx_run.proofs.Putting.{dealt-at, entry-stays, puts-for}
 use Rattle.hx_run.proofs.Zipped.{both-map, in-flat, some-same}
 
 -- ---- inputs
@@ -169,6 +171,25 @@ worn-desk script c a h e =
     same : (b : Actor) (o : Option Fault) → o ≡ Some (Worn b) → o ≡ Some (Worn a) → b ≡ a
     same b o p q = cc
 
+worn-fault : (o : Option Fault) (a : Actor) → worn_in o ≡ Some a → o ≡ Some (Worn a)
+worn-fault None a e = absurd cc
+worn-fault (Some Memory) a e = absurd cc
+worn-fault (Some (Worn b)) a e = ap (λ (x : Actor). Some (Worn x)) (some-same b a e)
+
+-- of several worn actors the first fault is that of the lowest driver
+lowest-worn : (crews : List Crew) (worn : Option Actor) → first_fault crews ≡ fault_of worn → worn ≡ lowest_of (map (λ (c : Crew). worn_in c.fault) crews)
+lowest-worn [] None e = refl
+lowest-worn [] (Some a) e = absurd cc
+lowest-worn (c ∷ crews) worn e = by c.fault worn e (lowest-worn crews worn)
+  where
+    by : (o : Option Fault) (worn : Option Actor) → first_some o (first_fault crews) ≡ fault_of worn → (first_fault crews ≡ fault_of worn → worn ≡ lowest_of (map (λ (c : Crew). worn_in c.fault) crews))
+        → worn ≡ first_some (worn_in o) (lowest_of (map (λ (c : Crew). worn_in c.fault) crews))
+    by None worn q k = k q
+    by (Some Memory) None q k = absurd cc
+    by (Some Memory) (Some a) q k = absurd cc
+    by (Some (Worn b)) None q k = absurd cc
+    by (Some (Worn b)) (Some a) q k = cc
+
 -- ---- one more entry
 no-halt : (input : Input) → input ≢ Halt → is_halt input ≡ false
 no-halt Tick n = refl
@@ -182,9 +203,9 @@ delivered-next a (y ∷ trace) x =
     ap (λ l. here ++ l) (delivered-next a trace x) ∙ sym (append_assoc here (delivered_to a trace) (cond (same_actor x.actor a) (told_by a x.input) []))
 
 module _ (script : Script) (clock : TableId) (w : ℕ) (start now : List Crew) (fault : Option Fault) (closed : AreClosed script clock w start now fault)
-    (own : PartsAreOwn) (paced : RunsArePaced) (rested : RestedRunsArePacedToEnd) (ended : EndedRunsEndCalls) (goes-on : TracesGoOn)
+    (own : PartsAreOwn) (paced : RunsArePaced) (rested : RestedRunsArePacedToEnd) (ended : EndedRunsEndCalls) (goes-on : TracesGoOn) (puts : PutsArePosts)
     (trace : List Entry) (merged : List Stamped) (whole : AreWholeParts (parts_in (parts_of now))) (is : IsMerged (parts_in (parts_of now)) merged) (made : trace ≡ map (λ (x : Stamped). x.entry) merged)
-    (totals : List Totals) (totals-are : totals ≡ map (λ (c : Crew). c.totals) now) where
+    (totals : List Totals) (totals-are : totals ≡ map (λ (c : Crew). c.totals) now) (dealt : AreDealtFrom script w 0 now) (numbered : AreNumbered w now) (many : length now ≡ w) where
   abbrev boxes : List Boxed
   boxes = closed.boxes
 
@@ -250,18 +271,33 @@ module _ (script : Script) (clock : TableId) (w : ℕ) (start now : List Crew) (
       flat-filter (λ (x : Entry). same_actor x.actor a) (λ (x : Entry). told_by a x.input) trace ∙ ap (flat_map (λ (x : Entry). told_by a x.input)) mine
       ∙ told-flat a d.part.items (λ z j. part-actor script d.actor d.part.items z (desk-of d i).1.own j ∙ e)
 
-  port-of : (more : List Entry) (a : Actor) (p : Ported) → IsFirstPort clock now a p → IsPrefix (delivered_to a more) (map (λ (s : Sent). s.mailed) (taken_under 0 p.view.lists)) → IsPortOfActor clock more a p
-  port-of more a p h begins = record { names = h.names; of_box = h.of_box; owner = h.owner; of_clock = h.of_clock; all = h.all; alone = h.alone; delivered = begins; order = h.order; once = h.once }
+  posted : (c : Crew) → IsIn c now → (n : ℕ) → ArePostsBy c (reverse trace) (outs_at n c.out.ports.items)
+  posted c i n = puts script clock boxes w start now run-is (reverse trace) traced c i n
+
+  port-of : (more : List Entry) → ((n : ℕ) (e : Entry) → entry_at n (reverse trace) ≡ Some e → entry_at n (reverse more) ≡ Some e)
+      → (a : Actor) (p : Ported) → IsFirstPort clock now a p → IsPrefix (delivered_to a more) (map (λ (s : Sent). s.mailed) (taken_under 0 p.view.lists)) → IsPortOfActor script w clock more a p
+  port-of more stays a p h begins = record {
+    names = h.names;
+    of_box = h.of_box;
+    owner = h.owner;
+    of_clock = h.of_clock;
+    all = h.all;
+    put = λ b i. puts-for script w now numbered dealt trace more posted stays a b (h.put b i);
+    alone = h.alone;
+    delivered = begins;
+    order = h.order;
+    once = h.once;
+  }
 
   port-begins : (a : Actor) (p : Ported) → IsFirstPort clock now a p → IsPrefix (delivered_to a trace) (map (λ (s : Sent). s.mailed) (taken_under 0 p.view.lists))
   port-begins a p h = let d = desk-of h.desk h.is in (d.0, ap (λ l. l ++ d.0) (came a h.desk h.is h.actor) ∙ d.1.told ∙ ap (map (λ (s : Sent). s.mailed)) (sym h.taken))
 
-  port-one : (a : Actor) (p : Ported) → IsFirstPort clock now a p → IsPortOfActor clock trace a p
-  port-one a p h = port-of trace a p h (port-begins a p h)
+  port-one : (a : Actor) (p : Ported) → IsFirstPort clock now a p → IsPortOfActor script w clock trace a p
+  port-one a p h = port-of trace (λ n e g. g) a p h (port-begins a p h)
 
   -- with one more entry of a desk's actor
-  port-next : (d : Desk) → IsIn d (desks_of now) → (x : Entry) → MayComeNext script (reverse trace) d x → (a : Actor) (p : Ported) → IsFirstPort clock now a p → IsPortOfActor clock (trace ++ x ∷ []) a p
-  port-next d i x next a p h = port-of (trace ++ x ∷ []) a p h (subst (λ l. IsPrefix l (map (λ (s : Sent). s.mailed) (taken_under 0 p.view.lists))) (sym (delivered-next a trace x)) (by (same_actor x.actor a) refl))
+  port-next : (d : Desk) → IsIn d (desks_of now) → (x : Entry) → MayComeNext script (reverse trace) d x → (a : Actor) (p : Ported) → IsFirstPort clock now a p → IsPortOfActor script w clock (trace ++ x ∷ []) a p
+  port-next d i x next a p h = port-of (trace ++ x ∷ []) (entry-stays trace x) a p h (subst (λ l. IsPrefix l (map (λ (s : Sent). s.mailed) (taken_under 0 p.view.lists))) (sym (delivered-next a trace x)) (by (same_actor x.actor a) refl))
     where
       by : (b : Bool) → same_actor x.actor a ≡ b → IsPrefix (delivered_to a trace ++ cond b (told_by a x.input) []) (map (λ (s : Sent). s.mailed) (taken_under 0 p.view.lists))
       by false e = subst (λ l. IsPrefix l (map (λ (s : Sent). s.mailed) (taken_under 0 p.view.lists))) (sym (append-nil (delivered_to a trace))) (port-begins a p h)
@@ -274,21 +310,19 @@ module _ (script : Script) (clock : TableId) (w : ℕ) (start now : List Crew) (
                 ∙ ap (λ b. told h.desk.part.items ++ told_by b x.input) (sym h.actor) ∙ all ∙ ap (map (λ (s : Sent). s.mailed)) (sym h.taken),
           )
 
-  module _ (a : Actor) (is-worn : fault ≡ Some (Worn a)) where
-    the-crew : (c : Crew) × IsIn c now × (c.fault ≡ Some (Worn a))
-    the-crew = first-in now (Worn a) (sym closed.over.first ∙ is-worn)
-
-    the-worn : (k : HasWorn script the-crew.0) × (k.desk.actor ≡ a)
-    the-worn = worn-desk script the-crew.0 a (each_in (IsCrew script clock boxes w) now the-crew.0 run-is.crews the-crew.1).fault the-crew.2
+  -- an actor that a driver met worn
+  module _ (c : Crew) (is-in : IsIn c now) (a : Actor) (is-worn : c.fault ≡ Some (Worn a)) where
+    the-worn : (k : HasWorn script c) × (k.desk.actor ≡ a)
+    the-worn = worn-desk script c a (each_in (IsCrew script clock boxes w) now c run-is.crews is-in).fault is-worn
 
     in-desks : IsIn the-worn.0.desk (desks_of now)
-    in-desks = desk-in now the-crew.0 the-worn.0.desk the-crew.1 the-worn.0.is
+    in-desks = desk-in now c the-worn.0.desk is-in the-worn.0.is
 
     worn-count : entries_of a (reverse trace) ≡ MOST_ENTRIES
     worn-count =
         subst (λ b. entries_of b (reverse trace) ≡ MOST_ENTRIES) the-worn.1 (desk-count the-worn.0.desk in-desks ∙ the-worn.0.most)
 
-    worn-more : (ports : List Ported) → Both (IsFirstPort clock now) (actors_of script) ports → HasOneMore script clock trace ports a
+    worn-more : (ports : List Ported) → Both (IsFirstPort clock now) (actors_of script) ports → HasOneMore script w clock trace ports a
     worn-more ports p =
         let d : Desk = the-worn.0.desk in
         let next = goes-on script clock boxes w start now run-is d in-desks the-worn.0.more (reverse trace) traced in
@@ -297,49 +331,70 @@ module _ (script : Script) (clock : TableId) (w : ℕ) (start now : List Crew) (
           actor = next.1.actor ∙ the-worn.1;
           no_halt = no-halt next.0.input next.1.no_halt;
           run = next.1.run;
-          ports_are = both-map (IsFirstPort clock now) (IsPortOfActor clock (trace ++ next.0 ∷ [])) (port-next d in-desks next.0 next.1) (actors_of script) ports p;
+          ports_are = both-map (IsFirstPort clock now) (IsPortOfActor script w clock (trace ++ next.0 ∷ [])) (port-next d in-desks next.0 next.1) (actors_of script) ports p;
         }
 
-  ends : (worn : Option Actor) → fault ≡ fault_of worn → (ports : List Ported) → Both (IsFirstPort clock now) (actors_of script) ports → HasEnd script clock trace totals ports worn
+    worn-is : (ports : List Ported) → Both (IsFirstPort clock now) (actors_of script) ports → IsWorn script w clock trace ports a
+    worn-is ports p = (worn-count, worn-more ports p)
+
+  ends : (worn : Option Actor) → fault ≡ fault_of worn → (ports : List Ported) → Both (IsFirstPort clock now) (actors_of script) ports → HasEnd script w clock trace totals ports worn
   ends None e ports p = (
     ended script clock boxes w start now run-is (closed.over.ended e) (reverse trace) traced,
     subst (λ n. IsPacedToEnd script (reverse trace) n (doubled_in totals)) lost-is (subst (λ n. IsPacedToEnd script (reverse trace) (lost_by now) n) doubled-is (rested script clock boxes w start now run-is (closed.over.rest e) (reverse trace) traced)),
   )
-  ends (Some a) e ports p = (
-    worn-count a e,
-    worn-more a e ports p,
-    subst (λ n. IsPaced script (reverse trace) n (doubled_in totals)) lost-is (subst (λ n. IsPaced script (reverse trace) (lost_by now) n) doubled-is (paced script clock boxes w start now run-is (reverse trace) traced)),
-  )
+  ends (Some a) e ports p =
+      let c = first-in now (Worn a) (sym closed.over.first ∙ e) in (
+        worn-is c.0 c.1 a c.2 ports p,
+        subst (λ n. IsPaced script (reverse trace) n (doubled_in totals)) lost-is (subst (λ n. IsPaced script (reverse trace) (lost_by now) n) doubled-is (paced script clock boxes w start now run-is (reverse trace) traced)),
+      )
 
   own-desks : AllByRecursion (λ (d : Desk). IsOwn script d.actor (entries_before d.part.items)) (desks_of now)
   own-desks = each_map (IsADesk script clock boxes w) (λ (d : Desk). IsOwn script d.actor (entries_before d.part.items)) (desks_of now) (λ d i k. k.1.own) desks
 
-  module _ (dealt : AreDealtFrom script w 0 now) (many : length now ≡ w) where
-    crew-posts : (test : _) (i : ℕ) (c : Crew) → slice_get now i ≡ Some c → posts_by test script w i trace ≡ total (worth script w test) c.desks.items
-    crew-posts test i c g = posts-of-crew script w test now merged trace is made own-desks dealt i c g
+  crew-posts : (test : _) (i : ℕ) (c : Crew) → slice_get now i ≡ Some c → posts_by test script w i trace ≡ total (worth script w test) c.desks.items
+  crew-posts test i c g = posts-of-crew script w test now merged trace is made own-desks dealt i c g
 
-    total-one : (i : ℕ) (t : Totals) → slice_get totals i ≡ Some t → IsTotalOf script w trace i t
-    total-one i t g =
-        let c = get-map (λ (c : Crew). c.totals) now i t (subst (λ l. slice_get l i ≡ Some t) totals-are g) in
-        let k = each_in (IsCrew script clock boxes w) now c.0 run-is.crews (get-in now i c.0 c.1) in
-        subst (IsTotalOf script w trace i) c.2 (record { sum = k.total; posts = booked-posts script w c.0 k.booked ∙ sym (crew-posts is_any i c.0 c.1) })
+  total-one : (i : ℕ) (t : Totals) → slice_get totals i ≡ Some t → IsTotalOf script w trace i t
+  total-one i t g =
+      let c = get-map (λ (c : Crew). c.totals) now i t (subst (λ l. slice_get l i ≡ Some t) totals-are g) in
+      let k = each_in (IsCrew script clock boxes w) now c.0 run-is.crews (get-in now i c.0 c.1) in
+      subst (IsTotalOf script w trace i) c.2 (record { sum = k.total; posts = booked-posts script w c.0 k.booked ∙ sym (crew-posts is_any i c.0 c.1) })
 
-    all-totals : AreTotalsOf script w trace totals
-    all-totals = record { count = ap length totals-are ∙ map-length (λ (c : Crew). c.totals) now ∙ many; each = total-one }
+  all-totals : AreTotalsOf script w trace totals
+  all-totals = record { count = ap length totals-are ∙ map-length (λ (c : Crew). c.totals) now ∙ many; each = total-one }
 
-    pub is-ran : (seat : Seated) → seat.clock ≡ clock → IsDrawn seat.view trace → (worn : Option Actor) → fault ≡ fault_of worn
-        → (ports : List Ported) → Both (IsFirstPort clock now) (actors_of script) ports → IsRan script w trace seat totals ports worn
-    is-ran seat same drawn worn e ports p = record {
-      run = subst (IsRun script) (sym back) runs.run;
-      no_halts = no-halts;
-      few = few-entries;
-      drawn = drawn;
-      end = subst (λ k. HasEnd script k trace totals ports worn) (sym same) (ends worn e ports p);
-      totals_are = all-totals;
-      ports_are = subst (λ k. ArePortsOfActors script k trace ports) (sym same) (both-map (IsFirstPort clock now) (IsPortOfActor clock trace) port-one (actors_of script) ports p);
-    }
+  pub is-ran : (seat : Seated) → seat.clock ≡ clock → IsDrawn seat.view trace → (worn : Option Actor) → fault ≡ fault_of worn
+      → (ports : List Ported) → Both (IsFirstPort clock now) (actors_of script) ports → IsRan script w trace seat totals ports worn
+  is-ran seat same drawn worn e ports p = record {
+    run = subst (IsRun script) (sym back) runs.run;
+    no_halts = no-halts;
+    few = few-entries;
+    drawn = drawn;
+    end = subst (λ k. HasEnd script w k trace totals ports worn) (sym same) (ends worn e ports p);
+    totals_are = all-totals;
+    ports_are = subst (λ k. ArePortsOfActors script w k trace ports) (sym same) (both-map (IsFirstPort clock now) (IsPortOfActor script w clock trace) port-one (actors_of script) ports p);
+  }
 
-    pub has-risen : (i : ℕ) (t : Totals) (f f' : FateState) → ((c : Crew) → slice_get now i ≡ Some c → HasPosted c f f') → slice_get totals i ≡ Some t → HasRisen script w trace i t f f'
-    has-risen i t f f' posted g =
-        let c = get-map (λ (c : Crew). c.totals) now i t (subst (λ l. slice_get l i ≡ Some t) totals-are g) in
-        subst (λ u. HasRisen script w trace i u f f') c.2 (posted-risen script w trace i c.0 f f' (crew-posts is_asked i c.0 c.1) (posted c.0 c.1))
+  pub has-risen : (i : ℕ) (t : Totals) (f f' : FateState) → ((c : Crew) → slice_get now i ≡ Some c → HasPosted c f f') → slice_get totals i ≡ Some t → HasRisen script w trace i t f f'
+  has-risen i t f f' posted g =
+      let c = get-map (λ (c : Crew). c.totals) now i t (subst (λ l. slice_get l i ≡ Some t) totals-are g) in
+      subst (λ u. HasRisen script w trace i u f f') c.2 (posted-risen script w trace i c.0 f f' (crew-posts is_asked i c.0 c.1) (posted c.0 c.1))
+
+  -- ---- what each driver met
+  met-one : (ports : List Ported) → Both (IsFirstPort clock now) (actors_of script) ports → (i : ℕ) (a : Actor) → slice_get (map (λ (c : Crew). worn_in c.fault) now) i ≡ Some (Some a) → (is_dealt script w i a ≡ true) × IsWorn script w clock trace ports a
+  met-one ports p i a g =
+      let c = get-map (λ (c : Crew). worn_in c.fault) now i (Some a) g in
+      let k = get-in now i c.0 c.1 in
+      let is-worn : c.0.fault ≡ Some (Worn a) = worn-fault c.0.fault a c.2 in
+      let d = the-worn c.0 k a is-worn in
+      (ap (is_dealt script w i) (sym d.1) ∙ dealt-at script w now c.0 dealt i c.1 d.0.desk d.0.is, worn-is c.0 k a is-worn ports p)
+
+  pub have-met : (seat : Seated) → seat.clock ≡ clock → (met : List (Option Actor)) → met ≡ map (λ (c : Crew). worn_in c.fault) now → (ports : List Ported) → Both (IsFirstPort clock now) (actors_of script) ports
+      → HaveMetWorn script w seat.clock trace ports met
+  have-met seat same met e ports p = subst (λ k. HaveMetWorn script w k trace ports met) (sym same) (record {
+    count = ap length e ∙ map-length (λ (c : Crew). worn_in c.fault) now ∙ many;
+    each = λ i a g. met-one ports p i a (subst (λ l. slice_get l i ≡ Some (Some a)) e g);
+  })
+
+  pub lowest-told : (worn : Option Actor) → fault ≡ fault_of worn → (met : List (Option Actor)) → met ≡ map (λ (c : Crew). worn_in c.fault) now → worn ≡ lowest_of met
+  lowest-told worn e met is = lowest-worn now worn (sym closed.over.first ∙ e) ∙ ap lowest_of (sym is)

@@ -1,5 +1,5 @@
 -- Drivers whose rounds are over and whose ports are joined, and what is left of them.
-use Rattle.std.specs.Prelude.{ℕ, ◌≡◌, ◌<◌, List, map, length, slice_get, Option, None, Some}
+use Rattle.std.specs.Prelude.{ℕ, ◌≡◌, ◌⊎◌, ◌+◌, ◌<◌, List, [], map, length, slice_get, Option, None, Some}
 use Rattle.std.specs.List.{AllByRecursion}
 use Rattle.atomic_table.specs.Seated.{TableId}
 use Rattle.hx_types.specs.declared.ids.Actor.{Actor}
@@ -7,17 +7,20 @@ use Rattle.hx_types.specs.declared.totals.Totals.{Totals}
 use Rattle.hx_types.specs.declared.traces.Script.{Script}
 use Rattle.hx_types.specs.Words.{IsIn}
 use Rattle.hx_mail.specs.declared.views.BoxNames.{BoxNames}
+use Rattle.hx_mail.specs.declared.views.Mailed.{Mailed}
+use Rattle.hx_mail.specs.declared.views.PortLists.{PortLists}
 use Rattle.hx_mail.specs.Boxes.{Boxed, Ported}
 use Rattle.hx_mail.specs.Ports.{CarriesAll, IsInOrder, IsOnce, TookAlone}
 use Rattle.hx_fate.specs.declared.fates.FateState.{FateState}
 use Rattle.hx_outbox.specs.Zipped.{Both}
 use Rattle.hx_desk.specs.declared.desks.Desk.{Desk}
 use Rattle.hx_desk.specs.declared.faults.Fault.{Fault}
-use Rattle.hx_desk.specs.declared.faults.Fault.TheVariants.{Worn}
+use Rattle.hx_desk.specs.declared.faults.Fault.TheVariants.{Memory, Worn}
 use Rattle.hx_desk.specs.Inboxes.{ins_of}
 use Rattle.hx_driver.specs.declared.crews.Crew.{Crew}
 use Rattle.hx_driver.specs.Crews.{IsPosted}
 use Rattle.hx_law_drivers.specs.Crews.{desks_of, parts_of}
+use Rattle.hx_law_drivers.specs.Joined.{outs_at}
 use Rattle.hx_law_drivers.specs.Laws.{HaveRun}
 use Rattle.hx_cluster.specs.Clusters.{AreNewCrews, IsNewCrew}
 use Rattle.hx_cluster.specs.Everyone.{actors_of}
@@ -27,6 +30,15 @@ use Rattle.hx_run.specs.declared.joining.Taker.{Taker}
 use Rattle.hx_run.specs.Ran.{taken_under}
 use Rattle.hx_run.specs.Rounds.{AreOver}
 
+-- these lists of a box are what one of the drivers put there for the actor
+pub record HasPut (crews : List Crew) (a : Actor) (b : PortLists) : Type 0 where
+  pub crew : Crew
+  pub is : IsIn crew crews
+  pub name : b.name ≡ crew.out.index + 1
+  pub place : ℕ
+  pub put : b.put ≡ outs_at place crew.out.ports.items
+  pub to : AllByRecursion (λ (m : Mailed). m.post.to ≡ a) b.put
+
 -- the first port of an actor's box took in all others: it has all names, what was taken was taken under the name 0, in order and once
 pub record IsFirstPort (clock : TableId) (crews : List Crew) (a : Actor) (p : Ported) : Type 0 where
   pub names : BoxNames
@@ -34,6 +46,7 @@ pub record IsFirstPort (clock : TableId) (crews : List Crew) (a : Actor) (p : Po
   pub owner : names.owner ≡ a
   pub of_clock : names.clock ≡ clock
   pub all : CarriesAll p.view
+  pub put : (b : PortLists) → IsIn b p.view.lists → (b.put ≡ []) ⊎ HasPut crews a b
   pub alone : TookAlone 0 p.view
   pub order : IsInOrder p.view
   pub once : IsOnce p.view
@@ -74,3 +87,9 @@ pub record HasPosted (c : Crew) (f f' : FateState) : Type 0 where
 abbrev pub fault_of : Option Actor → Option Fault
 fault_of None = None
 fault_of (Some a) = Some (Worn a)
+
+-- the actor that is worn, where that is the fault
+abbrev pub worn_in : Option Fault → Option Actor
+worn_in None = None
+worn_in (Some Memory) = None
+worn_in (Some (Worn a)) = Some a

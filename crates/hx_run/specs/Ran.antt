@@ -7,18 +7,20 @@ use Rattle.hx_types.specs.declared.calls.Caller.{Caller}
 use Rattle.hx_types.specs.declared.ids.Actor.{Actor}
 use Rattle.hx_types.specs.declared.limits.TheConstants.{MOST_ENTRIES}
 use Rattle.hx_types.specs.declared.messages.Post.{Post}
+use Rattle.hx_types.specs.declared.messages.PostId.{PostId}
 use Rattle.hx_types.specs.declared.totals.Totals.{Totals}
 use Rattle.hx_types.specs.declared.traces.Entry.{Entry}
 use Rattle.hx_types.specs.declared.traces.Input.{Input}
 use Rattle.hx_types.specs.declared.traces.Script.{Script}
 use Rattle.hx_types.specs.declared.traces.Input.TheVariants.{Tick, Halt, Deliver}
 use Rattle.hx_types.specs.Fitting.{call_of}
-use Rattle.hx_types.specs.Words.{same_actor}
+use Rattle.hx_types.specs.Words.{first_some, same_actor, IsIn}
 use Rattle.hx_model.specs.Histories.{note_of_end}
-use Rattle.hx_model.specs.Runs.{IsRun}
+use Rattle.hx_model.specs.Runs.{entry_at, IsRun}
 use Rattle.hx_model.specs.Schedule.{entries_of}
 use Rattle.hx_clock.specs.Seats.{Seated}
 use Rattle.hx_clock.specs.Views.{one, total}
+use Rattle.hx_law_threads.specs.Cuts.{times_named}
 use Rattle.hx_law_threads.specs.Pacing.{IsPaced, IsPacedToEnd}
 use Rattle.hx_mail.specs.declared.views.BoxNames.{BoxNames}
 use Rattle.hx_mail.specs.declared.views.Mailed.{Mailed}
@@ -99,37 +101,67 @@ delivered_to a trace = flat_map (λ (x : Entry). cond (same_actor x.actor a) (to
 abbrev pub taken_under : ℕ → List PortLists → List Sent
 taken_under k lists = flat_map (λ (b : PortLists). cond (eqb k b.name) b.taken []) lists
 
--- the port is of the actor's box, whose letters are of this clock, and carries all its names; what the actor's entries deliver is, in order, a prefix of what was taken under the name 0, and nothing was taken under another; of what each name put, what was taken is, in order, a prefix, and no put was taken twice
-pub record IsPortOfActor (clock : TableId) (trace : List Entry) (a : Actor) (p : Ported) : Type 0 where
+-- a post of the trace, for the actor a: an actor of the driver made it whose ports have this name, which is i + 1 for driver i
+pub record IsPostFor (script : Script) (w : ℕ) (trace : List Entry) (a : Actor) (name : ℕ) (m : Mailed) : Type 0 where
+  pub entry : Entry
+  pub made : entry_at m.id.entry (reverse trace) ≡ Some entry
+  pub post : slice_get entry.outputs m.id.place ≡ Some m.post
+  pub to : m.post.to ≡ a
+  pub driver : ℕ
+  pub named : name ≡ driver + 1
+  pub dealt : is_dealt script w driver entry.actor ≡ true
+
+-- each of these is such a post, and none of them came more than twice
+pub record ArePostsFor (script : Script) (w : ℕ) (trace : List Entry) (a : Actor) (name : ℕ) (ms : List Mailed) : Type 0 where
+  pub each : AllByRecursion (IsPostFor script w trace a name) ms
+  pub twice : (id : PostId) → times_named id (map (λ (m : Mailed). m.id) ms) ≤ 2
+
+-- the port is of the actor's box, whose letters are of this clock, and carries all its names; what each name put are posts of the trace that its driver's actors made for this one, so that the first name put nothing; what the actor's entries deliver is, in order, a prefix of what was taken under the name 0, and nothing was taken under another; of what each name put, what was taken is, in order, a prefix, and no put was taken twice
+pub record IsPortOfActor (script : Script) (w : ℕ) (clock : TableId) (trace : List Entry) (a : Actor) (p : Ported) : Type 0 where
   pub names : BoxNames
   pub of_box : p.view.of_box ≡ Some names
   pub owner : names.owner ≡ a
   pub of_clock : names.clock ≡ clock
   pub all : CarriesAll p.view
+  pub put : (b : PortLists) → IsIn b p.view.lists → ArePostsFor script w trace a b.name b.put
   pub alone : TookAlone 0 p.view
   pub delivered : IsPrefix (delivered_to a trace) (map (λ (s : Sent). s.mailed) (taken_under 0 p.view.lists))
   pub order : IsInOrder p.view
   pub once : IsOnce p.view
 
-abbrev pub ArePortsOfActors : Script → TableId → List Entry → List Ported → Type 0
-ArePortsOfActors script clock trace ports = Both (IsPortOfActor clock trace) (actors_of script) ports
+abbrev pub ArePortsOfActors : Script → ℕ → TableId → List Entry → List Ported → Type 0
+ArePortsOfActors script w clock trace ports = Both (IsPortOfActor script w clock trace) (actors_of script) ports
 
 -- ---- all of it
 
--- with one more entry of the actor, which is no halt, the trace is still a run, and what its entries deliver is still a prefix of what was taken
-pub record HasOneMore (script : Script) (clock : TableId) (trace : List Entry) (ports : List Ported) (a : Actor) : Type 0 where
+-- with one more entry of the actor, which is no halt, the trace is still a run, and what its entries deliver is still a prefix of what was taken; where that entry is a retry, it isn't said that it would be the actor's first after the last cut, so that it was due
+pub record HasOneMore (script : Script) (w : ℕ) (clock : TableId) (trace : List Entry) (ports : List Ported) (a : Actor) : Type 0 where
   pub entry : Entry
   pub actor : entry.actor ≡ a
   pub no_halt : is_halt entry.input ≡ false
   pub run : IsRun script (entry ∷ reverse trace)
-  pub ports_are : ArePortsOfActors script clock (trace ++ entry ∷ []) ports
+  pub ports_are : ArePortsOfActors script w clock (trace ++ entry ∷ []) ports
 
--- where no actor was worn, every call ended, and the trace is paced to its end; a worn actor made all the entries that it may make, and has one more to make
-abbrev pub HasEnd : Script → TableId → List Entry → List Totals → List Ported → Option Actor → Type 0
-HasEnd script clock trace totals ports None =
+-- the actor made all the entries that it may make, and has one more to make
+abbrev pub IsWorn : Script → ℕ → TableId → List Entry → List Ported → Actor → Type 0
+IsWorn script w clock trace ports a = (entries_of a (reverse trace) ≡ MOST_ENTRIES) × HasOneMore script w clock trace ports a
+
+-- for each driver the actor that it met worn, if it met one: one of its own
+pub record HaveMetWorn (script : Script) (w : ℕ) (clock : TableId) (trace : List Entry) (ports : List Ported) (met : List (Option Actor)) : Type 0 where
+  pub count : length met ≡ w
+  pub each : (i : ℕ) (a : Actor) → slice_get met i ≡ Some (Some a) → (is_dealt script w i a ≡ true) × IsWorn script w clock trace ports a
+
+-- of several that drivers met, the one of the lowest driver
+abbrev pub lowest_of : List (Option Actor) → Option Actor
+lowest_of [] = None
+lowest_of (worn ∷ later) = first_some worn (lowest_of later)
+
+-- where no actor was worn, every call ended, and the trace is paced to its end; where one was, it is paced up to there
+abbrev pub HasEnd : Script → ℕ → TableId → List Entry → List Totals → List Ported → Option Actor → Type 0
+HasEnd script w clock trace totals ports None =
     HaveCallsEnded script trace × IsPacedToEnd script (reverse trace) (lost_in totals) (doubled_in totals)
-HasEnd script clock trace totals ports (Some a) =
-    (entries_of a (reverse trace) ≡ MOST_ENTRIES) × HasOneMore script clock trace ports a × IsPaced script (reverse trace) (lost_in totals) (doubled_in totals)
+HasEnd script w clock trace totals ports (Some a) =
+    IsWorn script w clock trace ports a × IsPaced script (reverse trace) (lost_in totals) (doubled_in totals)
 
 -- what drivers of w threads made of a script; no actor made more entries than it may, and the seat of the clock has all entries, each with the stamp that says its place
 pub record IsRan (script : Script) (w : ℕ) (trace : List Entry) (seat : Seated) (totals : List Totals) (ports : List Ported) (worn : Option Actor) : Type 0 where
@@ -137,6 +169,6 @@ pub record IsRan (script : Script) (w : ℕ) (trace : List Entry) (seat : Seated
   pub no_halts : HasNoHalts trace
   pub few : (a : Actor) → entries_of a (reverse trace) ≤ MOST_ENTRIES
   pub drawn : IsDrawn seat.view trace
-  pub end : HasEnd script seat.clock trace totals ports worn
+  pub end : HasEnd script w seat.clock trace totals ports worn
   pub totals_are : AreTotalsOf script w trace totals
-  pub ports_are : ArePortsOfActors script seat.clock trace ports
+  pub ports_are : ArePortsOfActors script w seat.clock trace ports

@@ -9,7 +9,8 @@ use hx_types::Script;
 
 /// Whether as many envelopes of a driver's name were taken for an actor as the driver put for it.
 fn has_heard(script: &Script, crew: &Crew, desk: &Desk) -> bool
-    ensures { result ≡ true → HasHeard script.now desk.now crew.now }
+    ensures yes { result ≡ true → HasHeard script.now desk.now crew.now }
+    ensures no { HasHeard script.now desk.now crew.now → result ≡ true }
 {
     let name = crew.out.index as usize + 1;
     let place = place_of(&script.space, desk.actor);
@@ -24,7 +25,8 @@ fn has_heard(script: &Script, crew: &Crew, desk: &Desk) -> bool
 
 /// The same of all drivers.
 fn has_heard_all(script: &Script, drivers: &[Driver], desk: &Desk) -> bool
-    ensures { result ≡ true → AllByRecursion (λ d. HasHeard script.now desk.now d.crew) drivers.now }
+    ensures yes { result ≡ true → AllByRecursion (λ d. HasHeard script.now desk.now d.crew) drivers.now }
+    ensures no { AllByRecursion (λ d. HasHeard script.now desk.now d.crew) drivers.now → result ≡ true }
 {
     for at in 0..drivers.len() {
         if !has_heard(script, &drivers[at].crew, desk) {
@@ -38,7 +40,8 @@ fn has_heard_all(script: &Script, drivers: &[Driver], desk: &Desk) -> bool
 /// was put for it was taken.
 fn is_rested(script: &Script, drivers: &[Driver], desk: &Desk) -> bool
     requires machine { HasMachine script.now desk.now }
-    ensures { result ≡ true → IsRested script.now (map (λ d. d.crew) drivers.now) desk.now }
+    ensures yes { result ≡ true → IsRested script.now (map (λ d. d.crew) drivers.now) desk.now }
+    ensures no { IsRested script.now (map (λ d. d.crew) drivers.now) desk.now → result ≡ true }
 {
     if desk.kept.len() != 0 {
         return false;
@@ -54,6 +57,7 @@ fn is_crew_rested(script: &Script, drivers: &[Driver], crew: &Crew) -> bool
     requires machines { HaveMachines script.now crew.now }
     ensures calm { result ≡ true → crew.now.fault ≡ None }
     ensures rested { result ≡ true → AllByRecursion (IsRested script.now (map (λ d. d.crew) drivers.now)) crew.now.desks.items }
+    ensures no { crew.now.fault ≡ None → AllByRecursion (IsRested script.now (map (λ d. d.crew) drivers.now)) crew.now.desks.items → result ≡ true }
 {
     if crew.fault.is_some() {
         return false;
@@ -70,7 +74,8 @@ fn is_crew_rested(script: &Script, drivers: &[Driver], crew: &Crew) -> bool
 /// begin its next call.
 pub fn at_rest(script: &Script, drivers: &[Driver]) -> bool
     requires machines { AllByRecursion (HaveMachines script.now) (map (λ d. d.crew) drivers.now) }
-    ensures { result ≡ true → AreAtRest script.now (map (λ d. d.crew) drivers.now) }
+    ensures yes { result ≡ true → AreAtRest script.now (map (λ d. d.crew) drivers.now) }
+    ensures no { AreAtRest script.now (map (λ d. d.crew) drivers.now) → result ≡ true }
 {
     for at in 0..drivers.len() {
         if !is_crew_rested(script, drivers, &drivers[at].crew) {

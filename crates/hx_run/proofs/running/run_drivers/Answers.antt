@@ -1,7 +1,8 @@
 use Rattle.std.proofs.Common.{◌≡◌, ◌∙◌, ap, sym, subst, arith, length, map, drop}
 use Rattle.hx_outbox.specs.Places.{AreBoxes}
 use Rattle.hx_outbox.proofs.Outs.{both-long}
-use Rattle.hx_run.proofs.Ends.{actors-need, all-posted, closed-of, crews-need, how-long, left-same, lent-crews}
+use Rattle.hx_run.specs.Closed.{worn_in}
+use Rattle.hx_run.proofs.Ends.{actors-need, all-met, all-posted, closed-of, crews-need, how-long, left-same, lent-crews}
 use Rattle.hx_run.proofs.Starts.{cut-same}
 use Rattle.hx_run.proofs.running.run_drivers.Goals as goal
 
@@ -40,6 +41,7 @@ returns g c =
         map (λ d. d.crew) news,
         closed-of (λ d. d.crew) c.args.script.now c.args.clock.now c.as_slice-held.result.now c.args.workers xs c.as_mut_slice.result.now news _ c.as_mut_slice.ensures.value stays c.in_ok-drivers.ensures.crews c.run_rounds-fault.ensures.crews c.run_rounds-fault.ensures.course c.run_rounds-fault.result c.requires.script (subst (AreBoxes c.args.script.now c.args.clock.now) (sym c.as_slice-held.ensures.value) c.in_ok-boxes.ensures.boxes) c.run_rounds-fault.ensures.over c.in_ok-left.ensures.order c.in_ok-left.ensures.once,
         left-same (λ d. d.crew) c.args.script.now c.args.clock.now c.as_slice-held.result.now c.args.workers xs c.as_mut_slice.result.now news _ c.as_mut_slice.ensures.value stays c.in_ok-drivers.ensures.crews c.run_rounds-fault.ensures.crews c.run_rounds-fault.ensures.course c.in_ok-left.left.actors.items c.in_ok-left.left.totals.items c.in_ok-left.left.ports.items c.in_ok-left.ensures.left,
+        all-met (λ d. d.crew) c.args.script.now c.args.clock.now c.as_slice-held.result.now c.args.workers xs c.as_mut_slice.result.now news _ c.as_mut_slice.ensures.value stays c.in_ok-drivers.ensures.crews c.run_rounds-fault.ensures.crews c.run_rounds-fault.ensures.course (λ c. worn_in c.fault) _ c.in_ok-met_worn.met_worn.items (c.in_ok-met_worn.ensures ∙ ap (map (λ d. worn_in d.crew.fault)) c.as_slice.ensures.value) stays,
         how-long (λ d. d.crew) c.args.script.now c.args.clock.now c.as_slice-held.result.now c.args.workers xs c.as_mut_slice.result.now news _ c.as_mut_slice.ensures.value stays c.in_ok-drivers.ensures.crews c.run_rounds-fault.ensures.crews c.run_rounds-fault.ensures.course (λ d. d.fate) c.in_ok-left.left.fates.items c.in_ok-left.ensures.fates long,
         all-posted (λ d. d.crew) c.args.script.now c.args.clock.now c.as_slice-held.result.now c.args.workers xs c.as_mut_slice.result.now news _ c.as_mut_slice.ensures.value stays c.in_ok-drivers.ensures.crews c.run_rounds-fault.ensures.crews c.run_rounds-fault.ensures.course (λ d. d.fate) (λ x. (goal.Fate-dyn g (x.vtable, x.value)).state x.value) c.args.fates.items c.in_ok-left.left.fates.items c.run_rounds-fault.ensures.posted
             c.in_ok-drivers.ensures.fates c.in_ok-left.ensures.fates,
