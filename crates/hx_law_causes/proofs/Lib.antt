@@ -13,4 +13,3 @@ pub mod Headline
 pub mod Replaying
 mod Example
 mod PresentExample
-mod Coming
