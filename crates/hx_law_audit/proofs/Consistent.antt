@@ -1,5 +1,5 @@
 -- A block whose lines keep every clause is consistent.
-use Rattle.std.proofs.Common.{◌≡◌, ◌≢◌, ℕ, zero, suc, ◌⊎◌, inl, inr, Bool, true, false, not, ◌&&◌, ◌||◌, List, [], ◌∷◌, ◌++◌, map, take, reverse, cond, Option, None, Some, refl, sym, ap, ◌∙◌, subst, append_assoc}
+use Rattle.std.proofs.Common.{◌≡◌, ◌≢◌, ℕ, zero, suc, ◌⊎◌, inl, inr, Bool, true, false, not, ◌&&◌, List, [], ◌∷◌, ◌++◌, map, take, reverse, cond, Option, None, Some, refl, sym, ap, ◌∙◌, subst, append_assoc}
 use Rattle.std.specs.List.{find, list_all, list_any, slice_get}
 use Rattle.std.specs.Option.{IfSome, is_some, option_map}
 use Rattle.std.proofs.lemmas.Bool.{and_from, and_parts, false≢true, not-true, or_left, or_right}
@@ -11,8 +11,6 @@ use Rattle.hx_types.specs.declared.calls.Op.{Op}
 use Rattle.hx_types.specs.declared.calls.Op.TheVariants.{Search}
 use Rattle.hx_types.specs.declared.calls.Row.{Row}
 use Rattle.hx_types.specs.declared.histories.Item.{Item}
-use Rattle.hx_types.specs.declared.spaces.Space.{Space}
-use Rattle.hx_types.specs.declared.values.Value.{Value}
 use Rattle.hx_types.specs.Effects.{key_of}
 use Rattle.hx_types.specs.Fitting.{is_refused}
 use Rattle.hx_types.specs.Posts.{keys_ascend}
@@ -26,8 +24,8 @@ use Rattle.hx_report_lines.specs.declared.blocks.Block.{Block}
 use Rattle.hx_report_lines.specs.declared.calls.CallLine.{CallLine}
 use Rattle.hx_report_lines.specs.declared.histories.HistoryLines.{HistoryLines}
 use Rattle.hx_report_lines.specs.declared.histories.ItemLine.{ItemLine}
-use Rattle.hx_audit.specs.Accounts.{Account, IsAnsweredBy, IsCallBy, IsLinearBy, IsSearchTrueBy, IsTrueRowBy, ended_before, was_refused}
-use Rattle.hx_audit.specs.Clauses.{HasItem, IsEffectOfCall, IsInTime, IsItemOfCall, IsKnown, IsRowOf, IsTrueAt, ended_before_begin, is_above, is_in_time, is_known, is_on, is_refused_call, row_above}
+use Rattle.hx_audit.specs.Accounts.{IsAnsweredBy, IsCallBy, IsSearchTrueBy, IsTrueRowBy, ended_before}
+use Rattle.hx_audit.specs.Clauses.{HasItem, IsEffectOfCall, IsInTime, IsKnown, IsRowOf, IsTrueAt, ended_before_begin, is_above, is_in_time, is_known, is_on, is_refused_call, row_above}
 use Rattle.hx_audit.specs.Told.{account_of, call_at, end_told, item_told, items_at, op_told, same_caller, search_told}
 use Rattle.hx_audit.proofs.Callers.{one_caller, same_self}
 use Rattle.hx_audit.proofs.Keys.{one_key}

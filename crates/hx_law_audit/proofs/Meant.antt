@@ -1,12 +1,9 @@
 -- Where the verdict is yes, each block is consistent.
-use Rattle.std.proofs.Common.{◌≡◌, ℕ, suc, List, [], reverse, map, subst}
-use Rattle.hx_types.specs.declared.histories.Item.{Item}
+use Rattle.std.proofs.Common.{suc}
 use Rattle.hx_types.specs.Words.{IsIn}
 use Rattle.hx_report_lines.specs.declared.blocks.Block.{Block}
 use Rattle.hx_report_lines.specs.declared.histories.HistoryLines.{HistoryLines}
 use Rattle.hx_audit.specs.declared.verdicts.Clause.TheVariants as clauses
-use Rattle.hx_audit.specs.Accounts.{IsCallBy, IsLinearBy}
-use Rattle.hx_audit.specs.Told.{account_of, item_told}
 use Rattle.hx_report_lines.specs.Values.{ReportValue}
 use Rattle.hx_audit.specs.declared.verdicts.Verdict.TheVariants as verdicts
 use Rattle.hx_audit.specs.Verdicts.{IsVerdict}

@@ -1,5 +1,5 @@
 -- What is kept at every line of a report is kept by the calls and histories of each block.
-use Rattle.std.proofs.Common.{◌≡◌, ℕ, ◌+◌, ◌⊎◌, inl, inr, List, [], ◌∷◌, ◌++◌, refl, sym, subst}
+use Rattle.std.proofs.Common.{ℕ, ◌+◌, inl, inr, List, [], ◌∷◌, ◌++◌, refl, sym, subst}
 use Rattle.hx_types.specs.Words.{IsIn}
 use Rattle.hx_report_lines.specs.declared.blocks.Block.{Block}
 use Rattle.hx_report_lines.specs.declared.calls.CallLine.{CallLine}
