@@ -21,7 +21,7 @@ use Rattle.hx_law_growing.proofs.Runs.{within}
 use Rattle.hx_service.specs.Laws.{FreeSessionsRest, IsAtRest}
 use Rattle.hx_service.specs.Receipts.{IsFree}
 use Rattle.hx_service.specs.Services.{ServiceState}
-use Rattle.hx_share.specs.Sharing.{HasNone}
+use Rattle.hx_service.specs.Rosters.{HasNone}
 
 in_front : (xs ys : List ℕ) (k : ℕ) → IsIn k xs → IsIn k (xs ++ ys)
 in_front [] ys k i = absurd i
