@@ -1,5 +1,5 @@
 -- Where nothing is left to do of the calls that were made, and no further call of the plan can be made, nothing is left of the plan.
-use Rattle.std.proofs.Common.{◌≡◌, refl, ℕ, zero, suc, ◌+◌, ◌-◌, ◌<◌, ◌≤◌, Bool, true, false, ◌&&◌, not, ltb, leb, cond, List, [], ◌∷◌, ◌++◌, length, inl, inr, Option, None, Some, sym, ap, ◌∙◌, subst, arith, slice_get, reverse}
+use Rattle.std.proofs.Common.{◌≡◌, refl, ℕ, zero, suc, ◌+◌, ◌-◌, ◌<◌, ◌≤◌, Bool, true, false, ◌&&◌, not, ltb, leb, cond, List, [], ◌∷◌, ◌++◌, length, inl, inr, Option, None, Some, sym, ap, ◌∙◌, subst, arith, reverse}
 use Rattle.std.specs.Option.{option_map}
 use Rattle.std.proofs.lemmas.Bool.{cases_lt, le-leb, lt-ltb, ltb-false, false≢true}
 use Rattle.std.proofs.lemmas.Option.{slice_get_past}

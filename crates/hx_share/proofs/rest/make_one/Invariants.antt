@@ -1,4 +1,4 @@
-use Rattle.std.proofs.Common.{◌≡◌, ◌≤◌, ◌+◌}
+use Rattle.std.proofs.Common.{◌≡◌, ◌≤◌}
 use Rattle.hx_types.specs.declared.ids.SessionId.{SessionId}
 use Rattle.hx_service.specs.Rosters.{HasNone}
 use Rattle.hx_share.proofs.rest.make_one.Given as goal
