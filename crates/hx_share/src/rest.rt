@@ -1,8 +1,7 @@
-ghost use Rattle.std.specs.Prelude.{◌≡◌, ◌⊎◌, ◌<◌, ℕ, true, false, length, reverse, Ok, Err, IfErr, OnOk, Some};
-ghost use Rattle.hx_law_growing.specs.Growing.{GrowsTo, calls_in};
+ghost use Rattle.std.specs.Prelude.{◌≡◌, ◌<◌, true, false, length, reverse, Ok, IfErr, OnOk};
+ghost use Rattle.hx_law_growing.specs.Growing.{calls_in};
 ghost use Rattle.hx_model.specs.Runs.{is_actor};
 ghost use Rattle.hx_model.specs.Schedule.{IsQuiet};
-ghost use Rattle.hx_types.specs.Fitting.{calls_of};
 ghost use Rattle.hx_types.specs.declared.ids.Actor.TheVariants as an_actor;
 ghost use Rattle.hx_types.specs.declared.ids.SessionId.{SessionId as SessionSeen};
 ghost use Rattle.hx_service.specs.Rosters.{HasNone};
