@@ -39,12 +39,7 @@ fn ended_by(stopped: Stopped, trace: Trace) -> Result<Ended, Memory>
 
 /// Runs a world whose script's steps were taken by the schedule, until there is nothing left to do
 /// or an actor is worn.
-fn finish(
-    alloc: Global,
-    script: &Script,
-    with_trace: bool,
-    world: World<'_>,
-) -> Result<Ended, Memory>
+fn finish(alloc: Global, script: &Script, with_trace: bool, world: World) -> Result<Ended, Memory>
     requires valid { IsScript script.now }
     requires script { world.script ≡ script.now }
     requires taken { AreTaken script.now }

@@ -1,6 +1,7 @@
 -- A session as contracts see it, and which inputs it can take.
-use Rattle.std.specs.Prelude.{ℕ, ◌<◌, ◌≤◌, ◌^◌, Bool, not, ◌&&◌, nat_lt, length, List, ◌∷◌, ◌++◌, ⊤}
+use Rattle.std.specs.Prelude.{ℕ, ◌<◌, ◌≤◌, ◌^◌, Bool, not, ◌&&◌, nat_lt, length, List, [], ◌∷◌, ◌++◌, ⊤}
 use Rattle.std.specs.List.{flat_map}
+use Rattle.hx_types.specs.declared.calls.Op.{Op}
 use Rattle.hx_types.specs.declared.messages.Message.{Message}
 use Rattle.hx_types.specs.declared.ids.Actor.{Actor}
 use Rattle.hx_types.specs.declared.ids.SessionId.{SessionId}
@@ -49,3 +50,7 @@ known_to s input = Coordinator ∷ actors_of_config s.config ++ flat_map actors_
 -- the session's epoch isn't above the bound
 abbrev pub SessionUpTo : ℕ → SessionState → Type 0
 SessionUpTo most s = s.config.epoch.0 ≤ most
+
+-- the session with one more call
+abbrev pub with_call : Op → SessionState → SessionState
+with_call op s = record s { calls = s.calls ++ op ∷ [] }

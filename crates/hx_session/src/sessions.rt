@@ -1,14 +1,15 @@
-ghost use Rattle.std.specs.Prelude.{◌≡◌, ℕ, ◌≤◌, ◌+◌, true, false, length, slice_get, IfOk, IsSomeAnd, None, if◌then◌else◌};
+ghost use Rattle.std.specs.Prelude.{◌≡◌, ℕ, ◌<◌, ◌≤◌, ◌+◌, true, false, length, slice_get, IfOk, IsSomeAnd, None, OnErr, OnOk, if◌then◌else◌};
 ghost use Rattle.std.specs.List.{All};
 ghost use Rattle.std.specs.Option.{option_copied};
 ghost use Rattle.hx_types.specs.Configs.{first_config};
 ghost use Rattle.hx_types.specs.Fitting.{numbered};
+ghost use Rattle.hx_types.specs.declared.limits.TheConstants.{MOST_CALLS};
 ghost use Rattle.hx_types.specs.Spaces.{Fits, IsSpace};
 ghost use Rattle.hx_model.specs.Schedule.{is_idle};
 ghost use Rattle.hx_model.specs.SessionSteps.{Part as PartSeen, awaits, begin, call_under_way, end_with_parts, ending, found_step, session_at_start, session_install, session_message, session_step, session_tick, staying};
 ghost use Rattle.hx_session.specs.Changes.{IsOutputOf, IsPlanOn, in_config, sent_anew, with_parts};
 ghost use Rattle.hx_types.specs.Posted.{ArePostsOf, InputUpTo, NameOnly, PostsUpTo};
-ghost use Rattle.hx_session.specs.Sessions.{CanTake, SessionUpTo, is_ended, known_to};
+ghost use Rattle.hx_session.specs.Sessions.{CanTake, SessionUpTo, is_ended, known_to, with_call};
 ghost use Rattle.hx_session.specs.Kinds.{kind_test};
 
 use crate::kinds::{CallKind, is_of};
@@ -117,6 +118,20 @@ impl Session {
             },
             parts: Parts::new(alloc),
         })
+    }
+
+    /// Appends a call to those that the session makes, and gives its number, from 1. Where there is no
+    /// memory the session stays and the call is dropped.
+    pub fn submit(&mut self, _alloc: Global, op: Op) -> Result<u32, Memory>
+        requires fits { Fits self.old.space op }
+        requires few { length self.old.state.calls < MOST_CALLS }
+        ensures number { IfOk result (λ n. n ≡ length self.old.state.calls + 1) }
+        ensures ok { OnOk result (self.new.state ≡ with_call op self.old.state) }
+        ensures err { OnErr result (self.new.state ≡ self.old.state) }
+        ensures space { self.new.space ≡ self.old.space }
+    {
+        self.calls.push(op)?;
+        Ok(self.calls.len() as u32)
     }
 
     /// Computes the step that this input makes, and takes all memory that it needs. Nothing

@@ -12,3 +12,4 @@ pub mod Scheduling
 pub mod Delivering
 pub mod Beginning
 pub mod Spending
+pub mod Submitted

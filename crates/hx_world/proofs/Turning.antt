@@ -254,10 +254,10 @@ module _ (script : Script) (actors : Actors) (log : Log) (w : IsWorldOn script a
     pub session_in : u.0 - 1 < vec_len actors.sessions
     session_in = let h = calls_here in let n = w.sessions_are.count in omega (arith, h.0, h.1, n, actors.sessions.ok.0)
 
-    session_is : session_at (u.0 - 1) ≡ u
+    pub session_is : session_at (u.0 - 1) ≡ u
     session_is = let low = session_low in let e : u.0 - 1 + 1 ≡ u.0 = omega (arith, low) in λ i. record { 0 = e i }
 
-    session_here : (x : CountedSession) → x ≡ get_or actors.sessions.items (u.0 - 1) x → IsSessionAt script t (u.0 - 1) x
+    pub session_here : (x : CountedSession) → x ≡ get_or actors.sessions.items (u.0 - 1) x → IsSessionAt script t (u.0 - 1) x
     session_here x e = w.sessions_are.each (u.0 - 1) x (item_read actors.sessions.items (u.0 - 1) x (let within = session_in in omega (arith, within, actors.sessions.ok.0)) e)
 
     -- it can take the input
@@ -275,6 +275,21 @@ module _ (script : Script) (actors : Actors) (log : Log) (w : IsWorldOn script a
     may_attend x e input may =
         let number : x.session.state.id ≡ u = ap (λ (y : SessionState). y.id) (session_here x e).state ∙ session_id script t w.past (session_at (u.0 - 1)) ∙ session_is in
         subst (λ (v : SessionId). MayTake t (Session v) input) (sym number) may
+
+    -- it is as before
+    pub unattended : (x : CountedSession) → x ≡ get_or actors.sessions.items (u.0 - 1) x → (after_session : CountedSession) (actors_after : Actors) (same : Log) → counted_session.IsSameSession x after_session → IsSameLog log same
+        → actors_after.coordinator ≡ actors.coordinator → actors_after.servers.items ≡ actors.servers.items → actors_after.sessions.items ≡ set actors.sessions.items (u.0 - 1) after_session
+        → IsWorldOn script actors_after same
+    unattended x read after_session actors_after same kept logs coordinator servers sessions =
+        let at = session_here x read in
+        world_with script actors actors_after log same w logs
+        (subst (λ (l : List CountedServer). AreAt script.space.servers (IsServerAt script t) l) (sym servers) w.servers_are)
+        (
+        at_set (length script.sessions) (IsSessionAt script t) (IsSessionAt script t) actors.sessions.items actors_after.sessions.items (u.0 - 1) after_session w.sessions_are sessions
+        (record { space = kept.space ∙ at.space; state = kept.state ∙ at.state; entries = kept.entries ∙ at.entries })
+        (λ j y differ k. k)
+        )
+        (subst (IsCoordinatorAfter script t) (sym coordinator) w.coordinator_is)
 
     module _ (x : CountedSession) (read : x ≡ get_or actors.sessions.items (u.0 - 1) x) (input : Input) where
       attended_is : session.session_entry x.session.space x.session.state input ≡ entry_by script t (given (Session (session_at (u.0 - 1))) input)
@@ -316,18 +331,3 @@ module _ (script : Script) (actors : Actors) (log : Log) (w : IsWorldOn script a
       not_attended error b =
           subst (λ (v : SessionId). HasNoTurn script t (Session v) input error) session_is
           (no_turn script t (Session (session_at (u.0 - 1))) input (session.session_entry x.session.space x.session.state input) x.entries error attended_is (session_here x read).entries refl b)
-
-      -- it is as before
-      pub unattended : (after_session : CountedSession) (actors_after : Actors) (same : Log) → counted_session.IsSameSession x after_session → IsSameLog log same
-          → actors_after.coordinator ≡ actors.coordinator → actors_after.servers.items ≡ actors.servers.items → actors_after.sessions.items ≡ set actors.sessions.items (u.0 - 1) after_session
-          → IsWorldOn script actors_after same
-      unattended after_session actors_after same kept logs coordinator servers sessions =
-          let at = session_here x read in
-          world_with script actors actors_after log same w logs
-          (subst (λ (l : List CountedServer). AreAt script.space.servers (IsServerAt script t) l) (sym servers) w.servers_are)
-          (
-          at_set (length script.sessions) (IsSessionAt script t) (IsSessionAt script t) actors.sessions.items actors_after.sessions.items (u.0 - 1) after_session w.sessions_are sessions
-          (record { space = kept.space ∙ at.space; state = kept.state ∙ at.state; entries = kept.entries ∙ at.entries })
-          (λ j y differ k. k)
-          )
-          (subst (IsCoordinatorAfter script t) (sym coordinator) w.coordinator_is)

@@ -85,4 +85,4 @@ IsWorldOn script actors log =
     IsWorldOf script (reverse log.trace) actors.servers.items actors.sessions.items actors.coordinator log.waiting.items
 
 abbrev pub IsWorld : Cluster → Type 0
-IsWorld cluster = IsWorldOn cluster.script.now cluster.actors cluster.log
+IsWorld cluster = IsWorldOn cluster.script cluster.actors cluster.log

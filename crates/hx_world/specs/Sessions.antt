@@ -1,6 +1,8 @@
 -- A session of a world before and after one of its entries.
 use Rattle.std.specs.Prelude.{◌≡◌, ◌+◌}
+use Rattle.hx_types.specs.declared.calls.Op.{Op}
 use Rattle.hx_types.specs.declared.traces.Input.{Input}
+use Rattle.hx_session.specs.Sessions.{with_call}
 use Rattle.hx_model.specs.SessionSteps.{session_step}
 use Rattle.hx_world.specs.declared.sessions.CountedSession.{CountedSession}
 
@@ -14,4 +16,10 @@ pub record HasTaken (old new : CountedSession) (input : Input) : Type 0 where
 pub record IsSameSession (old new : CountedSession) : Type 0 where
   pub space : new.session.space ≡ old.session.space
   pub state : new.session.state ≡ old.session.state
+  pub entries : new.entries ≡ old.entries
+
+-- the session has one more call
+pub record HasCall (old new : CountedSession) (op : Op) : Type 0 where
+  pub space : new.session.space ≡ old.session.space
+  pub state : new.session.state ≡ with_call op old.session.state
   pub entries : new.entries ≡ old.entries

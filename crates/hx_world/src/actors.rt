@@ -32,8 +32,8 @@ impl Drop for Actors {
 /// Whether an actor has halted. Only servers do.
 pub fn has_halted(cluster: &Cluster, actor: Actor) -> bool
     requires world { IsWorld cluster.now }
-    requires actor { is_actor cluster.now.script.now actor ≡ true }
-    ensures { result ≡ has_halted cluster.now.script.now (reverse cluster.now.log.trace) actor }
+    requires actor { is_actor cluster.now.script actor ≡ true }
+    ensures { result ≡ has_halted cluster.now.script (reverse cluster.now.log.trace) actor }
 {
     match actor {
         Actor::Server(server) => {
@@ -52,12 +52,12 @@ pub fn actor_takes(
     input: Input,
 ) -> Result<(), StepError>
     requires world { IsWorld cluster.old }
-    requires actor { is_actor cluster.old.script.now actor ≡ true }
+    requires actor { is_actor cluster.old.script actor ≡ true }
     requires may { MayTake (reverse cluster.old.log.trace) actor input }
     ensures world { IsWorld cluster.new }
-    ensures script { cluster.new.script.now ≡ cluster.old.script.now }
-    ensures ok { OnOk result (HasTurn cluster.old.script.now (reverse cluster.old.log.trace) (reverse cluster.new.log.trace) actor input) }
-    ensures err { IfErr result (HasNoTurn cluster.old.script.now (reverse cluster.old.log.trace) actor input) }
+    ensures script { cluster.new.script ≡ cluster.old.script }
+    ensures ok { OnOk result (HasTurn cluster.old.script (reverse cluster.old.log.trace) (reverse cluster.new.log.trace) actor input) }
+    ensures err { IfErr result (HasNoTurn cluster.old.script (reverse cluster.old.log.trace) actor input) }
     ensures same { OnErr result (cluster.new.log.trace ≡ cluster.old.log.trace) }
 {
     if has_halted(cluster, actor) {
@@ -74,13 +74,13 @@ pub fn running_takes(
     input: Input,
 ) -> Result<(), StepError>
     requires world { IsWorld cluster.old }
-    requires actor { is_actor cluster.old.script.now actor ≡ true }
-    requires running { has_halted cluster.old.script.now (reverse cluster.old.log.trace) actor ≡ false }
+    requires actor { is_actor cluster.old.script actor ≡ true }
+    requires running { has_halted cluster.old.script (reverse cluster.old.log.trace) actor ≡ false }
     requires may { MayTake (reverse cluster.old.log.trace) actor input }
     ensures world { IsWorld cluster.new }
-    ensures script { cluster.new.script.now ≡ cluster.old.script.now }
-    ensures ok { OnOk result (HasTurn cluster.old.script.now (reverse cluster.old.log.trace) (reverse cluster.new.log.trace) actor input) }
-    ensures err { IfErr result (HasNoTurn cluster.old.script.now (reverse cluster.old.log.trace) actor input) }
+    ensures script { cluster.new.script ≡ cluster.old.script }
+    ensures ok { OnOk result (HasTurn cluster.old.script (reverse cluster.old.log.trace) (reverse cluster.new.log.trace) actor input) }
+    ensures err { IfErr result (HasNoTurn cluster.old.script (reverse cluster.old.log.trace) actor input) }
     ensures same { OnErr result (cluster.new.log.trace ≡ cluster.old.log.trace) }
 {
     match actor {
@@ -96,9 +96,9 @@ fn to_coordinator(alloc: Global, cluster: &mut Cluster, input: Input) -> Result<
     requires world { IsWorld cluster.old }
     requires may { MayTake (reverse cluster.old.log.trace) an_actor.Coordinator input }
     ensures world { IsWorld cluster.new }
-    ensures script { cluster.new.script.now ≡ cluster.old.script.now }
-    ensures ok { OnOk result (HasTurn cluster.old.script.now (reverse cluster.old.log.trace) (reverse cluster.new.log.trace) an_actor.Coordinator input) }
-    ensures err { IfErr result (HasNoTurn cluster.old.script.now (reverse cluster.old.log.trace) an_actor.Coordinator input) }
+    ensures script { cluster.new.script ≡ cluster.old.script }
+    ensures ok { OnOk result (HasTurn cluster.old.script (reverse cluster.old.log.trace) (reverse cluster.new.log.trace) an_actor.Coordinator input) }
+    ensures err { IfErr result (HasNoTurn cluster.old.script (reverse cluster.old.log.trace) an_actor.Coordinator input) }
     ensures same { OnErr result (cluster.new.log.trace ≡ cluster.old.log.trace) }
 {
     coordinator_takes(
@@ -118,13 +118,13 @@ fn to_server(
     input: Input,
 ) -> Result<(), StepError>
     requires world { IsWorld cluster.old }
-    requires actor { is_actor cluster.old.script.now (an_actor.Server server) ≡ true }
-    requires running { has_halted cluster.old.script.now (reverse cluster.old.log.trace) (an_actor.Server server) ≡ false }
+    requires actor { is_actor cluster.old.script (an_actor.Server server) ≡ true }
+    requires running { has_halted cluster.old.script (reverse cluster.old.log.trace) (an_actor.Server server) ≡ false }
     requires may { MayTake (reverse cluster.old.log.trace) (an_actor.Server server) input }
     ensures world { IsWorld cluster.new }
-    ensures script { cluster.new.script.now ≡ cluster.old.script.now }
-    ensures ok { OnOk result (HasTurn cluster.old.script.now (reverse cluster.old.log.trace) (reverse cluster.new.log.trace) (an_actor.Server server) input) }
-    ensures err { IfErr result (HasNoTurn cluster.old.script.now (reverse cluster.old.log.trace) (an_actor.Server server) input) }
+    ensures script { cluster.new.script ≡ cluster.old.script }
+    ensures ok { OnOk result (HasTurn cluster.old.script (reverse cluster.old.log.trace) (reverse cluster.new.log.trace) (an_actor.Server server) input) }
+    ensures err { IfErr result (HasNoTurn cluster.old.script (reverse cluster.old.log.trace) (an_actor.Server server) input) }
     ensures same { OnErr result (cluster.new.log.trace ≡ cluster.old.log.trace) }
 {
     let counted = &mut cluster.actors.servers[server.0 as usize - 1];
@@ -140,12 +140,12 @@ fn to_session(
     input: Input,
 ) -> Result<(), StepError>
     requires world { IsWorld cluster.old }
-    requires actor { is_actor cluster.old.script.now (an_actor.Session session) ≡ true }
+    requires actor { is_actor cluster.old.script (an_actor.Session session) ≡ true }
     requires may { MayTake (reverse cluster.old.log.trace) (an_actor.Session session) input }
     ensures world { IsWorld cluster.new }
-    ensures script { cluster.new.script.now ≡ cluster.old.script.now }
-    ensures ok { OnOk result (HasTurn cluster.old.script.now (reverse cluster.old.log.trace) (reverse cluster.new.log.trace) (an_actor.Session session) input) }
-    ensures err { IfErr result (HasNoTurn cluster.old.script.now (reverse cluster.old.log.trace) (an_actor.Session session) input) }
+    ensures script { cluster.new.script ≡ cluster.old.script }
+    ensures ok { OnOk result (HasTurn cluster.old.script (reverse cluster.old.log.trace) (reverse cluster.new.log.trace) (an_actor.Session session) input) }
+    ensures err { IfErr result (HasNoTurn cluster.old.script (reverse cluster.old.log.trace) (an_actor.Session session) input) }
     ensures same { OnErr result (cluster.new.log.trace ≡ cluster.old.log.trace) }
 {
     let counted = &mut cluster.actors.sessions[session.0 as usize - 1];

@@ -5,8 +5,8 @@ use hx_types::Script;
 /// All actors of a script, and the trace of their steps so far. The fields are plain; what holds of
 /// them together is a condition of each function that changes them.
 #[derive(Drop)]
-pub struct Cluster<'a> {
-    pub script: &'a Script,
+pub struct Cluster {
+    pub script: Script,
     pub actors: Actors,
     pub log: Log,
 }

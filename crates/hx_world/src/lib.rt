@@ -1,5 +1,5 @@
 //! All actors of a script on one thread: each entry of the trace is the next step of one actor,
-//! and the whole trace is a run of the script.
+//! and the whole trace is a run of the script. Calls can be appended to the script while it runs.
 #![tactic(auto)]
 
 mod actors;
@@ -12,6 +12,7 @@ mod servers;
 mod sessions;
 mod starting;
 mod steps;
+mod submitting;
 mod turns;
 mod waiting;
 mod worlds;

@@ -19,9 +19,9 @@ use std::alloc::Global;
 pub fn advance(alloc: Global, cluster: &mut Cluster) -> Result<bool, DrainError>
     requires world { IsWorld cluster.old }
     ensures world { IsWorld cluster.new }
-    ensures script { cluster.new.script.now ≡ cluster.old.script.now }
-    ensures advances { IfOk result (Advances cluster.old.script.now (reverse cluster.old.log.trace) (reverse cluster.new.log.trace)) }
-    ensures fails { IfErr result (Fails cluster.old.script.now (reverse cluster.old.log.trace)) }
+    ensures script { cluster.new.script ≡ cluster.old.script }
+    ensures advances { IfOk result (Advances cluster.old.script (reverse cluster.old.log.trace) (reverse cluster.new.log.trace)) }
+    ensures fails { IfErr result (Fails cluster.old.script (reverse cluster.old.log.trace)) }
     ensures err { OnErr result (cluster.new.log.trace ≡ cluster.old.log.trace) }
 {
     match make_next(alloc, cluster) {
@@ -38,9 +38,9 @@ pub fn advance(alloc: Global, cluster: &mut Cluster) -> Result<bool, DrainError>
 fn make_next(alloc: Global, cluster: &mut Cluster) -> Result<bool, StepError>
     requires world { IsWorld cluster.old }
     ensures world { IsWorld cluster.new }
-    ensures script { cluster.new.script.now ≡ cluster.old.script.now }
-    ensures advances { IfOk result (Advances cluster.old.script.now (reverse cluster.old.log.trace) (reverse cluster.new.log.trace)) }
-    ensures refused { IfErr result (RefusesNext cluster.old.script.now (reverse cluster.old.log.trace)) }
+    ensures script { cluster.new.script ≡ cluster.old.script }
+    ensures advances { IfOk result (Advances cluster.old.script (reverse cluster.old.log.trace) (reverse cluster.new.log.trace)) }
+    ensures refused { IfErr result (RefusesNext cluster.old.script (reverse cluster.old.log.trace)) }
     ensures err { OnErr result (cluster.new.log.trace ≡ cluster.old.log.trace) }
 {
     if deliver_next(alloc, cluster)? {
@@ -58,10 +58,10 @@ fn make_next(alloc: Global, cluster: &mut Cluster) -> Result<bool, StepError>
 fn deliver_next(alloc: Global, cluster: &mut Cluster) -> Result<bool, StepError>
     requires world { IsWorld cluster.old }
     ensures world { IsWorld cluster.new }
-    ensures script { cluster.new.script.now ≡ cluster.old.script.now }
-    ensures delivers { IfOk result (Delivers cluster.old.script.now (reverse cluster.old.log.trace) (reverse cluster.new.log.trace)) }
+    ensures script { cluster.new.script ≡ cluster.old.script }
+    ensures delivers { IfOk result (Delivers cluster.old.script (reverse cluster.old.log.trace) (reverse cluster.new.log.trace)) }
     ensures rests { IfOk result (λ made. made ≡ false → cluster.new.log.trace ≡ cluster.old.log.trace) }
-    ensures refused { IfErr result (RefusesNext cluster.old.script.now (reverse cluster.old.log.trace)) }
+    ensures refused { IfErr result (RefusesNext cluster.old.script (reverse cluster.old.log.trace)) }
     ensures err { OnErr result (cluster.new.log.trace ≡ cluster.old.log.trace) }
 {
     while let Some(id) = lowest(&cluster.log.waiting) {
@@ -79,10 +79,10 @@ fn deliver_next(alloc: Global, cluster: &mut Cluster) -> Result<bool, StepError>
 }
 
 /// The post of a name, if its receiver hasn't halted.
-fn running_post<'a>(cluster: &'a Cluster<'_>, id: PostId) -> Option<&'a Post>
+fn running_post(cluster: &Cluster, id: PostId) -> Option<&Post>
     requires world { IsWorld cluster.now }
-    ensures some { IfSome result (λ post. IsRunningPost cluster.now.script.now (reverse cluster.now.log.trace) id post.now) }
-    ensures none { IfNone result (can_receive cluster.now.script.now (reverse cluster.now.log.trace) id ≡ false) }
+    ensures some { IfSome result (λ post. IsRunningPost cluster.now.script (reverse cluster.now.log.trace) id post.now) }
+    ensures none { IfNone result (can_receive cluster.now.script (reverse cluster.now.log.trace) id ≡ false) }
 {
     match sent_post(&cluster.log, id) {
         Some(post) if !has_halted(cluster, post.to) => Some(post),
@@ -106,9 +106,9 @@ fn drain_error(error: StepError) -> Option<DrainError>
 pub fn has_next(cluster: &mut Cluster) -> bool
     requires { IsWorld cluster.old }
     ensures world { IsWorld cluster.new }
-    ensures script { cluster.new.script.now ≡ cluster.old.script.now }
+    ensures script { cluster.new.script ≡ cluster.old.script }
     ensures trace { cluster.new.log.trace ≡ cluster.old.log.trace }
-    ensures next { result ≡ is_some (next_entry cluster.old.script.now (reverse cluster.old.log.trace)) }
+    ensures next { result ≡ is_some (next_entry cluster.old.script (reverse cluster.old.log.trace)) }
 {
     next_step(cluster).is_some()
 }
@@ -118,9 +118,9 @@ pub fn has_next(cluster: &mut Cluster) -> bool
 fn next_step(cluster: &mut Cluster) -> Option<Step>
     requires { IsWorld cluster.old }
     ensures world { IsWorld cluster.new }
-    ensures script { cluster.new.script.now ≡ cluster.old.script.now }
+    ensures script { cluster.new.script ≡ cluster.old.script }
     ensures trace { cluster.new.log.trace ≡ cluster.old.log.trace }
-    ensures next { MatchOption result (next_input cluster.old.script.now (reverse cluster.old.log.trace) ≡ None) (IsNextStep cluster.old.script.now (reverse cluster.old.log.trace)) }
+    ensures next { MatchOption result (next_input cluster.old.script (reverse cluster.old.log.trace) ≡ None) (IsNextStep cluster.old.script (reverse cluster.old.log.trace)) }
 {
     if let Some(id) = first_waiting(cluster) {
         return Some(Step::Deliver(id));
@@ -134,9 +134,9 @@ fn next_step(cluster: &mut Cluster) -> Option<Step>
 fn first_waiting(cluster: &mut Cluster) -> Option<PostId>
     requires { IsWorld cluster.old }
     ensures world { IsWorld cluster.new }
-    ensures script { cluster.new.script.now ≡ cluster.old.script.now }
+    ensures script { cluster.new.script ≡ cluster.old.script }
     ensures trace { cluster.new.log.trace ≡ cluster.old.log.trace }
-    ensures first { MatchOption result (first_delivery cluster.old.script.now (reverse cluster.old.log.trace) (undelivered (reverse cluster.old.log.trace)) ≡ None) (IsPostedFirst cluster.old.script.now (reverse cluster.old.log.trace)) }
+    ensures first { MatchOption result (first_delivery cluster.old.script (reverse cluster.old.log.trace) (undelivered (reverse cluster.old.log.trace)) ≡ None) (IsPostedFirst cluster.old.script (reverse cluster.old.log.trace)) }
 {
     while let Some(id) = lowest(&cluster.log.waiting) {
         if running_post(cluster, id).is_some() {

@@ -15,11 +15,11 @@ use std::alloc::Global;
 /// Makes the entry of a step, if it can be taken.
 pub fn take_step(alloc: Global, cluster: &mut Cluster, step: &Step) -> Result<(), StepError>
     requires world { IsWorld cluster.old }
-    requires actor { IsStepOf cluster.old.script.now step.now }
+    requires actor { IsStepOf cluster.old.script step.now }
     ensures world { IsWorld cluster.new }
-    ensures script { cluster.new.script.now ≡ cluster.old.script.now }
-    ensures ok { OnOk result (Steps cluster.old.script.now (reverse cluster.old.log.trace) (reverse cluster.new.log.trace) step.now) }
-    ensures refused { IfErr result (Refuses cluster.old.script.now (reverse cluster.old.log.trace) step.now) }
+    ensures script { cluster.new.script ≡ cluster.old.script }
+    ensures ok { OnOk result (Steps cluster.old.script (reverse cluster.old.log.trace) (reverse cluster.new.log.trace) step.now) }
+    ensures refused { IfErr result (Refuses cluster.old.script (reverse cluster.old.log.trace) step.now) }
     ensures err { OnErr result (cluster.new.log.trace ≡ cluster.old.log.trace) }
 {
     match *step {
@@ -33,9 +33,9 @@ pub fn take_step(alloc: Global, cluster: &mut Cluster, step: &Step) -> Result<()
 fn deliver(alloc: Global, cluster: &mut Cluster, id: PostId) -> Result<(), StepError>
     requires world { IsWorld cluster.old }
     ensures world { IsWorld cluster.new }
-    ensures script { cluster.new.script.now ≡ cluster.old.script.now }
-    ensures ok { OnOk result (Steps cluster.old.script.now (reverse cluster.old.log.trace) (reverse cluster.new.log.trace) (a_step.Deliver id)) }
-    ensures refused { IfErr result (Refuses cluster.old.script.now (reverse cluster.old.log.trace) (a_step.Deliver id)) }
+    ensures script { cluster.new.script ≡ cluster.old.script }
+    ensures ok { OnOk result (Steps cluster.old.script (reverse cluster.old.log.trace) (reverse cluster.new.log.trace) (a_step.Deliver id)) }
+    ensures refused { IfErr result (Refuses cluster.old.script (reverse cluster.old.log.trace) (a_step.Deliver id)) }
     ensures err { OnErr result (cluster.new.log.trace ≡ cluster.old.log.trace) }
 {
     let Some(post) = sent_post(&cluster.log, id) else {
@@ -64,11 +64,11 @@ pub fn delivery(alloc: Global, id: PostId, post: &Post) -> Result<Input, Memory>
 #[inline(never)]
 pub fn tick(alloc: Global, cluster: &mut Cluster, actor: Actor) -> Result<(), StepError>
     requires world { IsWorld cluster.old }
-    requires actor { is_actor cluster.old.script.now actor ≡ true }
+    requires actor { is_actor cluster.old.script actor ≡ true }
     ensures world { IsWorld cluster.new }
-    ensures script { cluster.new.script.now ≡ cluster.old.script.now }
-    ensures ok { OnOk result (Steps cluster.old.script.now (reverse cluster.old.log.trace) (reverse cluster.new.log.trace) (a_step.Tick actor)) }
-    ensures refused { IfErr result (Refuses cluster.old.script.now (reverse cluster.old.log.trace) (a_step.Tick actor)) }
+    ensures script { cluster.new.script ≡ cluster.old.script }
+    ensures ok { OnOk result (Steps cluster.old.script (reverse cluster.old.log.trace) (reverse cluster.new.log.trace) (a_step.Tick actor)) }
+    ensures refused { IfErr result (Refuses cluster.old.script (reverse cluster.old.log.trace) (a_step.Tick actor)) }
     ensures err { OnErr result (cluster.new.log.trace ≡ cluster.old.log.trace) }
 {
     actor_takes(alloc, cluster, actor, Input::Tick)?;
@@ -79,11 +79,11 @@ pub fn tick(alloc: Global, cluster: &mut Cluster, actor: Actor) -> Result<(), St
 #[inline(never)]
 fn halt(alloc: Global, cluster: &mut Cluster, actor: Actor) -> Result<(), StepError>
     requires world { IsWorld cluster.old }
-    requires actor { is_actor cluster.old.script.now actor ≡ true }
+    requires actor { is_actor cluster.old.script actor ≡ true }
     ensures world { IsWorld cluster.new }
-    ensures script { cluster.new.script.now ≡ cluster.old.script.now }
-    ensures ok { OnOk result (Steps cluster.old.script.now (reverse cluster.old.log.trace) (reverse cluster.new.log.trace) (a_step.Halt actor)) }
-    ensures refused { IfErr result (Refuses cluster.old.script.now (reverse cluster.old.log.trace) (a_step.Halt actor)) }
+    ensures script { cluster.new.script ≡ cluster.old.script }
+    ensures ok { OnOk result (Steps cluster.old.script (reverse cluster.old.log.trace) (reverse cluster.new.log.trace) (a_step.Halt actor)) }
+    ensures refused { IfErr result (Refuses cluster.old.script (reverse cluster.old.log.trace) (a_step.Halt actor)) }
     ensures err { OnErr result (cluster.new.log.trace ≡ cluster.old.log.trace) }
 {
     match actor {

@@ -1,7 +1,11 @@
-ghost use Rattle.std.specs.Prelude.{◌≡◌, [], ◌≤◌, IfOk, IfErr, OnErr, OnOk, is_some, length, reverse};
-ghost use Rattle.hx_model.specs.Runs.{IsRun};
+ghost use Rattle.std.specs.Prelude.{◌≡◌, ◌+◌, ◌<◌, ◌≤◌, [], IfErr, IfOk, OnErr, OnOk, is_some, length, reverse, true};
+ghost use Rattle.hx_types.specs.declared.ids.Actor.TheVariants as an_actor;
+ghost use Rattle.hx_types.specs.declared.limits.TheConstants.{MOST_CALLS};
+ghost use Rattle.hx_types.specs.Fitting.{IsScript, calls_of};
+ghost use Rattle.hx_types.specs.Spaces.{Fits};
+ghost use Rattle.hx_model.specs.Runs.{IsRun, is_actor};
 ghost use Rattle.hx_model.specs.Schedule.{next_entry};
-ghost use Rattle.hx_types.specs.Fitting.{IsScript};
+ghost use Rattle.hx_law_growing.specs.Growing.{calls_in, with_call_of};
 ghost use Rattle.hx_world.specs.Worlds.{Advances, DrainFails, Drains, Fails, HasFewEntries, IsPartOf, IsStepOf, Refuses, Steps, most_entries};
 
 use crate::clusters::Cluster;
@@ -10,45 +14,48 @@ use crate::logs::empty;
 use crate::schedule::{advance, has_next};
 use crate::starting::start_actors;
 use crate::steps::take_step;
+use crate::submitting::submit_call;
 use hx_trace::Trace;
-use hx_types::{Memory, Script, Step};
+use hx_types::{Exact, Memory, Op, Script, SessionId, Step};
 use std::alloc::Global;
 use std::marker::Model;
 use std::mem::ManuallyDrop;
 
-/// All actors of a script, and the trace of their steps so far. The script is borrowed.
+/// All actors of a script, and the trace of their steps so far. The world has the script for its own, and further calls can be
+/// appended to it.
 ///
 /// The actors are those of HyperDex and of chain replication; that they stand on one thread and
 /// take their inputs by a fixed schedule is this project's choice.
-pub struct World<'a> {
-    cluster: Cluster<'a>,
+pub struct World {
+    cluster: Cluster,
 }
 
-impl Drop for World<'_> {
+impl Drop for World {
     fn drop(self) {
         let World { cluster: _ } = self;
     }
 }
 
-impl<'a> Model for World<'a> {
+impl Model for World {
     ghost use Rattle.hx_world.specs.Worlds.{WorldState};
     ghost use Rattle.hx_world.specs.Invariant.{IsWorld};
 
     ghost Value = { WorldState };
 
-    ghost view = { λ w. record { script = w.cluster.script.now; trace = w.cluster.log.trace } };
+    ghost view = { λ w. record { script = w.cluster.script; trace = w.cluster.log.trace } };
 
     ghost invariant = { λ w. IsWorld w.cluster };
 }
 
-impl<'a> World<'a> {
-    /// The actors at their start, and no entry. [`Memory`] where there is no room for them.
-    pub fn start(alloc: Global, script: &'a Script) -> Result<World<'a>, Memory>
+impl World {
+    /// The actors at their start, a copy of the script, and no entry. [`Memory`] where there is no room for them.
+    pub fn start(alloc: Global, script: &Script) -> Result<World, Memory>
         requires { IsScript script.now }
         ensures { IfOk result (λ world. world ≡ record { script = script.now; trace = [] }) }
     {
         hx_law_posts::posts_of_runs_are_sound();
         let actors = start_actors(alloc, script)?;
+        let script = script.copy(alloc)?;
         Ok(World {
             cluster: Cluster {
                 script,
@@ -56,6 +63,29 @@ impl<'a> World<'a> {
                 log: empty(alloc),
             },
         })
+    }
+
+    /// The script, with the calls that were appended.
+    pub fn script(&self) -> &Script
+        ensures { result.now ≡ self.now.script }
+    {
+        &self.cluster.script
+    }
+
+    /// Appends a call to those of a session, and gives its number, from 1. The trace stays: it is a run of the script with the
+    /// call as it was one of the script without. The session begins the call once those before it have ended.
+    ///
+    /// [`Memory`] where there is no room for the call, and then nothing has changed.
+    pub fn submit(&mut self, alloc: Global, session: SessionId, op: Op) -> Result<u32, Memory>
+        requires session { is_actor self.old.script (an_actor.Session session) ≡ true }
+        requires fits { Fits self.old.script.space op }
+        requires few { calls_in self.old.script < MOST_CALLS }
+        ensures number { IfOk result (λ n. n ≡ length (calls_of self.old.script session) + 1) }
+        ensures script { OnOk result (self.new.script ≡ with_call_of self.old.script session op) }
+        ensures trace { self.new.trace ≡ self.old.trace }
+        ensures err { OnErr result (self.new ≡ self.old) }
+    {
+        submit_call(alloc, &mut self.cluster, session, op)
     }
 
     /// What was done so far: a run of the script.
@@ -70,9 +100,9 @@ impl<'a> World<'a> {
 
     /// The trace by itself.
     pub fn into_trace(self) -> Trace
-        ensures trace { result ≡ self.entry.trace }
-        ensures valid { IsScript self.entry.script }
-        ensures run { IsRun self.entry.script (reverse result) }
+        ensures trace { result ≡ self.trace }
+        ensures valid { IsScript self.script }
+        ensures run { IsRun self.script (reverse result) }
         ensures few { HasFewEntries (reverse result) }
     {
         let World { cluster } = self;
@@ -83,9 +113,9 @@ impl<'a> World<'a> {
     /// The trace by itself, for a program that is about to end: the memory of the actors is not given back, which
     /// would take long, but left to the system. Elsewhere use [`World::into_trace`].
     pub fn leave(self) -> Trace
-        ensures trace { result ≡ self.entry.trace }
-        ensures valid { IsScript self.entry.script }
-        ensures run { IsRun self.entry.script (reverse result) }
+        ensures trace { result ≡ self.trace }
+        ensures valid { IsScript self.script }
+        ensures run { IsRun self.script (reverse result) }
         ensures few { HasFewEntries (reverse result) }
     {
         let World { cluster } = self;

@@ -1,10 +1,12 @@
 ghost use Rattle.std.specs.Prelude.{◌≡◌, length};
 ghost use Rattle.hx_types.specs.Fitting.{IsScript};
+ghost use Rattle.hx_law_growing.specs.Growing.{calls_in};
 
-use crate::scripts::{FOUR_SERVERS, MOVED, ONE_SERVER, SEARCHED, script_of};
+use crate::scripts::{FOUR_SERVERS, MOVED, NO_CALL, ONE_SERVER, SEARCHED, script_of};
 use hx_trace::Trace;
 use hx_types::{
-    Actor, Answer, Note, Object, PostId, Row, Script, ServerId, SessionId, Step, Update, Value,
+    Actor, Answer, Caller, Exact, MOST_CALLS, Note, Object, Op, PostId, Row, Script, ServerId,
+    SessionId, Step, Update, Value, fits,
 };
 use hx_world::*;
 use std::alloc::Global;
@@ -236,7 +238,7 @@ fn halt_leader<R: Abort + AllocGlobal>(rt: &R, world: &mut World)
 
 /// A world in which session 1 has begun its call and then server 1, which leads the call's key, has
 /// halted.
-fn halted_leader<'a, R: Abort + AllocGlobal>(rt: &R, script: &'a Script) -> World<'a>
+fn halted_leader<R: Abort + AllocGlobal>(rt: &R, script: &Script) -> World
     requires valid { IsScript script.now }
     requires sessions { length script.now.sessions ≡ 1 }
     requires servers { script.now.space.servers ≡ 4 }
@@ -287,5 +289,72 @@ fn a_halted_leader_is_replaced(rt: HostRuntime) {
     let trace = replaced_leader(&rt, &script);
     assert!(rt; is_done(&trace, trace.len().saturating_sub(1), 1, 1));
     drop(trace);
+    drop(script);
+}
+
+/// How many calls a script with one session has.
+fn only_calls(script: &Script) -> usize
+    requires { length script.now.sessions ≡ 1 }
+    ensures { result ≡ calls_in script.now }
+{
+    script.calls(SessionId(1)).len()
+}
+
+/// Submits a call of session 1 to a world of the same space.
+fn submit<R: Abort + AllocGlobal>(rt: &R, world: &mut World, op: &Op) -> u32
+    requires { length world.old.script.sessions ≡ 1 }
+    ensures { length world.new.script.sessions ≡ 1 }
+{
+    hx_law_growing::calls_grow();
+    let _run = world.trace();
+    if !fits(&world.script().space, op) || only_calls(world.script()) >= MOST_CALLS {
+        panic!(rt; "a call that can't be made");
+    }
+    let op = op.copy(rt.alloc()).expect(rt, "memory");
+    world
+        .submit(rt.alloc(), SessionId(1), op)
+        .expect(rt, "memory")
+}
+
+/// Submits a call of a script to a world, which gives it the number that it has there, and drains the world.
+fn submit_and_drain<R: Abort + AllocGlobal>(rt: &R, world: &mut World, script: &Script, number: u32)
+    requires { length world.old.script.sessions ≡ 1 }
+    ensures { length world.new.script.sessions ≡ 1 }
+{
+    let caller = Caller {
+        session: SessionId(1),
+        number,
+    };
+    let op = script.call(caller).expect(rt, "a call");
+    assert!(rt; submit(rt, world, op) == number);
+    assert!(rt; matches!(world.drain(rt.alloc(), u64::MAX), Ok(Drained::Quiet)));
+}
+
+/// The trace of a script without calls to which the three calls of another are submitted, with a drain after each.
+fn submitted<R: Abort + AllocGlobal>(rt: &R, empty: &Script, script: &Script) -> Trace
+    requires valid { IsScript empty.now }
+    requires sessions { length empty.now.sessions ≡ 1 }
+{
+    let mut world = World::start(rt.alloc(), empty).expect(rt, "memory");
+    assert!(rt; matches!(world.drain(rt.alloc(), u64::MAX), Ok(Drained::Quiet)));
+    submit_and_drain(rt, &mut world, script, 1);
+    submit_and_drain(rt, &mut world, script, 2);
+    submit_and_drain(rt, &mut world, script, 3);
+    assert!(rt; only_calls(world.script()) == 3);
+    world.into_trace()
+}
+
+#[test]
+fn calls_submitted_one_after_another_are_made_as_those_of_a_script(rt: HostRuntime) {
+    let script = script_of(&rt, MOVED, 4);
+    let empty = script_of(&rt, NO_CALL, 4);
+    let trace = submitted(&rt, &empty, &script);
+    assert!(rt; are_of(&trace, &ACTORS));
+    assert!(rt; is_done(&trace, 12, 1, 1));
+    assert!(rt; is_found(&trace, 15));
+    assert!(rt; goes_through(assigned(&trace, 17), 2, &SECOND));
+    assert!(rt; is_done(&trace, 32, 3, 2));
+    drop(trace);
+    drop(empty);
     drop(script);
 }

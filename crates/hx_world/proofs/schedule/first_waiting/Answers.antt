@@ -1,28 +1,26 @@
-use Rattle.std.proofs.Common.{◌≡◌, true, false, Option, Some, None, sym, ap, ◌∙◌}
-use Rattle.std.specs.Borrow.{Bor}
-use Rattle.std.specs.Prelude.{is_some, reverse}
-use Rattle.hx_types.specs.declared.messages.Post.{Post}
+use Rattle.std.proofs.Common.{sym, ◌∙◌}
+use Rattle.std.specs.Prelude.{reverse}
 use Rattle.hx_world.proofs.Delivering.{found_receives, missed}
 use Rattle.hx_world.proofs.Queueing.{lowest_posted, none_waiting, popped}
 use Rattle.hx_world.proofs.schedule.first_waiting.Goals as goal
 
 pub returns-then-is_some-clause-first : goal.returns-then-is_some-clause-first
 returns-then-is_some-clause-first c =
-    lowest_posted c.loop-id.cluster.script.now c.args.cluster.now.script.now c.loop-id.cluster.log.trace c.args.cluster.now.log.trace c.loop-id.cluster.log.waiting.items c.in-Some.id
+    lowest_posted c.loop-id.cluster.script c.args.cluster.now.script c.loop-id.cluster.log.trace c.args.cluster.now.log.trace c.loop-id.cluster.log.waiting.items c.in-Some.id
     c.loop-id.invariant.world.queue c.loop-id.invariant.script c.loop-id.invariant.trace (sym c.lowest.ensures ∙ c.in-Some.is)
-    (found_receives c.loop-id.cluster.script.now (reverse c.loop-id.cluster.log.trace) c.in-Some.id c.running_post.result c.running_post.ensures.some (sym c.is_some.ensures ∙ c.if-is_some.true))
+    (found_receives c.loop-id.cluster.script (reverse c.loop-id.cluster.log.trace) c.in-Some.id c.running_post.result c.running_post.ensures.some (sym c.is_some.ensures ∙ c.if-is_some.true))
 
 pub returns-clause-first : goal.returns-clause-first
 returns-clause-first c =
-    none_waiting c.loop-id.cluster.script.now c.args.cluster.now.script.now c.loop-id.cluster.log.trace c.args.cluster.now.log.trace c.loop-id.cluster.log.waiting.items
+    none_waiting c.loop-id.cluster.script c.args.cluster.now.script c.loop-id.cluster.log.trace c.args.cluster.now.log.trace c.loop-id.cluster.log.waiting.items
     c.loop-id.invariant.world.queue c.loop-id.invariant.script c.loop-id.invariant.trace (sym c.lowest.ensures ∙ c.in_default.is)
 
 pub loop-id-preserved : goal.loop-id-preserved
 loop-id-preserved c = record {
   world =
-      popped c.loop-id.cluster.script.now (reverse c.loop-id.cluster.log.trace) c.loop-id.cluster.actors.servers.items c.loop-id.cluster.actors.sessions.items c.loop-id.cluster.actors.coordinator
+      popped c.loop-id.cluster.script (reverse c.loop-id.cluster.log.trace) c.loop-id.cluster.actors.servers.items c.loop-id.cluster.actors.sessions.items c.loop-id.cluster.actors.coordinator
       c.loop-id.cluster.log.waiting.items c.pop_front.new.self.items c.in-Some.id c.loop-id.invariant.world (sym c.lowest.ensures ∙ c.in-Some.is)
-      (missed c.loop-id.cluster.script.now (reverse c.loop-id.cluster.log.trace) c.in-Some.id c.running_post.result c.running_post.ensures.none (sym c.is_some.ensures ∙ c.if-is_some.false)) c.pop_front.ensures.rest;
+      (missed c.loop-id.cluster.script (reverse c.loop-id.cluster.log.trace) c.in-Some.id c.running_post.result c.running_post.ensures.none (sym c.is_some.ensures ∙ c.if-is_some.false)) c.pop_front.ensures.rest;
   script = c.loop-id.invariant.script;
   trace = c.loop-id.invariant.trace;
 }

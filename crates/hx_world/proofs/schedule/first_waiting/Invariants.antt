@@ -5,7 +5,7 @@ use Rattle.hx_world.proofs.schedule.first_waiting.Given as goal
 abbrev pub invariant-loop-id : goal.invariant-loop-id
 invariant-loop-id l = record {
   world : IsWorld l.cluster;
-  script : l.cluster.script.now ≡ l.initial.cluster.script.now;
+  script : l.cluster.script ≡ l.initial.cluster.script;
   trace : l.cluster.log.trace ≡ l.initial.cluster.log.trace;
 }
 

@@ -1,0 +1,9 @@
+pub mod Numbers
+pub mod Steps
+pub mod Kept
+pub mod Runs
+pub mod Serves
+pub mod Calls
+pub mod Agreeing
+pub mod Replays
+pub mod Rows

@@ -1,0 +1,14 @@
+pub mod Apart
+pub mod Moves
+pub mod Numbers
+pub mod Booked
+pub mod Free
+pub mod Stepped
+pub mod LastBooked
+pub mod Settled
+pub mod EndNotes
+pub mod Answered
+pub mod Finding
+pub mod Outcomes
+pub mod Empty
+pub mod Plans

@@ -1,0 +1,23 @@
+//! A store that one program calls.
+#![tactic(auto)]
+
+mod advancing;
+mod booking;
+mod calling;
+mod counting;
+mod errors;
+mod laws;
+mod planned;
+mod progress;
+mod receipts;
+mod rosters;
+mod services;
+mod starting;
+mod trying;
+
+pub use errors::ServiceError;
+pub use laws::{free_sessions_are_at_rest, runs_are_booked, runs_show_progress};
+pub use receipts::{Receipt, ReceiptRef, Receipts};
+pub use rosters::{Charter, Roster};
+pub use services::Service;
+pub use trying::{CallError, TextError};
