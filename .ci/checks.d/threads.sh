@@ -1,5 +1,5 @@
 #!/usr/bin/env bash
-# Soaks, runs and shares on threads. One that doesn't end is stopped.
+# Soaks and runs on threads. One that doesn't end is stopped.
 . "$(dirname "${BASH_SOURCE[0]}")/../common.sh"
 needs "$program"
 
@@ -54,12 +54,4 @@ counted=$(hx run --workers 4 <cases/replay/counted_by_two_sessions.hx)
 done_adds=$(grep -c 'atomic .* -> done ' <<<"$counted")
 [[ $counted == *"n=$done_adds"$'\nepoch 1'* ]] || complain "additions on threads don't add up"
 [ "$(grep -c '^call u1\..* atomic .* -> done ' <<<"$counted")" -eq 10 ] || complain 'an addition behind its own put is not done'
-
-# However many callers share a store, and however they take turns, every call is answered.
-for workers in 3 16; do
-  for script in cases/share/*.hx; do
-    report=$(hx share --workers "$workers" <"$script") || complain "hx share --workers $workers <$script fails"
-    [[ $report != *'-> open'* && $report == *$'\nend' ]] || complain "hx share --workers $workers <$script leaves a call open"
-  done
-done
 exit "$failed"

@@ -15,7 +15,6 @@ ends 0 '' '' --help
 ends 0 '' '' --version
 ends 3 'line 2: order' $'hx 1\nkey k 1\n' replay
 ends 3 'line 1: order' '' run --workers 2
-ends 3 'line 1: order' '' share --workers 16
 # A session whose every message is lost asks again until it is worn.
 ends 7 'worn u1' $'hx 1\nspace one\nkey k 1\nstring v\nservers 1\ntolerate 0\nsession 1\nget "a"\n' run --workers 1 --lose 1
 # Each search of 256 regions takes 257 entries of its session.
@@ -23,7 +22,7 @@ ends 7 'worn u1' "$(printf 'hx 1\nspace w\nkey k 256\nservers 1\ntolerate 0\nses
 
 # What is no command is refused by the program and by ./hx alike. A copy of ./hx alone has nothing that it could build:
 # so it is seen that for such words it doesn't try to, and that for right ones it does.
-usage='usage: hx replay or run or soak or plan or share'
+usage='usage: hx replay or run or soak or plan'
 bare=$(mktemp -d)
 trap 'rm -r "$bare"' EXIT
 cp hx "$bare/hx"
@@ -58,10 +57,6 @@ wrong run --workers 2 --lose 1 --repeat 1 --trace x
 wrong soak 1
 wrong soak 1 16385
 wrong soak 18446744073709551616 1
-wrong share --workers 17
-wrong share --workers 2 --workers 2
-wrong share --trace
-wrong share 1
 asked 2 --proved
 asked 2 --proved plan 1
 asked 1 replay
@@ -72,8 +67,6 @@ asked 1 run --workers 16 --lose 1000000
 asked 1 run --trace --repeat 0
 asked 1 run --workers 2 --lose 1 --repeat 1 --trace
 asked 1 soak 18446744073709551615 16384 --workers 1
-asked 1 share
-asked 1 share --workers 16
 asked 1 --proved plan
 
 # ./hx prints these texts itself, as the program does, and answers by the program where that is proved.

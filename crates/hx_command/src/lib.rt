@@ -9,7 +9,6 @@ mod finished;
 mod program;
 mod reading;
 mod reporting;
-mod shared;
 mod soaking;
 mod threaded;
 mod threads;

@@ -35,7 +35,6 @@ usage: hx replay [--trace] < SCRIPT
               [--trace] < SCRIPT
        hx soak SEED CALLS [--workers W]
        hx plan < SCRIPT
-       hx share [--workers W] < SCRIPT
 
 Commands:
   replay       run the script that stands on standard input, and write every
@@ -48,9 +47,6 @@ Commands:
   soak         run 1 to 16384 calls drawn from a seed on W threads, and write
                a summary that is the same for every W
   plan         write which regions each search of the script asks
-  share        make the script's calls one at a time behind one lock, by W
-               callers on threads (1 to 16; 2 where it isn't said), and write
-               the report; the script's steps are not taken
 
 Options:
   --help       print this help

@@ -41,7 +41,7 @@ worn_line a = codes "worn " ++ actor_text a ++ codes "\n"
 -- the line on standard error
 abbrev pub fault_line : Outcome → List ℕ
 fault_line Fine = []
-fault_line Usage = codes "usage: hx replay or run or soak or plan or share\n"
+fault_line Usage = codes "usage: hx replay or run or soak or plan\n"
 fault_line (Refused line reason) = refusal_line line reason
 fault_line TooLarge = codes "too large\n"
 fault_line ReadFault = codes "read fault\n"
