@@ -28,6 +28,7 @@ answered() {
 answered replay report replay
 answered trace report replay --trace
 answered plan plan plan
+answered share report share --workers 1
 for script in cases/part/*.hx; do
   lines=$(cat "${script%.hx}.lines") || complain "$script has no lines"
   [[ $(hx replay <"$script") == *"$lines"* ]] || complain "hx replay <$script doesn't write ${script%.hx}.lines"
@@ -42,6 +43,18 @@ for script in cases/refused/*.hx; do
   [ -n "$line" ] || complain "$script has no line"
   refused replay "$script" "$line"
   case $line in *': step') ;; *) refused plan "$script" "$line" ;; esac
+done
+
+for script in cases/share_refused/*.hx; do
+  line=$(sed -n "s/^${script##*/} //p" cases/share_refused/lines)
+  [ -n "$line" ] || complain "$script has no line"
+  refused share "$script" "$line"
+done
+
+# One caller's share is the replay of the script without its steps.
+for script in examples/*.hx cases/replay/*.hx; do
+  cmp -s <(hx share --workers 1 <"$script") <(sed '/^ *steps *\(#.*\)\?$/,$d' "$script" | hx replay) \
+    || complain "hx share --workers 1 <$script writes something else than its replay without steps"
 done
 
 # A put whose leader halts after any number of deliveries is done once, and a get of another session finds it.

@@ -9,6 +9,7 @@ mod finished;
 mod program;
 mod reading;
 mod reporting;
+mod shared;
 mod soaking;
 mod threaded;
 mod threads;

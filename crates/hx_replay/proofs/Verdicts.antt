@@ -84,5 +84,5 @@ not_both words command says audit = by command (ap first_long (sym audit ∙ say
     by Plan e = absurd (omega (arith, e))
 
 -- how an audit ends whose outcome is told
-pub ends_at : {source : Drawn} {sink : Filled} (outcome shown wanted : Outcome) → shown ≡ outcome → shown ≡ wanted → EndsAudit source sink outcome → EndsAudit source sink wanted
-ends_at {source} {sink} outcome shown wanted same is ends = subst (λ (o : Outcome). EndsAudit source sink o) (sym same ∙ is) ends
+pub ends_at : (source : Drawn) (sink : Filled) (outcome shown wanted : Outcome) → shown ≡ outcome → shown ≡ wanted → EndsAudit source sink outcome → EndsAudit source sink wanted
+ends_at source sink outcome shown wanted same is ends = subst (λ (o : Outcome). EndsAudit source sink o) (sym same ∙ is) ends

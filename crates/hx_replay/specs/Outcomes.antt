@@ -48,7 +48,7 @@ wrong_line line clause = codes "line " ++ decimal line ++ codes ": " ++ clause_w
 -- the line on standard error
 abbrev pub fault_line : Outcome → List ℕ
 fault_line Fine = []
-fault_line Usage = codes "usage: hx replay or run or soak or plan or audit\n"
+fault_line Usage = codes "usage: hx replay or run or soak or plan or share or audit\n"
 fault_line (Refused line reason) = refusal_line line reason
 fault_line TooLarge = codes "too large\n"
 fault_line ReadFault = codes "read fault\n"

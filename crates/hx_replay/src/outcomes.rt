@@ -158,7 +158,7 @@ fn put_fault(out: &mut Vec<u8>, outcome: Outcome) -> Result<(), Memory>
 {
     match outcome {
         Outcome::Fine => Ok(()),
-        Outcome::Usage => put_bytes(out, b"usage: hx replay or run or soak or plan or audit\n"),
+        Outcome::Usage => put_bytes(out, b"usage: hx replay or run or soak or plan or share or audit\n"),
         Outcome::Refused { line, reason } => put_refusal(out, line, reason),
         Outcome::TooLarge => put_bytes(out, b"too large\n"),
         Outcome::ReadFault => put_bytes(out, b"read fault\n"),

@@ -49,9 +49,15 @@ pub fn says_audit(words: &[String]) -> bool
     ensures { (result ≡ true) ↔ SaysAudit words.now }
 {
     match words {
-        [word] => word.as_str() == "audit",
+        [word] => is_audit(word.as_str()),
         _ => false,
     }
+}
+
+fn is_audit(word: &str) -> bool
+    ensures { (result ≡ true) ↔ (word.now ≡ codes "audit") }
+{
+    word == "audit"
 }
 
 /// The command that the words say: its word and its options, and no other beside them.

@@ -9,14 +9,14 @@ pub returns-then-says_audit-clause-fine : goal.returns-then-says_audit-clause-fi
 returns-then-says_audit-clause-fine g c is = inl (c.says_audit.ensures.0 c.if-says_audit.true)
 
 pub returns-then-says_audit-clause-audited : goal.returns-then-says_audit-clause-audited
-returns-then-says_audit-clause-audited g c says = ends_at _ _ _ c.silent.ensures.outcome refl c.audit_source.ensures.ends
+returns-then-says_audit-clause-audited g c says = ends_at _ _ _ _ _ c.silent.ensures.outcome refl c.audit_source.ensures.ends
 
 pub returns-then-says_audit-clause-audit_decided : goal.returns-then-says_audit-clause-audit_decided
 returns-then-says_audit-clause-audit_decided g c says = rw c.silent.ensures.outcome (decided _ _ _ c.audit_source.ensures.judged c.audit_source.ensures.ends)
 
 pub returns-then-says_audit-clause-usage : goal.returns-then-says_audit-clause-usage
 returns-then-says_audit-clause-usage g c = (
-  λ usage. absurd (ends_at _ _ _ c.silent.ensures.outcome usage c.audit_source.ensures.ends),
+  λ usage. absurd (ends_at _ _ _ _ _ c.silent.ensures.outcome usage c.audit_source.ensures.ends),
   λ none. absurd (none.1 (c.says_audit.ensures.0 c.if-says_audit.true)),
 )
 
@@ -24,19 +24,19 @@ pub returns-then-says_audit-clause-refused : goal.returns-then-says_audit-clause
 returns-then-says_audit-clause-refused g c line reason is = inl (c.says_audit.ensures.0 c.if-says_audit.true)
 
 pub returns-then-says_audit-clause-too_large : goal.returns-then-says_audit-clause-too_large
-returns-then-says_audit-clause-too_large g c is = ends_at _ _ _ c.silent.ensures.outcome is c.audit_source.ensures.ends
+returns-then-says_audit-clause-too_large g c is = ends_at _ _ _ _ _ c.silent.ensures.outcome is c.audit_source.ensures.ends
 
 pub returns-then-says_audit-clause-read_fault : goal.returns-then-says_audit-clause-read_fault
-returns-then-says_audit-clause-read_fault g c is = ends_at _ _ _ c.silent.ensures.outcome is c.audit_source.ensures.ends
+returns-then-says_audit-clause-read_fault g c is = ends_at _ _ _ _ _ c.silent.ensures.outcome is c.audit_source.ensures.ends
 
 pub returns-then-says_audit-clause-write_fault : goal.returns-then-says_audit-clause-write_fault
-returns-then-says_audit-clause-write_fault g c is = (ends_at _ _ _ c.silent.ensures.outcome is c.audit_source.ensures.ends).3
+returns-then-says_audit-clause-write_fault g c is = (ends_at _ _ _ _ _ c.silent.ensures.outcome is c.audit_source.ensures.ends).3
 
 pub returns-then-says_audit-clause-prefix : goal.returns-then-says_audit-clause-prefix
 returns-then-says_audit-clause-prefix g c is = inl (c.says_audit.ensures.0 c.if-says_audit.true)
 
 pub returns-then-says_audit-clause-worn : goal.returns-then-says_audit-clause-worn
-returns-then-says_audit-clause-worn g c a is = absurd (ends_at _ _ _ c.silent.ensures.outcome is c.audit_source.ensures.ends)
+returns-then-says_audit-clause-worn g c a is = absurd (ends_at _ _ _ _ _ c.silent.ensures.outcome is c.audit_source.ensures.ends)
 
 pub returns-then-says_audit-clause-wears : goal.returns-then-says_audit-clause-wears
 returns-then-says_audit-clause-wears g c command text trace a says replays left short worn still = absurd (not_both c.args.words.now command says (c.says_audit.ensures.0 c.if-says_audit.true))
@@ -51,7 +51,7 @@ pub returns-then-says_audit-clause-complete : goal.returns-then-says_audit-claus
 returns-then-says_audit-clause-complete g c command text says left short taken still well = absurd (not_both c.args.words.now command says (c.says_audit.ensures.0 c.if-says_audit.true))
 
 pub returns-then-says_audit-clause-untouched : goal.returns-then-says_audit-clause-untouched
-returns-then-says_audit-clause-untouched g c usage = absurd (ends_at _ _ _ c.silent.ensures.outcome usage c.audit_source.ensures.ends)
+returns-then-says_audit-clause-untouched g c usage = absurd (ends_at _ _ _ _ _ c.silent.ensures.outcome usage c.audit_source.ensures.ends)
 
 -- ---- other words
 pub returns-else-says_audit-clause-fine : goal.returns-else-says_audit-clause-fine
