@@ -1,4 +1,4 @@
-ghost use Rattle.std.specs.Prelude.{◌≡◌, ◌≤◌, length, IfOk, Some, None};
+ghost use Rattle.std.specs.Prelude.{◌≡◌, ◌≤◌, length, IfOk};
 ghost use Rattle.hx_types.specs.Fitting.{IsScript};
 ghost use Rattle.hx_types.specs.declared.traces.Script.{Script as ScriptSeen};
 ghost use Rattle.hx_words.specs.Limits.{IsShare};

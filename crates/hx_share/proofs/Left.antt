@@ -1,5 +1,5 @@
 -- Where nothing is left to do of the calls that were made, and no further call of the plan can be made, nothing is left of the plan.
-use Rattle.std.proofs.Common.{◌≡◌, refl, ℕ, zero, suc, ◌+◌, ◌-◌, ◌<◌, ◌≤◌, Bool, true, false, ◌&&◌, not, ltb, leb, cond, List, [], ◌∷◌, ◌++◌, length, inl, inr, Option, None, Some, sym, ap, ◌∙◌, subst, arith, slice_get, reverse}
+use Rattle.std.proofs.Common.{◌≡◌, refl, ℕ, zero, suc, ◌+◌, ◌-◌, ◌<◌, ◌≤◌, Bool, true, false, ◌&&◌, not, ltb, leb, cond, List, [], ◌∷◌, ◌++◌, length, inl, inr, Option, None, Some, sym, ap, ◌∙◌, subst, arith, reverse}
 use Rattle.std.specs.Option.{option_map}
 use Rattle.std.proofs.lemmas.Bool.{cases_lt, le-leb, lt-ltb, ltb-false, false≢true}
 use Rattle.std.proofs.lemmas.Option.{slice_get_past}
@@ -21,7 +21,7 @@ use Rattle.hx_law_growing.proofs.Runs.{within}
 use Rattle.hx_service.specs.Laws.{FreeSessionsRest, IsAtRest}
 use Rattle.hx_service.specs.Receipts.{IsFree}
 use Rattle.hx_service.specs.Services.{ServiceState}
-use Rattle.hx_share.specs.Sharing.{HasNone}
+use Rattle.hx_service.specs.Rosters.{HasNone}
 
 in_front : (xs ys : List ℕ) (k : ℕ) → IsIn k xs → IsIn k (xs ++ ys)
 in_front [] ys k i = absurd i

@@ -1,22 +1,14 @@
 -- What callers that share one store leave; traces stand here newest first, but that of `Shared`.
-use Rattle.std.specs.Prelude.{◌≡◌, ◌⊎◌, List, reverse, Option, None, Some}
+use Rattle.std.specs.Prelude.{List, reverse, Option, None, Some}
 use Rattle.hx_types.specs.declared.ids.Actor.{Actor}
-use Rattle.hx_types.specs.declared.ids.SessionId.{SessionId}
 use Rattle.hx_types.specs.declared.traces.Entry.{Entry}
 use Rattle.hx_types.specs.declared.traces.Script.{Script}
-use Rattle.hx_types.specs.Fitting.{calls_of}
 use Rattle.hx_model.specs.Runs.{IsRun}
 use Rattle.hx_model.specs.Schedule.{IsQuiet}
 use Rattle.hx_law_growing.specs.Growing.{GrowsTo}
 use Rattle.hx_law_growing.specs.Serving.{IsServed}
-use Rattle.hx_service.specs.Receipts.{IsFree}
-use Rattle.hx_service.specs.Services.{ServiceState}
 use Rattle.hx_share.specs.declared.sharing.Shared.{Shared}
 use Rattle.hx_world.specs.Worlds.{HasFewEntries, IsWornOut}
-
--- no call of the plan can be made for the session: one of its calls has no answer, or all were made
-abbrev pub HasNone : Script → ServiceState → SessionId → Type 0
-HasNone plan s u = (¬ IsFree s.script (reverse s.trace) u) ⊎ (calls_of s.script u ≡ calls_of plan u)
 
 -- of the calls that were made up to there, the next entry is one of the actor, which has made 1,048,576 entries
 pub record IsWornSharing (script : Script) (trace : List Entry) (a : Actor) : Type 0 where

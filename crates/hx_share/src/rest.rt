@@ -1,12 +1,10 @@
-ghost use Rattle.std.specs.Prelude.{◌≡◌, ◌⊎◌, ◌<◌, ℕ, true, false, length, reverse, Ok, Err, IfErr, OnOk, Some};
-ghost use Rattle.hx_law_growing.specs.Growing.{GrowsTo, calls_in};
+ghost use Rattle.std.specs.Prelude.{◌≡◌, ◌<◌, true, false, length, reverse, Ok, IfErr, OnOk};
+ghost use Rattle.hx_law_growing.specs.Growing.{calls_in};
 ghost use Rattle.hx_model.specs.Runs.{is_actor};
 ghost use Rattle.hx_model.specs.Schedule.{IsQuiet};
-ghost use Rattle.hx_types.specs.Fitting.{calls_of};
 ghost use Rattle.hx_types.specs.declared.ids.Actor.TheVariants as an_actor;
 ghost use Rattle.hx_types.specs.declared.ids.SessionId.{SessionId as SessionSeen};
-ghost use Rattle.hx_service.specs.Receipts.{IsFree};
-ghost use Rattle.hx_share.specs.Sharing.{HasNone};
+ghost use Rattle.hx_service.specs.Rosters.{HasNone};
 ghost use Rattle.hx_world.specs.Worlds.{Fails};
 
 use hx_service::{Charter, Roster, ServiceError};
@@ -50,7 +48,6 @@ pub fn make_rest<C: Charter>(
     ensures fails { IfErr result (Fails roster.new.script (reverse roster.new.trace)) }
 {
     hx_law_growing::quiet_stays();
-    hx_service::free_sessions_are_at_rest();
     roster.settle(alloc)?;
     'calls: while make_one(alloc, roster, sessions)? {
         roster.settle(alloc)?;

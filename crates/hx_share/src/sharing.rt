@@ -76,17 +76,15 @@ fn share_plan<C: Charter + Send + Sync, R: Threads + Wait + Sync, G: Gate + Sync
             requires valid { IsScript script.now }
             requires plan { script.now ≡ C.script }
             requires workers { 1 ≤ workers }
-        { let _left = call_sessions(rt, alloc, shared, gate, script, *caller, workers); },
+        {
+            let _left = call_sessions(rt, alloc, shared, gate, script, *caller, workers);
+        },
     );
     end(alloc, lock.into_inner(), script.sessions.len() as u32)
 }
 
 /// Makes what the callers left.
-fn end<C: Charter>(
-    alloc: Global,
-    roster: Roster<C>,
-    sessions: u32,
-) -> Result<Shared, Memory>
+fn end<C: Charter>(alloc: Global, roster: Roster<C>, sessions: u32) -> Result<Shared, Memory>
     requires { sessions ≡ length C.script.sessions }
     ensures { IfOk result (IsShared C.script) }
 {
@@ -97,8 +95,9 @@ fn end<C: Charter>(
         Err(DrainError::Worn(actor)) => Some(actor),
         Err(DrainError::Memory) => return Err(Memory),
     };
+    let _ = roster.service().trace();
     Ok(Shared {
-        trace: roster.into_service().leave(),
+        trace: roster.into_service().into_trace(),
         worn,
     })
 }

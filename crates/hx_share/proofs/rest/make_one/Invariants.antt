@@ -1,6 +1,6 @@
-use Rattle.std.proofs.Common.{◌≡◌, ◌≤◌, ◌+◌}
+use Rattle.std.proofs.Common.{◌≡◌, ◌≤◌}
 use Rattle.hx_types.specs.declared.ids.SessionId.{SessionId}
-use Rattle.hx_share.specs.Sharing.{HasNone}
+use Rattle.hx_service.specs.Rosters.{HasNone}
 use Rattle.hx_share.proofs.rest.make_one.Given as goal
 
 -- no call was made, and none can be for the sessions so far
