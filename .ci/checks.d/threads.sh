@@ -24,6 +24,7 @@ ran() {
     report=$(timeout 20 "$program" run "$@" <examples/library.hx) && break
   done || complain "hx run $words fails"
   [[ $report != *'-> open'* && $report == *$'\nend' ]] || complain "hx run $words leaves a call open"
+  consistent "hx run $words" <<<"$report"
 }
 tells() {
   grep -qE "^driver $1\$" <<<"$report" || complain "hx run $words has no line of a driver as '$1'"
@@ -54,4 +55,5 @@ counted=$(hx run --workers 4 <cases/replay/counted_by_two_sessions.hx)
 done_adds=$(grep -c 'atomic .* -> done ' <<<"$counted")
 [[ $counted == *"n=$done_adds"$'\nepoch 1'* ]] || complain "additions on threads don't add up"
 [ "$(grep -c '^call u1\..* atomic .* -> done ' <<<"$counted")" -eq 10 ] || complain 'an addition behind its own put is not done'
+consistent 'additions on threads' <<<"$counted"
 exit "$failed"

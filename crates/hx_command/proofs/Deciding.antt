@@ -10,7 +10,7 @@ use Rattle.hx_replay.specs.Calling.{Drawn, Filled}
 use Rattle.hx_replay.specs.Causes.{IsCause, IsFaulty, IsJudged, IsRefused, IsRefusedUnder}
 use Rattle.hx_command.specs.Threads.{EndsOnThreads, EndsRun, Handed, IsDecided, IsReadAs, nothing}
 use Rattle.hx_replay.specs.declared.outcomes.Outcome.{Outcome}
-use Rattle.hx_replay.specs.declared.outcomes.Outcome.TheVariants.{Fine, Usage, Refused, TooLarge, ReadFault, WriteFault, Memory, Worn}
+use Rattle.hx_replay.specs.declared.outcomes.Outcome.TheVariants.{Fine, Usage, Refused, TooLarge, ReadFault, WriteFault, Memory, Worn, Wrong}
 use Rattle.hx_replay.specs.declared.words.Command.TheVariants.{Plan}
 
 -- a script, where there is none to name
@@ -27,6 +27,7 @@ unread_ends run script source sink h ReadFault none cause = (none, cause)
 unread_ends run script source sink h WriteFault none cause = absurd cause
 unread_ends run script source sink h Memory none cause = none
 unread_ends run script source sink h (Worn a) none cause = absurd cause
+unread_ends run script source sink h (Wrong line clause) none cause = absurd cause
 
 -- no script was read
 pub unread_at : (run : Run) (script : Script) (source : Drawn) (sink : Filled) (h : Handed) (outcome shown : Outcome)
@@ -48,6 +49,7 @@ not_faulty script text ReadFault read faulty = faulty
 not_faulty script text WriteFault read faulty = faulty
 not_faulty script text Memory read faulty = faulty
 not_faulty script text (Worn a) read faulty = faulty
+not_faulty script text (Wrong line clause) read faulty = faulty
 
 module _ (good : Handed → List ℕ → Type 0) (script : Script) (workers : ℕ) (sink : Filled) (h : Handed) where
   -- without a fault of the sink a run writes its report, or ends for want of memory or at a worn actor
@@ -61,6 +63,7 @@ module _ (good : Handed → List ℕ → Type 0) (script : Script) (workers : �
   ended_well WriteFault ends still = absurd (still ends.2.0)
   ended_well Memory ends still = inr (inl refl)
   ended_well (Worn a) ends still = inr (inr (a, refl))
+  ended_well (Wrong line clause) ends still = absurd ends
 
 module _ (good : Handed → List ℕ → Type 0) (script : Script) (workers : ℕ) (source : Drawn) (sink : Filled) (h : Handed) where
   judged_ran : (text : List ℕ) (outcome : Outcome) → IsReadAs text (Ok script) → EndsOnThreads good script workers sink h outcome → IsJudged Plan text outcome
@@ -72,6 +75,7 @@ module _ (good : Handed → List ℕ → Type 0) (script : Script) (workers : �
   judged_ran text WriteFault read ends = (read.0, record { script = script; text_is = read.1; steppable = tt })
   judged_ran text Memory read ends = tt
   judged_ran text (Worn a) read ends = (read.0, record { script = script; text_is = read.1; steppable = tt })
+  judged_ran text (Wrong line clause) read ends = absurd ends
 
   if_ran : (before : Option (List ℕ)) (outcome : Outcome) → IfSome before (λ text. IsReadAs text (Ok script)) → EndsOnThreads good script workers sink h outcome → IfSome before (λ text. IsJudged Plan text outcome)
   if_ran None outcome read ends = tt

@@ -27,7 +27,7 @@ use Rattle.hx_run.specs.Ran.{HasNoHalts, HasRisen, is_asked, is_halt, posts_by}
 use Rattle.hx_replay.specs.Calling.{Filled}
 use Rattle.hx_command.specs.Threads.{EndsOnThreads, Handed, IsLawful, IsSummed, IsThreaded, IsWritten, nothing}
 use Rattle.hx_replay.specs.declared.outcomes.Outcome.{Outcome}
-use Rattle.hx_replay.specs.declared.outcomes.Outcome.TheVariants.{Fine, Usage, Refused, TooLarge, ReadFault, WriteFault, Memory, Worn}
+use Rattle.hx_replay.specs.declared.outcomes.Outcome.TheVariants.{Fine, Usage, Refused, TooLarge, ReadFault, WriteFault, Memory, Worn, Wrong}
 
 -- what is handed back, part by part
 abbrev pub handed : List Entry → Option Seated → List Totals → List Ported → ℕ → Handed
@@ -50,6 +50,7 @@ module _ (good : Handed → List ℕ → Type 0) (script : Script) (workers : �
   by_outcome h bytes WriteFault g written = (bytes, g, written)
   by_outcome h bytes Memory g written = absurd written
   by_outcome h bytes (Worn a) g written = absurd written
+  by_outcome h bytes (Wrong line clause) g written = absurd written
 
   -- the answer was written, or a prefix of it
   pub written_ends : (h h' : Handed) (bytes : List ℕ) (outcome : Outcome) → h' ≡ h → good h bytes → IsWritten sink bytes outcome → EndsOnThreads good script workers sink h' outcome

@@ -12,8 +12,8 @@ use Rattle.hx_words.specs.declared.commands.Soak.{Soak}
 use Rattle.hx_words.specs.Saying.{SaysRun, SaysSoak}
 use Rattle.hx_replay.specs.declared.outcomes.Outcome.{Outcome}
 use Rattle.hx_replay.specs.declared.outcomes.Outcome.TheVariants as an_outcome
-use Rattle.hx_replay.specs.Calling.{Drawn, Ends, Filled, Shows, Writes}
-use Rattle.hx_replay.specs.Commands.{Asks}
+use Rattle.hx_replay.specs.Calling.{Drawn, Ends, EndsAudit, Filled, Shows, Writes}
+use Rattle.hx_replay.specs.Commands.{Asks, SaysAudit}
 use Rattle.hx_replay.specs.declared.words.Question.{Question}
 use Rattle.hx_command.specs.Showing.{shown_text}
 use Rattle.hx_command.specs.Threads.{EndsRun, EndsSoak, Handed, IsDecided, IsUnthreaded}
@@ -22,6 +22,11 @@ use Rattle.hx_command.specs.Threads.{EndsRun, EndsSoak, Handed, IsDecided, IsUnt
 pub record AnswersAlone (words : List (String Global)) (source : Drawn) (sink : Filled) (h : Handed) : Type 0 where
   pub unthreaded : IsUnthreaded words
   pub writes : Writes words source sink h.trace
+
+-- the report that was read breaks no clause, and `audit yes` was written
+pub record AnswersAudit (words : List (String Global)) (source : Drawn) (sink : Filled) : Type 0 where
+  pub says : SaysAudit words
+  pub ends : EndsAudit source sink an_outcome.Fine
 
 -- the report of a run on threads was written
 pub record AnswersRun (words : List (String Global)) (source : Drawn) (sink : Filled) (h : Handed) : Type 0 where
@@ -38,7 +43,7 @@ pub record AnswersSoak (words : List (String Global)) (sink : Filled) (h : Hande
 
 -- the answer to the words was written
 abbrev pub Answers : List (String Global) → Drawn → Filled → Handed → Type 0
-Answers words source sink h = AnswersAlone words source sink h ⊎ (AnswersRun words source sink h ⊎ AnswersSoak words sink h)
+Answers words source sink h = AnswersAlone words source sink h ⊎ (AnswersAudit words source sink ⊎ (AnswersRun words source sink h ⊎ AnswersSoak words sink h))
 
 -- how a call ends, by its words; some value is handed back
 pub record Told (words : List (String Global)) (source : Drawn) (sink : Filled) (outcome : Outcome) : Type 0 where

@@ -89,6 +89,7 @@ IsWritten sink bytes an_outcome.ReadFault = ⊥
 IsWritten sink bytes an_outcome.WriteFault = Rose sink.faults_before sink.faults_after × AppendsPrefix sink.before sink.after bytes
 IsWritten sink bytes an_outcome.Memory = ⊥
 IsWritten sink bytes (an_outcome.Worn a) = ⊥
+IsWritten sink bytes (an_outcome.Wrong line clause) = ⊥
 
 -- how a script ends on threads, where `good` says what an answer is: it was written, or a prefix of it and a fault rose, or an actor is worn
 abbrev pub EndsOnThreads : (Handed → List ℕ → Type 0) → Script → ℕ → Filled → Handed → Outcome → Type 0
@@ -100,6 +101,7 @@ EndsOnThreads good script workers sink h an_outcome.ReadFault = ⊥
 EndsOnThreads good script workers sink h an_outcome.WriteFault = (bytes : List ℕ) × good h bytes × IsWritten sink bytes an_outcome.WriteFault
 EndsOnThreads good script workers sink h an_outcome.Memory = h ≡ nothing
 EndsOnThreads good script workers sink h (an_outcome.Worn a) = IsThreaded script workers h (Some a)
+EndsOnThreads good script workers sink h (an_outcome.Wrong line clause) = ⊥
 
 -- the source was read to its end, and its text is that of the script
 pub record ReadsScript (source : Drawn) (script : Script) : Type 0 where
@@ -125,6 +127,7 @@ EndsRun run script source sink h an_outcome.WriteFault =
     ReadsScript source script × EndsOnThreads (IsReported run script) script run.workers sink h an_outcome.WriteFault
 EndsRun run script source sink h an_outcome.Memory = h ≡ nothing
 EndsRun run script source sink h (an_outcome.Worn a) = ReadsScript source script × IsThreaded script run.workers h (Some a)
+EndsRun run script source sink h (an_outcome.Wrong line clause) = ⊥
 
 -- how a call with the words of `soak` ends
 abbrev pub EndsSoak : Soak → Filled → Handed → Outcome → Type 0

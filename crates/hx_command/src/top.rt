@@ -30,8 +30,8 @@ use std::thread::Threads;
 /// a fate for each driver that the words start, and a gate.
 ///
 /// With the words of `run` it runs the script of the source on threads, and with those of `soak` a
-/// script that it draws itself; all other words it hands on to [`hyperstore_alone`]. Fates that no
-/// driver has are dropped.
+/// script that it draws itself; all other words, `audit` among them, it hands on to
+/// [`hyperstore_alone`]. Fates that no driver has are dropped.
 ///
 /// # Errors
 ///

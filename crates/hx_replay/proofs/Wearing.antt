@@ -196,6 +196,7 @@ by_outcome command text before after m n an_outcome.ReadFault trace a replays sh
 by_outcome command text before after m n an_outcome.WriteFault trace a replays short worn still judged cause = absurd cause
 by_outcome command text before after m n an_outcome.Memory trace a replays short worn still judged cause = refl
 by_outcome command text before after m n (an_outcome.Worn b) trace a replays short worn still judged cause = absurd cause
+by_outcome command text before after m n (an_outcome.Wrong line clause) trace a replays short worn still judged cause = absurd cause
 
 -- and where reading the text or answering it ended before
 pub err_wears : (own command : Command) (text : List ℕ) (before after : Option (List ℕ)) (m n : ℕ) (outcome : Outcome) (trace : List Entry) (a : Actor) → Some own ≡ Some command → before ≡ Some text

@@ -17,6 +17,10 @@ words_of Plan = codes "plan" ∷ []
 abbrev pub Says : List (String Global) → Command → Type 0
 Says words command = map string_bytes words ≡ words_of command
 
+-- the words are the one word `audit`, with which a report is read in place of a script
+abbrev pub SaysAudit : List (String Global) → Type 0
+SaysAudit words = map string_bytes words ≡ codes "audit" ∷ []
+
 -- the command runs the script
 abbrev pub Replays : Command → Type 0
 Replays (Replay with_trace) = ⊤

@@ -1,6 +1,6 @@
 -- The words are those of `run`, of `soak`, or of neither.
-use Rattle.std.proofs.Common.{inl, refl}
-use Rattle.hx_command.proofs.Wording.{none_some, not_both, same_some}
+use Rattle.std.proofs.Common.{inl, inr, refl}
+use Rattle.hx_command.proofs.Wording.{audit_answered, none_some, not_both, same_some}
 use Rattle.hx_command.proofs.top.hyperstore.Goals as goal
 
 -- ---- the words of `run`
@@ -54,32 +54,41 @@ pub returns-in-None-soak_of-clause-fine : goal.returns-in-None-soak_of-clause-fi
 returns-in-None-soak_of-clause-fine g c =
     let e = c.hyperstore_alone.ensures in
     rw c.unthreaded.ensures.done
-    (λ is. let w = e.fine is in
-    inl (record {
-      unthreaded = record {
-        no_run = λ command says. none_some command ((c.in-None.ensures.said command).1 says);
-        no_soak = λ command says. none_some command ((c.in-None-soak_of.ensures.said command).1 says);
-      };
-      writes = record { command = w.0; text = w.1; bytes = w.2; says = w.3; reads = w.4; answer = w.5; written = w.6 };
-    }))
+    (λ is. elim (e.fine is) [
+      | inl says ↦ inr (inl (audit_answered _ _ _ c.hyperstore_alone.result.outcome says is (e.audited says)))
+      | inr w ↦ inl (record {
+        unthreaded = record {
+          no_run = λ command says. none_some command ((c.in-None.ensures.said command).1 says);
+          no_soak = λ command says. none_some command ((c.in-None-soak_of.ensures.said command).1 says);
+        };
+        writes = record { command = w.0; text = w.1; bytes = w.2; says = w.3; reads = w.4; answer = w.5; written = w.6 };
+      })
+    ])
 
 pub returns-in-None-soak_of-clause-alone : goal.returns-in-None-soak_of-clause-alone
 returns-in-None-soak_of-clause-alone g c unthreaded =
     let e = c.hyperstore_alone.ensures in
     rw c.unthreaded.ensures.done (record {
-      fine = λ is. let w = e.fine is in record { command = w.0; text = w.1; bytes = w.2; says = w.3; reads = w.4; answer = w.5; written = w.6 };
+      fine = λ is. elim (e.fine is) [
+        | inl says ↦ inl says
+        | inr w ↦ inr (record { command = w.0; text = w.1; bytes = w.2; says = w.3; reads = w.4; answer = w.5; written = w.6 })
+      ];
       usage = e.usage;
       refused = e.refused;
       too_large = e.too_large;
       read_fault = e.read_fault;
-      write_fault = λ is.
-          let w = e.prefix is in
-          (e.write_fault is, record { command = w.0; text = w.1; bytes = w.2; says = w.3; reads = w.4; answer = w.5; written = w.6 });
+      write_fault = λ is. (e.write_fault is, elim (e.prefix is) [
+        | inl says ↦ inl says
+        | inr w ↦ inr (record { command = w.0; text = w.1; bytes = w.2; says = w.3; reads = w.4; answer = w.5; written = w.6 })
+      ]);
       worn = e.worn;
       wears = λ command text worn a says replays left short is still. e.wears command text worn a says replays left short is still;
       judged = e.judged;
       faulty = e.faulty;
       complete = e.complete;
+      audited = e.audited;
+      audit_decided = e.audit_decided;
+      audit_trace = e.audit_trace;
     })
 
 pub returns-in-None-soak_of-clause-run : goal.returns-in-None-soak_of-clause-run
