@@ -45,16 +45,16 @@ module _ (source : Drawn) (sink : Filled) (text : List ℕ) (still : Rose source
   a_report : (outcome : Outcome) → IsAuditJudged text outcome → EndsAudit source sink outcome → length text ≤ limit
       → (report : ReportValue) → IsReportValue report → text_of report ≡ text
       → (Rose sink.faults_before sink.faults_after → ⊥)
-      → (outcome ≡ Fine) ⊎ (outcome ≡ Memory) ⊎ ((line : ℕ) × (clause : Clause) × (outcome ≡ Wrong line clause))
+      → (outcome ≡ Fine) ⊎ (outcome ≡ Memory) ⊎ ((line : ℕ) × (clause : Clause) × (outcome ≡ Wrong line clause)) ⊎ ((line : ℕ) × (outcome ≡ Refused line Order))
   a_report Fine judged ends short report sound is well = inl refl
   a_report Usage judged ends short report sound is well = absurd judged
-  a_report (Refused line reason) judged ends short report sound is well = absurd (judged.2.no_report report sound is)
+  a_report (Refused line reason) judged ends short report sound is well = inr (inr (inr (line, ap (λ r. Refused line r) judged.1)))
   a_report TooLarge judged ends short report sound is well = absurd (omega (arith, short, judged))
   a_report ReadFault judged ends short report sound is well = absurd (still ends)
   a_report WriteFault judged ends short report sound is well = absurd (well ends.3)
   a_report Memory judged ends short report sound is well = inr (inl refl)
   a_report (Worn a) judged ends short report sound is well = absurd judged
-  a_report (Wrong line clause) judged ends short report sound is well = inr (inr (line, clause, refl))
+  a_report (Wrong line clause) judged ends short report sound is well = inr (inr (inl (line, clause, refl)))
 
 -- an audit whose outcome is judged by the bytes is decided by them
 pub decided : (source : Drawn) (sink : Filled) (outcome : Outcome) → IfSome source.before (λ text. IsAuditJudged text outcome) → EndsAudit source sink outcome → IsAuditDecided source sink outcome

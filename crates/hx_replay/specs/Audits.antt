@@ -6,7 +6,7 @@ use Rattle.hx_audit.specs.Verdicts.{IsVerdict}
 use Rattle.hx_report_lines.specs.declared.errors.AuditError.{AuditError}
 use Rattle.hx_report_lines.specs.declared.errors.AuditError.TheVariants as an_audit_error
 use Rattle.hx_report_lines.specs.Printed.{text_of}
-use Rattle.hx_report_lines.specs.Unread.{IsUnreadAt}
+use Rattle.hx_report_lines.specs.Unread.{IsBegunAt}
 use Rattle.hx_report_lines.specs.Values.{IsReportValue, ReportValue}
 use Rattle.hx_script.specs.declared.errors.Reason.TheVariants as a_reason
 use Rattle.hx_replay.specs.Causes.{limit}
@@ -28,11 +28,11 @@ pub record IsAudited (text : List ℕ) (verdict : Verdict) : Type 0 where
   pub text_is : text_of report ≡ text
   pub verdict_is : IsVerdict report verdict
 
--- the text is that of no report, and this the first line with which none begins; the reason is always the same
+-- the text was refused as no report's, at a line before which stand lines with which some report begins; the reason is always the same
 abbrev pub IsNoReport : List ℕ → Outcome → Type 0
 IsNoReport text an_outcome.Fine = ⊥
 IsNoReport text an_outcome.Usage = ⊥
-IsNoReport text (an_outcome.Refused line reason) = (reason ≡ a_reason.Order) × IsUnreadAt text line
+IsNoReport text (an_outcome.Refused line reason) = (reason ≡ a_reason.Order) × IsBegunAt text line
 IsNoReport text an_outcome.TooLarge = ⊥
 IsNoReport text an_outcome.ReadFault = ⊥
 IsNoReport text an_outcome.WriteFault = ⊥
@@ -44,7 +44,7 @@ IsNoReport text (an_outcome.Wrong line clause) = ⊥
 abbrev pub IsAuditJudged : List ℕ → Outcome → Type 0
 IsAuditJudged text an_outcome.Fine = (length text ≤ limit) × IsAudited text Yes
 IsAuditJudged text an_outcome.Usage = ⊥
-IsAuditJudged text (an_outcome.Refused line reason) = (length text ≤ limit) × (reason ≡ a_reason.Order) × IsUnreadAt text line
+IsAuditJudged text (an_outcome.Refused line reason) = (length text ≤ limit) × (reason ≡ a_reason.Order) × IsBegunAt text line
 IsAuditJudged text an_outcome.TooLarge = limit < length text
 IsAuditJudged text an_outcome.ReadFault = ⊤
 IsAuditJudged text an_outcome.WriteFault = (length text ≤ limit) × IsAudited text Yes

@@ -18,7 +18,7 @@ use Rattle.hx_replay.specs.Audits.{IsAudited, IsAuditJudged, yes_line}
 use Rattle.hx_audit.specs.declared.verdicts.Clause.{Clause}
 use Rattle.hx_audit.specs.declared.verdicts.Verdict.TheVariants.{Yes, No}
 use Rattle.hx_report_lines.specs.Printed.{text_of}
-use Rattle.hx_report_lines.specs.Unread.{IsUnreadAt}
+use Rattle.hx_report_lines.specs.Unread.{IsBegunAt}
 use Rattle.hx_report_lines.specs.Values.{IsReportValue, ReportValue}
 
 -- a source before and after a call: the bytes that are left, where it tells them, and its count of faults
@@ -61,13 +61,13 @@ pub record WritesPrefix (words : List (String Global)) (source : Drawn) (sink : 
   pub answer : IsAnswer command text trace bytes
   pub written : AppendsPrefix sink.before sink.after bytes
 
--- how an audit ends: the source was read, and no clause of its report is broken and `audit yes` was written, or one is, or no report has the text
+-- how an audit ends: the source was read, and no clause of its report is broken and `audit yes` was written, or one is, or the text was refused as no report's
 abbrev pub EndsAudit : Drawn → Filled → Outcome → Type 0
 EndsAudit source sink an_outcome.Fine =
     (text : List ℕ) × ReadsText source.before source.after text × IsAudited text Yes × Appends sink.before sink.after yes_line
 EndsAudit source sink an_outcome.Usage = ⊥
 EndsAudit source sink (an_outcome.Refused line reason) =
-    (text : List ℕ) × ReadsText source.before source.after text × (reason ≡ a_reason.Order) × IsUnreadAt text line
+    (text : List ℕ) × ReadsText source.before source.after text × (reason ≡ a_reason.Order) × IsBegunAt text line
 EndsAudit source sink an_outcome.TooLarge = ConsumesExactly source.before source.after (limit + 1)
 EndsAudit source sink an_outcome.ReadFault = Rose source.faults_before source.faults_after
 EndsAudit source sink an_outcome.WriteFault =
@@ -91,6 +91,7 @@ pub record IsAuditDecided (source : Drawn) (sink : Filled) (outcome : Outcome) :
       → ¬ Rose sink.faults_before sink.faults_after
       → (outcome ≡ an_outcome.Fine) ⊎ (outcome ≡ an_outcome.Memory)
       ⊎ ((line : ℕ) × (clause : Clause) × (outcome ≡ an_outcome.Wrong line clause))
+      ⊎ ((line : ℕ) × (outcome ≡ an_outcome.Refused line a_reason.Order))
 
 -- a call with the words of a command, with `audit`, or with words that are neither, ends so with this trace
 pub record Ends (words : List (String Global)) (source : Drawn) (sink : Filled) (outcome : Outcome) (trace : List Entry) : Type 0 where

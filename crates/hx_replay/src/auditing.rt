@@ -56,8 +56,8 @@ fn read_and_judge<S: Source>(alloc: Global, source: &mut S) -> Result<Verdict, O
 ///
 /// # Errors
 ///
-/// `Refused` exactly where no report has the text, with the first line with which none begins;
-/// `Memory`.
+/// `Refused` where the text is read as no report's, with a line before which stand lines with which
+/// some report begins; `Memory`.
 fn judge(alloc: Global, text: &[u8]) -> Result<Verdict, Outcome>
     ensures verdict { IfOk result (IsAudited text.now) }
     ensures cause { IfErr result (IsNoReport text.now) }
