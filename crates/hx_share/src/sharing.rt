@@ -95,8 +95,9 @@ fn end<C: Charter>(alloc: Global, roster: Roster<C>, sessions: u32) -> Result<Sh
         Err(DrainError::Worn(actor)) => Some(actor),
         Err(DrainError::Memory) => return Err(Memory),
     };
+    let _ = roster.service().trace();
     Ok(Shared {
-        trace: roster.into_service().leave(),
+        trace: roster.into_service().into_trace(),
         worn,
     })
 }
