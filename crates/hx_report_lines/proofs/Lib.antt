@@ -13,3 +13,6 @@ pub mod TextsRead
 pub mod Opening
 pub mod Cuts
 mod ReportRows
+pub mod Takes
+pub mod ValuesTaken
+pub mod LinesTaken
