@@ -99,9 +99,9 @@ is_soak seed calls workers script h is few threaded =
 pub is_summed : (soaked : Soak) (script : Script) (h : Handed) (bytes : List ℕ) → SoaksSumUpInOrder → script ≡ script_drawn soaked.seed soaked.calls → soaked.calls ≤ MOST_CALLS
     → IsThreaded script soaked.workers h None → IsSummary script (reverse h.trace) bytes → IsSummed soaked h bytes
 is_summed soaked script h bytes law is few threaded summary =
+    let of_trace : IsSummary (script_drawn soaked.seed soaked.calls) (reverse h.trace) bytes = subst (λ (s : Script). IsSummary s (reverse h.trace) bytes) is summary in
     record {
       threaded = subst (λ (s : Script). IsThreaded s soaked.workers h None) is threaded;
-      summary_is =
-          law soaked.seed soaked.calls (reverse h.trace) (is_soak soaked.seed soaked.calls soaked.workers script h is few threaded) bytes
-          (subst (λ (s : Script). IsSummary s (reverse h.trace) bytes) is summary);
+      of_trace = of_trace;
+      summary_is = law soaked.seed soaked.calls (reverse h.trace) (is_soak soaked.seed soaked.calls soaked.workers script h is few threaded) bytes of_trace;
     }

@@ -23,7 +23,7 @@ use Rattle.hx_soak.specs.Soaking.{script_drawn, soak}
 use Rattle.hx_law_epochs.specs.Epochs.{LosesReplicas}
 use Rattle.hx_law_order.specs.Order.{HasOneOrder}
 use Rattle.hx_law_soak.specs.Sequence.{tally_in_order}
-use Rattle.hx_soak.specs.Summing.{tally_text}
+use Rattle.hx_soak.specs.Summing.{tally_text, IsSummary}
 use Rattle.hx_words.specs.Saying.{SaysRun, SaysSoak}
 use Rattle.hx_words.specs.declared.commands.Run.{Run}
 use Rattle.hx_words.specs.declared.commands.Soak.{Soak}
@@ -74,9 +74,10 @@ pub record IsReported (run : Run) (script : Script) (h : Handed) (bytes : List �
   pub threaded : IsThreaded script run.workers h None
   pub report_is : IsReport script (reverse h.trace) h.totals bytes run.with_trace
 
--- the summary is that of the calls one after the other on one map, the same for every number of threads
+-- the summary is that of the trace, which is that of the calls one after the other on one map, the same for every number of threads
 pub record IsSummed (soaked : Soak) (h : Handed) (bytes : List ℕ) : Type 0 where
   pub threaded : IsThreaded (script_drawn soaked.seed soaked.calls) soaked.workers h None
+  pub of_trace : IsSummary (script_drawn soaked.seed soaked.calls) (reverse h.trace) bytes
   pub summary_is : bytes ≡ tally_text soak (tally_in_order soaked.seed soaked.calls)
 
 -- these bytes were written, or a prefix of them and a fault rose
