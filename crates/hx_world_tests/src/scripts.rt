@@ -11,6 +11,10 @@ use std::process::Abort;
 pub const MOVED: &str =
     "hx 1\nspace books\nkey name 2\nstring genre\nint year 1900 2099\nsubspace genre 4\nsubspace year 2\nservers 4\ntolerate 1\nsession 1\nput \"a\" genre=\"b\" year=1999\nget \"a\"\nput \"a\" genre=\"d\"\n";
 
+/// A put and a get.
+pub const PUT_AND_GET: &str =
+    "hx 1\nspace books\nkey name 2\nstring genre\nint year 1900 2099\nsubspace genre 4\nsubspace year 2\nservers 4\ntolerate 1\nsession 1\nput \"a\" genre=\"b\" year=1999\nget \"a\"\n";
+
 /// A put, and a search that it matches.
 pub const SEARCHED: &str =
     "hx 1\nspace books\nkey name 2\nstring genre\nint year 1900 2099\nsubspace genre 4\nsubspace year 2\nservers 4\ntolerate 1\nsession 1\nput \"a\" genre=\"b\"\nsearch genre=\"b\"\n";
