@@ -12,7 +12,6 @@ use Rattle.hx_types.specs.declared.messages.Post.{Post}
 use Rattle.hx_types.specs.declared.updates.Update.{Update}
 use Rattle.hx_types.specs.declared.calls.Op.{Op}
 use Rattle.hx_types.specs.declared.traces.Script.{Script}
-use Rattle.hx_types.specs.declared.calls.Answer.{Answer}
 use Rattle.hx_types.specs.declared.calls.Answer.TheVariants as an_answer
 use Rattle.hx_types.specs.declared.messages.Message.TheVariants as a_message
 use Rattle.hx_types.specs.declared.traces.Note.TheVariants as a_note
@@ -29,7 +28,7 @@ use Rattle.hx_model.specs.Lines.{upto}
 use Rattle.hx_model.specs.Legal.{object_now}
 use Rattle.hx_model.specs.Runs.{is_empty, server_of}
 use Rattle.hx_model.specs.Slots.{has_place}
-use Rattle.std.proofs.Common.{refl, inl, inr, ap, sym, subst, ◌∙◌, ◌||◌, arith}
+use Rattle.std.proofs.Common.{refl, inl, inr, ap, sym, subst, ◌∙◌, arith}
 use Rattle.std.specs.Cmp.Derive.{both_true}
 use Rattle.std.proofs.lemmas.Bool.{le-leb, or_left, or_right}
 use Rattle.hx_model.proofs.SmallSpace.{blue, caller, configured, epoch, from_session, joining, ready, red, region, server, session, shop, version}

@@ -1,4 +1,4 @@
-use Rattle.std.proofs.Common.{◌≡◌, ◌<◌, ℕ, List, ap, arith, length, subst, sym, ◌∙◌, vec_capacity}
+use Rattle.std.proofs.Common.{◌≡◌, ℕ, List, ap, arith, length, subst, sym, ◌∙◌, vec_capacity}
 use Rattle.std.specs.List.{flat_map}
 use Rattle.hx_types.specs.Words.{list_of}
 use Rattle.hx_law_folds.specs.Folding.{KeysAscend}
