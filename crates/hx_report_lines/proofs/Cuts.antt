@@ -7,7 +7,7 @@ use Rattle.std.proofs.lemmas.List.Elements.{All-head, All-tail, All-take}
 use Rattle.hx_script.specs.Texts.{lines_of}
 use Rattle.hx_report_lines.specs.declared.drafts.Draft.{Draft}
 use Rattle.hx_report_lines.specs.Drafts.{after_line, draft_of, empty_draft, ends_whole, is_over, on_draft, read_lines}
-use Rattle.hx_report_lines.specs.Unread.{Begins, IsBegunAt}
+use Rattle.hx_report_lines.specs.Unread.{Begins}
 use Rattle.hx_report_lines.proofs.DraftsRead.{IsGood, IsOneLine, good_more, good_start}
 use Rattle.hx_report_lines.proofs.LinesRead.{one_lines}
 use Rattle.hx_report_lines.proofs.Opening.{opens_text}
@@ -66,6 +66,11 @@ lines_join (l ∷ ls) rest one =
     ap lines_of (append_assoc (with_newline l) (flat_map with_newline ls) rest ∙ append_assoc l (10 ∷ []) (flat_map with_newline ls ++ rest))
     ∙ line_cut l (flat_map with_newline ls ++ rest) (All-head IsOneLine l ls one)
     ∙ ap (λ xs. l ∷ xs) (lines_join ls rest (All-tail IsOneLine l ls one))
+
+-- the line, from 1, is one of the text or the one after its last, and some report begins with the lines before it
+pub record IsBegunAt (text : List ℕ) (line : ℕ) : Type 0 where
+  pub within : (1 ≤ line) × (line ≤ length (lines_of text) + 1)
+  pub before : Begins (take (line - 1) (lines_of text))
 
 pub begun_before : (text : List ℕ) (line : ℕ) → draft_of text ≡ Err line → IsBegunAt text line
 begun_before text line h =

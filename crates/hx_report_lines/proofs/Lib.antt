@@ -12,4 +12,16 @@ pub mod LinesRead
 pub mod TextsRead
 pub mod Opening
 pub mod Cuts
+pub mod Takes
+pub mod Scans
+pub mod ValuesTaken
+pub mod LinesTaken
+pub mod EpochsTaken
+pub mod CallsTaken
+pub mod OneLines
+pub mod Goes
+pub mod SpacesTaken
+pub mod BlocksTaken
+pub mod ReportsTaken
+pub mod Exact
 mod ReportRows

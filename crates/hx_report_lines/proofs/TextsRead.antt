@@ -123,7 +123,7 @@ calls_last d h =
     ∙ no_text (history_text d.block.space) d.block.histories (upto_calls d.block) (and_left (is_none d.block.histories) (no_epochs d) h)
 
 -- behind a front, one item more
-behind : {A : Type 0} (f : A → List ℕ) (front : List ℕ) (xs : List A) (x : A) → front ++ flat_map f (xs ++ x ∷ []) ≡ (front ++ flat_map f xs) ++ f x
+pub behind : {A : Type 0} (f : A → List ℕ) (front : List ℕ) (xs : List A) (x : A) → front ++ flat_map f (xs ++ x ∷ []) ≡ (front ++ flat_map f xs) ++ f x
 behind f front xs x = ap (λ t. front ++ t) (one_more f xs x) ∙ sym (append_assoc front (flat_map f xs) (f x))
 
 pub call_text_more : (d : Draft) (c : CallLine) → no_histories d ≡ true → block_text (record d.block { calls = d.block.calls ++ c ∷ [] }) ≡ block_text d.block ++ call_text d.block.space c
@@ -368,11 +368,11 @@ next_adds d e line is h =
     let w = where_so (eqb d.version 2) (head_line (closed d) line) e h in
     head_adds (closed d) e line w.1 ∙ ap (λ t. t ++ with_newline line) (append-nil (front_text (closed d)) ∙ closed_text d is)
 
-first_one : first_text 1 ≡ codes "report 1\n"
+pub first_one : first_text 1 ≡ codes "report 1\n"
 unfolding first_text
 first_one = rw (decimal_digit 1 (omega arith)) refl
 
-first_two : first_text 2 ≡ codes "report 2\n"
+pub first_two : first_text 2 ≡ codes "report 2\n"
 unfolding first_text
 first_two = rw (decimal_digit 2 (omega arith)) refl
 

@@ -5,7 +5,7 @@ ghost use Rattle.hx_script.specs.Texts.{line_len, lines_of};
 ghost use Rattle.hx_report_lines.specs.Drafts.{Answers, at_stop, draft_of, ends_whole, value_of};
 ghost use Rattle.hx_report_lines.specs.declared.errors.AuditError.TheVariants.{Unread};
 ghost use Rattle.hx_report_lines.specs.Printed.{text_of};
-ghost use Rattle.hx_report_lines.specs.Unread.{IsBegunAt};
+ghost use Rattle.hx_report_lines.specs.Unread.{IsUnreadAt};
 ghost use Rattle.hx_report_lines.specs.Values.{IsReportValue, ReportValue};
 
 use crate::drafts::{Draft, Section};
@@ -86,13 +86,13 @@ fn draft_of(alloc: Global, text: &[u8]) -> Result<Draft, AuditError>
 ///
 /// # Errors
 ///
-/// [`Unread`](AuditError::Unread) with the line that is refused, before which stand lines with which
-/// some report begins; and [`Memory`](AuditError::Memory). Wherever no report has the text one of
-/// them comes. That a report's text is never refused, and no line too early, is tested alone.
-#[tactic(auto, using(crate::proofs::TextsRead::reads_its_text, crate::proofs::Cuts::begun_before))]
+/// [`Unread`](AuditError::Unread) where no report has the text, with the first line at which the
+/// lines so far begin no report's text, or the one after the last (`specs/Unread.antt`); and
+/// [`Memory`](AuditError::Memory). Wherever no report has the text one of them comes.
+#[tactic(auto, using(crate::proofs::TextsRead::reads_its_text, crate::proofs::Exact::unread_at))]
 pub fn read_report(alloc: Global, text: &[u8]) -> Result<Report, AuditError>
     ensures ok { IfOk result (λ report. text_of report ≡ text.now) }
-    ensures begun { (line : ℕ) → IsErrOf result (Unread line) → IsBegunAt text.now line }
+    ensures unread { (line : ℕ) → IsErrOf result (Unread line) → IsUnreadAt text.now line }
     ensures total { ((report : ReportValue) → IsReportValue report → text_of report ≢ text.now) → IsErr result }
 {
     let mut draft = draft_of(alloc, text)?;
