@@ -1,5 +1,5 @@
 -- The clauses computed: a put of one key and a search for it, and what breaks each clause of it.
-use Rattle.std.proofs.Common.{◌≡◌, ℕ, inl, true, false, List, [], ◌∷◌, map, codes, Option, None, Some, refl}
+use Rattle.std.proofs.Common.{◌≡◌, ℕ, inl, true, false, List, [], ◌∷◌, map, codes, None, Some, refl}
 use Rattle.std.proofs.lemmas.Bool.{false≢true}
 use Rattle.hx_types.specs.declared.calls.Answer.TheVariants as an_answer
 use Rattle.hx_types.specs.declared.calls.Caller.{Caller}

@@ -84,3 +84,22 @@ module _ {A K : Type 0} (key : A → K) (below same : K → K → Bool)
       by : (o : Option A) → slice_get xs i ≡ o → when_some o false (λ x. same (key x) c) ≡ true → place_where (λ y. same (key y) c) xs ≡ Some i
       by None q t = absurd (false≢true t)
       by (Some x) q t = hit xs c i low x q t
+
+  -- an item with the key is the first that has it, wherever it stands
+  only : (last : Option K) (xs : List A) → AscendsFrom below last (map key xs) → (c : K) (i : ℕ) (x : A) → slice_get xs i ≡ Some x → same (key x) c ≡ true → place_where (λ y. same (key y) c) xs ≡ Some i
+  only last [] up c i x e s = absurd (cc)
+  only last (y ∷ xs) up c zero x e s =
+      let q : y ≡ x = cc in
+      cond-true (same (key y) c) (Some 0) (option_map (λ n. suc n) (place_where (λ y. same (key y) c) xs)) (ap (λ (z : A). same (key z) c) q ∙ s)
+  only last (y ∷ xs) up c (suc i) x e s =
+      cond-false (same (key y) c) (Some 0) (option_map (λ n. suc n) (place_where (λ y. same (key y) c) xs))
+      (differs (key y) c (sym (ap (below (key y)) (equal (key x) c s)) ∙ above_all (key y) xs up.1 i x e))
+      ∙ ap (option_map (λ n. suc n)) (only (Some (key y)) xs up.1 c i x e s)
+
+  -- whatever stands at a place and has the key stands at the place of the key
+  pub at_any : (last : Option K) (xs : List A) → AscendsFrom below last (map key xs) → (c : K) (i : ℕ) → when_some (slice_get xs i) false (λ x. same (key x) c) ≡ true → place_where (λ y. same (key y) c) xs ≡ Some i
+  at_any last xs up c i e = by (slice_get xs i) refl e
+    where
+      by : (o : Option A) → slice_get xs i ≡ o → when_some o false (λ x. same (key x) c) ≡ true → place_where (λ y. same (key y) c) xs ≡ Some i
+      by None q t = absurd (false≢true t)
+      by (Some x) q t = only last xs up c i x q t

@@ -15,4 +15,5 @@ pub mod Lowest
 pub mod Ranks
 pub mod Unique
 pub mod Truth
+pub mod Placed
 mod ClauseRows

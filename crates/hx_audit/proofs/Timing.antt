@@ -35,6 +35,10 @@ ended (Some l) n = by (end_told l)
 pub ended_is : (b : Block) (c : Caller) (n : ℕ) → ended_before (account_of b) c n ≡ is_late (end_at b c) (Some n)
 ended_is b c n = ended (call_at b.calls c) n
 
+-- the same of the call itself, where it is at hand
+pub ended_by : (b : Block) (c : Caller) (n : ℕ) (o : Option CallLine) → o ≡ call_at b.calls c → is_late (when_some o None time_of_end) (Some n) ≡ ended_before (account_of b) c n
+ended_by b c n o e = ap (λ (o : Option CallLine). is_late (when_some o None time_of_end) (Some n)) e ∙ sym (ended_is b c n)
+
 -- what ended before the later of two times ended before one of them
 pub late_later : (end m n : Option ℕ) → is_late end (later m n) ≡ (is_late end m || is_late end n)
 late_later None m n = refl

@@ -35,7 +35,7 @@ found_own last (x ∷ hs) up h (inr i) =
     cond-false (same_text x.key h.key) (Some x) (find (IsKey h.key) hs) (key_differs x.key h.key (above_in x.key hs up.1 h i))
     ∙ found_own (Some x.key) hs up.1 h i
 
-found_in : {A : Type 0} (test : A → Bool) (xs : List A) (x : A) → find test xs ≡ Some x → IsIn x xs × (test x ≡ true)
+pub found_in : {A : Type 0} (test : A → Bool) (xs : List A) (x : A) → find test xs ≡ Some x → IsIn x xs × (test x ≡ true)
 found_in test [] x e = absurd (cc)
 found_in {A} test (y ∷ xs) x e = by (test y) refl e (found_in test xs x)
   where

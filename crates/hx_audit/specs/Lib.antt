@@ -5,3 +5,4 @@ pub mod Verdicts
 pub mod Walking
 pub mod Finished
 pub mod Moments
+pub mod Standing

@@ -52,7 +52,7 @@ fn is_call_of(calls: &[CallLine], place: usize, caller: Caller) -> bool
 }
 
 /// The place of a caller's call among calls by caller, found by halving.
-pub fn place_of(calls: &[CallLine], caller: Caller) -> Option<usize>
+fn halved_place_of(calls: &[CallLine], caller: Caller) -> Option<usize>
     requires { CallsAscend calls.now }
     ensures { result ≡ place_at calls.now caller }
 {
@@ -61,6 +61,32 @@ pub fn place_of(calls: &[CallLine], caller: Caller) -> Option<usize>
         Some(place)
     } else {
         None
+    }
+}
+
+/// Where a caller's call stands if each session has made as many calls as every other. No contract reads it.
+fn likely_place(calls: &[CallLine], caller: Caller) -> usize {
+    let sessions = match calls.last() {
+        Some(last) => last.caller.session.0 as usize,
+        None => 0,
+    };
+    let each = calls.len().checked_div(sessions).unwrap_or(0);
+    let before = (caller.session.0 as usize).saturating_sub(1);
+    let number = (caller.number as usize).saturating_sub(1);
+    each.saturating_mul(before).saturating_add(number)
+}
+
+/// The place of a caller's call among calls by caller: the likely one, or else found by halving. An audit looks for the
+/// call of each item again and again, and in most reports sessions make as many calls each.
+pub fn place_of(calls: &[CallLine], caller: Caller) -> Option<usize>
+    requires { CallsAscend calls.now }
+    ensures { result ≡ place_at calls.now caller }
+{
+    let likely = likely_place(calls, caller);
+    if is_call_of(calls, likely, caller) {
+        Some(likely)
+    } else {
+        halved_place_of(calls, caller)
     }
 }
 

@@ -6,11 +6,11 @@ ghost use Rattle.hx_types.specs.Words.{when_some};
 ghost use Rattle.hx_model.specs.Searching.{changes_object, rows_in, terms_of};
 ghost use Rattle.hx_audit.specs.Accounts.{began_before, ended_before};
 ghost use Rattle.hx_audit.specs.Finished.{finished_view};
-ghost use Rattle.hx_audit.specs.Told.{account_of, item_told, search_told};
+ghost use Rattle.hx_audit.specs.Told.{account_of, call_at, item_told, search_told};
 ghost use Rattle.hx_audit.specs.Walking.{CallsAscend, IsOrdered};
 
 use crate::lookups::call_of;
-use crate::times::{began_before, ended_before};
+use crate::times::{began_before, call_began_before, ended_before};
 use hx_report_lines::{Block, CallLine, ItemLine, ItemWord};
 use hx_types::{Answer, Op, Rows, Terms};
 
@@ -75,6 +75,27 @@ pub fn is_change_before(block: &Block, item: &ItemLine, time: u64) -> bool
     ensures { result ≡ (changes_object (item_told block.now.calls item.now) && began_before (account_of block.now) item.now.caller time) }
 {
     changes(block.calls.as_slice(), item) && began_before(block, item.caller, time)
+}
+
+/// The call of an item.
+pub fn call_of_item<'a>(block: &'a Block, item: &ItemLine) -> Option<&'a CallLine>
+    requires { IsOrdered block.now }
+    ensures { option_copied result ≡ call_at block.now.calls item.now.caller }
+{
+    call_of(block.calls.as_slice(), item.caller)
+}
+
+/// Whether an item, whose call is at hand, changed the object of its key, and began before a time.
+pub fn is_change_begun(block: &Block, call: Option<&CallLine>, item: &ItemLine, time: u64) -> bool
+    requires ordered { IsOrdered block.now }
+    requires call { option_copied call ≡ call_at block.now.calls item.now.caller }
+    ensures { result ≡ (changes_object (item_told block.now.calls item.now) && began_before (account_of block.now) item.now.caller time) }
+{
+    if call_began_before(call, time) {
+        changes(block.calls.as_slice(), item)
+    } else {
+        false
+    }
 }
 
 /// Whether an item changed the object of its key, and ended before a time.

@@ -1,6 +1,9 @@
 //! When the calls of items began and ended.
 
-ghost use Rattle.std.specs.Prelude.{◌≡◌, IfSome, Some, slice_get, take, true};
+ghost use Rattle.std.specs.Prelude.{◌≡◌, IfSome, None, Some, slice_get, take, true};
+ghost use Rattle.std.specs.Option.{option_copied, option_map};
+ghost use Rattle.hx_types.specs.Words.{when_some};
+ghost use Rattle.hx_report_lines.specs.declared.calls.CallLine.{CallLine as CallSeen};
 ghost use Rattle.hx_audit.specs.Accounts.{began_before, ended_before};
 ghost use Rattle.hx_audit.specs.Clauses.{is_in_time};
 ghost use Rattle.hx_audit.specs.Moments.{begin_at, end_at, is_late, later, time_of_end};
@@ -48,6 +51,26 @@ fn is_below(time: Option<u64>, other: u64) -> bool
 {
     match time {
         Some(time) => time < other,
+        None => false,
+    }
+}
+
+/// Whether a call, if there is one, began before a time.
+pub fn call_began_before(call: Option<&CallLine>, time: u64) -> bool
+    ensures { result ≡ is_late (option_map (λ (l : CallSeen). l.begin) (option_copied call.entry)) (Some time) }
+{
+    match call {
+        Some(call) => call.begin < time,
+        None => false,
+    }
+}
+
+/// Whether a call, if there is one, ended before a time.
+pub fn call_ended_before(call: Option<&CallLine>, time: u64) -> bool
+    ensures { result ≡ is_late (when_some (option_copied call.entry) None time_of_end) (Some time) }
+{
+    match call {
+        Some(call) => is_below(end_of_call(call), time),
         None => false,
     }
 }

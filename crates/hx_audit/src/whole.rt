@@ -6,8 +6,8 @@ ghost use Rattle.hx_audit.specs.Clauses.{IsWhole};
 ghost use Rattle.hx_audit.specs.Finished.{finished_view};
 ghost use Rattle.hx_audit.specs.Walking.{AllShown, IsObjectShown, IsOrdered, IsShownAt, row_with};
 
-use crate::searches::{Finished, either, is_change_before, search_of};
-use crate::times::ended_before;
+use crate::searches::{Finished, call_of_item, either, is_change_begun, search_of};
+use crate::times::call_ended_before;
 use hx_region::matches;
 use hx_report_lines::{Block, CallLine, HistoryLines, ItemLine};
 use hx_types::{Object, Row, Same, Text, Version};
@@ -62,8 +62,9 @@ fn is_shown_at(block: &Block, search: &Finished<'_>, history: &HistoryLines) -> 
     let mut over = false;
     let mut rest = history.items.as_slice();
     while let Some((item, older)) = rest.split_last() {
-        over = either(ended_before(block, item.caller, search.begin), over);
-        if is_change_before(block, item, search.end) {
+        let call = call_of_item(block, item);
+        over = either(call_ended_before(call, search.begin), over);
+        if is_change_begun(block, call, item, search.end) {
             return is_shown_if(over, search, &history.key, item);
         }
         rest = older;

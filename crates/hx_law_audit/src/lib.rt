@@ -1,7 +1,8 @@
-//! What a verdict on a report means.
+//! What a verdict on a report means, and that the reports of runs break nothing.
 #![tactic(auto)]
 
 ghost use Rattle.hx_law_audit.specs.Meaning.{AccountsAgree, VerdictsAreUnique, YesMeansLinear, YesMeansOneOrder};
+ghost use Rattle.hx_law_audit.specs.Running.{RunsBreakNothing};
 
 /// A report has one verdict: where no clause is broken it is yes, and else it names the first
 /// clause that is broken anywhere and the lowest line at which it is.
@@ -29,4 +30,12 @@ pub fn yes_means_one_order()
 /// same searches are whole and true.
 pub fn accounts_agree()
     ensures { AccountsAgree }
+{}
+
+/// The report of a run breaks nothing: for every valid script that the language can say, and every
+/// run of it - whatever is delivered, lost, repeated, halted, stopped or added - the text that is
+/// printed of it, with or without the lines of its trace and with any totals of drivers, is that of
+/// a report, on which the verdict is yes. Entries are numbered with 64 bits, and drivers with 32.
+pub fn runs_break_nothing()
+    ensures { RunsBreakNothing }
 {}

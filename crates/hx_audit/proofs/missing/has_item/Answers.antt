@@ -1,9 +1,10 @@
-use Rattle.std.proofs.Common.{sym}
-use Rattle.hx_audit.proofs.Answered.{item_at_told, item_told_at}
+use Rattle.std.proofs.Common.{sym, ◌∙◌}
+use Rattle.std.specs.BTreeSet.{contains}
+use Rattle.std.specs.Ordering.{nat_cmp}
+use Rattle.hx_audit.proofs.Placed.{has_item_is}
 use Rattle.hx_audit.proofs.missing.has_item.Goals as goal
 
-pub returns-in-Some-Some : goal.returns-in-Some-Some
-returns-in-Some-Some c = (
-  λ t. item_told_at c.args.block.now c.args.call.now c.in-Some-Some.key.now c.in-Some-Some.answer.now (sym c.in-Some-Some.ensures) (sym c.in-Some-Some.ensures') (c.has_item_at.ensures.0 t),
-  λ h. c.has_item_at.ensures.1 (item_at_told c.args.block.now c.args.call.now c.in-Some-Some.key.now c.in-Some-Some.answer.now (sym c.in-Some-Some.ensures) (sym c.in-Some-Some.ensures') h),
-)
+pub returns-else-is_refused : goal.returns-else-is_refused
+returns-else-is_refused c =
+    has_item_is c.args.block.now c.requires.ordered c.args.call.now c.requires.stands _ c.in-Some-Some.answer.now (sym c.in-Some-Some.ensures) (sym c.in-Some-Some.ensures') (sym c.is_refused.ensures ∙ c.if-is_refused.false)
+    (contains nat_cmp c.args.marked.now) c.requires.marked _ c.as_slice.ensures _ c.is_marked.ensures

@@ -1,0 +1,9 @@
+//! Tests of the audit: reports that break nothing, and for each clause one that breaks it.
+#![tactic(auto)]
+
+#[cfg(test)]
+mod calls;
+#[cfg(test)]
+mod parts;
+#[cfg(test)]
+mod searches;
