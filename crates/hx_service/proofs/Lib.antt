@@ -12,3 +12,7 @@ pub mod Finding
 pub mod Outcomes
 pub mod Empty
 pub mod Plans
+pub mod Tests
+pub mod Shown
+pub mod Made
+pub mod Puts

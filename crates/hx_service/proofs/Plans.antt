@@ -31,7 +31,7 @@ behind : {A : Type 0} (xs rest : List A) → slice_get (xs ++ rest) (length xs) 
 behind [] rest = refl
 behind (x ∷ xs) rest = behind xs rest
 
-next-behind : {A : Type 0} (xs rest : List A) → numbered (xs ++ rest) (length xs + 1) ≡ slice_get rest 0
+pub next-behind : {A : Type 0} (xs rest : List A) → numbered (xs ++ rest) (length xs + 1) ≡ slice_get rest 0
 next-behind xs rest = ap (numbered (xs ++ rest)) (let q : length xs + 1 ≡ suc (length xs) = omega arith in q) ∙ behind xs rest
 
 -- a list that has a first item

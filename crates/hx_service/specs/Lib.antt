@@ -1,8 +1,10 @@
 pub mod Booking
 pub mod Errors
+pub mod Groups
 pub mod Lawful
 pub mod Laws
 pub mod Progress
+pub mod Putting
 pub mod Reading
 pub mod Receipts
 pub mod Rosters

@@ -138,7 +138,10 @@ impl Service {
     /// The trace by itself.
     pub fn into_trace(self) -> Trace
         ensures trace { result ≡ self.trace }
+        ensures valid { IsScript self.script }
         ensures run { IsRun self.script (reverse result) }
+        ensures few { HasFewEntries (reverse result) }
+        ensures served { IsServed (reverse result) }
     {
         let Service {
             world,
