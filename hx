@@ -33,7 +33,7 @@ is_command() {
     # shellcheck disable=SC2071 # of two numbers of 20 digits the greater is the later text
     [[ $word != *[[:space:]]* && (${#word} -lt 20 || ! $word > 18446744073709551615) ]] || return 1
   done
-  [[ $* =~ ^(replay( --trace)?|plan|picture|run( ($of_run))*|soak $seed $calls( $workers)?)$ && ! $* =~ $twice ]]
+  [[ $* =~ ^(replay( --trace)?|plan|picture|run( ($of_run))*|soak $seed $calls( $workers)?|share( $workers)?|audit)$ && ! $* =~ $twice ]]
 }
 
 # is_fresh PROGRAM ENDING..: whether the program is there and no source with such an ending is newer
@@ -110,7 +110,7 @@ case "$*" in
     ;;
   prove) prove && say 'proved'; exit ;;
 esac
-is_command "$@" || { printf 'usage: hx replay or run or soak or plan\n' >&2; exit 2; }
+is_command "$@" || { printf 'usage: hx replay or run or soak or plan or share or audit\n' >&2; exit 2; }
 crates=(hx_tool)
 [ "$1" != picture ] || crates+=(hx_picture)
 if ! are_proved "${crates[@]}"; then

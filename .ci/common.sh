@@ -25,3 +25,10 @@ needs() {
 hx() {
   timeout 120 "$program" "$@"
 }
+
+# consistent NAME <REPORT: complains where the audit of a report doesn't say yes
+consistent() {
+  local told
+  told=$(hx audit 2>&1)
+  [ "$? $told" = '0 audit yes' ] || complain "the audit of $1 tells '$told'"
+}

@@ -28,20 +28,34 @@ answered() {
 answered replay report replay
 answered trace report replay --trace
 answered plan plan plan
+answered share report share --workers 1
 for script in cases/part/*.hx; do
   lines=$(cat "${script%.hx}.lines") || complain "$script has no lines"
   [[ $(hx replay <"$script") == *"$lines"* ]] || complain "hx replay <$script doesn't write ${script%.hx}.lines"
 done
+# refused SCRIPT LINE WORD..: the words refuse the script with this line
 refused() {
-  told=$(hx "$1" <"$2" 2>&1)
+  told=$(hx "${@:3}" <"$1" 2>&1)
   status=$?
-  [[ $status -eq 3 && $told = "$3" ]] || complain "hx $1 <$2 tells '$told' with $status, and not '$3' with 3"
+  [[ $status -eq 3 && $told = "$2" ]] || complain "hx ${*:3} <$1 tells '$told' with $status, and not '$2' with 3"
 }
 for script in cases/refused/*.hx; do
   line=$(sed -n "s/^${script##*/} //p" cases/refused/lines)
   [ -n "$line" ] || complain "$script has no line"
-  refused replay "$script" "$line"
-  case $line in *': step') ;; *) refused plan "$script" "$line" ;; esac
+  refused "$script" "$line" replay
+  case $line in *': step') ;; *) refused "$script" "$line" plan ;; esac
+done
+
+for script in cases/share_refused/*.hx; do
+  line=$(sed -n "s/^${script##*/} //p" cases/share_refused/lines)
+  [ -n "$line" ] || complain "$script has no line"
+  for workers in 1 3 16; do refused "$script" "$line" share --workers "$workers"; done
+done
+
+# One caller's share is the replay of the script without its steps.
+for script in examples/*.hx cases/replay/*.hx; do
+  cmp -s <(hx share --workers 1 <"$script") <(sed '/^ *steps *\(#.*\)\?$/,$d' "$script" | hx replay) \
+    || complain "hx share --workers 1 <$script writes something else than its replay without steps"
 done
 
 # A put whose leader halts after any number of deliveries is done once, and a get of another session finds it.

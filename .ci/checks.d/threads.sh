@@ -1,5 +1,5 @@
 #!/usr/bin/env bash
-# Soaks and runs on threads. One that doesn't end is stopped.
+# Soaks, runs and shares on threads. One that doesn't end is stopped.
 . "$(dirname "${BASH_SOURCE[0]}")/../common.sh"
 needs "$program"
 
@@ -24,6 +24,7 @@ ran() {
     report=$(timeout 20 "$program" run "$@" <examples/library.hx) && break
   done || complain "hx run $words fails"
   [[ $report != *'-> open'* && $report == *$'\nend' ]] || complain "hx run $words leaves a call open"
+  consistent "hx run $words" <<<"$report"
 }
 tells() {
   grep -qE "^driver $1\$" <<<"$report" || complain "hx run $words has no line of a driver as '$1'"
@@ -54,4 +55,14 @@ counted=$(hx run --workers 4 <cases/replay/counted_by_two_sessions.hx)
 done_adds=$(grep -c 'atomic .* -> done ' <<<"$counted")
 [[ $counted == *"n=$done_adds"$'\nepoch 1'* ]] || complain "additions on threads don't add up"
 [ "$(grep -c '^call u1\..* atomic .* -> done ' <<<"$counted")" -eq 10 ] || complain 'an addition behind its own put is not done'
+consistent 'additions on threads' <<<"$counted"
+
+# However many callers share a store, and however they take turns, every call is answered.
+for workers in 3 16; do
+  for script in cases/share/*.hx; do
+    report=$(hx share --workers "$workers" <"$script") || complain "hx share --workers $workers <$script fails"
+    [[ $report != *'-> open'* && $report == *$'\nend' ]] || complain "hx share --workers $workers <$script leaves a call open"
+    consistent "hx share --workers $workers <$script" <<<"$report"
+  done
+done
 exit "$failed"

@@ -15,6 +15,10 @@ ends 0 '' '' --help
 ends 0 '' '' --version
 ends 3 'line 2: order' $'hx 1\nkey k 1\n' replay
 ends 3 'line 1: order' '' run --workers 2
+ends 3 'line 1: order' '' share --workers 16
+ends 3 'line 1: order' '' audit
+ends 3 'line 1: order' $'hx 1\n' audit
+ends 1 'line 14: legal' "$(cat cases/audit/another_object_found.report)"$'\n' audit
 # A session whose every message is lost asks again until it is worn.
 ends 7 'worn u1' $'hx 1\nspace one\nkey k 1\nstring v\nservers 1\ntolerate 0\nsession 1\nget "a"\n' run --workers 1 --lose 1
 # Each search of 256 regions takes 257 entries of its session.
@@ -22,7 +26,7 @@ ends 7 'worn u1' "$(printf 'hx 1\nspace w\nkey k 256\nservers 1\ntolerate 0\nses
 
 # What is no command is refused by the program and by ./hx alike. A copy of ./hx alone has nothing that it could build:
 # so it is seen that for such words it doesn't try to, and that for right ones it does.
-usage='usage: hx replay or run or soak or plan'
+usage='usage: hx replay or run or soak or plan or share or audit'
 bare=$(mktemp -d)
 trap 'rm -r "$bare"' EXIT
 cp hx "$bare/hx"
@@ -57,6 +61,13 @@ wrong run --workers 2 --lose 1 --repeat 1 --trace x
 wrong soak 1
 wrong soak 1 16385
 wrong soak 18446744073709551616 1
+wrong share --workers 17
+wrong share --workers 2 --workers 2
+wrong share --trace
+wrong share 1
+wrong audit --trace
+wrong audit audit
+wrong Audit
 asked 2 --proved
 asked 2 --proved plan 1
 asked 1 replay
@@ -67,6 +78,9 @@ asked 1 run --workers 16 --lose 1000000
 asked 1 run --trace --repeat 0
 asked 1 run --workers 2 --lose 1 --repeat 1 --trace
 asked 1 soak 18446744073709551615 16384 --workers 1
+asked 1 share
+asked 1 share --workers 16
+asked 1 audit
 asked 1 --proved plan
 
 # ./hx prints these texts itself, as the program does, and answers by the program where that is proved.
@@ -78,10 +92,16 @@ told=$(./hx replay <examples/first.hx 2>&1)
 # Faults of the standard streams, and a text that is too large.
 told=$(head -c 16777217 /dev/zero | tr '\0' '#' | hx plan 2>&1)
 [ "$? $told" = '3 too large' ] || complain "a text of 16,777,217 bytes isn't told to be too large"
+told=$(head -c 16777217 /dev/zero | tr '\0' '#' | hx audit 2>&1)
+[ "$? $told" = '3 too large' ] || complain "a report of 16,777,217 bytes isn't told to be too large"
 told=$(hx replay 2>&1 <.)
 [ "$? $told" = '4 read fault' ] || complain "a fault of reading isn't told"
 told=$(hx replay <examples/first.hx 2>&1 >/dev/full)
 [ "$? $told" = '5 write fault' ] || complain "a fault of writing isn't told"
+told=$(hx audit 2>&1 <.)
+[ "$? $told" = '4 read fault' ] || complain "a fault of reading a report isn't told"
+told=$(hx audit <examples/first.report 2>&1 >/dev/full)
+[ "$? $told" = '5 write fault' ] || complain "a fault of writing an audit isn't told"
 # Each read and each write of them may fail.
 if command -v cc >/dev/null; then
   told=$(bash bench/faults.sh 2>&1) || complain "a fault of reading or writing is not told: ${told%%$'\n'*}"

@@ -1,6 +1,7 @@
 -- How a run on threads ends whose answer was written, and what the laws say of it.
 use Rattle.std.proofs.Common.{◌≡◌, ◌∙◌, inl, inr, ℕ, ◌≤◌, List, [], ◌∷◌, Option, Some, None, true, false, ap, sym, subst, rules}
 use Rattle.std.specs.Prelude.{reverse, slice_get}
+use Rattle.hx_types.specs.declared.ids.Actor.{Actor}
 use Rattle.hx_types.specs.declared.limits.TheConstants.{MOST_CALLS}
 use Rattle.hx_types.specs.declared.totals.Totals.{Totals}
 use Rattle.hx_types.specs.declared.traces.Entry.{Entry}
@@ -15,7 +16,6 @@ use Rattle.hx_law_epochs.specs.Epochs.{RunsLoseReplicas}
 use Rattle.hx_law_order.specs.Headline.{RunsHaveOneOrder}
 use Rattle.hx_law_causes.specs.Causes.{RunsHaveCauses}
 use Rattle.hx_fate.specs.declared.fates.FateState.{FateState}
-use Rattle.hx_outbox.specs.Offers.{raised_by}
 use Rattle.hx_clock.specs.Seats.{Seated}
 use Rattle.hx_mail.specs.Boxes.{Ported}
 use Rattle.hx_soak.specs.Soaking.{script_drawn}
@@ -23,11 +23,11 @@ use Rattle.hx_law_soak.specs.Soaks.{IsSoak, NoHalts, SoaksSumUpInOrder}
 use Rattle.hx_law_threads.proofs.Lists.{of_reverse}
 use Rattle.hx_soak.specs.Summing.{IsSummary}
 use Rattle.hx_words.specs.declared.commands.Soak.{Soak}
-use Rattle.hx_run.specs.Ran.{HasNoHalts, HasRisen, is_asked, is_halt, posts_by}
+use Rattle.hx_run.specs.Ran.{HasNoHalts, HasRisen, is_halt}
 use Rattle.hx_replay.specs.Calling.{Filled}
-use Rattle.hx_command.specs.Threads.{EndsOnThreads, Handed, IsLawful, IsSummed, IsThreaded, IsWritten, nothing}
+use Rattle.hx_command.specs.Threads.{EndsOnThreads, EndsWith, Handed, IsLawful, IsSummed, IsThreaded, IsWornOnThreads, IsWritten}
 use Rattle.hx_replay.specs.declared.outcomes.Outcome.{Outcome}
-use Rattle.hx_replay.specs.declared.outcomes.Outcome.TheVariants.{Fine, Usage, Refused, TooLarge, ReadFault, WriteFault, Memory, Worn}
+use Rattle.hx_replay.specs.declared.outcomes.Outcome.TheVariants.{Fine, Usage, Refused, TooLarge, ReadFault, WriteFault, Memory, Worn, Wrong}
 
 -- what is handed back, part by part
 abbrev pub handed : List Entry → Option Seated → List Totals → List Ported → ℕ → Handed
@@ -40,8 +40,8 @@ same_handed t u s r a b p q n m e d f g h = λ i. handed (e i) (d i) (f i) (g i)
 pub none_at : {A : Type 0} (xs : List A) (i : ℕ) (x : A) → xs ≡ [] → slice_get xs i ≡ Some x → ⊥
 none_at xs i x e at = let none : slice_get [] i ≡ Some x = ap (λ l. slice_get l i) (sym e) ∙ at in absurd (search rules)
 
-module _ (good : Handed → List ℕ → Type 0) (script : Script) (workers : ℕ) (sink : Filled) where
-  by_outcome : (h : Handed) (bytes : List ℕ) (outcome : Outcome) → good h bytes → IsWritten sink bytes outcome → EndsOnThreads good script workers sink h outcome
+module _ (good : Handed → List ℕ → Type 0) (worn : Handed → Actor → Type 0) (sink : Filled) where
+  by_outcome : (h : Handed) (bytes : List ℕ) (outcome : Outcome) → good h bytes → IsWritten sink bytes outcome → EndsWith good worn sink h outcome
   by_outcome h bytes Fine g written = (bytes, g, written)
   by_outcome h bytes Usage g written = written
   by_outcome h bytes (Refused line reason) g written = written
@@ -50,10 +50,21 @@ module _ (good : Handed → List ℕ → Type 0) (script : Script) (workers : �
   by_outcome h bytes WriteFault g written = (bytes, g, written)
   by_outcome h bytes Memory g written = absurd written
   by_outcome h bytes (Worn a) g written = absurd written
+  by_outcome h bytes (Wrong line clause) g written = absurd written
 
   -- the answer was written, or a prefix of it
-  pub written_ends : (h h' : Handed) (bytes : List ℕ) (outcome : Outcome) → h' ≡ h → good h bytes → IsWritten sink bytes outcome → EndsOnThreads good script workers sink h' outcome
-  written_ends h h' bytes outcome same g written = subst (λ (x : Handed). EndsOnThreads good script workers sink x outcome) (sym same) (by_outcome h bytes outcome g written)
+  pub written_with : (h h' : Handed) (bytes : List ℕ) (outcome : Outcome) → h' ≡ h → good h bytes → IsWritten sink bytes outcome → EndsWith good worn sink h' outcome
+  written_with h h' bytes outcome same g written = subst (λ (x : Handed). EndsWith good worn sink x outcome) (sym same) (by_outcome h bytes outcome g written)
+
+  -- an actor is worn
+  pub worn_with : (h h' : Handed) (a : Actor) (outcome : Outcome) → h' ≡ h → outcome ≡ Worn a → worn h a → EndsWith good worn sink h' outcome
+  worn_with h h' a outcome same is w =
+      subst (λ (o : Outcome). EndsWith good worn sink h' o) (sym is) (subst (λ (x : Handed). worn x a) (sym same) w)
+
+-- the answer to a run on threads was written, or a prefix of it
+pub written_ends : (good : Handed → List ℕ → Type 0) (script : Script) (workers : ℕ) (sink : Filled) (h h' : Handed) (bytes : List ℕ) (outcome : Outcome)
+    → h' ≡ h → good h bytes → IsWritten sink bytes outcome → EndsOnThreads good script workers sink h' outcome
+written_ends good script workers sink h h' bytes outcome same g written = written_with good (IsWornOnThreads script workers) sink h h' bytes outcome same g written
 
 -- ---- the state of a fate
 -- what is said of a fate from the state in which it was tuned
@@ -99,9 +110,9 @@ is_soak seed calls workers script h is few threaded =
 pub is_summed : (soaked : Soak) (script : Script) (h : Handed) (bytes : List ℕ) → SoaksSumUpInOrder → script ≡ script_drawn soaked.seed soaked.calls → soaked.calls ≤ MOST_CALLS
     → IsThreaded script soaked.workers h None → IsSummary script (reverse h.trace) bytes → IsSummed soaked h bytes
 is_summed soaked script h bytes law is few threaded summary =
+    let of_trace : IsSummary (script_drawn soaked.seed soaked.calls) (reverse h.trace) bytes = subst (λ (s : Script). IsSummary s (reverse h.trace) bytes) is summary in
     record {
       threaded = subst (λ (s : Script). IsThreaded s soaked.workers h None) is threaded;
-      summary_is =
-          law soaked.seed soaked.calls (reverse h.trace) (is_soak soaked.seed soaked.calls soaked.workers script h is few threaded) bytes
-          (subst (λ (s : Script). IsSummary s (reverse h.trace) bytes) is summary);
+      of_trace = of_trace;
+      summary_is = law soaked.seed soaked.calls (reverse h.trace) (is_soak soaked.seed soaked.calls soaked.workers script h is few threaded) bytes of_trace;
     }

@@ -1,17 +1,20 @@
--- Words of `run` are none of `soak`; and what is told of any words where there was no memory before the call.
-use Rattle.std.proofs.Common.{◌≡◌, inl, inr, ℕ, List, [], ◌∷◌, length, Option, Some, None, refl, ap}
+-- Words of `run`, of `soak` and of `share` are none of each other; and what is told of any words where there was no memory before the call.
+use Rattle.std.proofs.Common.{◌≡◌, inl, inr, ℕ, List, [], ◌∷◌, ◌<◌, length, Option, Some, None, refl, ap, subst, arith}
 use Rattle.std.specs.declared.string.String.{String}
 use Rattle.std.specs.declared.alloc.Global.{Global}
 use Rattle.std.specs.Prelude.{IfSome, map, string_bytes}
 use Rattle.hx_types.specs.declared.traces.Script.{Script}
-use Rattle.hx_words.specs.Saying.{SaysRun, SaysSoak}
+use Rattle.hx_words.specs.Saying.{SaysRun, SaysShare, SaysSoak}
 use Rattle.hx_words.specs.declared.commands.Run.{Run}
+use Rattle.hx_words.specs.declared.commands.Share.{Share}
 use Rattle.hx_words.specs.declared.commands.Soak.{Soak}
-use Rattle.hx_replay.specs.Calling.{Drawn, Filled}
+use Rattle.hx_replay.specs.Calling.{Drawn, EndsAudit, Filled}
+use Rattle.hx_replay.specs.Commands.{SaysAudit}
 use Rattle.hx_replay.specs.Causes.{IsJudged}
-use Rattle.hx_command.specs.Telling.{Told}
-use Rattle.hx_command.specs.Threads.{EndsRun, IsDecided, nothing}
-use Rattle.hx_replay.specs.declared.outcomes.Outcome.TheVariants.{Memory}
+use Rattle.hx_command.specs.Telling.{AnswersAudit, Told}
+use Rattle.hx_command.specs.Threads.{EndsRun, EndsShare, Handed, IsDecided, nothing}
+use Rattle.hx_replay.specs.declared.outcomes.Outcome.{Outcome}
+use Rattle.hx_replay.specs.declared.outcomes.Outcome.TheVariants.{Fine, Memory}
 use Rattle.hx_replay.specs.declared.words.Command.TheVariants.{Plan}
 use Rattle.hx_command.proofs.Deciding.{no_script}
 
@@ -21,20 +24,37 @@ same_some x y e = cc
 pub none_some : {A : Type 0} (x : A) → None ≡ Some x → ⊥
 none_some x e = absurd (cc)
 
--- ---- the words of `run` and of `soak` differ in their first
+-- ---- the words of `run`, of `soak` and of `share` differ in their first
 abbrev first_long : List (List ℕ) → ℕ
 first_long [] = 0
 first_long (w ∷ ws) = length w
 
-differ : (n : ℕ) → n ≡ 3 → n ≡ 4 → ⊥
-differ n three four = absurd (cc)
+differ : (n a b : ℕ) → n ≡ a → n ≡ b → a < b → ⊥
+differ n a b is also less = omega (arith, is, also, less)
 
 pub not_both : (words : List (String Global)) (run : Run) (soak : Soak) → SaysRun words run → SaysSoak words soak → ⊥
-not_both words run soak a b = differ (first_long (map string_bytes words)) (ap first_long a.said) (ap first_long b.said)
+not_both words run soak a b = differ (first_long (map string_bytes words)) 3 4 (ap first_long a.said) (ap first_long b.said) (omega arith)
+
+pub no_run_shares : (words : List (String Global)) (run : Run) (share : Share) → SaysRun words run → SaysShare words share → ⊥
+no_run_shares words run share a b = differ (first_long (map string_bytes words)) 3 5 (ap first_long a.said) (ap first_long b.said) (omega arith)
+
+pub no_soak_shares : (words : List (String Global)) (soak : Soak) (share : Share) → SaysSoak words soak → SaysShare words share → ⊥
+no_soak_shares words soak share a b = differ (first_long (map string_bytes words)) 4 5 (ap first_long a.said) (ap first_long b.said) (omega arith)
+
+-- what was written to the word `audit`
+pub audit_answered : (words : List (String Global)) (source : Drawn) (sink : Filled) (outcome : Outcome) → SaysAudit words → outcome ≡ Fine → EndsAudit source sink outcome → AnswersAudit words source sink
+audit_answered words source sink outcome says fine ends = record { says = says; ends = subst (λ (o : Outcome). EndsAudit source sink o) fine ends }
+
+-- how a share ends whose report was written
+pub shared_at : (script : Script) (source : Drawn) (sink : Filled) (h : Handed) (outcome : Outcome) → outcome ≡ Fine → EndsShare script source sink h outcome → EndsShare script source sink h Fine
+shared_at script source sink h outcome fine ends = subst (λ (o : Outcome). EndsShare script source sink h o) fine ends
 
 -- ---- what is told of any words where there was no memory before the call
 nothing_run : (run : Run) (source : Drawn) (sink : Filled) → (script : Script) × EndsRun run script source sink nothing Memory
 nothing_run run source sink = (no_script, refl)
+
+nothing_shared : (source : Drawn) (sink : Filled) → (script : Script) × EndsShare script source sink nothing Memory
+nothing_shared source sink = (no_script, refl)
 
 nothing_decided : (source : Drawn) (sink : Filled) → IsDecided source sink Memory
 nothing_decided source sink =
@@ -58,4 +78,6 @@ nothing_told words source sink =
       decided = λ run says. nothing_decided source sink;
       soak = λ soak says. refl;
       soaked = λ soak says still. inr (inl refl);
+      share = λ share says. nothing_shared source sink;
+      share_decided = λ share says. nothing_decided source sink;
     }

@@ -8,20 +8,26 @@ use Rattle.hx_io.specs.Pieces.{AppendsPrefix}
 use Rattle.hx_types.specs.declared.ids.Actor.{Actor}
 use Rattle.hx_types.specs.declared.traces.Script.{Script}
 use Rattle.hx_words.specs.declared.commands.Run.{Run}
+use Rattle.hx_words.specs.declared.commands.Share.{Share}
 use Rattle.hx_words.specs.declared.commands.Soak.{Soak}
-use Rattle.hx_words.specs.Saying.{SaysRun, SaysSoak}
+use Rattle.hx_words.specs.Saying.{SaysRun, SaysShare, SaysSoak}
 use Rattle.hx_replay.specs.declared.outcomes.Outcome.{Outcome}
 use Rattle.hx_replay.specs.declared.outcomes.Outcome.TheVariants as an_outcome
-use Rattle.hx_replay.specs.Calling.{Drawn, Ends, Filled, Shows, Writes}
-use Rattle.hx_replay.specs.Commands.{Asks}
+use Rattle.hx_replay.specs.Calling.{Drawn, Ends, EndsAudit, Filled, Shows, Writes}
+use Rattle.hx_replay.specs.Commands.{Asks, SaysAudit}
 use Rattle.hx_replay.specs.declared.words.Question.{Question}
 use Rattle.hx_command.specs.Showing.{shown_text}
-use Rattle.hx_command.specs.Threads.{EndsRun, EndsSoak, Handed, IsDecided, IsUnthreaded}
+use Rattle.hx_command.specs.Threads.{EndsRun, EndsShare, EndsSoak, Handed, IsDecided, IsUnthreaded}
 
 -- the answer to words that start no threads was written
 pub record AnswersAlone (words : List (String Global)) (source : Drawn) (sink : Filled) (h : Handed) : Type 0 where
   pub unthreaded : IsUnthreaded words
   pub writes : Writes words source sink h.trace
+
+-- the report that was read breaks no clause, and `audit yes` was written
+pub record AnswersAudit (words : List (String Global)) (source : Drawn) (sink : Filled) : Type 0 where
+  pub says : SaysAudit words
+  pub ends : EndsAudit source sink an_outcome.Fine
 
 -- the report of a run on threads was written
 pub record AnswersRun (words : List (String Global)) (source : Drawn) (sink : Filled) (h : Handed) : Type 0 where
@@ -36,9 +42,16 @@ pub record AnswersSoak (words : List (String Global)) (sink : Filled) (h : Hande
   pub says : SaysSoak words command
   pub ends : EndsSoak command sink h an_outcome.Fine
 
+-- the report of a script that callers shared was written
+pub record AnswersShare (words : List (String Global)) (source : Drawn) (sink : Filled) (h : Handed) : Type 0 where
+  pub command : Share
+  pub says : SaysShare words command
+  pub script : Script
+  pub ends : EndsShare script source sink h an_outcome.Fine
+
 -- the answer to the words was written
 abbrev pub Answers : List (String Global) → Drawn → Filled → Handed → Type 0
-Answers words source sink h = AnswersAlone words source sink h ⊎ (AnswersRun words source sink h ⊎ AnswersSoak words sink h)
+Answers words source sink h = AnswersAlone words source sink h ⊎ (AnswersAudit words source sink ⊎ (AnswersRun words source sink h ⊎ (AnswersSoak words sink h ⊎ AnswersShare words source sink h)))
 
 -- how a call ends, by its words; some value is handed back
 pub record Told (words : List (String Global)) (source : Drawn) (sink : Filled) (outcome : Outcome) : Type 0 where
@@ -49,6 +62,8 @@ pub record Told (words : List (String Global)) (source : Drawn) (sink : Filled) 
   pub soak : (command : Soak) → SaysSoak words command → EndsSoak command sink h outcome
   pub soaked : (command : Soak) → SaysSoak words command → ¬ Rose sink.faults_before sink.faults_after
       → (outcome ≡ an_outcome.Fine) ⊎ (outcome ≡ an_outcome.Memory) ⊎ ((a : Actor) × (outcome ≡ an_outcome.Worn a))
+  pub share : (command : Share) → SaysShare words command → (script : Script) × EndsShare script source sink h outcome
+  pub share_decided : (command : Share) → SaysShare words command → IsDecided source sink outcome
 
 -- how the program ends with these words: what was asked was shown, or the call ended as its words have it
 pub record EndsProgram (words : List (String Global)) (source : Drawn) (sink : Filled) (outcome : Outcome) : Type 0 where

@@ -1,5 +1,5 @@
--- What the program makes of a script on threads, and how a call with the words of `run` or of `soak` ends.
-use Rattle.std.specs.Prelude.{◌≡◌, ◌⊎◌, ◌+◌, ◌≤◌, ℕ, List, [], reverse, length, Option, None, Some, Ok, Err, Result, IfSome}
+-- What the program makes of a script on threads, and how a call with the words of `run`, of `soak` or of `share` ends.
+use Rattle.std.specs.Prelude.{◌≡◌, ◌⊎◌, ◌+◌, ◌≤◌, ℕ, false, List, [], reverse, length, Option, None, Some, Ok, Err, Result, IfSome}
 use Rattle.std.specs.declared.string.String.{String}
 use Rattle.std.specs.declared.alloc.Global.{Global}
 use Rattle.std.specs.Io.KnownBytes.{Appends}
@@ -19,13 +19,15 @@ use Rattle.hx_clock.specs.Seats.{Seated}
 use Rattle.hx_mail.specs.Boxes.{Ported}
 use Rattle.hx_fate.specs.declared.fates.Tuning.{Tuning}
 use Rattle.hx_run.specs.Ran.{IsRan}
+use Rattle.hx_share.specs.Sharing.{IsShared}
 use Rattle.hx_soak.specs.Soaking.{script_drawn, soak}
 use Rattle.hx_law_epochs.specs.Epochs.{LosesReplicas}
 use Rattle.hx_law_order.specs.Order.{HasOneOrder}
 use Rattle.hx_law_soak.specs.Sequence.{tally_in_order}
-use Rattle.hx_soak.specs.Summing.{tally_text}
-use Rattle.hx_words.specs.Saying.{SaysRun, SaysSoak}
+use Rattle.hx_soak.specs.Summing.{tally_text, IsSummary}
+use Rattle.hx_words.specs.Saying.{SaysRun, SaysShare, SaysSoak}
 use Rattle.hx_words.specs.declared.commands.Run.{Run}
+use Rattle.hx_words.specs.declared.commands.Share.{Share}
 use Rattle.hx_words.specs.declared.commands.Soak.{Soak}
 use Rattle.hx_replay.specs.declared.outcomes.Outcome.{Outcome}
 use Rattle.hx_replay.specs.declared.outcomes.Outcome.TheVariants as an_outcome
@@ -74,9 +76,10 @@ pub record IsReported (run : Run) (script : Script) (h : Handed) (bytes : List �
   pub threaded : IsThreaded script run.workers h None
   pub report_is : IsReport script (reverse h.trace) h.totals bytes run.with_trace
 
--- the summary is that of the calls one after the other on one map, the same for every number of threads
+-- the summary is that of the trace, which is that of the calls one after the other on one map, the same for every number of threads
 pub record IsSummed (soaked : Soak) (h : Handed) (bytes : List ℕ) : Type 0 where
   pub threaded : IsThreaded (script_drawn soaked.seed soaked.calls) soaked.workers h None
+  pub of_trace : IsSummary (script_drawn soaked.seed soaked.calls) (reverse h.trace) bytes
   pub summary_is : bytes ≡ tally_text soak (tally_in_order soaked.seed soaked.calls)
 
 -- these bytes were written, or a prefix of them and a fault rose
@@ -89,17 +92,27 @@ IsWritten sink bytes an_outcome.ReadFault = ⊥
 IsWritten sink bytes an_outcome.WriteFault = Rose sink.faults_before sink.faults_after × AppendsPrefix sink.before sink.after bytes
 IsWritten sink bytes an_outcome.Memory = ⊥
 IsWritten sink bytes (an_outcome.Worn a) = ⊥
+IsWritten sink bytes (an_outcome.Wrong line clause) = ⊥
 
--- how a script ends on threads, where `good` says what an answer is: it was written, or a prefix of it and a fault rose, or an actor is worn
+-- how a call ends whose script was read, where `good` says what an answer is and `worn` what a worn actor leaves: the answer was written, or a prefix of it and a fault rose, or an actor is worn
+abbrev pub EndsWith : (Handed → List ℕ → Type 0) → (Handed → Actor → Type 0) → Filled → Handed → Outcome → Type 0
+EndsWith good worn sink h an_outcome.Fine = (bytes : List ℕ) × good h bytes × IsWritten sink bytes an_outcome.Fine
+EndsWith good worn sink h an_outcome.Usage = ⊥
+EndsWith good worn sink h (an_outcome.Refused line reason) = ⊥
+EndsWith good worn sink h an_outcome.TooLarge = ⊥
+EndsWith good worn sink h an_outcome.ReadFault = ⊥
+EndsWith good worn sink h an_outcome.WriteFault = (bytes : List ℕ) × good h bytes × IsWritten sink bytes an_outcome.WriteFault
+EndsWith good worn sink h an_outcome.Memory = h ≡ nothing
+EndsWith good worn sink h (an_outcome.Worn a) = worn h a
+EndsWith good worn sink h (an_outcome.Wrong line clause) = ⊥
+
+-- so many threads ran the script until this actor was worn
+abbrev pub IsWornOnThreads : Script → ℕ → Handed → Actor → Type 0
+IsWornOnThreads script workers h a = IsThreaded script workers h (Some a)
+
+-- how a script ends on threads
 abbrev pub EndsOnThreads : (Handed → List ℕ → Type 0) → Script → ℕ → Filled → Handed → Outcome → Type 0
-EndsOnThreads good script workers sink h an_outcome.Fine = (bytes : List ℕ) × good h bytes × IsWritten sink bytes an_outcome.Fine
-EndsOnThreads good script workers sink h an_outcome.Usage = ⊥
-EndsOnThreads good script workers sink h (an_outcome.Refused line reason) = ⊥
-EndsOnThreads good script workers sink h an_outcome.TooLarge = ⊥
-EndsOnThreads good script workers sink h an_outcome.ReadFault = ⊥
-EndsOnThreads good script workers sink h an_outcome.WriteFault = (bytes : List ℕ) × good h bytes × IsWritten sink bytes an_outcome.WriteFault
-EndsOnThreads good script workers sink h an_outcome.Memory = h ≡ nothing
-EndsOnThreads good script workers sink h (an_outcome.Worn a) = IsThreaded script workers h (Some a)
+EndsOnThreads good script workers sink h outcome = EndsWith good (IsWornOnThreads script workers) sink h outcome
 
 -- the source was read to its end, and its text is that of the script
 pub record ReadsScript (source : Drawn) (script : Script) : Type 0 where
@@ -112,19 +125,22 @@ abbrev pub IsReadAs : List ℕ → Result Script Outcome → Type 0
 IsReadAs text (Ok script) = (length text ≤ limit) × (script_of text ≡ Ok script)
 IsReadAs text (Err outcome) = IsJudged a_command.Plan text outcome
 
--- how a call with the words of `run` ends, with this script where the text is that of one
-abbrev pub EndsRun : Run → Script → Drawn → Filled → Handed → Outcome → Type 0
-EndsRun run script source sink h an_outcome.Fine =
-    ReadsScript source script × EndsOnThreads (IsReported run script) script run.workers sink h an_outcome.Fine
-EndsRun run script source sink h an_outcome.Usage = ⊥
-EndsRun run script source sink h (an_outcome.Refused line reason) =
+-- how a call ends that reads a script, with this one where the text is that of one
+abbrev pub EndsReading : (Handed → List ℕ → Type 0) → (Handed → Actor → Type 0) → Script → Drawn → Filled → Handed → Outcome → Type 0
+EndsReading good worn script source sink h an_outcome.Fine = ReadsScript source script × EndsWith good worn sink h an_outcome.Fine
+EndsReading good worn script source sink h an_outcome.Usage = ⊥
+EndsReading good worn script source sink h (an_outcome.Refused line reason) =
     (h ≡ nothing) × ((text : List ℕ) × ReadsText source.before source.after text × IsRefused text line reason)
-EndsRun run script source sink h an_outcome.TooLarge = (h ≡ nothing) × ConsumesExactly source.before source.after (limit + 1)
-EndsRun run script source sink h an_outcome.ReadFault = (h ≡ nothing) × Rose source.faults_before source.faults_after
-EndsRun run script source sink h an_outcome.WriteFault =
-    ReadsScript source script × EndsOnThreads (IsReported run script) script run.workers sink h an_outcome.WriteFault
-EndsRun run script source sink h an_outcome.Memory = h ≡ nothing
-EndsRun run script source sink h (an_outcome.Worn a) = ReadsScript source script × IsThreaded script run.workers h (Some a)
+EndsReading good worn script source sink h an_outcome.TooLarge = (h ≡ nothing) × ConsumesExactly source.before source.after (limit + 1)
+EndsReading good worn script source sink h an_outcome.ReadFault = (h ≡ nothing) × Rose source.faults_before source.faults_after
+EndsReading good worn script source sink h an_outcome.WriteFault = ReadsScript source script × EndsWith good worn sink h an_outcome.WriteFault
+EndsReading good worn script source sink h an_outcome.Memory = h ≡ nothing
+EndsReading good worn script source sink h (an_outcome.Worn a) = ReadsScript source script × worn h a
+EndsReading good worn script source sink h (an_outcome.Wrong line clause) = ⊥
+
+-- how a call with the words of `run` ends
+abbrev pub EndsRun : Run → Script → Drawn → Filled → Handed → Outcome → Type 0
+EndsRun run script source sink h outcome = EndsReading (IsReported run script) (IsWornOnThreads script run.workers) script source sink h outcome
 
 -- how a call with the words of `soak` ends
 abbrev pub EndsSoak : Soak → Filled → Handed → Outcome → Type 0
@@ -142,7 +158,30 @@ pub record IsDecided (source : Drawn) (sink : Filled) (outcome : Outcome) : Type
       → (outcome ≡ an_outcome.Fine) ⊎ (outcome ≡ an_outcome.Memory)
       ⊎ ((a : Actor) × (outcome ≡ an_outcome.Worn a))
 
+-- nothing but a trace
+abbrev pub only : List Entry → Handed
+only trace = record { trace = trace; seat = None; totals = []; ports = []; fates = 0 }
+
+-- callers on threads made the calls of the script one at a time, to its end or until this actor was worn, and only the trace is handed back
+pub record IsSharedBy (script : Script) (h : Handed) (worn : Option Actor) : Type 0 where
+  pub shared : IsShared script (record { trace = h.trace; worn = worn })
+  pub lawful : IsLawful script h.trace
+  pub alone : h ≡ only h.trace
+
+-- the report tells of it, without lines of drivers
+pub record IsSharedReport (script : Script) (h : Handed) (bytes : List ℕ) : Type 0 where
+  pub shared : IsSharedBy script h None
+  pub report_is : IsReport script (reverse h.trace) [] bytes false
+
+abbrev pub IsWornShared : Script → Handed → Actor → Type 0
+IsWornShared script h a = IsSharedBy script h (Some a)
+
+-- how a call with the words of `share` ends
+abbrev pub EndsShare : Script → Drawn → Filled → Handed → Outcome → Type 0
+EndsShare script source sink h outcome = EndsReading (IsSharedReport script) (IsWornShared script) script source sink h outcome
+
 -- the words start no threads
 pub record IsUnthreaded (words : List (String Global)) : Type 0 where
   pub no_run : (run : Run) → ¬ SaysRun words run
   pub no_soak : (soak : Soak) → ¬ SaysSoak words soak
+  pub no_share : (share : Share) → ¬ SaysShare words share

@@ -1,5 +1,5 @@
-//! The commands of `hx`: the top call `hyperstore`, which takes the words, a source and a sink and runs scripts on one
-//! thread or several, and `run`, which makes that call for a process and tells its outcome.
+//! The commands of `hx`: the top call `hyperstore`, which takes the words, a source and a sink, runs scripts on one
+//! thread or several and judges reports, and `run`, which makes that call for a process and tells its outcome.
 //!
 //! The contract of [`hyperstore`] is the theorem. No contract says that there is memory, so a program that always ended
 //! for want of it would be proved: the gate runs it on scripts whose reports are known.
@@ -9,6 +9,7 @@ mod finished;
 mod program;
 mod reading;
 mod reporting;
+mod shared;
 mod soaking;
 mod threaded;
 mod threads;

@@ -35,6 +35,8 @@ usage: hx replay [--trace] < SCRIPT
               [--trace] < SCRIPT
        hx soak SEED CALLS [--workers W]
        hx plan < SCRIPT
+       hx share [--workers W] < SCRIPT
+       hx audit < REPORT
 
 Commands:
   replay       run the script that stands on standard input, and write every
@@ -47,13 +49,24 @@ Commands:
   soak         run 1 to 16384 calls drawn from a seed on W threads, and write
                a summary that is the same for every W
   plan         write which regions each search of the script asks
+  share        make the script's calls one at a time behind one lock, by W
+               callers on threads (1 to 16; 2 where it isn't said), and write
+               the report; the script's steps are not taken
+  audit        read a report, of whichever store, and write audit yes where
+               each key's history is linear and each search whole and true;
+               else tell the first of the clauses foreign, legal, missing,
+               order, whole and true that is broken, and its lowest line.
+               It says nothing of versions of items, of causes, or of calls
+               that the report leaves out; with status 3, order means that
+               no report has such a line
 
 Options:
   --help       print this help
   --version    print the version
 
-Status: 0 fine, 2 usage, 3 a text that can't be run, 4 a fault of reading,
-5 a fault of writing, 6 want of memory, 7 an actor made 1,048,576 entries.
+Status: 0 fine, 1 a report that breaks a clause, 2 usage, 3 a text that can't
+be run or is no report, 4 a fault of reading, 5 a fault of writing, 6 want of
+memory, 7 an actor made 1,048,576 entries.
 ";
 
 /// What `hx --version` prints.

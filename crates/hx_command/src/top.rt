@@ -6,22 +6,24 @@ ghost use Rattle.hx_types.specs.declared.traces.Script.{Script as ScriptSeen};
 ghost use Rattle.hx_soak.specs.Soaking.{script_drawn};
 ghost use Rattle.hx_fate.specs.States.{never, tuned};
 ghost use Rattle.hx_run.specs.Ran.{HasRisen};
-ghost use Rattle.hx_words.specs.Saying.{SaysRun, SaysSoak};
+ghost use Rattle.hx_words.specs.Saying.{SaysRun, SaysShare, SaysSoak};
 ghost use Rattle.hx_words.specs.declared.commands.Run.{Run as RunSeen};
+ghost use Rattle.hx_words.specs.declared.commands.Share.{Share as ShareSeen};
 ghost use Rattle.hx_words.specs.declared.commands.Soak.{Soak as SoakSeen};
 ghost use Rattle.hx_replay.specs.Calling.{Ends};
 ghost use Rattle.hx_replay.specs.Outcomes.{HasNoTrace, IsSilent, status_of};
 ghost use Rattle.hx_command.specs.Telling.{Answers};
-ghost use Rattle.hx_command.specs.Threads.{EndsRun, EndsSoak, HasEnough, IsDecided, IsUnthreaded, tuning_of};
+ghost use Rattle.hx_command.specs.Threads.{EndsRun, EndsShare, EndsSoak, HasEnough, IsDecided, IsUnthreaded, tuning_of};
 ghost use Rattle.hx_replay.specs.declared.outcomes.Outcome.{Outcome};
 
 use crate::finished::{Finished, unthreaded};
+use crate::shared::share_words;
 use crate::threaded::{run_words, soak_words};
 use hx_desk::Gate;
 use hx_fate::Fate;
 use hx_io::{Sink, Source};
 use hx_replay::hyperstore_alone;
-use hx_words::{run_of, soak_of};
+use hx_words::{run_of, share_of, soak_of};
 use std::alloc::Global;
 use std::sync::Wait;
 use std::thread::Threads;
@@ -30,8 +32,9 @@ use std::thread::Threads;
 /// a fate for each driver that the words start, and a gate.
 ///
 /// With the words of `run` it runs the script of the source on threads, and with those of `soak` a
-/// script that it draws itself; all other words it hands on to [`hyperstore_alone`]. Fates that no
-/// driver has are dropped.
+/// script that it draws itself; with those of `share` callers on threads make the calls of the source's
+/// script, one at a time behind one lock. All other words, `audit` among them, it hands on to
+/// [`hyperstore_alone`]. Fates that no driver has are dropped.
 ///
 /// # Errors
 ///
@@ -89,6 +92,20 @@ pub fn hyperstore<R: Threads + Wait + Sync, S: Source, K: Sink, G: Gate + Sync>(
         → (result.done.outcome ≡ Outcome.Fine) ⊎ (result.done.outcome ≡ Outcome.Memory) ⊎ ((a : Actor) × (result.done.outcome ≡ Outcome.Worn a)) }
     ensures unread { (command : SoakSeen) → SaysSoak words.now command → source.new ≡ source.old }
 
+    // Under `share` the text that the source gave is that of a script, whose steps aren't taken. With
+    // status 0 the trace is a run of it after which there is nothing left to do, in which each entry
+    // begins a call or delivers a post that none before it delivers; all that the laws say of runs holds
+    // of it, and the report was written and nothing else. A worn actor hands back the run up to there.
+    ensures share { (command : ShareSeen) → SaysShare words.now command → (script : ScriptSeen) × EndsShare script
+        (record { before = S.left source.old; after = S.left source.new; faults_before = S.faults source.old; faults_after = S.faults source.new })
+        (record { before = K.held sink.old; after = K.held sink.new; faults_before = K.faults sink.old; faults_after = K.faults sink.new })
+        (record { trace = result.done.trace; seat = result.seat; totals = result.totals.items; ports = result.ports.items; fates = length result.fates.items })
+        result.done.outcome }
+    ensures share_decided { (command : ShareSeen) → SaysShare words.now command → IsDecided
+        (record { before = S.left source.old; after = S.left source.new; faults_before = S.faults source.old; faults_after = S.faults source.new })
+        (record { before = K.held sink.old; after = K.held sink.new; faults_before = K.faults sink.old; faults_after = K.faults sink.new })
+        result.done.outcome }
+
     // Whatever the words are: a fault has its cause, nothing is written but with an answer, there is no
     // trace but with one or where an actor is worn or a step refused, and words that are no command leave
     // the source alone.
@@ -104,7 +121,10 @@ pub fn hyperstore<R: Threads + Wait + Sync, S: Source, K: Sink, G: Gate + Sync>(
         Some(command) => run_words(rt, alloc, command, source, sink, fates, gate),
         None => match soak_of(words) {
             Some(command) => soak_words(rt, alloc, command, sink, fates, gate),
-            None => unthreaded(alloc, hyperstore_alone(alloc, words, source, sink)),
+            None => match share_of(words) {
+                Some(command) => share_words(rt, alloc, command, source, sink, gate),
+                None => unthreaded(alloc, hyperstore_alone(alloc, words, source, sink)),
+            },
         },
     }
 }

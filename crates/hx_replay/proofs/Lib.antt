@@ -3,4 +3,5 @@ pub mod Scheduling
 pub mod Making
 pub mod Judging
 pub mod Wearing
+pub mod Verdicts
 mod Saying

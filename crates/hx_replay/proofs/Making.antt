@@ -1,5 +1,5 @@
 -- What a command makes of a text, by what it makes of its script.
-use Rattle.std.proofs.Common.{◌≡◌, ◌≤◌, ◌⊎◌, inl, inr, Bool, ℕ, List, Option, refl, sym, subst, length, reverse}
+use Rattle.std.proofs.Common.{◌≡◌, ◌≤◌, ◌⊎◌, inl, inr, Bool, ℕ, List, Option, refl, sym, subst, length}
 use Rattle.std.specs.Prelude.{Ok}
 use Rattle.std.specs.declared.string.String.{String}
 use Rattle.std.specs.declared.alloc.Global.{Global}
@@ -9,7 +9,7 @@ use Rattle.hx_types.specs.declared.traces.Script.{Script}
 use Rattle.hx_script.specs.declared.errors.Reason.{Reason}
 use Rattle.hx_script.specs.declared.errors.Reason.TheVariants as a_reason
 use Rattle.hx_script.specs.Texts.{script_of}
-use Rattle.hx_replay.specs.Causes.{IsAnswer, IsJudged, CommandMakes, CommandEnds, IsRefused, ReplayEnds, IsSteppable, IsStopped, IsTaken, IsWorn, IsWornAfterSteps, IsWornRun, ReadsText, limit, outcome_of}
+use Rattle.hx_replay.specs.Causes.{IsJudged, CommandMakes, CommandEnds, IsRefused, ReplayEnds, IsSteppable, IsStopped, IsTaken, IsWorn, IsWornAfterSteps, IsWornRun, ReadsText, limit, outcome_of}
 use Rattle.hx_replay.specs.Commands.{Replays, Says}
 use Rattle.hx_replay.specs.Steps.{IsRefusedAt, IsWornAtStep}
 use Rattle.hx_replay.specs.declared.outcomes.Ended.{Ended}

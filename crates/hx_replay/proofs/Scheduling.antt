@@ -7,7 +7,6 @@ use Rattle.hx_types.specs.declared.traces.Step.{Step}
 use Rattle.hx_model.specs.Runs.{IsRun}
 use Rattle.hx_model.specs.Schedule.{next_entry, scheduled, stepped}
 use Rattle.hx_world.specs.Worlds.{Drains, HasFewEntries, WorldState, most_entries}
-use Rattle.hx_world.specs.declared.ends.DrainError.TheVariants as an_error
 use Rattle.hx_world.specs.declared.ends.Drained.{Drained}
 use Rattle.hx_world.specs.declared.ends.Drained.TheVariants.{Quiet, Spent}
 use Rattle.hx_replay.specs.Causes.{IsWholeRun}

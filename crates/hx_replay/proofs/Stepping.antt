@@ -4,9 +4,6 @@ use Rattle.hx_types.specs.declared.ids.Actor.{Actor}
 use Rattle.hx_types.specs.declared.traces.Entry.{Entry}
 use Rattle.hx_types.specs.declared.traces.Script.{Script}
 use Rattle.hx_model.specs.Schedule.{Worn as WornFault}
-use Rattle.hx_world.specs.Worlds.{Steps}
-use Rattle.hx_replay.specs.declared.steps.Stopped.{Stopped}
-use Rattle.hx_replay.specs.declared.steps.Stopped.TheVariants.{Worn}
 use Rattle.hx_replay.specs.Steps.{AreTaken, IsRefusal, IsRefusedAt, IsWornAtStep, Stop, stop_of}
 
 pub same_stop : (o : Option Stop) (a b : Stop) → o ≡ Some a → o ≡ Some b → a ≡ b

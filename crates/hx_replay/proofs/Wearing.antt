@@ -1,6 +1,6 @@
 -- A replay that ends at a worn actor ends so by each way through its steps and the schedule.
-use Rattle.std.proofs.Common.{◌≡◌, ◌⊎◌, inl, inr, ◌≤◌, ◌<◌, ◌+◌, ℕ, zero, suc, Bool, true, false, cond, List, [], ◌∷◌, Option, Some, None, refl, sym, ap, ◌∙◌, subst, reverse, map, arith, length}
-use Rattle.std.specs.Prelude.{IsSomeAnd, Ok, Err, nat_le}
+use Rattle.std.proofs.Common.{◌≡◌, ◌⊎◌, inl, inr, ◌≤◌, ◌<◌, ◌+◌, ℕ, zero, suc, Bool, true, false, cond, List, [], ◌∷◌, Option, Some, None, refl, sym, ap, ◌∙◌, subst, map, arith, length}
+use Rattle.std.specs.Prelude.{IsSomeAnd, Err}
 use Rattle.std.proofs.lemmas.Bool.{cases_lt, eq-eqb, leb-true}
 use Rattle.hx_types.specs.declared.ids.Actor.{Actor}
 use Rattle.hx_types.specs.declared.ids.Actor.TheVariants.{Coordinator, Server, Session}
@@ -8,11 +8,9 @@ use Rattle.hx_types.specs.declared.traces.Entry.{Entry}
 use Rattle.hx_types.specs.declared.traces.Script.{Script}
 use Rattle.hx_types.specs.declared.traces.Step.{Step}
 use Rattle.hx_types.specs.Words.{same_actor}
-use Rattle.hx_model.specs.Schedule.{StepFault, Worn as WornFault, entries_of, is_worn, next_entry, scheduled, stepped, with_entry}
+use Rattle.hx_model.specs.Schedule.{Worn as WornFault, entries_of, next_entry, scheduled, stepped, with_entry}
 use Rattle.hx_world.specs.Worlds.{HasFewEntries, IsWornOut}
 use Rattle.std.specs.Prelude.{IfSome}
-use Rattle.hx_script.specs.declared.errors.Reason.{Reason}
-use Rattle.hx_script.specs.Texts.{script_of}
 use Rattle.hx_io.specs.Causes.{Rose}
 use Rattle.hx_replay.specs.declared.outcomes.Ended.{Ended}
 use Rattle.hx_replay.specs.declared.outcomes.Ended.TheVariants.{Whole, Refused, Worn}
@@ -196,6 +194,7 @@ by_outcome command text before after m n an_outcome.ReadFault trace a replays sh
 by_outcome command text before after m n an_outcome.WriteFault trace a replays short worn still judged cause = absurd cause
 by_outcome command text before after m n an_outcome.Memory trace a replays short worn still judged cause = refl
 by_outcome command text before after m n (an_outcome.Worn b) trace a replays short worn still judged cause = absurd cause
+by_outcome command text before after m n (an_outcome.Wrong line clause) trace a replays short worn still judged cause = absurd cause
 
 -- and where reading the text or answering it ended before
 pub err_wears : (own command : Command) (text : List ℕ) (before after : Option (List ℕ)) (m n : ℕ) (outcome : Outcome) (trace : List Entry) (a : Actor) → Some own ≡ Some command → before ≡ Some text

@@ -1,5 +1,5 @@
 -- What the program makes of its words, its source and its sink.
-use Rattle.std.specs.Prelude.{◌≡◌, ◌↔◌, ◌⊎◌, ℕ, ◌+◌, ◌≤◌, List, length, Option, Some, IfSome}
+use Rattle.std.specs.Prelude.{◌≡◌, ◌↔◌, ◌⊎◌, ℕ, ◌+◌, ◌<◌, ◌≤◌, List, [], length, Option, Some, IfSome, ⊤}
 use Rattle.std.specs.declared.string.String.{String}
 use Rattle.std.specs.declared.alloc.Global.{Global}
 use Rattle.std.specs.Io.KnownBytes.{Appends}
@@ -13,7 +13,13 @@ use Rattle.hx_replay.specs.declared.outcomes.Outcome.{Outcome}
 use Rattle.hx_replay.specs.declared.outcomes.Outcome.TheVariants as an_outcome
 use Rattle.hx_replay.specs.declared.words.Command.{Command}
 use Rattle.hx_replay.specs.Causes.{IsAnswer, IsFaulty, IsJudged, IsRefused, IsStopped, IsTaken, IsWorn, ReadsText, limit}
-use Rattle.hx_replay.specs.Commands.{Replays, Says}
+use Rattle.hx_replay.specs.Commands.{Replays, Says, SaysAudit}
+use Rattle.hx_replay.specs.Audits.{IsAudited, IsAuditJudged, yes_line}
+use Rattle.hx_audit.specs.declared.verdicts.Clause.{Clause}
+use Rattle.hx_audit.specs.declared.verdicts.Verdict.TheVariants.{Yes, No}
+use Rattle.hx_report_lines.specs.Printed.{text_of}
+use Rattle.hx_report_lines.specs.Unread.{IsUnreadAt}
+use Rattle.hx_report_lines.specs.Values.{IsReportValue, ReportValue}
 
 -- a source before and after a call: the bytes that are left, where it tells them, and its count of faults
 pub record Drawn : Type 0 where
@@ -55,17 +61,48 @@ pub record WritesPrefix (words : List (String Global)) (source : Drawn) (sink : 
   pub answer : IsAnswer command text trace bytes
   pub written : AppendsPrefix sink.before sink.after bytes
 
--- a call with the words of a command, or with words that are none, ends so with this trace
+-- how an audit ends: the source was read, and no clause of its report is broken and `audit yes` was written, or one is, or no report has the text
+abbrev pub EndsAudit : Drawn → Filled → Outcome → Type 0
+EndsAudit source sink an_outcome.Fine =
+    (text : List ℕ) × ReadsText source.before source.after text × IsAudited text Yes × Appends sink.before sink.after yes_line
+EndsAudit source sink an_outcome.Usage = ⊥
+EndsAudit source sink (an_outcome.Refused line reason) =
+    (text : List ℕ) × ReadsText source.before source.after text × (reason ≡ a_reason.Order) × IsUnreadAt text line
+EndsAudit source sink an_outcome.TooLarge = ConsumesExactly source.before source.after (limit + 1)
+EndsAudit source sink an_outcome.ReadFault = Rose source.faults_before source.faults_after
+EndsAudit source sink an_outcome.WriteFault =
+    (text : List ℕ) × ReadsText source.before source.after text × IsAudited text Yes × Rose sink.faults_before sink.faults_after × AppendsPrefix sink.before sink.after yes_line
+EndsAudit source sink an_outcome.Memory = ⊤
+EndsAudit source sink (an_outcome.Worn a) = ⊥
+EndsAudit source sink (an_outcome.Wrong line clause) =
+    (text : List ℕ) × ReadsText source.before source.after text × IsAudited text (No line clause)
+
+-- for a source that tells its bytes these alone decide an audit, but for faults and want of memory
+pub record IsAuditDecided (source : Drawn) (sink : Filled) (outcome : Outcome) : Type 0 where
+  pub judged : IfSome source.before (λ text. IsAuditJudged text outcome)
+  pub too_large : (text : List ℕ) → source.before ≡ Some text → limit < length text
+      → ¬ Rose source.faults_before source.faults_after
+      → (outcome ≡ an_outcome.TooLarge) ⊎ (outcome ≡ an_outcome.Memory)
+  pub unread : (text : List ℕ) → source.before ≡ Some text → length text ≤ limit → ((report : ReportValue) → IsReportValue report → ¬ (text_of report ≡ text))
+      → ¬ Rose source.faults_before source.faults_after
+      → ((line : ℕ) × (outcome ≡ an_outcome.Refused line a_reason.Order)) ⊎ (outcome ≡ an_outcome.Memory)
+  pub complete : (text : List ℕ) (report : ReportValue) → IsReportValue report → source.before ≡ Some text → length text ≤ limit → text_of report ≡ text
+      → ¬ Rose source.faults_before source.faults_after
+      → ¬ Rose sink.faults_before sink.faults_after
+      → (outcome ≡ an_outcome.Fine) ⊎ (outcome ≡ an_outcome.Memory)
+      ⊎ ((line : ℕ) × (clause : Clause) × (outcome ≡ an_outcome.Wrong line clause))
+
+-- a call with the words of a command, with `audit`, or with words that are neither, ends so with this trace
 pub record Ends (words : List (String Global)) (source : Drawn) (sink : Filled) (outcome : Outcome) (trace : List Entry) : Type 0 where
-  pub fine : outcome ≡ an_outcome.Fine → Writes words source sink trace
-  pub usage : (outcome ≡ an_outcome.Usage) ↔ ((command : Command) → ¬ Says words command)
-  pub refused : (line : ℕ) (reason : Reason) → outcome ≡ an_outcome.Refused line reason → (text : List ℕ)
+  pub fine : outcome ≡ an_outcome.Fine → SaysAudit words ⊎ Writes words source sink trace
+  pub usage : (outcome ≡ an_outcome.Usage) ↔ (((command : Command) → ¬ Says words command) × ¬ SaysAudit words)
+  pub refused : (line : ℕ) (reason : Reason) → outcome ≡ an_outcome.Refused line reason → SaysAudit words ⊎ ((text : List ℕ)
       × ReadsText source.before source.after text
       × (IsRefused text line reason
-      ⊎ ((reason ≡ a_reason.Step) × ((command : Command) × Says words command × Replays command) × IsStopped text line trace))
+      ⊎ ((reason ≡ a_reason.Step) × ((command : Command) × Says words command × Replays command) × IsStopped text line trace)))
   pub too_large : outcome ≡ an_outcome.TooLarge → ConsumesExactly source.before source.after (limit + 1)
   pub read_fault : outcome ≡ an_outcome.ReadFault → Rose source.faults_before source.faults_after
-  pub write_fault : outcome ≡ an_outcome.WriteFault → Rose sink.faults_before sink.faults_after × WritesPrefix words source sink trace
+  pub write_fault : outcome ≡ an_outcome.WriteFault → Rose sink.faults_before sink.faults_after × (SaysAudit words ⊎ WritesPrefix words source sink trace)
   pub worn : (a : Actor) → outcome ≡ an_outcome.Worn a → (text : List ℕ)
       × ((command : Command) × Says words command × Replays command)
       × ReadsText source.before source.after text
@@ -85,3 +122,6 @@ pub record Ends (words : List (String Global)) (source : Drawn) (sink : Filled) 
       → ¬ Rose sink.faults_before sink.faults_after
       → (outcome ≡ an_outcome.Fine) ⊎ (outcome ≡ an_outcome.Memory)
       ⊎ ((a : Actor) × (outcome ≡ an_outcome.Worn a))
+  pub audited : SaysAudit words → EndsAudit source sink outcome
+  pub audit_decided : SaysAudit words → IsAuditDecided source sink outcome
+  pub audit_trace : SaysAudit words → trace ≡ []

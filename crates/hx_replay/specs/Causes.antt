@@ -174,6 +174,7 @@ IsJudged command text an_outcome.ReadFault = ⊤
 IsJudged command text an_outcome.WriteFault = (length text ≤ limit) × IsTaken command text
 IsJudged command text an_outcome.Memory = ⊤
 IsJudged command text (an_outcome.Worn a) = (length text ≤ limit) × IsTaken command text
+IsJudged command text (an_outcome.Wrong line clause) = ⊥
 
 -- why a text that a source holds has no answer from the command
 abbrev pub IsFaulty : Command → List ℕ → Outcome → Type 0
@@ -185,6 +186,7 @@ IsFaulty command text an_outcome.ReadFault = ⊥
 IsFaulty command text an_outcome.WriteFault = ⊥
 IsFaulty command text an_outcome.Memory = ⊥
 IsFaulty command text (an_outcome.Worn a) = ⊥
+IsFaulty command text (an_outcome.Wrong line clause) = ⊥
 
 -- what made a text have no answer
 abbrev pub IsTextCause : Command → List ℕ → Outcome → Type 0
@@ -196,6 +198,7 @@ IsTextCause command text an_outcome.ReadFault = ⊥
 IsTextCause command text an_outcome.WriteFault = ⊥
 IsTextCause command text an_outcome.Memory = ⊤
 IsTextCause command text (an_outcome.Worn a) = ⊥
+IsTextCause command text (an_outcome.Wrong line clause) = ⊥
 
 -- what made reading a source and answering its text end without an answer
 abbrev pub IsCause : Command → Option (List ℕ) → Option (List ℕ) → ℕ → ℕ → Outcome → Type 0
@@ -208,6 +211,7 @@ IsCause command before after faults_before faults_after an_outcome.ReadFault = R
 IsCause command before after faults_before faults_after an_outcome.WriteFault = ⊥
 IsCause command before after faults_before faults_after an_outcome.Memory = ⊤
 IsCause command before after faults_before faults_after (an_outcome.Worn a) = ⊥
+IsCause command before after faults_before faults_after (an_outcome.Wrong line clause) = ⊥
 
 -- the outcome with which a made value ends, faults of writing aside
 abbrev pub outcome_of : Ended → Outcome

@@ -6,7 +6,9 @@ use Rattle.hx_script.specs.declared.errors.Reason.TheVariants as a_reason
 use Rattle.hx_print.specs.Printing.{actor_text}
 use Rattle.hx_types.specs.declared.ids.Actor.{Actor}
 use Rattle.hx_replay.specs.declared.outcomes.Outcome.{Outcome}
-use Rattle.hx_replay.specs.declared.outcomes.Outcome.TheVariants.{Fine, Usage, Refused, TooLarge, ReadFault, WriteFault, Memory, Worn}
+use Rattle.hx_audit.specs.declared.verdicts.Clause.{Clause}
+use Rattle.hx_audit.specs.Verdicts.{clause_word}
+use Rattle.hx_replay.specs.declared.outcomes.Outcome.TheVariants.{Fine, Usage, Refused, TooLarge, ReadFault, WriteFault, Memory, Worn, Wrong}
 
 -- the status with which the process ends
 abbrev pub status_of : Outcome → ℕ
@@ -18,6 +20,7 @@ status_of ReadFault = 4
 status_of WriteFault = 5
 status_of Memory = 6
 status_of (Worn a) = 7
+status_of (Wrong line clause) = 1
 
 -- the word of a reason
 abbrev pub reason_word : Reason → List ℕ
@@ -38,16 +41,21 @@ refusal_line line reason = codes "line " ++ decimal line ++ codes ": " ++ reason
 unfoldable pub worn_line : Actor → List ℕ
 worn_line a = codes "worn " ++ actor_text a ++ codes "\n"
 
+-- `line N: C`
+unfoldable pub wrong_line : ℕ → Clause → List ℕ
+wrong_line line clause = codes "line " ++ decimal line ++ codes ": " ++ clause_word clause ++ codes "\n"
+
 -- the line on standard error
 abbrev pub fault_line : Outcome → List ℕ
 fault_line Fine = []
-fault_line Usage = codes "usage: hx replay or run or soak or plan\n"
+fault_line Usage = codes "usage: hx replay or run or soak or plan or share or audit\n"
 fault_line (Refused line reason) = refusal_line line reason
 fault_line TooLarge = codes "too large\n"
 fault_line ReadFault = codes "read fault\n"
 fault_line WriteFault = codes "write fault\n"
 fault_line Memory = codes "no memory\n"
 fault_line (Worn a) = worn_line a
+fault_line (Wrong line clause) = wrong_line line clause
 
 -- with this outcome nothing is written
 abbrev pub IsSilent : Outcome → Type 0
@@ -59,6 +67,7 @@ IsSilent ReadFault = Unit {0}
 IsSilent WriteFault = ⊥
 IsSilent Memory = Unit {0}
 IsSilent (Worn a) = Unit {0}
+IsSilent (Wrong line clause) = Unit {0}
 
 -- a reason for which a text is refused, and not a step
 abbrev pub IsOfText : Reason → Type 0
@@ -81,3 +90,4 @@ HasNoTrace ReadFault = Unit {0}
 HasNoTrace WriteFault = ⊥
 HasNoTrace Memory = Unit {0}
 HasNoTrace (Worn a) = ⊥
+HasNoTrace (Wrong line clause) = Unit {0}

@@ -1,4 +1,4 @@
-ghost use Rattle.std.specs.Prelude.{◌≡◌, ◌↔◌, ◌⊎◌, ◌+◌, ◌≤◌, ◌<◌, ℕ, List, [], Some, IfOk, IfErr, IfSome, length};
+ghost use Rattle.std.specs.Prelude.{◌≡◌, ◌↔◌, ◌⊎◌, ◌+◌, ◌≤◌, ℕ, List, [], Some, IfSome, length};
 ghost use Rattle.std.specs.Io.KnownBytes.{Appends};
 ghost use Rattle.hx_io.specs.Causes.{Rose};
 ghost use Rattle.hx_io.specs.Pieces.{AppendsPrefix, ConsumesExactly};
@@ -6,30 +6,27 @@ ghost use Rattle.hx_script.specs.declared.errors.Reason.{Reason};
 ghost use Rattle.hx_script.specs.declared.errors.Reason.TheVariants as a_reason;
 ghost use Rattle.hx_types.specs.declared.ids.Actor.{Actor};
 ghost use Rattle.hx_types.specs.declared.traces.Entry.{Entry};
-ghost use Rattle.hx_replay.specs.Causes.{IsAnswer, IsCause, IsFaulty, IsJudged, IsJudgedResult, CommandEnds, IsRefused, IsStopped, IsTaken, IsWorn, ReadsText, limit};
-ghost use Rattle.hx_replay.specs.Commands.{Replays, Says};
+ghost use Rattle.hx_replay.specs.Calling.{EndsAudit, IsAuditDecided};
+ghost use Rattle.hx_replay.specs.Causes.{IsAnswer, IsFaulty, IsJudged, IsRefused, IsStopped, IsTaken, IsWorn, ReadsText, limit};
+ghost use Rattle.hx_replay.specs.Commands.{Replays, Says, SaysAudit};
 ghost use Rattle.hx_replay.specs.Outcomes.{HasNoTrace, IsSilent, status_of};
 ghost use Rattle.hx_replay.specs.declared.outcomes.Outcome.{Outcome};
 ghost use Rattle.hx_replay.specs.declared.words.Command.{Command};
 
-use crate::answering::answer;
-use crate::outcomes::{Done, Ended, Outcome, Written, status};
-use crate::words::{Command, command_of};
-use hx_io::{Sink, Source, read_all, write_all};
-use hx_script::Reason;
-use hx_trace::Trace;
-use hx_types::{Actor, LONGEST_SCRIPT};
+use crate::auditing::audit_source;
+use crate::commanded::{command_words, silent};
+use crate::outcomes::Done;
+use crate::words::says_audit;
+use hx_io::{Sink, Source};
 use std::alloc::Global;
 
-/// How many bytes a script may have.
-const LIMIT: usize = LONGEST_SCRIPT;
-
-/// The program: it takes its words, the source of its script and the sink of its answer.
+/// The program: it takes its words, the source of its script or report and the sink of its answer.
 ///
 /// It reads the source to its end. With the words `replay` it takes the script's steps, goes on by
 /// the schedule until there is nothing left to do, and writes the report, and with the words
 /// `replay --trace` every entry and its posts in it too; with the words `plan` it
-/// writes which regions each search of the script asks.
+/// writes which regions each search of the script asks. With the word `audit` it reads a report, of
+/// whichever store, and writes `audit yes` where it breaks no clause.
 ///
 /// # Errors
 ///
@@ -46,31 +43,44 @@ pub fn hyperstore_alone<S: Source, K: Sink>(
 ) -> Done
     ensures status { result.status ≡ status_of result.outcome }
 
-    // With status 0 the text that the source gave is that of a script. Under `replay` the trace is
-    // its run by its steps and the schedule, each key's history is linear, each finished search
-    // whole and true, every answer has its cause, and the report was written and nothing else;
+    // With status 0 under a command the text that the source gave is that of a script. Under `replay`
+    // the trace is its run by its steps and the schedule, each key's history is linear, each finished
+    // search whole and true, every answer has its cause, and the report was written and nothing else;
     // under `plan` the plans of its searches.
-    ensures fine { result.outcome ≡ Outcome.Fine → (command : Command) × (text : List ℕ) × (bytes : List ℕ)
+    ensures fine { result.outcome ≡ Outcome.Fine → SaysAudit words.now ⊎ ((command : Command) × (text : List ℕ) × (bytes : List ℕ)
         × Says words.now command
         × ReadsText (S.left source.old) (S.left source.new) text
         × IsAnswer command text result.trace bytes
-        × Appends (K.held sink.old) (K.held sink.new) bytes }
+        × Appends (K.held sink.old) (K.held sink.new) bytes) }
+
+    // Under `audit` the text is that of a report. With status 0 no clause of it is broken and `audit yes`
+    // was written and nothing else; with status 1 the named clause is, and no earlier one. There is no
+    // trace. For a source that tells its bytes these alone decide, but for faults and want of memory.
+    ensures audited { SaysAudit words.now → EndsAudit
+        (record { before = S.left source.old; after = S.left source.new; faults_before = S.faults source.old; faults_after = S.faults source.new })
+        (record { before = K.held sink.old; after = K.held sink.new; faults_before = K.faults sink.old; faults_after = K.faults sink.new })
+        result.outcome }
+    ensures audit_decided { SaysAudit words.now → IsAuditDecided
+        (record { before = S.left source.old; after = S.left source.new; faults_before = S.faults source.old; faults_after = S.faults source.new })
+        (record { before = K.held sink.old; after = K.held sink.new; faults_before = K.faults sink.old; faults_after = K.faults sink.new })
+        result.outcome }
+    ensures audit_trace { SaysAudit words.now → result.trace ≡ [] }
 
     // What each other outcome comes from. A replay that refuses a step hands back the run before it.
-    ensures usage { (result.outcome ≡ Outcome.Usage) ↔ ((command : Command) → ¬ Says words.now command) }
-    ensures refused { (line : ℕ) (reason : Reason) → result.outcome ≡ Outcome.Refused line reason → (text : List ℕ)
+    ensures usage { (result.outcome ≡ Outcome.Usage) ↔ (((command : Command) → ¬ Says words.now command) × ¬ SaysAudit words.now) }
+    ensures refused { (line : ℕ) (reason : Reason) → result.outcome ≡ Outcome.Refused line reason → SaysAudit words.now ⊎ ((text : List ℕ)
         × ReadsText (S.left source.old) (S.left source.new) text
         × (IsRefused text line reason
-        ⊎ ((reason ≡ a_reason.Step) × ((command : Command) × Says words.now command × Replays command) × IsStopped text line result.trace)) }
+        ⊎ ((reason ≡ a_reason.Step) × ((command : Command) × Says words.now command × Replays command) × IsStopped text line result.trace))) }
     ensures too_large { result.outcome ≡ Outcome.TooLarge →
         ConsumesExactly (S.left source.old) (S.left source.new) (limit + 1) }
     ensures read_fault { result.outcome ≡ Outcome.ReadFault → Rose (S.faults source.old) (S.faults source.new) }
     ensures write_fault { result.outcome ≡ Outcome.WriteFault → Rose (K.faults sink.old) (K.faults sink.new) }
-    ensures prefix { result.outcome ≡ Outcome.WriteFault → (command : Command) × (text : List ℕ) × (bytes : List ℕ)
+    ensures prefix { result.outcome ≡ Outcome.WriteFault → SaysAudit words.now ⊎ ((command : Command) × (text : List ℕ) × (bytes : List ℕ)
         × Says words.now command
         × ReadsText (S.left source.old) (S.left source.new) text
         × IsAnswer command text result.trace bytes
-        × AppendsPrefix (K.held sink.old) (K.held sink.new) bytes }
+        × AppendsPrefix (K.held sink.old) (K.held sink.new) bytes) }
 
     // Under `replay` the schedule came to an entry of an actor that has made all its entries. The
     // trace is the run up to there.
@@ -109,98 +119,9 @@ pub fn hyperstore_alone<S: Source, K: Sink>(
     ensures source_faults { S.faults source.old ≤ S.faults source.new }
     ensures sink_faults { K.faults sink.old ≤ K.faults sink.new }
 {
-    let Some(command) = command_of(words) else {
-        return silent(alloc, Outcome::Usage);
-    };
-    match read_and_answer(alloc, command, source) {
-        Ok(Ended::Whole(made)) => write(sink, made),
-        Ok(Ended::Refused { line, trace }) => refused(line, trace),
-        Ok(Ended::Worn { actor, trace }) => worn(actor, trace),
-        Err(outcome) => silent(alloc, outcome),
-    }
-}
-
-fn silent(alloc: Global, outcome: Outcome) -> Done
-    ensures outcome { result.outcome ≡ outcome }
-    ensures status { result.status ≡ status_of outcome }
-    ensures trace { result.trace ≡ [] }
-{
-    Done {
-        status: status(outcome),
-        outcome,
-        trace: Trace::new(alloc),
-    }
-}
-
-/// A replay that ended at a step which can't be taken: its trace, and nothing to write.
-fn refused(line: u64, trace: Trace) -> Done
-    ensures outcome { result.outcome ≡ Outcome.Refused line a_reason.Step }
-    ensures status { result.status ≡ status_of result.outcome }
-    ensures trace { result.trace ≡ trace }
-{
-    let outcome = Outcome::Refused {
-        line,
-        reason: Reason::Step,
-    };
-    Done {
-        status: status(outcome),
-        outcome,
-        trace,
-    }
-}
-
-/// A replay that a worn actor ended: its trace, and nothing to write.
-fn worn(actor: Actor, trace: Trace) -> Done
-    ensures outcome { result.outcome ≡ Outcome.Worn actor }
-    ensures status { result.status ≡ status_of result.outcome }
-    ensures trace { result.trace ≡ trace }
-{
-    let outcome = Outcome::Worn(actor);
-    Done {
-        status: status(outcome),
-        outcome,
-        trace,
-    }
-}
-
-/// Reads the source to its end and answers its text.
-#[tactic(auto, using(crate::proofs::Making::made_is_judged))]
-fn read_and_answer<S: Source>(
-    alloc: Global,
-    command: Command,
-    source: &mut S,
-) -> Result<Ended, Outcome>
-    ensures answer { IfOk result (λ made. (text : List ℕ)
-        × ReadsText (S.left source.old) (S.left source.new) text
-        × CommandEnds command text made) }
-    ensures cause { IfErr result (IsCause command (S.left source.old) (S.left source.new) (S.faults source.old) (S.faults source.new)) }
-    ensures judged { IfSome (S.left source.old) (λ text. IsJudgedResult command text result) }
-    ensures made { IfSome (S.left source.old) (λ text. IfOk result (CommandEnds command text)) }
-    ensures faults { S.faults source.old ≤ S.faults source.new }
-{
-    let text = read_all(alloc, source, LIMIT)?;
-    let made = answer(alloc, command, text.as_slice())?;
-    Ok(made)
-}
-
-/// Writes the answer.
-fn write<K: Sink>(sink: &mut K, made: Written) -> Done
-    ensures status { result.status ≡ status_of result.outcome }
-    ensures trace { result.trace ≡ made.trace }
-    ensures ends { (result.outcome ≡ Outcome.Fine) ⊎ (result.outcome ≡ Outcome.WriteFault) }
-    ensures fine { result.outcome ≡ Outcome.Fine → Appends (K.held sink.old) (K.held sink.new) made.bytes.items }
-    ensures prefix { result.outcome ≡ Outcome.WriteFault → AppendsPrefix (K.held sink.old) (K.held sink.new) made.bytes.items }
-    ensures fault { result.outcome ≡ Outcome.WriteFault → Rose (K.faults sink.old) (K.faults sink.new) }
-    ensures faults { K.faults sink.old ≤ K.faults sink.new }
-{
-    let Written { trace, bytes } = made;
-    let outcome = match write_all(sink, bytes.as_slice()) {
-        Ok(()) => Outcome::Fine,
-        Err(_) => Outcome::WriteFault,
-    };
-    Done {
-        status: status(outcome),
-        outcome,
-        trace,
+    if says_audit(words) {
+        silent(alloc, audit_source(alloc, source, sink))
+    } else {
+        command_words(alloc, words, source, sink)
     }
 }

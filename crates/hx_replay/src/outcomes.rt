@@ -1,8 +1,10 @@
 ghost use Rattle.std.specs.Prelude.{◌≡◌, ◌++◌, IfOk, OnOk};
-ghost use Rattle.hx_replay.specs.Outcomes.{fault_line, reason_word, refusal_line, status_of, worn_line};
+ghost use Rattle.hx_replay.specs.Outcomes.{fault_line, reason_word, refusal_line, status_of, worn_line, wrong_line};
 
+use hx_audit::{Clause, clause_text};
 use hx_io::ReadError;
 use hx_print::{put_actor, put_bytes, put_number};
+use hx_report_lines::AuditError;
 use hx_script::{Reason, ScriptError};
 use hx_trace::Trace;
 use hx_types::{Actor, Memory};
@@ -16,7 +18,8 @@ pub enum Outcome {
     /// The words are no command.
     Usage,
     /// The text is no script: its first faulty line, from 1, and what is wrong with it. Or, for the
-    /// reason `Step`: the line of the first step that a replay can't take.
+    /// reason `Step`: the line of the first step that a replay can't take. Under `audit` the text is no
+    /// report: the first line with which no report begins, and the reason `Order`.
     Refused { line: u64, reason: Reason },
     /// The source gave more than 16,777,216 bytes.
     TooLarge,
@@ -29,6 +32,9 @@ pub enum Outcome {
     /// The next entry of a replay is one of this actor, which has made 1,048,576 entries and makes
     /// no more; nothing was written. The limit is this project's choice.
     Worn(Actor),
+    /// The report breaks a clause: the first of all clauses that is broken anywhere, and the lowest line
+    /// at which it is, from 1; nothing was written.
+    Wrong { line: u64, clause: Clause },
 }
 
 /// What a command writes for a script, with the steps that it stands for.
@@ -100,9 +106,25 @@ impl From<ScriptError> for Outcome {
     }
 }
 
-/// The status of an outcome: 0 fine, 2 usage, 3 a text that can't be run, 4 and 5 a fault of
-/// reading or writing, 6 want of memory, 7 an actor that has made 1,048,576 entries. The numbers
-/// are this project's choice.
+impl From<AuditError> for Outcome {
+    ghost use Rattle.hx_replay.specs.Audits.{outcome_of_audit};
+
+    ghost from_gives = { λ error outcome. outcome ≡ outcome_of_audit error };
+
+    fn from(error: AuditError) -> Self {
+        match error {
+            AuditError::Memory => Outcome::Memory,
+            AuditError::Unread { line } => Outcome::Refused {
+                line,
+                reason: Reason::Order,
+            },
+        }
+    }
+}
+
+/// The status of an outcome: 0 fine, 1 a report that breaks a clause, 2 usage, 3 a text that can't be
+/// run or is no report, 4 and 5 a fault of reading or writing, 6 want of memory, 7 an actor that has
+/// made 1,048,576 entries. The numbers are this project's choice.
 pub fn status(outcome: Outcome) -> u8
     ensures { result ≡ status_of outcome }
 {
@@ -114,6 +136,7 @@ pub fn status(outcome: Outcome) -> u8
         Outcome::WriteFault => 5,
         Outcome::Memory => 6,
         Outcome::Worn(_) => 7,
+        Outcome::Wrong { .. } => 1,
     }
 }
 
@@ -135,13 +158,17 @@ fn put_fault(out: &mut Vec<u8>, outcome: Outcome) -> Result<(), Memory>
 {
     match outcome {
         Outcome::Fine => Ok(()),
-        Outcome::Usage => put_bytes(out, b"usage: hx replay or run or soak or plan\n"),
+        Outcome::Usage => put_bytes(
+            out,
+            b"usage: hx replay or run or soak or plan or share or audit\n",
+        ),
         Outcome::Refused { line, reason } => put_refusal(out, line, reason),
         Outcome::TooLarge => put_bytes(out, b"too large\n"),
         Outcome::ReadFault => put_bytes(out, b"read fault\n"),
         Outcome::WriteFault => put_bytes(out, b"write fault\n"),
         Outcome::Memory => put_bytes(out, b"no memory\n"),
         Outcome::Worn(actor) => put_worn(out, actor),
+        Outcome::Wrong { line, clause } => put_wrong(out, line, clause),
     }
 }
 
@@ -162,6 +189,17 @@ fn put_refusal(out: &mut Vec<u8>, line: u64, reason: Reason) -> Result<(), Memor
     put_number(out, line)?;
     put_bytes(out, b": ")?;
     put_bytes(out, reason_word(reason))?;
+    put_bytes(out, b"\n")
+}
+
+#[tactic(auto, unfolding(crate::specs::Outcomes::wrong_line))]
+fn put_wrong(out: &mut Vec<u8>, line: u64, clause: Clause) -> Result<(), Memory>
+    ensures { OnOk result (out.new.items ≡ out.old.items ++ wrong_line line clause) }
+{
+    put_bytes(out, b"line ")?;
+    put_number(out, line)?;
+    put_bytes(out, b": ")?;
+    put_bytes(out, clause_text(clause).as_bytes())?;
     put_bytes(out, b"\n")
 }
 

@@ -1,5 +1,5 @@
-ghost use Rattle.std.specs.Prelude.{◌≡◌, ◌↔◌, ◌∷◌, [], codes};
-ghost use Rattle.hx_replay.specs.Commands.{Asks, Says, words_of};
+ghost use Rattle.std.specs.Prelude.{◌≡◌, ◌↔◌, ◌∷◌, [], codes, true};
+ghost use Rattle.hx_replay.specs.Commands.{Asks, Says, SaysAudit, words_of};
 ghost use Rattle.hx_replay.specs.declared.words.Command.{Command};
 ghost use Rattle.hx_replay.specs.declared.words.Question.{Question};
 
@@ -42,6 +42,22 @@ fn question_named(word: &str) -> Option<Question>
     } else {
         None
     }
+}
+
+/// Whether the words are the one word `audit`, with which a report is read in place of a script.
+pub fn says_audit(words: &[String]) -> bool
+    ensures { (result ≡ true) ↔ SaysAudit words.now }
+{
+    match words {
+        [word] => is_audit(word.as_str()),
+        _ => false,
+    }
+}
+
+fn is_audit(word: &str) -> bool
+    ensures { (result ≡ true) ↔ (word.now ≡ codes "audit") }
+{
+    word == "audit"
 }
 
 /// The command that the words say: its word and its options, and no other beside them.

@@ -1,4 +1,4 @@
-use hx_words::{Run, Soak, run_of, soak_of};
+use hx_words::{Run, Share, Soak, run_of, share_of, soak_of};
 use std::process::Abort;
 
 const OPTIONS: [&str; 5] = [
@@ -79,6 +79,24 @@ const NO_SOAKS: [&str; 19] = [
     "soak 1 1 --seed 1",
 ];
 
+const NO_SHARES: [&str; 15] = [
+    "",
+    "run",
+    "Share",
+    "--workers 2 share",
+    "share 2",
+    "share share",
+    "share --workers",
+    "share --workers 0",
+    "share --workers 17",
+    "share --workers 02",
+    "share --workers 2 --workers 2",
+    "share --trace",
+    "share --workers 2 --lose 0",
+    "share --repeat 1",
+    "share --seed 1",
+];
+
 fn words<R: Abort + AllocGlobal>(rt: &R, line: &str) -> Vec<String> {
     let mut words = Vec::new(rt.alloc());
     for word in line.split_whitespace() {
@@ -98,6 +116,11 @@ fn run<R: Abort + AllocGlobal>(rt: &R, line: &str) -> Option<Run> {
 fn soak<R: Abort + AllocGlobal>(rt: &R, line: &str) -> Option<Soak> {
     let words = words(rt, line);
     soak_of(words.as_slice())
+}
+
+fn share<R: Abort + AllocGlobal>(rt: &R, line: &str) -> Option<Share> {
+    let words = words(rt, line);
+    share_of(words.as_slice())
 }
 
 /// The options of these places, one after the other.
@@ -186,5 +209,19 @@ fn a_soak_has_a_seed_and_calls(rt: HostRuntime) {
 fn other_words_are_no_soak(rt: HostRuntime) {
     for line in NO_SOAKS {
         assert!(rt; soak(&rt, line) == None, "{line}");
+    }
+}
+
+#[test]
+fn a_share_has_workers(rt: HostRuntime) {
+    assert!(rt; share(&rt, "share") == Some(Share { workers: 2 }));
+    assert!(rt; share(&rt, "share --workers 1") == Some(Share { workers: 1 }));
+    assert!(rt; share(&rt, "share --workers 16") == Some(Share { workers: 16 }));
+}
+
+#[test]
+fn other_words_are_no_share(rt: HostRuntime) {
+    for line in NO_SHARES {
+        assert!(rt; share(&rt, line) == None, "{line}");
     }
 }

@@ -1,4 +1,4 @@
-//! The program `hx`: it reads a script, runs it or plans its searches, and writes what came of it.
+//! The program `hx`: it reads a script, runs it or plans its searches, and writes what came of it; or judges a report.
 //!
 //! `hx_command::run` says of any source and sinks what the status tells; that the words are those of the process, and
 //! the streams its standard ones, is what `main` adds.

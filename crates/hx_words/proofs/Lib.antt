@@ -3,3 +3,4 @@ pub mod Words
 pub mod Sayings
 pub mod Runs
 pub mod Soaks
+pub mod Shares

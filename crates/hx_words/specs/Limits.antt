@@ -2,6 +2,7 @@
 use Rattle.std.specs.Prelude.{◌≤◌}
 use Rattle.hx_types.specs.declared.limits.TheConstants.{MOST_CALLS}
 use Rattle.hx_words.specs.declared.commands.Run.{Run}
+use Rattle.hx_words.specs.declared.commands.Share.{Share}
 use Rattle.hx_words.specs.declared.commands.Soak.{Soak}
 
 pub record IsRun (run : Run) : Type 0 where
@@ -15,3 +16,7 @@ pub record IsSoak (soak : Soak) : Type 0 where
   pub calls : soak.calls ≤ MOST_CALLS
   pub some_workers : 1 ≤ soak.workers
   pub workers : soak.workers ≤ 16
+
+pub record IsShare (share : Share) : Type 0 where
+  pub some_workers : 1 ≤ share.workers
+  pub workers : share.workers ≤ 16

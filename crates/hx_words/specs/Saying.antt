@@ -8,6 +8,7 @@ use Rattle.hx_types.specs.declared.limits.TheConstants.{MOST_CALLS}
 use Rattle.hx_words.specs.declared.options.CommandOption.{CommandOption}
 use Rattle.hx_words.specs.declared.choosing.Chosen.{Chosen}
 use Rattle.hx_words.specs.declared.commands.Run.{Run}
+use Rattle.hx_words.specs.declared.commands.Share.{Share}
 use Rattle.hx_words.specs.declared.commands.Soak.{Soak}
 use Rattle.hx_words.specs.Options.{words_of, Choose}
 
@@ -55,3 +56,12 @@ pub record SaysSoak (words : List (String Global)) (soak : Soak) : Type 0 where
   pub seed : soak.seed < 2 ^ 64
   pub calls : (1 ≤ soak.calls) × (soak.calls ≤ MOST_CALLS)
   pub said : map string_bytes words ≡ codes "soak" ∷ decimal soak.seed ∷ decimal soak.calls ∷ flat_map words_of options
+
+-- the words are the command `share` and options that choose its workers
+pub record SaysShare (words : List (String Global)) (share : Share) : Type 0 where
+  pub options : List CommandOption
+  pub chosen : Chosen
+  pub choose : Choose nothing_chosen options chosen
+  pub only : OnlyWorkers chosen
+  pub workers_is : share.workers ≡ unwrap_or chosen.workers 2
+  pub said : map string_bytes words ≡ codes "share" ∷ flat_map words_of options

@@ -1,8 +1,8 @@
 //! The commands, and the words that say them.
 
 ghost use Rattle.std.specs.Prelude.{ℕ, ◌≡◌, ◌↔◌, IfSome, unwrap_or};
-ghost use Rattle.hx_words.specs.Limits.{IsRun, IsSoak};
-ghost use Rattle.hx_words.specs.Saying.{OnlyWorkers, SaysRun, SaysSoak, run_by};
+ghost use Rattle.hx_words.specs.Limits.{IsRun, IsShare, IsSoak};
+ghost use Rattle.hx_words.specs.Saying.{OnlyWorkers, SaysRun, SaysShare, SaysSoak, run_by};
 
 use crate::choosing::{Chosen, chosen_by};
 use crate::numbers::{number_of, number_within};
@@ -34,6 +34,13 @@ pub struct Soak {
     /// How many calls are drawn, of all sessions, from 1 to 16,384.
     pub calls: u32,
     /// How many threads drive the actors, from 1 to 16.
+    pub workers: u32,
+}
+
+/// How callers on threads are to make the calls of a script, one at a time behind one lock.
+#[derive(Clone, Copy, PartialEq, Eq)]
+pub struct Share {
+    /// How many callers there are, from 1 to 16.
     pub workers: u32,
 }
 
@@ -80,6 +87,23 @@ pub fn soak_of(words: &[String]) -> Option<Soak>
     Some(Soak {
         seed: number_of(seed.as_str())?,
         calls: number_within(calls.as_str(), 1, MOST_CALLS as u32)?,
+        workers: workers_alone(chosen)?,
+    })
+}
+
+/// The share that the words say: `share` and its option, and no other words beside them.
+pub fn share_of(words: &[String]) -> Option<Share>
+    ensures said { (share : Share) → (result ≡ Some share) ↔ SaysShare words.now share }
+    ensures limits { IfSome result IsShare }
+{
+    let [command, options @ ..] = words else {
+        return None;
+    };
+    if command.as_str() != "share" {
+        return None;
+    }
+    let chosen = chosen_by(options)?;
+    Some(Share {
         workers: workers_alone(chosen)?,
     })
 }

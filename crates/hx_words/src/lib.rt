@@ -1,7 +1,8 @@
-//! The words of the commands that start threads: `run` and `soak`.
+//! The words of the commands that start threads: `run`, `soak` and `share`.
 //!
 //! - `run [--workers W] [--lose N] [--repeat N] [--seed S] [--trace]`
 //! - `soak SEED CALLS [--workers W]`
+//! - `share [--workers W]`
 //!
 //! Options stand after the command and its numbers, in any order and each at most once, and a value
 //! stands in a word of its own. A number is decimal digits without a leading zero, but for `0`
@@ -18,4 +19,4 @@ mod commands;
 mod numbers;
 mod options;
 
-pub use commands::{Run, Soak, run_of, soak_of};
+pub use commands::{Run, Share, Soak, run_of, share_of, soak_of};

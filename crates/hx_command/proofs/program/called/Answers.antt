@@ -21,4 +21,6 @@ returns-clause-told g c =
       decided = ended.decided;
       soak = λ command says. (ended.soak command says).0;
       soaked = ended.soaked;
+      share = ended.share;
+      share_decided = ended.share_decided;
     }

@@ -8,10 +8,9 @@ use Rattle.hx_replay.specs.Calling.{Filled}
 use Rattle.hx_command.specs.Telling.{Prints}
 use Rattle.hx_command.specs.declared.program.Unprinted.{Unprinted}
 use Rattle.hx_command.specs.declared.program.Unprinted.TheVariants as a_reason
-use Rattle.hx_script.specs.declared.errors.Reason.{Reason}
 use Rattle.hx_replay.specs.Outcomes.{status_of}
 use Rattle.hx_replay.specs.declared.outcomes.Outcome.{Outcome}
-use Rattle.hx_replay.specs.declared.outcomes.Outcome.TheVariants.{Fine, Usage, Refused, TooLarge, ReadFault, WriteFault, Memory, Worn}
+use Rattle.hx_replay.specs.declared.outcomes.Outcome.TheVariants.{Fine, Usage, Refused, TooLarge, ReadFault, WriteFault, Memory, Worn, Wrong}
 use Rattle.hx_command.proofs.program.run.Goals as goal
 use Rattle.hx_command.proofs.program.run.Goals.{in-Ok, in-Err}
 
@@ -24,6 +23,7 @@ fine_at_0 ReadFault e = absurd (cc)
 fine_at_0 WriteFault e = absurd (cc)
 fine_at_0 Memory e = absurd (cc)
 fine_at_0 (Worn a) e = absurd (cc)
+fine_at_0 (Wrong line clause) e = absurd (cc)
 
 not_fine : (outcome : Outcome) → (outcome ≡ Memory) ⊎ (outcome ≡ Usage) → outcome ≡ Fine → ⊥
 not_fine outcome (inl memory) fine = absurd (cc)

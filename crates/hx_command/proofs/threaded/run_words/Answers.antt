@@ -1,13 +1,13 @@
 -- What decides a call whose script was read, and how a call ends that read none.
 use Rattle.std.proofs.Common.{[], None, ap, length}
-use Rattle.hx_command.specs.Threads.{IsReported}
+use Rattle.hx_command.specs.Threads.{IsReported, IsWornOnThreads}
 use Rattle.hx_command.proofs.Deciding.{decided_ran, no_script, unread_at}
 use Rattle.hx_command.proofs.Handing.{none_at, same_handed}
 use Rattle.hx_command.proofs.threaded.run_words.Goals as goal
 
 pub returns-in-Ok-clause-decided : goal.returns-in-Ok-clause-decided
 returns-in-Ok-clause-decided g c =
-    decided_ran (IsReported c.args.command c.in-Ok.script) c.in-Ok.script c.args.command.workers _ _ _ c.answer_run.result.done.outcome c.in-Ok.ensures.judged
+    decided_ran (IsReported c.args.command c.in-Ok.script) (IsWornOnThreads c.in-Ok.script c.args.command.workers) c.in-Ok.script _ _ _ c.answer_run.result.done.outcome c.in-Ok.ensures.judged
     c.answer_run.ensures.ends
 
 pub returns-in-Err-clause-run : goal.returns-in-Err-clause-run

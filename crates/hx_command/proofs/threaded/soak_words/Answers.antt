@@ -1,5 +1,5 @@
 -- What is said of the drawn script is said of the seed and the number of calls.
-use Rattle.hx_command.specs.Threads.{IsSummed}
+use Rattle.hx_command.specs.Threads.{IsSummed, IsWornOnThreads}
 use Rattle.hx_command.proofs.Deciding.{ended_well}
 use Rattle.hx_command.proofs.Handing.{risen_same}
 use Rattle.hx_command.proofs.threaded.soak_words.Goals as goal
@@ -10,4 +10,4 @@ returns-in-Ok-clause-risen g c i f h t p q r =
 
 pub returns-in-Ok-clause-soaked : goal.returns-in-Ok-clause-soaked
 returns-in-Ok-clause-soaked g c still =
-    ended_well (IsSummed c.args.command) c.in-Ok.script c.args.command.workers _ _ c.answer_soak.result.done.outcome c.answer_soak.ensures.ends still
+    ended_well (IsSummed c.args.command) (IsWornOnThreads c.in-Ok.script c.args.command.workers) _ _ c.answer_soak.result.done.outcome c.answer_soak.ensures.ends still

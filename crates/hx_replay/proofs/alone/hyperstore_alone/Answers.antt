@@ -1,88 +1,79 @@
--- Usage is told exactly where the words say no command; and what a worn actor's outcome tells.
-use Rattle.std.proofs.Common.{◌≡◌, ◌⊎◌, ℕ, List, Option, refl, subst, inl, inr, sym, ◌∙◌}
-use Rattle.hx_types.specs.declared.ids.Actor.{Actor}
-use Rattle.hx_replay.specs.Causes.{IsCause}
-use Rattle.hx_replay.specs.declared.outcomes.Outcome.{Outcome}
-use Rattle.hx_replay.specs.declared.outcomes.Outcome.TheVariants.{Fine, Usage, Refused, Worn, WriteFault}
-use Rattle.hx_script.specs.declared.errors.Reason.{Reason}
-use Rattle.hx_replay.specs.declared.words.Command.{Command}
-use Rattle.hx_replay.proofs.Judging.{refused_is_not_taken}
-use Rattle.hx_replay.proofs.Making.{told_refused, told_worn}
-use Rattle.hx_replay.proofs.Wearing.{err_wears, made_wears}
+-- The words are `audit`, or they aren't.
+use Rattle.std.proofs.Common.{◌∙◌, inl, inr, refl, sym}
+use Rattle.std.proofs.lemmas.Bool.{false≢true}
+use Rattle.hx_replay.proofs.Verdicts.{decided, ends_at, not_both}
 use Rattle.hx_replay.proofs.alone.hyperstore_alone.Goals as goal
 
-written_is_not_usage : (outcome : Outcome) → (outcome ≡ Fine) ⊎ (outcome ≡ WriteFault) → outcome ≡ Usage → ⊥
-written_is_not_usage outcome (inl fine) usage = absurd (cc)
-written_is_not_usage outcome (inr fault) usage = absurd (cc)
+-- ---- the word `audit`
+pub returns-then-says_audit-clause-fine : goal.returns-then-says_audit-clause-fine
+returns-then-says_audit-clause-fine g c is = inl (c.says_audit.ensures.0 c.if-says_audit.true)
 
-worn_is_not_usage : (outcome : Outcome) (a : Actor) → outcome ≡ Worn a → outcome ≡ Usage → ⊥
-worn_is_not_usage outcome a worn usage = absurd (cc)
+pub returns-then-says_audit-clause-audited : goal.returns-then-says_audit-clause-audited
+returns-then-says_audit-clause-audited g c says = ends_at _ _ _ _ _ c.silent.ensures.outcome refl c.audit_source.ensures.ends
 
-refused_is_not_usage : (outcome : Outcome) (line : ℕ) (reason : Reason) → outcome ≡ Refused line reason → outcome ≡ Usage → ⊥
-refused_is_not_usage outcome line reason refused usage = absurd (cc)
+pub returns-then-says_audit-clause-audit_decided : goal.returns-then-says_audit-clause-audit_decided
+returns-then-says_audit-clause-audit_decided g c says = rw c.silent.ensures.outcome (decided _ _ _ c.audit_source.ensures.judged c.audit_source.ensures.ends)
 
-cause_is_not_usage :
-    (command : Command) (before after : Option (List ℕ)) (m n : ℕ) (outcome : Outcome)
-    → IsCause command before after m n outcome
-    → outcome ≡ Usage
-    → ⊥
-cause_is_not_usage command before after m n outcome cause usage = subst (λ (o : Outcome). IsCause command before after m n o) usage cause
-
-pub returns-in-Ok-Whole-clause-usage : goal.returns-in-Ok-Whole-clause-usage
-returns-in-Ok-Whole-clause-usage g c = (
-  λ usage command says. written_is_not_usage c.write.result.outcome c.write.ensures.ends usage,
-  λ none. absurd (none c.in-Some.command ((c.in-Some.ensures c.in-Some.command).0 refl)),
+pub returns-then-says_audit-clause-usage : goal.returns-then-says_audit-clause-usage
+returns-then-says_audit-clause-usage g c = (
+  λ usage. absurd (ends_at _ _ _ _ _ c.silent.ensures.outcome usage c.audit_source.ensures.ends),
+  λ none. absurd (none.1 (c.says_audit.ensures.0 c.if-says_audit.true)),
 )
 
-pub returns-in-Ok-Refused-clause-usage : goal.returns-in-Ok-Refused-clause-usage
-returns-in-Ok-Refused-clause-usage g c = (
-  λ usage command says. refused_is_not_usage c.refused.result.outcome _ _ c.refused.ensures.outcome usage,
-  λ none. absurd (none c.in-Some.command ((c.in-Some.ensures c.in-Some.command).0 refl)),
+pub returns-then-says_audit-clause-refused : goal.returns-then-says_audit-clause-refused
+returns-then-says_audit-clause-refused g c line reason is = inl (c.says_audit.ensures.0 c.if-says_audit.true)
+
+pub returns-then-says_audit-clause-too_large : goal.returns-then-says_audit-clause-too_large
+returns-then-says_audit-clause-too_large g c is = ends_at _ _ _ _ _ c.silent.ensures.outcome is c.audit_source.ensures.ends
+
+pub returns-then-says_audit-clause-read_fault : goal.returns-then-says_audit-clause-read_fault
+returns-then-says_audit-clause-read_fault g c is = ends_at _ _ _ _ _ c.silent.ensures.outcome is c.audit_source.ensures.ends
+
+pub returns-then-says_audit-clause-write_fault : goal.returns-then-says_audit-clause-write_fault
+returns-then-says_audit-clause-write_fault g c is = (ends_at _ _ _ _ _ c.silent.ensures.outcome is c.audit_source.ensures.ends).3
+
+pub returns-then-says_audit-clause-prefix : goal.returns-then-says_audit-clause-prefix
+returns-then-says_audit-clause-prefix g c is = inl (c.says_audit.ensures.0 c.if-says_audit.true)
+
+pub returns-then-says_audit-clause-worn : goal.returns-then-says_audit-clause-worn
+returns-then-says_audit-clause-worn g c a is = absurd (ends_at _ _ _ _ _ c.silent.ensures.outcome is c.audit_source.ensures.ends)
+
+pub returns-then-says_audit-clause-wears : goal.returns-then-says_audit-clause-wears
+returns-then-says_audit-clause-wears g c command text trace a says replays left short worn still = absurd (not_both c.args.words.now command says (c.says_audit.ensures.0 c.if-says_audit.true))
+
+pub returns-then-says_audit-clause-judged : goal.returns-then-says_audit-clause-judged
+returns-then-says_audit-clause-judged g c command says = absurd (not_both c.args.words.now command says (c.says_audit.ensures.0 c.if-says_audit.true))
+
+pub returns-then-says_audit-clause-faulty : goal.returns-then-says_audit-clause-faulty
+returns-then-says_audit-clause-faulty g c command text outcome says left faulty still = absurd (not_both c.args.words.now command says (c.says_audit.ensures.0 c.if-says_audit.true))
+
+pub returns-then-says_audit-clause-complete : goal.returns-then-says_audit-clause-complete
+returns-then-says_audit-clause-complete g c command text says left short taken still well = absurd (not_both c.args.words.now command says (c.says_audit.ensures.0 c.if-says_audit.true))
+
+pub returns-then-says_audit-clause-untouched : goal.returns-then-says_audit-clause-untouched
+returns-then-says_audit-clause-untouched g c usage = absurd (ends_at _ _ _ _ _ c.silent.ensures.outcome usage c.audit_source.ensures.ends)
+
+-- ---- other words
+pub returns-else-says_audit-clause-fine : goal.returns-else-says_audit-clause-fine
+returns-else-says_audit-clause-fine g c is = inr (c.command_words.ensures.fine is)
+
+pub returns-else-says_audit-clause-audited : goal.returns-else-says_audit-clause-audited
+returns-else-says_audit-clause-audited g c says = absurd (false≢true (sym c.if-says_audit.false ∙ c.says_audit.ensures.1 says))
+
+pub returns-else-says_audit-clause-audit_decided : goal.returns-else-says_audit-clause-audit_decided
+returns-else-says_audit-clause-audit_decided g c says = absurd (false≢true (sym c.if-says_audit.false ∙ c.says_audit.ensures.1 says))
+
+pub returns-else-says_audit-clause-audit_trace : goal.returns-else-says_audit-clause-audit_trace
+returns-else-says_audit-clause-audit_trace g c says = absurd (false≢true (sym c.if-says_audit.false ∙ c.says_audit.ensures.1 says))
+
+pub returns-else-says_audit-clause-usage : goal.returns-else-says_audit-clause-usage
+returns-else-says_audit-clause-usage g c = (
+  λ usage. (c.command_words.ensures.usage.0 usage, λ says. false≢true (sym c.if-says_audit.false ∙ c.says_audit.ensures.1 says)),
+  λ none. c.command_words.ensures.usage.1 none.0,
 )
 
-pub returns-in-Ok-Refused-clause-refused : goal.returns-in-Ok-Refused-clause-refused
-returns-in-Ok-Refused-clause-refused g c line reason told =
-    told_refused _ _ _ c.in-Some.command c.in-Ok-Refused.field-0 _ _ c.refused.result.outcome _ line reason
-    ((c.in-Some.ensures c.in-Some.command).0 refl) c.in-Ok-Refused.ensures.answer c.in-Ok-Refused.field-0-is (rw c.in-Ok-Refused.field-0-is at c.refused.ensures.trace) (rw c.in-Ok-Refused.field-0-is at c.refused.ensures.outcome) told
+pub returns-else-says_audit-clause-refused : goal.returns-else-says_audit-clause-refused
+returns-else-says_audit-clause-refused g c line reason is = inr (c.command_words.ensures.refused line reason is)
 
-pub returns-in-Ok-Refused-clause-complete : goal.returns-in-Ok-Refused-clause-complete
-returns-in-Ok-Refused-clause-complete g c command text says left short taken source sink =
-    absurd (refused_is_not_taken command c.in-Some.command text _ c.in-Ok-Refused.field-0 _ _ ((c.in-Some.ensures command).1 says) left c.in-Ok-Refused.ensures.judged c.in-Ok-Refused.field-0-is taken)
-
-pub returns-in-Ok-Worn-clause-usage : goal.returns-in-Ok-Worn-clause-usage
-returns-in-Ok-Worn-clause-usage g c = (
-  λ usage command says. worn_is_not_usage c.worn.result.outcome _ c.worn.ensures.outcome usage,
-  λ none. absurd (none c.in-Some.command ((c.in-Some.ensures c.in-Some.command).0 refl)),
-)
-
-pub returns-in-Ok-Worn-clause-worn : goal.returns-in-Ok-Worn-clause-worn
-returns-in-Ok-Worn-clause-worn g c a told =
-    told_worn _ _ _ c.in-Some.command c.in-Ok-Worn.field-0 _ _ c.worn.result.outcome _ a
-    ((c.in-Some.ensures c.in-Some.command).0 refl) c.in-Ok-Worn.ensures.answer c.in-Ok-Worn.field-0-is (rw c.in-Ok-Worn.field-0-is at c.worn.ensures.trace) (rw c.in-Ok-Worn.field-0-is at c.worn.ensures.outcome) told
-
-pub returns-in-Err-clause-usage : goal.returns-in-Err-clause-usage
-returns-in-Err-clause-usage g c = (
-  λ usage command says.
-      cause_is_not_usage c.in-Some.command _ _ _ _ c.in-Err.outcome c.in-Err.ensures.cause (sym c.silent-in-Err.ensures.outcome ∙ usage),
-  λ none. absurd (none c.in-Some.command ((c.in-Some.ensures c.in-Some.command).0 refl)),
-)
-
-pub returns-in-Ok-Whole-clause-wears : goal.returns-in-Ok-Whole-clause-wears
-returns-in-Ok-Whole-clause-wears g c command text trace a says replays left short worn still =
-    let never : Fine ≡ Worn a = made_wears c.in-Some.command command text _ c.in-Ok-Whole.field-0 _ trace a ((c.in-Some.ensures command).1 says) left c.in-Ok-Whole.ensures.made c.in-Ok-Whole.field-0-is replays worn in absurd (cc)
-
-pub returns-in-Ok-Refused-clause-wears : goal.returns-in-Ok-Refused-clause-wears
-returns-in-Ok-Refused-clause-wears g c command text trace a says replays left short worn still =
-    let never : Refused _ _ ≡ Worn a = made_wears c.in-Some.command command text _ c.in-Ok-Refused.field-0 _ trace a ((c.in-Some.ensures command).1 says) left c.in-Ok-Refused.ensures.made c.in-Ok-Refused.field-0-is replays worn in absurd (cc)
-
-pub returns-in-Ok-Worn-clause-wears : goal.returns-in-Ok-Worn-clause-wears
-returns-in-Ok-Worn-clause-wears g c command text trace a says replays left short worn still =
-    inl
-    ((rw c.in-Ok-Worn.field-0-is at c.worn.ensures.outcome)
-    ∙ made_wears c.in-Some.command command text _ c.in-Ok-Worn.field-0 _ trace a ((c.in-Some.ensures command).1 says) left c.in-Ok-Worn.ensures.made c.in-Ok-Worn.field-0-is replays worn)
-
-pub returns-in-Err-clause-wears : goal.returns-in-Err-clause-wears
-returns-in-Err-clause-wears g c command text trace a says replays left short worn still =
-    inr
-    (c.silent-in-Err.ensures.outcome
-    ∙ err_wears c.in-Some.command command text _ _ _ _ c.in-Err.outcome trace a ((c.in-Some.ensures command).1 says) left c.in-Err.ensures.judged c.in-Err.ensures.cause replays short worn still)
+pub returns-else-says_audit-clause-prefix : goal.returns-else-says_audit-clause-prefix
+returns-else-says_audit-clause-prefix g c is = inr (c.command_words.ensures.prefix is)

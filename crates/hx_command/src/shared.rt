@@ -1,0 +1,147 @@
+ghost use Rattle.std.specs.Prelude.{◌≡◌, ◌≤◌, length, IfOk};
+ghost use Rattle.hx_types.specs.Fitting.{IsScript};
+ghost use Rattle.hx_types.specs.declared.traces.Script.{Script as ScriptSeen};
+ghost use Rattle.hx_words.specs.Limits.{IsShare};
+ghost use Rattle.hx_replay.specs.Outcomes.{IsSilent, status_of};
+ghost use Rattle.hx_command.specs.Threads.{EndsShare, EndsWith, IsDecided, IsSharedBy, IsSharedReport, IsWornShared, IsWritten, only};
+
+use crate::finished::{Finished, ended, unthreaded};
+use crate::reading::read_script;
+use hx_desk::Gate;
+use hx_io::{Sink, Source, write_all};
+use hx_replay::{Done, Outcome, status};
+use hx_report::report;
+use hx_share::{Shared, share};
+use hx_trace::Trace;
+use hx_types::{Memory, Script};
+use hx_words::Share;
+use std::alloc::Global;
+use std::sync::Wait;
+use std::thread::Threads;
+
+/// Makes the calls of the script of the source by callers on threads, one at a time behind one lock, and
+/// writes the report.
+pub fn share_words<R: Threads + Wait + Sync, S: Source, K: Sink, G: Gate + Sync>(
+    rt: &R,
+    alloc: Global,
+    command: Share,
+    source: &mut S,
+    sink: &mut K,
+    gate: &G,
+) -> Finished
+    requires limits { IsShare command }
+    ensures status { result.done.status ≡ status_of result.done.outcome }
+    ensures share { (script : ScriptSeen) × EndsShare script
+        (record { before = S.left source.old; after = S.left source.new; faults_before = S.faults source.old; faults_after = S.faults source.new })
+        (record { before = K.held sink.old; after = K.held sink.new; faults_before = K.faults sink.old; faults_after = K.faults sink.new })
+        (record { trace = result.done.trace; seat = result.seat; totals = result.totals.items; ports = result.ports.items; fates = length result.fates.items })
+        result.done.outcome }
+    ensures decided { IsDecided
+        (record { before = S.left source.old; after = S.left source.new; faults_before = S.faults source.old; faults_after = S.faults source.new })
+        (record { before = K.held sink.old; after = K.held sink.new; faults_before = K.faults sink.old; faults_after = K.faults sink.new })
+        result.done.outcome }
+    ensures silent { IsSilent result.done.outcome → sink.new ≡ sink.old }
+    ensures source_faults { S.faults source.old ≤ S.faults source.new }
+    ensures sink_faults { K.faults sink.old ≤ K.faults sink.new }
+{
+    match read_script(alloc, source) {
+        Ok(script) => answer_share(rt, alloc, command, &script, sink, gate),
+        Err(outcome) => ended(alloc, outcome),
+    }
+}
+
+/// Makes the calls of the script by callers on threads, and writes the report.
+fn answer_share<R: Threads + Wait + Sync, K: Sink, G: Gate + Sync>(
+    rt: &R,
+    alloc: Global,
+    command: Share,
+    script: &Script,
+    sink: &mut K,
+    gate: &G,
+) -> Finished
+    requires script { IsScript script.now }
+    requires limits { IsShare command }
+    ensures ends { EndsWith (IsSharedReport script.now) (IsWornShared script.now)
+        (record { before = K.held sink.old; after = K.held sink.new; faults_before = K.faults sink.old; faults_after = K.faults sink.new })
+        (record { trace = result.done.trace; seat = result.seat; totals = result.totals.items; ports = result.ports.items; fates = length result.fates.items })
+        result.done.outcome }
+    ensures status { result.done.status ≡ status_of result.done.outcome }
+    ensures silent { IsSilent result.done.outcome → sink.new ≡ sink.old }
+    ensures faults { K.faults sink.old ≤ K.faults sink.new }
+{
+    match share_script(rt, alloc, command, script, gate) {
+        Ok(shared) => report_share(alloc, script, sink, shared),
+        Err(_) => ended(alloc, Outcome::Memory),
+    }
+}
+
+/// Makes the calls of the script by callers on threads: all that the laws over every run say holds of
+/// what they did.
+fn share_script<R: Threads + Wait + Sync, G: Gate + Sync>(
+    rt: &R,
+    alloc: Global,
+    command: Share,
+    script: &Script,
+    gate: &G,
+) -> Result<Shared, Memory>
+    requires script { IsScript script.now }
+    requires limits { IsShare command }
+    ensures { IfOk result (λ shared. IsSharedBy script.now (only shared.trace) shared.worn) }
+{
+    hx_law_searches::histories_are_linear();
+    hx_law_order::runs_have_one_order();
+    hx_law_searches::searches_are_true_and_whole();
+    hx_law_causes::answers_have_causes();
+    hx_law_epochs::lost_regions_have_lost_their_replicas();
+    let shared = share(rt, alloc, script, command.workers, gate)?;
+    Ok(shared)
+}
+
+/// Hands back what callers shared until an actor was worn, or writes the report of all their calls.
+fn report_share<K: Sink>(alloc: Global, script: &Script, sink: &mut K, shared: Shared) -> Finished
+    requires script { IsScript script.now }
+    requires shared { IsSharedBy script.now (only shared.trace) shared.worn }
+    ensures ends { EndsWith (IsSharedReport script.now) (IsWornShared script.now)
+        (record { before = K.held sink.old; after = K.held sink.new; faults_before = K.faults sink.old; faults_after = K.faults sink.new })
+        (record { trace = result.done.trace; seat = result.seat; totals = result.totals.items; ports = result.ports.items; fates = length result.fates.items })
+        result.done.outcome }
+    ensures status { result.done.status ≡ status_of result.done.outcome }
+    ensures silent { IsSilent result.done.outcome → sink.new ≡ sink.old }
+    ensures faults { K.faults sink.old ≤ K.faults sink.new }
+{
+    let Shared { trace, worn } = shared;
+    if let Some(actor) = worn {
+        return traced(alloc, Outcome::Worn(actor), trace);
+    }
+    match report(alloc, script, &trace, &[], false) {
+        Ok(bytes) => write_share(alloc, sink, trace, bytes.as_slice()),
+        Err(_) => ended(alloc, Outcome::Memory),
+    }
+}
+
+/// Writes the report of what callers shared.
+fn write_share<K: Sink>(alloc: Global, sink: &mut K, trace: Trace, bytes: &[u8]) -> Finished
+    ensures written { IsWritten (record { before = K.held sink.old; after = K.held sink.new; faults_before = K.faults sink.old; faults_after = K.faults sink.new }) bytes.now result.done.outcome }
+    ensures handed { (record { trace = result.done.trace; seat = result.seat; totals = result.totals.items; ports = result.ports.items; fates = length result.fates.items }) ≡ only trace }
+    ensures status { result.done.status ≡ status_of result.done.outcome }
+    ensures faults { K.faults sink.old ≤ K.faults sink.new }
+{
+    match write_all(sink, bytes) {
+        Ok(()) => traced(alloc, Outcome::Fine, trace),
+        Err(_) => traced(alloc, Outcome::WriteFault, trace),
+    }
+}
+
+/// The end of a call that hands back a trace and nothing else.
+fn traced(alloc: Global, outcome: Outcome, trace: Trace) -> Finished
+    ensures outcome { result.done.outcome ≡ outcome }
+    ensures handed { (record { trace = result.done.trace; seat = result.seat; totals = result.totals.items; ports = result.ports.items; fates = length result.fates.items }) ≡ only trace }
+    ensures status { result.done.status ≡ status_of outcome }
+{
+    let done = Done {
+        status: status(outcome),
+        outcome,
+        trace,
+    };
+    unthreaded(alloc, done)
+}

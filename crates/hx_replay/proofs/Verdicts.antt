@@ -1,0 +1,88 @@
+-- What decides an audit whose source tells its bytes; and words that say a command aren't `audit`.
+use Rattle.std.proofs.Common.{◌≡◌, ◌⊎◌, inl, inr, ℕ, ◌<◌, ◌≤◌, List, [], ◌∷◌, length, Option, Some, refl, sym, ap, ◌∙◌, subst, arith, true, false}
+use Rattle.std.specs.Prelude.{IfSome}
+use Rattle.std.specs.declared.string.String.{String}
+use Rattle.std.specs.declared.alloc.Global.{Global}
+use Rattle.hx_io.specs.Causes.{Rose}
+use Rattle.hx_audit.specs.declared.verdicts.Clause.{Clause}
+use Rattle.hx_report_lines.specs.Printed.{text_of}
+use Rattle.hx_report_lines.specs.Values.{IsReportValue, ReportValue}
+use Rattle.hx_script.specs.declared.errors.Reason.TheVariants.{Order}
+use Rattle.hx_replay.specs.Audits.{IsAuditJudged}
+use Rattle.hx_replay.specs.Calling.{Drawn, EndsAudit, Filled, IsAuditDecided}
+use Rattle.hx_replay.specs.Causes.{limit}
+use Rattle.hx_replay.specs.Commands.{Says, SaysAudit, words_of}
+use Rattle.hx_replay.specs.declared.outcomes.Outcome.{Outcome}
+use Rattle.hx_replay.specs.declared.outcomes.Outcome.TheVariants.{Fine, Usage, Refused, TooLarge, ReadFault, WriteFault, Memory, Worn, Wrong}
+use Rattle.hx_replay.specs.declared.words.Command.{Command}
+use Rattle.hx_replay.specs.declared.words.Command.TheVariants.{Replay, Plan}
+
+module _ (source : Drawn) (sink : Filled) (text : List ℕ) (still : Rose source.faults_before source.faults_after → ⊥) where
+  larger : (outcome : Outcome) → IsAuditJudged text outcome → EndsAudit source sink outcome → limit < length text → (outcome ≡ TooLarge) ⊎ (outcome ≡ Memory)
+  larger Fine judged ends large = absurd (omega (arith, judged.0, large))
+  larger Usage judged ends large = absurd judged
+  larger (Refused line reason) judged ends large = absurd (omega (arith, judged.0, large))
+  larger TooLarge judged ends large = inl refl
+  larger ReadFault judged ends large = absurd (still ends)
+  larger WriteFault judged ends large = absurd (omega (arith, judged.0, large))
+  larger Memory judged ends large = inr refl
+  larger (Worn a) judged ends large = absurd judged
+  larger (Wrong line clause) judged ends large = absurd (omega (arith, judged.0, large))
+
+  no_report : (outcome : Outcome) → IsAuditJudged text outcome → EndsAudit source sink outcome → length text ≤ limit
+      → ((report : ReportValue) → IsReportValue report → text_of report ≡ text → ⊥)
+      → ((line : ℕ) × (outcome ≡ Refused line Order)) ⊎ (outcome ≡ Memory)
+  no_report Fine judged ends short none = absurd (none judged.1.report judged.1.sound judged.1.text_is)
+  no_report Usage judged ends short none = absurd judged
+  no_report (Refused line reason) judged ends short none = inl (line, ap (λ r. Refused line r) judged.1)
+  no_report TooLarge judged ends short none = absurd (omega (arith, short, judged))
+  no_report ReadFault judged ends short none = absurd (still ends)
+  no_report WriteFault judged ends short none = absurd (none judged.1.report judged.1.sound judged.1.text_is)
+  no_report Memory judged ends short none = inr refl
+  no_report (Worn a) judged ends short none = absurd judged
+  no_report (Wrong line clause) judged ends short none = absurd (none judged.1.report judged.1.sound judged.1.text_is)
+
+  a_report : (outcome : Outcome) → IsAuditJudged text outcome → EndsAudit source sink outcome → length text ≤ limit
+      → (report : ReportValue) → IsReportValue report → text_of report ≡ text
+      → (Rose sink.faults_before sink.faults_after → ⊥)
+      → (outcome ≡ Fine) ⊎ (outcome ≡ Memory) ⊎ ((line : ℕ) × (clause : Clause) × (outcome ≡ Wrong line clause))
+  a_report Fine judged ends short report sound is well = inl refl
+  a_report Usage judged ends short report sound is well = absurd judged
+  a_report (Refused line reason) judged ends short report sound is well = absurd (judged.2.no_report report sound is)
+  a_report TooLarge judged ends short report sound is well = absurd (omega (arith, short, judged))
+  a_report ReadFault judged ends short report sound is well = absurd (still ends)
+  a_report WriteFault judged ends short report sound is well = absurd (well ends.3)
+  a_report Memory judged ends short report sound is well = inr (inl refl)
+  a_report (Worn a) judged ends short report sound is well = absurd judged
+  a_report (Wrong line clause) judged ends short report sound is well = inr (inr (line, clause, refl))
+
+-- an audit whose outcome is judged by the bytes is decided by them
+pub decided : (source : Drawn) (sink : Filled) (outcome : Outcome) → IfSome source.before (λ text. IsAuditJudged text outcome) → EndsAudit source sink outcome → IsAuditDecided source sink outcome
+decided source sink outcome judged ends =
+    record {
+      judged = judged;
+      too_large = λ text told large still. larger source sink text still outcome (at text told) ends large;
+      unread = λ text told short none still. no_report source sink text still outcome (at text told) ends short none;
+      complete = λ text report sound told short is still well. a_report source sink text still outcome (at text told) ends short report sound is well;
+    }
+  where
+    at : (text : List ℕ) → source.before ≡ Some text → IsAuditJudged text outcome
+    at text told = subst (λ (o : Option (List ℕ)). IfSome o (λ t. IsAuditJudged t outcome)) told judged
+
+-- the length of the first word
+abbrev first_long : List (List ℕ) → ℕ
+first_long [] = 0
+first_long (w ∷ ws) = length w
+
+-- no command is said by the word `audit`
+pub not_both : (words : List (String Global)) (command : Command) → Says words command → SaysAudit words → ⊥
+not_both words command says audit = by command (ap first_long (sym audit ∙ says))
+  where
+    by : (command : Command) → 5 ≡ first_long (words_of command) → ⊥
+    by (Replay false) e = absurd (omega (arith, e))
+    by (Replay true) e = absurd (omega (arith, e))
+    by Plan e = absurd (omega (arith, e))
+
+-- how an audit ends whose outcome is told
+pub ends_at : (source : Drawn) (sink : Filled) (outcome shown wanted : Outcome) → shown ≡ outcome → shown ≡ wanted → EndsAudit source sink outcome → EndsAudit source sink wanted
+ends_at source sink outcome shown wanted same is ends = subst (λ (o : Outcome). EndsAudit source sink o) (sym same ∙ is) ends

@@ -1,0 +1,175 @@
+ghost use Rattle.std.specs.Prelude.{◌≡◌, ◌↔◌, ◌⊎◌, ◌+◌, ◌≤◌, ◌<◌, ℕ, List, [], Some, IfOk, IfErr, IfSome, length};
+ghost use Rattle.std.specs.Io.KnownBytes.{Appends};
+ghost use Rattle.hx_io.specs.Causes.{Rose};
+ghost use Rattle.hx_io.specs.Pieces.{AppendsPrefix, ConsumesExactly};
+ghost use Rattle.hx_script.specs.declared.errors.Reason.{Reason};
+ghost use Rattle.hx_script.specs.declared.errors.Reason.TheVariants as a_reason;
+ghost use Rattle.hx_types.specs.declared.ids.Actor.{Actor};
+ghost use Rattle.hx_types.specs.declared.traces.Entry.{Entry};
+ghost use Rattle.hx_replay.specs.Causes.{IsAnswer, IsCause, IsFaulty, IsJudged, IsJudgedResult, CommandEnds, IsRefused, IsStopped, IsTaken, IsWorn, ReadsText, limit};
+ghost use Rattle.hx_replay.specs.Commands.{Replays, Says};
+ghost use Rattle.hx_replay.specs.Outcomes.{HasNoTrace, IsSilent, status_of};
+ghost use Rattle.hx_replay.specs.declared.outcomes.Outcome.{Outcome};
+ghost use Rattle.hx_replay.specs.declared.words.Command.{Command};
+
+use crate::answering::answer;
+use crate::outcomes::{Done, Ended, Outcome, Written, status};
+use crate::words::{Command, command_of};
+use hx_io::{Sink, Source, read_all, write_all};
+use hx_script::Reason;
+use hx_trace::Trace;
+use hx_types::{Actor, LONGEST_SCRIPT};
+use std::alloc::Global;
+
+/// How many bytes a script may have.
+const LIMIT: usize = LONGEST_SCRIPT;
+
+/// The call with the words of a command, or with words that are none.
+pub fn command_words<S: Source, K: Sink>(
+    alloc: Global,
+    words: &[String],
+    source: &mut S,
+    sink: &mut K,
+) -> Done
+    ensures status { result.status ≡ status_of result.outcome }
+    ensures fine { result.outcome ≡ Outcome.Fine → (command : Command) × (text : List ℕ) × (bytes : List ℕ)
+        × Says words.now command
+        × ReadsText (S.left source.old) (S.left source.new) text
+        × IsAnswer command text result.trace bytes
+        × Appends (K.held sink.old) (K.held sink.new) bytes }
+    ensures usage { (result.outcome ≡ Outcome.Usage) ↔ ((command : Command) → ¬ Says words.now command) }
+    ensures refused { (line : ℕ) (reason : Reason) → result.outcome ≡ Outcome.Refused line reason → (text : List ℕ)
+        × ReadsText (S.left source.old) (S.left source.new) text
+        × (IsRefused text line reason
+        ⊎ ((reason ≡ a_reason.Step) × ((command : Command) × Says words.now command × Replays command) × IsStopped text line result.trace)) }
+    ensures too_large { result.outcome ≡ Outcome.TooLarge →
+        ConsumesExactly (S.left source.old) (S.left source.new) (limit + 1) }
+    ensures read_fault { result.outcome ≡ Outcome.ReadFault → Rose (S.faults source.old) (S.faults source.new) }
+    ensures write_fault { result.outcome ≡ Outcome.WriteFault → Rose (K.faults sink.old) (K.faults sink.new) }
+    ensures prefix { result.outcome ≡ Outcome.WriteFault → (command : Command) × (text : List ℕ) × (bytes : List ℕ)
+        × Says words.now command
+        × ReadsText (S.left source.old) (S.left source.new) text
+        × IsAnswer command text result.trace bytes
+        × AppendsPrefix (K.held sink.old) (K.held sink.new) bytes }
+    ensures worn { (a : Actor) → result.outcome ≡ Outcome.Worn a → (text : List ℕ)
+        × ((command : Command) × Says words.now command × Replays command)
+        × ReadsText (S.left source.old) (S.left source.new) text
+        × IsWorn text result.trace a }
+    ensures wears { (command : Command) → (text : List ℕ) → (trace : List Entry) → (a : Actor) → Says words.now command
+        → Replays command → S.left source.old ≡ Some text → length text ≤ limit → IsWorn text trace a
+        → ¬ Rose (S.faults source.old) (S.faults source.new)
+        → (result.outcome ≡ Outcome.Worn a) ⊎ (result.outcome ≡ Outcome.Memory) }
+    ensures judged { (command : Command) → Says words.now command
+        → IfSome (S.left source.old) (λ text. IsJudged command text result.outcome) }
+    ensures faulty { (command : Command) → (text : List ℕ) → (outcome : Outcome) → Says words.now command
+        → S.left source.old ≡ Some text → IsFaulty command text outcome
+        → ¬ Rose (S.faults source.old) (S.faults source.new)
+        → (result.outcome ≡ outcome) ⊎ (result.outcome ≡ Outcome.Memory) }
+    ensures complete { (command : Command) → (text : List ℕ) → Says words.now command
+        → S.left source.old ≡ Some text → length text ≤ limit → IsTaken command text
+        → ¬ Rose (S.faults source.old) (S.faults source.new)
+        → ¬ Rose (K.faults sink.old) (K.faults sink.new)
+        → (result.outcome ≡ Outcome.Fine) ⊎ (result.outcome ≡ Outcome.Memory)
+        ⊎ ((a : Actor) × (result.outcome ≡ Outcome.Worn a)) }
+    ensures silent { IsSilent result.outcome → sink.new ≡ sink.old }
+    ensures no_trace { HasNoTrace result.outcome → result.trace ≡ [] }
+    ensures untouched { result.outcome ≡ Outcome.Usage → source.new ≡ source.old }
+    ensures source_faults { S.faults source.old ≤ S.faults source.new }
+    ensures sink_faults { K.faults sink.old ≤ K.faults sink.new }
+{
+    let Some(command) = command_of(words) else {
+        return silent(alloc, Outcome::Usage);
+    };
+    match read_and_answer(alloc, command, source) {
+        Ok(Ended::Whole(made)) => write(sink, made),
+        Ok(Ended::Refused { line, trace }) => refused(line, trace),
+        Ok(Ended::Worn { actor, trace }) => worn(actor, trace),
+        Err(outcome) => silent(alloc, outcome),
+    }
+}
+
+/// The end of a call that has no trace.
+pub fn silent(alloc: Global, outcome: Outcome) -> Done
+    ensures outcome { result.outcome ≡ outcome }
+    ensures status { result.status ≡ status_of outcome }
+    ensures trace { result.trace ≡ [] }
+{
+    Done {
+        status: status(outcome),
+        outcome,
+        trace: Trace::new(alloc),
+    }
+}
+
+/// A replay that ended at a step which can't be taken: its trace, and nothing to write.
+fn refused(line: u64, trace: Trace) -> Done
+    ensures outcome { result.outcome ≡ Outcome.Refused line a_reason.Step }
+    ensures status { result.status ≡ status_of result.outcome }
+    ensures trace { result.trace ≡ trace }
+{
+    let outcome = Outcome::Refused {
+        line,
+        reason: Reason::Step,
+    };
+    Done {
+        status: status(outcome),
+        outcome,
+        trace,
+    }
+}
+
+/// A replay that a worn actor ended: its trace, and nothing to write.
+fn worn(actor: Actor, trace: Trace) -> Done
+    ensures outcome { result.outcome ≡ Outcome.Worn actor }
+    ensures status { result.status ≡ status_of result.outcome }
+    ensures trace { result.trace ≡ trace }
+{
+    let outcome = Outcome::Worn(actor);
+    Done {
+        status: status(outcome),
+        outcome,
+        trace,
+    }
+}
+
+/// Reads the source to its end and answers its text.
+#[tactic(auto, using(crate::proofs::Making::made_is_judged))]
+fn read_and_answer<S: Source>(
+    alloc: Global,
+    command: Command,
+    source: &mut S,
+) -> Result<Ended, Outcome>
+    ensures answer { IfOk result (λ made. (text : List ℕ)
+        × ReadsText (S.left source.old) (S.left source.new) text
+        × CommandEnds command text made) }
+    ensures cause { IfErr result (IsCause command (S.left source.old) (S.left source.new) (S.faults source.old) (S.faults source.new)) }
+    ensures judged { IfSome (S.left source.old) (λ text. IsJudgedResult command text result) }
+    ensures made { IfSome (S.left source.old) (λ text. IfOk result (CommandEnds command text)) }
+    ensures faults { S.faults source.old ≤ S.faults source.new }
+{
+    let text = read_all(alloc, source, LIMIT)?;
+    let made = answer(alloc, command, text.as_slice())?;
+    Ok(made)
+}
+
+/// Writes the answer.
+fn write<K: Sink>(sink: &mut K, made: Written) -> Done
+    ensures status { result.status ≡ status_of result.outcome }
+    ensures trace { result.trace ≡ made.trace }
+    ensures ends { (result.outcome ≡ Outcome.Fine) ⊎ (result.outcome ≡ Outcome.WriteFault) }
+    ensures fine { result.outcome ≡ Outcome.Fine → Appends (K.held sink.old) (K.held sink.new) made.bytes.items }
+    ensures prefix { result.outcome ≡ Outcome.WriteFault → AppendsPrefix (K.held sink.old) (K.held sink.new) made.bytes.items }
+    ensures fault { result.outcome ≡ Outcome.WriteFault → Rose (K.faults sink.old) (K.faults sink.new) }
+    ensures faults { K.faults sink.old ≤ K.faults sink.new }
+{
+    let Written { trace, bytes } = made;
+    let outcome = match write_all(sink, bytes.as_slice()) {
+        Ok(()) => Outcome::Fine,
+        Err(_) => Outcome::WriteFault,
+    };
+    Done {
+        status: status(outcome),
+        outcome,
+        trace,
+    }
+}
