@@ -1,3 +1,4 @@
 pub mod Examples
 pub mod Plain
 pub mod Prefixes
+pub mod Turning

@@ -50,7 +50,10 @@
 // other crates can name it. None of them is handed out but those below.
 mod actors;
 mod axes;
+mod bundle_draft;
+mod bundle_reading;
 mod draft;
+mod drafts;
 mod edits;
 mod errors;
 mod keyword;
@@ -62,10 +65,11 @@ mod reading;
 mod values;
 mod words;
 
+pub use bundle_reading::{is_of_version_2, read_bundle};
 pub use errors::{Reason, ScriptError};
 pub use laws::{
-    calls_are_read_as_in_sessions, calls_fit_their_space, scripts_are_valid,
-    texts_are_not_refused_by_steps,
+    bundles_are_not_refused_by_steps, bundles_are_valid, calls_are_read_as_in_sessions,
+    calls_fit_their_space, scripts_are_valid, texts_are_not_refused_by_steps,
 };
 pub use lone_calls::read_op;
 pub use reading::read;
