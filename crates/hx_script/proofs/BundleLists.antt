@@ -5,7 +5,7 @@ use Rattle.std.specs.List.{All, AllZip}
 use Rattle.std.proofs.lemmas.Bool.{cases_eq, eqb-false, ne_eqb}
 use Rattle.std.proofs.lemmas.List.{length_push}
 use Rattle.std.proofs.lemmas.List.Elements.{All-nil, All-cons, All-head, All-tail}
-use Rattle.std.proofs.lemmas.Option.{IfSome_then, same_Some}
+use Rattle.std.proofs.lemmas.Option.{same_Some}
 use Rattle.hx_bundle.specs.Bundles.{AreDealt, times}
 use Rattle.hx_types.specs.declared.calls.Op.{Op}
 use Rattle.hx_script.specs.Grammar.{push_to_last}
@@ -56,13 +56,17 @@ pub placed_all : {A : Type 0} (P : ℕ → A → Type 0) (xs : List A) (Q : A �
 placed_all P [] Q f h = All-nil Q
 placed_all P (x ∷ xs) Q f h = All-cons Q x xs (f zero x (h zero)) (placed_all (λ k. P (suc k)) xs Q (λ k. f (suc k)) (λ k. h (suc k)))
 
+weaker_some : {A : Type 0} (P Q : A → Type 0) (o : Option A) → IfSome o P → ((x : A) → P x → Q x) → IfSome o Q
+weaker_some P Q None h f = tt
+weaker_some P Q (Some x) h f = f x h
+
 pub placed_set : {A : Type 0} (P R : ℕ → A → Type 0) (xs : List A) (k : ℕ) (x y : A) → slice_get xs k ≡ Some x → ((j : ℕ) → IfSome (slice_get xs j) (P j)) → ((j : ℕ) (z : A) → (j ≡ k → ⊥) → P j z → R j z) → R k y
     → (j : ℕ) → IfSome (slice_get (slice_set xs k y) j) (R j)
 placed_set P R xs k x y at h other here j = by (cases_eq j k)
   where
     by : (j ≡ k) ⊎ (j ≡ k → ⊥) → IfSome (slice_get (slice_set xs k y) j) (R j)
     by (inl e) = subst (λ i. IfSome (slice_get (slice_set xs k y) i) (R i)) (sym e) (rw (get_set_same xs k x y at) here)
-    by (inr ne) = rw (get_set_other xs k j y ne) (IfSome_then (slice_get xs j) (h j) (λ z. other j z ne))
+    by (inr ne) = rw (get_set_other xs k j y ne) (weaker_some (P j) (R j) (slice_get xs j) (h j) (λ z. other j z ne))
 
 pub placed_map : {A B : Type 0} (f : A → B) (P : ℕ → A → Type 0) (R : ℕ → B → Type 0) (xs : List A) → ((k : ℕ) → IfSome (slice_get xs k) (P k)) → ((k : ℕ) (x : A) → P k x → R k (f x)) → (k : ℕ) → IfSome (slice_get (map f xs) k) (R k)
 placed_map f P R [] h g k = tt

@@ -47,7 +47,7 @@ use Rattle.hx_script.proofs.FittingAxes.{DraftFits, yields_subspace}
 use Rattle.hx_script.proofs.FittingCalls.{yields_call}
 use Rattle.hx_script.proofs.Naming.{MayName, is_name, yields_name, yields_named}
 use Rattle.hx_script.proofs.Once.{names_push, none_named, not_true}
-use Rattle.hx_script.proofs.Sections.{Complete, Sound, SpaceSoFar}
+use Rattle.hx_script.proofs.Sections.{BySection, Complete, Sound, SpaceSoFar}
 use Rattle.hx_script.proofs.SoundBundles.{BundleSound, ByStage, Empty, IsFromOne, IsHead, IsOneOf, IsStepAmong, IsStepBy, Served, SpaceFits, Tolerated}
 use Rattle.hx_script.proofs.SoundLines.{IsNextAttribute, all_last, all_none, below_servers, one_counted, one_session_more, same_count, shorter, some_regions, yields_call_line, yields_heading, yields_int, yields_string}
 use Rattle.hx_script.proofs.SoundTexts.{empty_sound}
@@ -243,16 +243,16 @@ yields_all_tolerate b so em s = yields_then (λ n. (0 ≤ n) × (n ≤ min (b.se
   few_calls = so.few_calls;
   few_steps = so.few_steps;
   steps = so.steps;
-  stage = (em, s, below_servers b.servers n s.0 h.1);
+  stage = (em, (s, below_servers b.servers n s.0 h.1));
 })))
 
 -- ---- spaces
 
 -- before the first session, no space has calls
 head_alone : (d : Draft) (sec : Section) → d.section ≡ sec → IsHead sec → Sound d → d.sessions ≡ []
-head_alone d sections.Keying e h so = let st = rw e at so.stage in st.0.2
-head_alone d sections.Attributes e h so = let st = rw e at so.stage in st.2
-head_alone d sections.Subspaces e h so = let st = rw e at so.stage in st.1
+head_alone d sections.Keying e h so = let st : BySection sections.Keying d = rw e at so.stage in st.0.2
+head_alone d sections.Attributes e h so = let st : BySection sections.Attributes d = rw e at so.stage in st.2
+head_alone d sections.Subspaces e h so = let st : BySection sections.Subspaces d = rw e at so.stage in st.1
 head_alone d sec e h so = absurd h
 
 alone_dealt : (spaces : List Draft) (turns : List (List ℕ)) → All (λ (d : Draft). d.sessions ≡ []) spaces → turns ≡ [] → (k : ℕ) → IfSome (slice_get spaces k) (λ (d : Draft). AllZip (AreDealt k) d.sessions turns)
@@ -347,10 +347,10 @@ yields_last_space b h i so at st =
 -- a space with its key is whole
 head_whole : (servers tolerate : ℕ) (d : Draft) (sec : Section) → d.section ≡ sec → is_keyed sec ≡ true → IsHead sec → SpaceFits servers tolerate d → (0 < servers) × (servers ≤ 16) → (tolerate ≤ 4) × (tolerate < servers) → Complete d
 head_whole servers tolerate d sections.Attributes e k h f s t =
-    let st = rw e at f.sound.stage in
+    let st : BySection sections.Attributes d = rw e at f.sound.stage in
     (st.0, rw f.servers_are s, rw (f.servers_are, f.tolerate_is) t, all_none (λ (ops : List Op). All (Fits d.space) ops) d.sessions st.2)
 head_whole servers tolerate d sections.Subspaces e k h f s t =
-    let st = rw e at f.sound.stage in
+    let st : BySection sections.Subspaces d = rw e at f.sound.stage in
     (st.0, rw f.servers_are s, rw (f.servers_are, f.tolerate_is) t, all_none (λ (ops : List Op). All (Fits d.space) ops) d.sessions st.1)
 head_whole servers tolerate d sections.Keying e k h f s t = absurd cc
 head_whole servers tolerate d sec e k h f s t = absurd h

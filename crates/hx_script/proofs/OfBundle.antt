@@ -1,6 +1,6 @@
 -- No text of several spaces is refused for the reason Step, which only a run can tell.
 use Rattle.std.proofs.Common.{◌≢◌, ◌≡◌, ℕ, Bool, true, false, cond, List, [], ◌∷◌, Option, Some, None, Result, Ok, Err, refl, subst}
-use Rattle.std.specs.Prelude.{◌+◌, ◌==◌, codes, length, slice_get}
+use Rattle.std.specs.Prelude.{◌+◌, ◌==◌, codes, length, position, slice_get}
 use Rattle.hx_lex.specs.Lines.{tokens_of}
 use Rattle.hx_bundle.specs.declared.bundles.Bundle.{Bundle}
 use Rattle.hx_types.specs.declared.traces.Script.{Script}
@@ -18,7 +18,7 @@ use Rattle.hx_script.specs.declared.keyword.Heading.TheVariants as headings
 use Rattle.hx_script.specs.declared.keyword.Keyword.{Keyword}
 use Rattle.hx_script.specs.declared.keyword.Keyword.TheVariants as keywords
 use Rattle.hx_script.specs.declared.keyword.StepWord.{StepWord}
-use Rattle.hx_script.specs.BundleGrammar.{all_servers_line, all_steps_line, all_tolerate_line, behind_keys, bundle_command, bundle_heading_line, bundle_line_for, bundle_line_of, bundle_line_of_toks, in_draft, in_last_space, in_space, keyed_line, last_space_line, new_space_name, next_session_line, next_space_line, placed, second_hx_line, space_call_line, space_named, space_number, space_step_line, spaces_line}
+use Rattle.hx_script.specs.BundleGrammar.{all_servers_line, all_steps_line, all_tolerate_line, behind_keys, bundle_command, bundle_heading_line, bundle_line_for, bundle_line_of, bundle_line_of_toks, in_draft, in_last_space, in_space, is_space, keyed_line, last_space_line, new_space_name, next_session_line, next_space_line, placed, second_hx_line, space_call_line, space_named, space_number, space_step_line, spaces_line}
 use Rattle.hx_script.specs.BundleTexts.{at_number, bundle_by, bundle_finished, bundle_may_end, bundle_of, bundle_so_far, empty_bundle_draft, one_space, read_bundle_lines, read_first, read_second, then_read, version_by, version_from, version_line, version_of}
 use Rattle.hx_script.specs.Calls.{step}
 use Rattle.hx_script.specs.Grammar.{call_line, heading_line, toks_from}
@@ -36,7 +36,7 @@ told_placed None = tt
 
 tells_space_named : (spaces : List Draft) → Tells (space_named spaces)
 unfolding space_named
-tells_space_named spaces = tells_then tells_named (λ w. tells_judged (space_number spaces w) (told_placed _))
+tells_space_named spaces = tells_then tells_named (λ w. tells_judged (space_number spaces w) (told_placed (position (is_space w) spaces)))
 
 tells_new_space : (spaces : List Draft) → Tells (new_space_name spaces)
 unfolding new_space_name

@@ -128,7 +128,16 @@ step_more n d w e all = yields_then (λ u. nat_lt (length d.steps) 65536 ≡ tru
 
 -- the steps may not be begun twice
 heading_part : (d : Draft) (sec : Section) (h : Heading) → d.section ≡ sec → ByPart sec d → Yields (heading_line d sec h) Stepped
-heading_part d sections.Steps h e st = yields_refuse Order
+heading_part d sections.Steps headings.Hx e st = yields_refuse Order
+heading_part d sections.Steps headings.Space e st = yields_refuse Order
+heading_part d sections.Steps headings.Key e st = yields_refuse Order
+heading_part d sections.Steps headings.String e st = yields_refuse Order
+heading_part d sections.Steps headings.Int e st = yields_refuse Order
+heading_part d sections.Steps headings.Subspace e st = yields_refuse Order
+heading_part d sections.Steps headings.Servers e st = yields_refuse Order
+heading_part d sections.Steps headings.Tolerate e st = yields_refuse Order
+heading_part d sections.Steps headings.Session e st = yields_refuse Order
+heading_part d sections.Steps headings.Steps e st = yields_refuse Order
 heading_part d sections.Start h e st = yields_stepped (heading_none d sections.Start h st)
 heading_part d sections.Naming h e st = yields_stepped (heading_none d sections.Naming h st)
 heading_part d sections.Keying h e st = yields_stepped (heading_none d sections.Keying h st)
