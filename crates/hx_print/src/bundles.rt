@@ -133,7 +133,8 @@ fn put_turn<'a>(
     requires { place < length hands.old.items }
     ensures { OnOk result (TakesTurn spaces.now place (map (λ h. h.now) hands.old.items) (map (λ h. h.now) hands.new.items) out.old.items out.new.items) }
 {
-    match hands[place].split_first() {
+    let hand: &'a [Op] = hands[place];
+    match hand.split_first() {
         None => Ok(()),
         Some((op, rest)) => {
             put_call_in(out, spaces, place, op)?;
@@ -242,11 +243,7 @@ fn put_step_in(out: &mut Vec<u8>, spaces: &[Script], step: &BundleStep) -> Resul
     }
 }
 
-fn put_step_lines(
-    out: &mut Vec<u8>,
-    spaces: &[Script],
-    steps: &[BundleStep],
-) -> Result<(), Memory>
+fn put_step_lines(out: &mut Vec<u8>, spaces: &[Script], steps: &[BundleStep]) -> Result<(), Memory>
     ensures { OnOk result (out.new.items ≡ out.old.items ++ flat_map (step_line_in spaces.now) steps.now) }
 {
     for step in steps {

@@ -19,7 +19,7 @@ pub mod SoundTexts
 pub mod LoneCalls
 pub mod InSpaces
 pub mod BundleLines
-mod BundleLists
+pub mod BundleLists
 pub mod SoundBundles
 mod BundleYields
 pub mod BundleValid
