@@ -21,6 +21,7 @@ use Rattle.hx_script.specs.declared.bundle_draft.BundleSection.{BundleSection}
 use Rattle.hx_script.specs.declared.bundle_draft.BundleSection.TheVariants as stages
 use Rattle.hx_script.specs.declared.draft.Draft.{Draft}
 use Rattle.hx_script.specs.BundleGrammar.{behind_keys, bundle_command, bundle_line_of_toks, have_keys, next_session_line, with_session}
+use Rattle.hx_script.specs.BundleTexts.{script_so_far}
 use Rattle.hx_script.specs.Readers.{number_in}
 use Rattle.hx_script.specs.Toks.{Word, Number}
 use Rattle.hx_script.proofs.BundleLists.{all_at, placed_all, placed_map}
@@ -74,16 +75,25 @@ hand_of number seat = record { script = seat.script; front = seat.read; done = [
 abbrev pub seat_of : Hand → Seat
 seat_of h = record { script = h.script; read = h.front ++ h.done ∷ []; count = h.count }
 
+-- its script, as far as its sessions were read
+abbrev pub read_so_far : Seat → Script
+read_so_far seat = record { space = seat.script.space; sessions = seat.read; steps = [] }
+
 -- what holds between sessions, of which so many were read: the drafts of the spaces, where one more session is
 -- begun, are those of the hands that begin it
 pub record AreSeated (spaces : List Draft) (seats : List Seat) (number : ℕ) (calls : ℕ) : Type 0 where
   pub drafts : map with_session spaces ≡ map draft_of (map (hand_of (number + 1)) seats)
+  pub scripts : map script_so_far spaces ≡ map read_so_far seats
   pub read : All (λ (s : Seat). s.read ≡ take number s.script.sessions) seats
   pub counts : All (λ (s : Seat). s.count ≤ calls) seats
 
 drafts_again : (number : ℕ) (hands : List Hand) → map with_session (map draft_of hands) ≡ map draft_of (map (hand_of number) (map seat_of hands))
 drafts_again number [] = refl
 drafts_again number (h ∷ hands) = ap (λ (l : List Draft). draft_of (hand_of number (seat_of h)) ∷ l) (drafts_again number hands)
+
+scripts_again : (hands : List Hand) → map script_so_far (map draft_of hands) ≡ map read_so_far (map seat_of hands)
+scripts_again [] = refl
+scripts_again (h ∷ hands) = ap (λ (l : List Script). read_so_far (seat_of h) ∷ l) (scripts_again hands)
 
 hands_are : (number : ℕ) (seats : List Seat) → map left_of (map (hand_of number) seats) ≡ hands_of (map (λ (s : Seat). s.script) seats) number
 hands_are number [] = refl
@@ -248,6 +258,7 @@ seated_after scripts seats before turns left calls after are read of played coun
     let some : All (λ (s : Seat). (ops : List Op) × (slice_get s.script.sessions u ≡ Some ops)) seats = placed_all (λ k s. AllZip (AreDealt k) s.script.sessions (before ++ turns ∷ left)) seats (λ (s : Seat). (ops : List Op) × (slice_get s.script.sessions u ≡ Some ops)) (λ k s h. let x = dealt_at k s.script.sessions before turns left h in (x.ops, x.here)) dealt in
     subst (λ (m : ℕ). AreSeated (map draft_of after) (map seat_of after) m (calls + length turns)) (sym number) (record {
       drafts = drafts_again (u + 1 + 1) after;
+      scripts = scripts_again after;
       read = All-map (λ (s : Seat). s.read ≡ take (u + 1) s.script.sessions) seat_of after (all_read u seats after played.scripts played.fronts played.calls played.none_left read some);
       counts = All-map (λ (s : Seat). s.count ≤ calls + length turns) seat_of after counts;
     })
@@ -293,9 +304,3 @@ sessions_read (turns ∷ left) n at servers tolerate scripts spaces seats before
     (subst (λ (l : List (List Op)). ReadsAll (n + 1) (called servers tolerate hands before [] calls) (turns_text scripts l turns ++ later) a) hands_left played) in
     subst (λ (x : List ℕ). ReadsAll n (at_calls at servers tolerate spaces before calls) x a) (sym text)
     (session_reads n at servers tolerate scripts spaces before turns calls later a here (omega (arith, few)) of_drafts)
-
--- ---- the steps, and the whole
---
--- Behind the sessions: the line `steps`, each step by `space_step_line` (its name as in `name_takes` of `BundleTurns`, its
--- rest by what `Steps` says of `actor_again` and `deliver_again`), and the end by `bundle_finished`. The bundle is
--- `on_printed_bundle_lines`: by `AreSeated`, where all sessions were read, each draft is its script with no steps.

@@ -65,15 +65,15 @@ hand_name h = h.script.space.name
 
 -- ---- a call
 
-mapped_at : {A B : Type 0} (P : B → Type 0) (f : A → B) (xs : List A) (i : ℕ) (x : A) → All P (map f xs) → slice_get xs i ≡ Some x → P (f x)
+pub mapped_at : {A B : Type 0} (P : B → Type 0) (f : A → B) (xs : List A) (i : ℕ) (x : A) → All P (map f xs) → slice_get xs i ≡ Some x → P (f x)
 mapped_at P f [] i x all e = absurd cc
 mapped_at P f (y ∷ xs) zero x all e = subst (λ a. P (f a)) (same_Some y x e) (All-head P (f y) (map f xs) all)
 mapped_at P f (y ∷ xs) (suc i) x all e = mapped_at P f xs i x (All-tail P (f y) (map f xs) all) e
 
-bytes_same : (a : List ℕ) → bytes_eq a a ≡ true
+pub bytes_same : (a : List ℕ) → bytes_eq a a ≡ true
 bytes_same a = (bytes_eq-Decides a a).1 refl
 
-bytes_apart : (a b : List ℕ) → (a ≡ b → ⊥) → bytes_eq a b ≡ false
+pub bytes_apart : (a b : List ℕ) → (a ≡ b → ⊥) → bytes_eq a b ≡ false
 bytes_apart a b apart = by_test (bytes_eq a b) refl
   where
     by_test : (t : Bool) → bytes_eq a b ≡ t → bytes_eq a b ≡ false

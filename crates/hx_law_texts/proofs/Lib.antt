@@ -26,3 +26,5 @@ mod BundleCalls
 mod BundleSpaces
 mod BundleTurns
 mod BundleSessions
+mod BundleSteps
+mod BundleWhole

@@ -17,4 +17,6 @@
 
 mod laws;
 
-pub use laws::{calls_are_read_back, prints_are_alike, prints_are_read_back};
+pub use laws::{
+    bundle_prints_are_read_back, calls_are_read_back, prints_are_alike, prints_are_read_back,
+};
