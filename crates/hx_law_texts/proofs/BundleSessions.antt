@@ -149,7 +149,7 @@ unmapped : {A B : Type 0} (P : B → Type 0) (f : A → B) (xs : List A) → All
 unmapped P f [] all = All-nil (λ x. P (f x))
 unmapped P f (x ∷ xs) all = All-cons (λ y. P (f y)) x xs (All-head P (f x) (map f xs) all) (unmapped P f xs (All-tail P (f x) (map f xs) all))
 
-of_seats : (P : Script → Type 0) (scripts : List Script) (seats : List Seat) → map (λ (s : Seat). s.script) seats ≡ scripts → All P scripts → All (λ (s : Seat). P s.script) seats
+pub of_seats : (P : Script → Type 0) (scripts : List Script) (seats : List Seat) → map (λ (s : Seat). s.script) seats ≡ scripts → All P scripts → All (λ (s : Seat). P s.script) seats
 of_seats P scripts seats are all = unmapped P (λ (s : Seat). s.script) seats (subst (All P) (sym are) all)
 
 placed_unmap : {A B : Type 0} (f : A → B) (P : ℕ → B → Type 0) (xs : List A) → ((k : ℕ) → IfSome (slice_get (map f xs) k) (P k)) → (k : ℕ) → IfSome (slice_get xs k) (λ x. P k (f x))
