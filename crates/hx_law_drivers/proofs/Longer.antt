@@ -27,9 +27,9 @@ use Rattle.hx_law_drivers.proofs.Seen.{count_own, IsSeen}
 -- an entry keeps its number
 entry_low : (n : ℕ) (xs : List Entry) (y : Entry) → entry_at n xs ≡ Some y → n ≤ length xs
 entry_low n [] y e = absurd (cc)
-entry_low n (x ∷ xs) y =
+entry_low n (x ∷ xs) y e =
     cond_both (eqb n (length xs + 1)) (Some x) (entry_at n xs) (λ o. o ≡ Some y → n ≤ length (x ∷ xs))
-    (λ t e. omega (arith, eqb-true n (length xs + 1) t)) (λ t e. omega (arith, entry_low n xs y e))
+    (λ t k. omega (arith, eqb-true n (length xs + 1) t)) (λ t k. omega (arith, entry_low n xs y k)) e
 
 entry_on : (n : ℕ) (x : Entry) (xs : List Entry) (y : Entry) → entry_at n xs ≡ Some y → entry_at n (x ∷ xs) ≡ Some y
 entry_on n x xs y e =
