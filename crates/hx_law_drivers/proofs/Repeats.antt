@@ -53,7 +53,7 @@ not_put id = record { post = id; times = 0 }
 
 not_doubled : (ids : List PostId) → put_times 2 (map not_put ids) ≡ 0
 not_doubled [] = refl
-not_doubled (id ∷ ids) = not_doubled ids
+not_doubled (id ∷ ids) = omega (arith, not_doubled ids)
 
 module _ (script : Script) (clock : TableId) (boxes : List Boxed) (w : ℕ) where
   -- all that the crews offered
