@@ -35,14 +35,14 @@ pub in_order : (lo hi : ℤ) → lo ≤ℤ hi → int_le lo hi ≡ true
 in_order lo hi le = passes (int_le lo hi) le.le
 
 -- the attribute may stand behind those
-record IsNext (s : Space) (front : List Attribute) (w : List ℕ) (k : Kind) : Type 0 where
+pub record IsNext (s : Space) (front : List Attribute) (w : List ℕ) (k : Kind) : Type 0 where
   pub name : IsNamed w
   pub new : is_declared (attributing s front).space w ≡ false
   pub room : length front < 16
   pub kind : IsKind k
   pub bounds : BoundsAreSayable k
 
-abbrev with_one : List Attribute → List ℕ → Kind → List Attribute
+abbrev pub with_one : List Attribute → List ℕ → Kind → List Attribute
 with_one front w k = front ++ record { name = w; kind = k } ∷ []
 
 string_toks : (n : ℕ) (s : Space) (front : List Attribute) (w : List ℕ) → IsNext s front w kinds.Text → line_of_toks n (attributing s front) (Word (codes "string") ∷ Word w ∷ []) ≡ Ok (attributing s (with_one front w kinds.Text))
@@ -53,14 +53,14 @@ int_toks : (n : ℕ) (s : Space) (front : List Attribute) (w : List ℕ) (lo hi 
 unfolding command attribute_line int_attribute new_name named number_from
 int_toks n s front w lo hi is = rw (lt-ltb (length front) 16 is.room, is.name.free, is.new, is.name.short, in_order lo hi is.kind) refl
 
-int_says : (w : List ℕ) (lo hi : ℤ) → IsNamed w → FitsSigned w64 lo → FitsSigned w64 hi → Says (Word (codes "int") ∷ Word w ∷ Number lo ∷ Number hi ∷ []) (codes "int" ++ (32 ∷ (w ++ (32 ∷ (signed_decimal lo ++ (32 ∷ (signed_decimal hi ++ [])))))))
+pub int_says : (w : List ℕ) (lo hi : ℤ) → IsNamed w → FitsSigned w64 lo → FitsSigned w64 hi → Says (Word (codes "int") ∷ Word w ∷ Number lo ∷ Number hi ∷ []) (codes "int" ++ (32 ∷ (w ++ (32 ∷ (signed_decimal lo ++ (32 ∷ (signed_decimal hi ++ [])))))))
 int_says w lo hi is low high =
     let two : Says (Number hi ∷ []) (signed_decimal hi ++ []) = signed_says hi [] [] high refl nil_says in
     let tail : List ℕ = 32 ∷ (signed_decimal hi ++ []) in
     let one : Says (Number lo ∷ Number hi ∷ []) (signed_decimal lo ++ tail) = signed_says lo (Number hi ∷ []) tail low refl (blank_says (Number hi ∷ []) (signed_decimal hi ++ []) two) in
     word_and_blank (codes "int") (Word w ∷ Number lo ∷ Number hi ∷ []) (w ++ (32 ∷ (signed_decimal lo ++ tail))) (record { letter = refl; parts = refl }) (word_and_blank w (Number lo ∷ Number hi ∷ []) (signed_decimal lo ++ tail) is.word one)
 
-int_parts : (a w o l h n r : List ℕ) → (a ++ w ++ (o ++ l ++ o ++ h) ++ n) ++ r ≡ (a ++ (w ++ (o ++ (l ++ (o ++ (h ++ [])))))) ++ (n ++ r)
+pub int_parts : (a w o l h n r : List ℕ) → (a ++ w ++ (o ++ l ++ o ++ h) ++ n) ++ r ≡ (a ++ (w ++ (o ++ (l ++ (o ++ (h ++ [])))))) ++ (n ++ r)
 int_parts a w o l h n r = simp (append_assoc, append-nil)
 
 attribute_reads : (n : ℕ) (s : Space) (front : List Attribute) (w : List ℕ) (k : Kind) (rest : List ℕ) (script : Script) → IsNext s front w k → ReadsTo (n + 1) (attributing s (with_one front w k)) rest script → ReadsTo n (attributing s front) (kind_line w k ++ rest) script
@@ -73,7 +73,7 @@ attribute_reads n s front w (kinds.Int lo hi) rest script is next =
     (int_parts (codes "int ") w (codes " ") (signed_decimal lo) (signed_decimal hi) (codes "\n") rest) (int_says w lo hi is.name is.bounds.0 is.bounds.1) (int_toks (n + 1) s front w lo hi is) next
 
 -- what each attribute of a space is among those before it
-may_follow : (s : Space) (front : List Attribute) (a : Attribute) (more : List Attribute) → IsSpace s → All (λ (x : Attribute). BoundsAreSayable x.kind) s.attributes → front ++ a ∷ more ≡ s.attributes → IsNext s front a.name a.kind
+pub may_follow : (s : Space) (front : List Attribute) (a : Attribute) (more : List Attribute) → IsSpace s → All (λ (x : Attribute). BoundsAreSayable x.kind) s.attributes → front ++ a ∷ more ≡ s.attributes → IsNext s front a.name a.kind
 may_follow s front a more is bounds split =
     let named : IsName a.name × IsKind a.kind = all_here (λ (x : Attribute). IsName x.name × IsKind x.kind) front a more (subst (All (λ (x : Attribute). IsName x.name × IsKind x.kind)) (sym split) is.names) in
     let differ : NamesDiffer (s.key_name ∷ map (λ (x : Attribute). x.name) (front ++ a ∷ more)) = subst (λ (xs : List Attribute). NamesDiffer (s.key_name ∷ map (λ (x : Attribute). x.name) xs)) (sym split) is.names_differ in

@@ -107,13 +107,13 @@ atomic_says s key edits is fit text said =
     (word_and_blank (codes "atomic") (Text key ∷ ts) (quoted key ++ tail) (record { letter = refl; parts = refl })
     (text_says key ts tail text (edits_say s edits is fit said)))
 
-few_servers : (s : Space) (server : ServerId) → IsSpace s → IsServerOf s server → server.0 ≤ 16
+pub few_servers : (s : Space) (server : ServerId) → IsSpace s → IsServerOf s server → server.0 ≤ 16
 few_servers s server is of =
     let high : s.servers ≤ 16 = is.servers.1 in
     let within : server.0 ≤ s.servers = of.1 in
     omega (arith, high, within)
 
-few_regions : (s : Space) (region : RegionId) → IsSpace s → IsRegionOf s region → region.0 < 4096
+pub few_regions : (s : Space) (region : RegionId) → IsSpace s → IsRegionOf s region → region.0 < 4096
 few_regions s region is of = few region.0 (region_count s) of is.regions
   where
     few : (g n : ℕ) → g < n → n ≤ 4096 → g < 4096
@@ -132,36 +132,36 @@ call_says s (Atomic key edits) is fits said = atomic_says s key edits is fits.1 
 
 -- ---- it is read
 
-put_again : (s : Space) (key : List ℕ) (sets : List Assign) → IsSpace s → KeyFits key → AssignsFit s sets → ValuesAreSayable sets → put s (Text key ∷ assigns_toks s sets []) ≡ Ok (Put key sets, [])
+pub put_again : (s : Space) (key : List ℕ) (sets : List Assign) → IsSpace s → KeyFits key → AssignsFit s sets → ValuesAreSayable sets → put s (Text key ∷ assigns_toks s sets []) ≡ Ok (Put key sets, [])
 unfolding put short_text
 put_again s key sets is short fit said = rw (le-leb (length key) 1024 short, assigns_again sets until.End s [] [] is (all_left s sets fit said) refl) refl
 
-get_again : (key : List ℕ) → KeyFits key → get (Text key ∷ []) ≡ Ok (Get key, [])
+pub get_again : (key : List ℕ) → KeyFits key → get (Text key ∷ []) ≡ Ok (Get key, [])
 unfolding get short_text
 get_again key short = rw (le-leb (length key) 1024 short) refl
 
-del_again : (key : List ℕ) → KeyFits key → del (Text key ∷ []) ≡ Ok (Del key, [])
+pub del_again : (key : List ℕ) → KeyFits key → del (Text key ∷ []) ≡ Ok (Del key, [])
 unfolding del short_text
 del_again key short = rw (le-leb (length key) 1024 short) refl
 
-cput_again : (s : Space) (key : List ℕ) (tests sets : List Assign) → IsSpace s → Fits s (Cput key tests sets) → ValuesAreSayable tests → ValuesAreSayable sets → cput s (Text key ∷ Word (codes "if") ∷ assigns_toks s tests (Word (codes "set") ∷ assigns_toks s sets [])) ≡ Ok (Cput key tests sets, [])
+pub cput_again : (s : Space) (key : List ℕ) (tests sets : List Assign) → IsSpace s → Fits s (Cput key tests sets) → ValuesAreSayable tests → ValuesAreSayable sets → cput s (Text key ∷ Word (codes "if") ∷ assigns_toks s tests (Word (codes "set") ∷ assigns_toks s sets [])) ≡ Ok (Cput key tests sets, [])
 unfolding cput short_text
 cput_again s key tests sets is fits said_tests said_sets =
     rw (le-leb (length key) 1024 fits.0, some_again tests until.Set s (Word (codes "set") ∷ assigns_toks s sets []) is (all_left s tests fits.1 said_tests) fits.3 refl, some_again sets until.End s [] is (all_left s sets fits.2 said_sets) fits.4 refl) refl
 
-search_again : (s : Space) (terms : List Term) → IsSpace s → TermsFit s terms → All TermIsSayable terms → search_call s (terms_toks s terms) ≡ Ok (Search terms, [])
+pub search_again : (s : Space) (terms : List Term) → IsSpace s → TermsFit s terms → All TermIsSayable terms → search_call s (terms_toks s terms) ≡ Ok (Search terms, [])
 unfolding search_call
 search_again s terms is fit said = rw (terms_again s terms is fit said) refl
 
-stop_again : (s : Space) (server : ServerId) → IsServerOf s server → stop s (Number (pos server.0) ∷ []) ≡ Ok (Stop server, [])
+pub stop_again : (s : Space) (server : ServerId) → IsServerOf s server → stop s (Number (pos server.0) ∷ []) ≡ Ok (Stop server, [])
 unfolding stop number_in
 stop_again s server of = rw (le-leb 1 server.0 of.0, le-leb server.0 s.servers of.1) refl
 
-add_again : (s : Space) (regions : ℕ) (server : ServerId) (region : RegionId) → IsServerOf s server → region.0 < regions → add s regions (Number (pos server.0) ∷ Number (pos region.0) ∷ []) ≡ Ok (Add server region, [])
+pub add_again : (s : Space) (regions : ℕ) (server : ServerId) (region : RegionId) → IsServerOf s server → region.0 < regions → add s regions (Number (pos server.0) ∷ Number (pos region.0) ∷ []) ≡ Ok (Add server region, [])
 unfolding add number_in
 add_again s regions server region of below = rw (le-leb 1 server.0 of.0, le-leb server.0 s.servers of.1, le-leb 0 region.0 (omega arith), le-leb region.0 (regions - 1) (omega (arith, below))) refl
 
-atomic_again : (s : Space) (key : List ℕ) (edits : List Edit) → IsSpace s → Fits s (Atomic key edits) → EditsAreSayable edits → atomic s (Text key ∷ edits_toks s edits) ≡ Ok (Atomic key edits, [])
+pub atomic_again : (s : Space) (key : List ℕ) (edits : List Edit) → IsSpace s → Fits s (Atomic key edits) → EditsAreSayable edits → atomic s (Text key ∷ edits_toks s edits) ≡ Ok (Atomic key edits, [])
 unfolding atomic short_text
 atomic_again s key edits is fits said = rw (le-leb (length key) 1024 fits.0, edits_again edits s is fits.1 said fits.2) refl
 

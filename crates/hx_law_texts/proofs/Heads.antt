@@ -32,7 +32,7 @@ word_number k n h lt = word_and_blank k (Number (pos n) ∷ []) (decimal n ++ []
 pub one_part : (a x n r : List ℕ) → (a ++ x ++ n) ++ r ≡ (a ++ (x ++ [])) ++ (n ++ r)
 one_part a x n r = simp (append_assoc, append-nil)
 
-two_parts : (a x o y n r : List ℕ) → (a ++ x ++ o ++ y ++ n) ++ r ≡ (a ++ (x ++ (o ++ (y ++ [])))) ++ (n ++ r)
+pub two_parts : (a x o y n r : List ℕ) → (a ++ x ++ o ++ y ++ n) ++ r ≡ (a ++ (x ++ (o ++ (y ++ [])))) ++ (n ++ r)
 two_parts a x o y n r = simp (append_assoc, append-nil)
 
 -- ---- hx 1

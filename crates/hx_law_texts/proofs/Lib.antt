@@ -21,3 +21,12 @@ pub mod ToldTexts
 pub mod Only
 pub mod LoneCalls
 mod Examples
+mod BundleReading
+mod BundleCalls
+mod BundleSpaces
+mod BundleTurns
+mod BundleSessions
+mod BundleSteps
+mod BundleWhole
+mod BundleTold
+mod BundleOnly

@@ -9,7 +9,7 @@ use Rattle.hx_script.specs.Texts.{onto_first, lines_of, read_lines}
 use Rattle.hx_script.specs.Toks.{Tok}
 use Rattle.hx_law_texts.proofs.Says.{Says, IsClean, on_line, line_says}
 
-lines_cons : (line rest : List ℕ) → IsClean line → lines_of (line ++ 10 ∷ rest) ≡ line ∷ lines_of rest
+pub lines_cons : (line rest : List ℕ) → IsClean line → lines_of (line ++ 10 ∷ rest) ≡ line ∷ lines_of rest
 lines_cons [] rest h = refl
 lines_cons (b ∷ bs) rest h = stays b bs rest (eqb b 10) (and_left (on_line b) (list_all on_line bs) h) (lines_cons bs rest (and_right (on_line b) (list_all on_line bs) h))
   where

@@ -60,10 +60,10 @@ letter_and_digits b n letter part small = record { letter = letter; parts = rw p
 few : (most n : ℕ) → most ≤ 16 → n ≤ most → n < 2 ^ 63
 few most n high le = omega arith
 
-small_too : (n : ℕ) → n < 2 ^ 63 → n < 2 ^ 64
+pub small_too : (n : ℕ) → n < 2 ^ 63 → n < 2 ^ 64
 small_too n lt = omega arith
 
-actor_is_word : (servers sessions : ℕ) (a : Actor) → servers ≤ 16 → sessions ≤ 16 → IsActorOf servers sessions a → IsWord (actor_text a)
+pub actor_is_word : (servers sessions : ℕ) (a : Actor) → servers ≤ 16 → sessions ≤ 16 → IsActorOf servers sessions a → IsWord (actor_text a)
 unfolding actor_text
 actor_is_word servers sessions Coordinator f g is = record { letter = refl; parts = refl }
 actor_is_word servers sessions (Server s) f g is = letter_and_digits 115 s.0 refl refl (small_too s.0 (few servers s.0 f is.1))
@@ -86,7 +86,7 @@ step_toks (Deliver id) = Word (codes "deliver") ∷ Number (pos id.entry) ∷ Si
 step_toks (Tick a) = Word (codes "tick") ∷ Word (actor_text a) ∷ []
 step_toks (Halt a) = Word (codes "halt") ∷ Word (actor_text a) ∷ []
 
-no_dot : (ds : List ℕ) → list_all is_digit ds ≡ true → begins_with (eqb 46) (ds ++ []) ≡ false
+pub no_dot : (ds : List ℕ) → list_all is_digit ds ≡ true → begins_with (eqb 46) (ds ++ []) ≡ false
 no_dot [] all = refl
 no_dot (b ∷ bs) all = ne_eqb 46 b (λ e. omega (arith, leb-true 48 b (and_left (leb 48 b) (leb b 57) (and_left (is_digit b) (list_all is_digit bs) all)), e))
 
@@ -114,7 +114,7 @@ step_says servers sessions (Halt a) f g is = word_and_blank (codes "halt") (Word
 
 -- ---- it is read
 
-deliver_again : (id : PostId) → IsPostName id → deliver (Number (pos id.entry) ∷ Sign (codes ".") ∷ Number (pos id.place) ∷ []) ≡ Ok (Deliver id, [])
+pub deliver_again : (id : PostId) → IsPostName id → deliver (Number (pos id.entry) ∷ Sign (codes ".") ∷ Number (pos id.place) ∷ []) ≡ Ok (Deliver id, [])
 unfolding deliver natural number_in
 deliver_again id is = rw (natural_is id.entry, le-leb 0 id.place (omega arith), le-leb id.place 4294967295 (below id.place is.place)) refl
   where
@@ -124,11 +124,11 @@ deliver_again id is = rw (natural_is id.entry, le-leb 0 id.place (omega arith), 
     below : (n : ℕ) → n < 2 ^ 32 → n ≤ 4294967295
     below n lt = omega arith
 
-tick_again : (servers sessions : ℕ) (a : Actor) → servers ≤ 16 → sessions ≤ 16 → IsActorOf servers sessions a → tick servers sessions (Word (actor_text a) ∷ []) ≡ Ok (Tick a, [])
+pub tick_again : (servers sessions : ℕ) (a : Actor) → servers ≤ 16 → sessions ≤ 16 → IsActorOf servers sessions a → tick servers sessions (Word (actor_text a) ∷ []) ≡ Ok (Tick a, [])
 unfolding tick
 tick_again servers sessions a f g is = rw (actor_again servers sessions a [] f g is) refl
 
-halt_again : (servers sessions : ℕ) (a : Actor) → servers ≤ 16 → sessions ≤ 16 → IsActorOf servers sessions a → halt servers sessions (Word (actor_text a) ∷ []) ≡ Ok (Halt a, [])
+pub halt_again : (servers sessions : ℕ) (a : Actor) → servers ≤ 16 → sessions ≤ 16 → IsActorOf servers sessions a → halt servers sessions (Word (actor_text a) ∷ []) ≡ Ok (Halt a, [])
 unfolding halt
 halt_again servers sessions a f g is = rw (actor_again servers sessions a [] f g is) refl
 

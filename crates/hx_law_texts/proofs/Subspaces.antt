@@ -34,15 +34,15 @@ use Rattle.hx_law_texts.proofs.Says.{Says, nil_says, blank_says, word_and_blank,
 
 -- ---- what the axes say
 
-abbrev axis_toks : Space → Axis → List Tok → List Tok
+abbrev pub axis_toks : Space → Axis → List Tok → List Tok
 axis_toks s a ts = Word (name_of s a.attribute) ∷ Number (pos a.parts) ∷ ts
 
-abbrev more_toks : Space → List Axis → List Tok
+abbrev pub more_toks : Space → List Axis → List Tok
 more_toks s [] = []
 more_toks s (a ∷ rest) = Sign (codes ",") ∷ axis_toks s a (more_toks s rest)
 
 -- an axis of a declared attribute
-record IsAxis (s : Space) (a : Axis) : Type 0 where
+pub record IsAxis (s : Space) (a : Axis) : Type 0 where
   pub declared : IsDeclaredAs s a.attribute
   pub parts : ArePart a.parts
 
@@ -97,7 +97,7 @@ unfolding next_axis
 next_again d regions c w a ts is = axis_again d regions c w a ts is
 
 -- the axes that were read and those that are left, of one subspace
-record IsLeft (s : Space) (regions : ℕ) (c : AxesDraft) (left : List Axis) : Type 0 where
+pub record IsLeft (s : Space) (regions : ℕ) (c : AxesDraft) (left : List Axis) : Type 0 where
   pub each : All (IsAxis s) left
   pub once : AllDiffer (map (λ (a : Axis). a.attribute) (c.axes ++ left))
   pub few : length c.axes + length left ≤ 4
@@ -152,7 +152,7 @@ more_again (a ∷ left) s d regions c is finds =
     ∙ more_again left s d regions (grown c a) (left_after s regions c a left is) (All-tail P a left finds)
     ∙ same_axes ((c.axes ++ a ∷ []) ++ left) (c.axes ++ a ∷ left) (c.size * a.parts * size_of left) (c.size * (a.parts * size_of left)) (append_assoc c.axes (a ∷ []) left) (mul_assoc c.size a.parts (size_of left))
 
-subspace_again : (a : Axis) (left : List Axis) (s d : Space) (regions : ℕ) → IsLeft s regions no_axes_yet (a ∷ left) → Finds s d (a ∷ left) → subspace d regions (axis_toks s a (more_toks s left)) ≡ axes_ok (a ∷ left) (size_of (a ∷ left))
+pub subspace_again : (a : Axis) (left : List Axis) (s d : Space) (regions : ℕ) → IsLeft s regions no_axes_yet (a ∷ left) → Finds s d (a ∷ left) → subspace d regions (axis_toks s a (more_toks s left)) ≡ axes_ok (a ∷ left) (size_of (a ∷ left))
 unfolding subspace
 subspace_again a left s d regions is finds =
     let P : Axis → Type 0 = λ (x : Axis). declared_number d (name_of s x.attribute) ≡ Ok x.attribute in
@@ -172,17 +172,17 @@ unfolding command subspace_line
 subspace_toks n at s front regions a left (inl e) room is finds = rw (e, lt-ltb (length front) 8 room, subspace_again a left s (cutting at s front regions).space regions is finds) refl
 subspace_toks n at s front regions a left (inr e) room is finds = rw (e, lt-ltb (length front) 8 room, subspace_again a left s (cutting at s front regions).space regions is finds) refl
 
-line_parts : (k o t f n r : List ℕ) → (k ++ (o ++ t ++ f) ++ n) ++ r ≡ (k ++ (o ++ (t ++ (f ++ [])))) ++ (n ++ r)
+pub line_parts : (k o t f n r : List ℕ) → (k ++ (o ++ t ++ f) ++ n) ++ r ≡ (k ++ (o ++ (t ++ (f ++ [])))) ++ (n ++ r)
 line_parts k o t f n r = simp (append_assoc, append-nil)
 
-subspace_says : (s : Space) (a : Axis) (left : List Axis) → All (IsAxis s) (a ∷ left) → Says (Word (codes "subspace") ∷ axis_toks s a (more_toks s left)) (codes "subspace" ++ (32 ∷ (axis_text s a ++ (flat_map (next_axis_text s) left ++ []))))
+pub subspace_says : (s : Space) (a : Axis) (left : List Axis) → All (IsAxis s) (a ∷ left) → Says (Word (codes "subspace") ∷ axis_toks s a (more_toks s left)) (codes "subspace" ++ (32 ∷ (axis_text s a ++ (flat_map (next_axis_text s) left ++ []))))
 subspace_says s a left all =
     let tail : List ℕ = flat_map (next_axis_text s) left ++ [] in
     word_and_blank (codes "subspace") (axis_toks s a (more_toks s left)) (axis_text s a ++ tail) (record { letter = refl; parts = refl })
     (axis_says s a (more_toks s left) tail (All-head (IsAxis s) a left all) (no_digit s left) (more_say s left (All-tail (IsAxis s) a left all)))
 
 -- what holds of a subspace that may come next
-record IsNextCut (s : Space) (front : List (List Axis)) (regions : ℕ) (axes : List Axis) : Type 0 where
+pub record IsNextCut (s : Space) (front : List (List Axis)) (regions : ℕ) (axes : List Axis) : Type 0 where
   pub some : 0 < length axes
   pub left : IsLeft s regions no_axes_yet axes
   pub finds : Finds s s axes
@@ -200,7 +200,7 @@ subspace_reads n at s front regions (a ∷ left) rest script here is next =
 all_map : {A : Type 0} (P Q : A → Type 0) → ((x : A) → P x → Q x) → (xs : List A) → All P xs → All Q xs
 all_map P Q f xs all k d lt = f _ (all k d lt)
 
-may_cut : (s : Space) (front : List (List Axis)) (regions : ℕ) (axes : List Axis) (more : List (List Axis)) → IsSpace s → front ++ axes ∷ more ≡ s.subspaces → regions + size_of axes ≤ 4096 → IsNextCut s front regions axes
+pub may_cut : (s : Space) (front : List (List Axis)) (regions : ℕ) (axes : List Axis) (more : List (List Axis)) → IsSpace s → front ++ axes ∷ more ≡ s.subspaces → regions + size_of axes ≤ 4096 → IsNextCut s front regions axes
 may_cut s front regions axes more is split room =
     let sub : IsSubspaceOf s axes = all_here (IsSubspaceOf s) front axes more (subst (All (IsSubspaceOf s)) (sym split) is.subspaces) in
     let D : Axis → Type 0 = λ (a : Axis). (0 < a.attribute) × (a.attribute ≤ length s.attributes) × ArePart a.parts in

@@ -69,7 +69,7 @@ tells_hx : (d : Draft) → BoundsSoFar d → CallsSoFar d → d.steps ≡ [] →
 unfolding hx_line
 tells_hx d b c e = tells_then (λ n. n ≤ 1) (tells_number_in 1 1) (λ n h. tells_then Any tells_end (λ u t. tells_give (record d { section = sections.Naming }) (record { bounds = b; calls = c; steps = no_steps d.space.servers (length d.sessions) d.steps e; stage = e })))
 
-tells_name : Tells name Any
+pub tells_name : Tells name Any
 unfolding name
 tells_name = tells_then Any tells_named (λ w u. tells_then Any (tells_check (nat_le (length w) 32) Limit) (λ u v. tells_give w tt))
 
@@ -83,18 +83,18 @@ tells_key d b c e = tells_then Any tells_name (λ w i. tells_then (λ n. n ≤ 2
 
 -- ---- attributes
 
-abbrev IsBounded : Attribute → Type 0
+abbrev pub IsBounded : Attribute → Type 0
 IsBounded a = BoundsAreSayable a.kind
 
 tells_new_name : (space : Space) → Tells (new_name space) Any
 unfolding new_name
 tells_new_name space = tells_then Any tells_named (λ w m. tells_then Any (tells_check (not (is_declared space w)) Twice) (λ u n. tells_then Any (tells_check (nat_le (length w) 32) Limit) (λ u h. tells_give w tt)))
 
-tells_string : (space : Space) → Tells (string_attribute space) IsBounded
+pub tells_string : (space : Space) → Tells (string_attribute space) IsBounded
 unfolding string_attribute
 tells_string space = tells_then Any (tells_new_name space) (λ w n. tells_then Any tells_end (λ u t. tells_give (record { name = w; kind = kinds.Text }) tt))
 
-tells_int : (space : Space) → Tells (int_attribute space) IsBounded
+pub tells_int : (space : Space) → Tells (int_attribute space) IsBounded
 unfolding int_attribute
 tells_int space = tells_then Any (tells_new_name space) (λ w n. tells_then (FitsSigned w64) tells_number (λ lo f. tells_then (FitsSigned w64) (tells_number_from lo) (λ hi g. tells_then Any tells_end (λ u t. tells_give (record { name = w; kind = kinds.Int lo hi }) (f, g)))))
 
@@ -121,7 +121,7 @@ tells_next : (space : Space) (regions : ℕ) (c : AxesDraft) → Tells (next_axi
 unfolding next_axis
 tells_next space regions c = tells_then Any (tells_sign (codes ",")) (λ u t. tells_axis space regions c)
 
-tells_subspace : (space : Space) (regions : ℕ) → Tells (subspace space regions) Any
+pub tells_subspace : (space : Space) (regions : ℕ) → Tells (subspace space regions) Any
 unfolding subspace
 tells_subspace space regions = tells_then Any (tells_axis space regions no_axes_yet) (λ first f. tells_repeat Any until.End (next_axis space regions) (λ b q. tells_next space regions b) first tt)
 
@@ -151,7 +151,7 @@ tells_steps : (d : Draft) → BoundsSoFar d → CallsSoFar d → d.steps ≡ [] 
 unfolding steps_line
 tells_steps d b c e = tells_then Any tells_end (λ u t. tells_give (record d { section = sections.Steps }) (record { bounds = b; calls = c; steps = no_steps d.space.servers (length d.sessions) d.steps e; stage = tt }))
 
-all_last : {A : Type 0} (P : A → Type 0) (sessions : List (List A)) (x : A) → All (All P) sessions → P x → All (All P) (push_to_last sessions x)
+pub all_last : {A : Type 0} (P : A → Type 0) (sessions : List (List A)) (x : A) → All (All P) sessions → P x → All (All P) (push_to_last sessions x)
 all_last P [] x a p = a
 all_last P (xs ∷ []) x a p = All-cons (All P) (xs ++ x ∷ []) [] (All-push P xs x (All-head (All P) xs [] a) p) (All-nil (All P))
 all_last P (xs ∷ ys ∷ rest) x a p = All-cons (All P) xs (push_to_last (ys ∷ rest) x) (All-head (All P) xs (ys ∷ rest) a) (all_last P (ys ∷ rest) x (All-tail (All P) xs (ys ∷ rest) a) p)

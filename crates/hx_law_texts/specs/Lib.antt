@@ -1,2 +1,3 @@
 pub mod Sayable
 pub mod Again
+pub mod SayableBundles

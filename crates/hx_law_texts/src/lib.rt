@@ -7,14 +7,17 @@
 //! stood, since those are of the text and not of the script. Which numbers come in their place
 //! `on_printed_lines` tells (`specs/Again.antt`), and [`prints_are_alike`] that they change
 //! nothing of the print. [`calls_are_read_back`] says the same of a call on a line of its own, as
-//! `read_op` reads it and `print_op` writes it.
+//! `read_op` reads it and `print_op` writes it, and [`bundle_prints_are_read_back`] of a bundle, as
+//! `read_bundle` reads it and `print_bundle` writes it.
 //!
-//! What the language can say is told in `specs/Sayable.antt`. A text with a control character
-//! other than newline and tab is printed as it is, and no line of the language has it; nor has one
-//! a step of an actor that isn't there, or a post of an entry past the numbers of 64 bits. A script
-//! that was read has none of these.
+//! What the language can say is told in `specs/Sayable.antt` and `specs/SayableBundles.antt`. A text
+//! with a control character other than newline and tab is printed as it is, and no line of the
+//! language has it; nor has one a step of an actor that isn't there, or a post of an entry past the
+//! numbers of 64 bits. A script or a bundle that was read has none of these.
 #![tactic(auto)]
 
 mod laws;
 
-pub use laws::{calls_are_read_back, prints_are_alike, prints_are_read_back};
+pub use laws::{
+    bundle_prints_are_read_back, calls_are_read_back, prints_are_alike, prints_are_read_back,
+};

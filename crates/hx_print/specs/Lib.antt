@@ -1,3 +1,4 @@
 pub mod Printing
 pub mod Plain
 pub mod Prefixes
+pub mod BundlePrinting

@@ -129,7 +129,7 @@ fn put_edit(out: &mut Vec<u8>, space: &Space, edit: &Edit) -> Result<(), Memory>
 
 /// Appends each edit with a blank before it.
 #[tactic(auto, using(crate::proofs::Prefixes::same, crate::proofs::Prefixes::further))]
-fn put_edits(out: &mut Vec<u8>, space: &Space, edits: &Edits) -> Result<(), Memory>
+pub(crate) fn put_edits(out: &mut Vec<u8>, space: &Space, edits: &Edits) -> Result<(), Memory>
     ensures appends { OnOk result (out.new.items ≡ out.old.items ++ edits_text space.now edits.now) }
     ensures prefix { OnErr result (IsPrefix out.old.items out.new.items) }
 {

@@ -6,12 +6,14 @@
 //! tests show each call succeed.
 #![tactic(auto)]
 
+mod bundles;
 mod calls;
 mod numbers;
 mod scripts;
 mod spaces;
 mod texts;
 
+pub use bundles::print_bundle;
 pub use calls::{print_op, put_op};
 pub use numbers::{Numbered, put_number, put_numbers};
 pub use scripts::{print, put_actor, put_call_name, put_caller, put_post_name};

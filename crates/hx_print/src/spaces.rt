@@ -55,7 +55,7 @@ fn put_attribute(out: &mut Vec<u8>, attribute: &Attribute) -> Result<(), Memory>
 }
 
 #[tactic(auto, using(crate::proofs::Prefixes::same, crate::proofs::Prefixes::further))]
-fn put_attributes(out: &mut Vec<u8>, all: &Attributes) -> Result<(), Memory>
+pub(crate) fn put_attributes(out: &mut Vec<u8>, all: &Attributes) -> Result<(), Memory>
     ensures appends { OnOk result (out.new.items ≡ out.old.items ++ flat_map attribute_line all.now) }
     ensures prefix { OnErr result (IsPrefix out.old.items out.new.items) }
 {
@@ -114,7 +114,7 @@ fn put_subspace(out: &mut Vec<u8>, space: &Space, axes: &Axes) -> Result<(), Mem
 }
 
 #[tactic(auto, using(crate::proofs::Prefixes::same, crate::proofs::Prefixes::further))]
-fn put_subspaces(out: &mut Vec<u8>, space: &Space, all: &Subspaces) -> Result<(), Memory>
+pub(crate) fn put_subspaces(out: &mut Vec<u8>, space: &Space, all: &Subspaces) -> Result<(), Memory>
     ensures appends { OnOk result
         (out.new.items ≡ out.old.items ++ flat_map (subspace_line space.now) all.now) }
     ensures prefix { OnErr result (IsPrefix out.old.items out.new.items) }
@@ -126,7 +126,7 @@ fn put_subspaces(out: &mut Vec<u8>, space: &Space, all: &Subspaces) -> Result<()
 }
 
 #[tactic(auto, unfolding(crate::specs::Printing::space_line), using(crate::proofs::Prefixes::same, crate::proofs::Prefixes::further))]
-fn put_space_line(out: &mut Vec<u8>, name: &[u8]) -> Result<(), Memory>
+pub(crate) fn put_space_line(out: &mut Vec<u8>, name: &[u8]) -> Result<(), Memory>
     ensures appends { OnOk result (out.new.items ≡ out.old.items ++ space_line name.now) }
     ensures prefix { OnErr result (IsPrefix out.old.items out.new.items) }
 {
@@ -136,7 +136,7 @@ fn put_space_line(out: &mut Vec<u8>, name: &[u8]) -> Result<(), Memory>
 }
 
 #[tactic(auto, unfolding(crate::specs::Printing::key_line), using(crate::proofs::Prefixes::same, crate::proofs::Prefixes::further))]
-fn put_key_line(out: &mut Vec<u8>, name: &[u8], parts: u32) -> Result<(), Memory>
+pub(crate) fn put_key_line(out: &mut Vec<u8>, name: &[u8], parts: u32) -> Result<(), Memory>
     ensures appends { OnOk result (out.new.items ≡ out.old.items ++ key_line name.now parts) }
     ensures prefix { OnErr result (IsPrefix out.old.items out.new.items) }
 {
@@ -148,7 +148,7 @@ fn put_key_line(out: &mut Vec<u8>, name: &[u8], parts: u32) -> Result<(), Memory
 }
 
 #[tactic(auto, unfolding(crate::specs::Printing::servers_line), using(crate::proofs::Prefixes::same, crate::proofs::Prefixes::further))]
-fn put_servers_line(out: &mut Vec<u8>, servers: u32) -> Result<(), Memory>
+pub(crate) fn put_servers_line(out: &mut Vec<u8>, servers: u32) -> Result<(), Memory>
     ensures appends { OnOk result (out.new.items ≡ out.old.items ++ servers_line servers) }
     ensures prefix { OnErr result (IsPrefix out.old.items out.new.items) }
 {
@@ -158,7 +158,7 @@ fn put_servers_line(out: &mut Vec<u8>, servers: u32) -> Result<(), Memory>
 }
 
 #[tactic(auto, unfolding(crate::specs::Printing::tolerate_line), using(crate::proofs::Prefixes::same, crate::proofs::Prefixes::further))]
-fn put_tolerate_line(out: &mut Vec<u8>, tolerate: u32) -> Result<(), Memory>
+pub(crate) fn put_tolerate_line(out: &mut Vec<u8>, tolerate: u32) -> Result<(), Memory>
     ensures appends { OnOk result (out.new.items ≡ out.old.items ++ tolerate_line tolerate) }
     ensures prefix { OnErr result (IsPrefix out.old.items out.new.items) }
 {

@@ -1,4 +1,6 @@
 pub mod Appending
+pub mod BlockTexts
+pub mod BundleReports
 pub mod DriverLines
 pub mod EntryLines
 pub mod LostRegions

@@ -1,3 +1,4 @@
+pub mod BundleReporting
 pub mod Driving
 pub mod Reporting
 pub mod Tracing

@@ -17,3 +17,12 @@ mod FittingAxes
 mod SoundLines
 pub mod SoundTexts
 pub mod LoneCalls
+pub mod InSpaces
+pub mod BundleLines
+pub mod BundleLists
+pub mod SoundBundles
+mod BundleYields
+pub mod BundleValid
+pub mod OneSpace
+mod OfBundle
+mod BundleExamples

@@ -31,7 +31,7 @@ pub yields_named : Yields named MayName
 unfolding named
 yields_named = yields_then IsWord yields_word (λ w i. yields_then (λ u. may_name w ≡ true) (yields_check (may_name w) Order) (λ u h. yields_give w (record { word = i; free = h })))
 
-is_name : (w : List ℕ) → MayName w → nat_le (length w) 32 ≡ true → IsName w
+pub is_name : (w : List ℕ) → MayName w → nat_le (length w) 32 ≡ true → IsName w
 is_name w m short = record {
   word = word_is w m.word;
   short = leb-true (length w) 32 short;

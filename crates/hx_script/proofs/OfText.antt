@@ -69,21 +69,21 @@ Told (Err r) = IsOfLine r
 pub record Tells {A : Type 0} (p : Reader A) : Type 0 where
   pub at : (ts : List Tok) → Told (p ts)
 
-told_then : {A B : Type 0} (r : Result A Reason) (f : A → Result B Reason) → Told r → ((x : A) → Told (f x)) → Told (on_ok r f)
+pub told_then : {A B : Type 0} (r : Result A Reason) (f : A → Result B Reason) → Told r → ((x : A) → Told (f x)) → Told (on_ok r f)
 told_then (Ok x) f h g = g x
 told_then (Err e) f h g = h
 
-tells_then : {A B : Type 0} {p : Reader A} {f : A → Reader B} → Tells p → ((x : A) → Tells (f x)) → Tells (p >>= f)
+pub tells_then : {A B : Type 0} {p : Reader A} {f : A → Reader B} → Tells p → ((x : A) → Tells (f x)) → Tells (p >>= f)
 tells_then {A} {B} {p} {f} hp hf = record { at = λ ts. told_then (p ts) (λ x. f x.0 x.1) (hp.at ts) (λ x. (hf x.0).at x.1) }
 
-tells_give : {A : Type 0} (x : A) → Tells (give x)
+pub tells_give : {A : Type 0} (x : A) → Tells (give x)
 tells_give x = record { at = λ ts. tt }
 
-tells_check : (b : Bool) (r : Reason) → IsOfLine r → Tells (check b r)
+pub tells_check : (b : Bool) (r : Reason) → IsOfLine r → Tells (check b r)
 tells_check true r h = record { at = λ ts. tt }
 tells_check false r h = record { at = λ ts. h }
 
-tells_judged : {A : Type 0} (r : Result A Reason) → Told r → Tells (judged r)
+pub tells_judged : {A : Type 0} (r : Result A Reason) → Told r → Tells (judged r)
 tells_judged (Ok x) h = record { at = λ ts. tt }
 tells_judged (Err e) h = record { at = λ ts. h }
 
@@ -94,7 +94,7 @@ word_at (Number n ∷ ts) = tt
 word_at (Text t ∷ ts) = tt
 word_at (Sign s ∷ ts) = tt
 
-tells_word : Tells word
+pub tells_word : Tells word
 tells_word = record { at = word_at }
 
 number_at : (ts : List Tok) → Told (number ts)
@@ -121,7 +121,7 @@ end_at : (ts : List Tok) → Told (end ts)
 end_at [] = tt
 end_at (t ∷ ts) = tt
 
-tells_end : Tells end
+pub tells_end : Tells end
 tells_end = record { at = end_at }
 
 sign_at : (s : List ℕ) (ts : List Tok) → Told (sign s ts)
@@ -141,10 +141,10 @@ fixed_at s (Number n ∷ ts) = tt
 fixed_at s (Text t ∷ ts) = tt
 fixed_at s (Sign t ∷ ts) = tt
 
-tells_fixed : (s : List ℕ) → Tells (fixed s)
+pub tells_fixed : (s : List ℕ) → Tells (fixed s)
 tells_fixed s = record { at = fixed_at s }
 
-tells_number_in : (lo hi : ℕ) → Tells (number_in lo hi)
+pub tells_number_in : (lo hi : ℕ) → Tells (number_in lo hi)
 unfolding number_in
 tells_number_in lo hi = tells_then tells_number (λ n. tells_then (tells_check (is_between lo hi n) reasons.Bounds tt) (λ u. tells_give _))
 
@@ -173,7 +173,7 @@ tells_repeat : {B : Type 0} (u : Until) (next : B → Reader B) → ((b : B) →
 tells_repeat u next h b = record { at = λ ts. steps_at u next h (length ts) b ts }
 
 -- names
-tells_named : Tells named
+pub tells_named : Tells named
 unfolding named
 tells_named = tells_then tells_word (λ w. tells_then (tells_check (may_name w) reasons.Order tt) (λ u. tells_give w))
 
@@ -357,7 +357,7 @@ unfolding actor
 tells_actor servers sessions = tells_then tells_word (λ w. tells_judged (actor_word servers sessions w) (told_actor_word servers sessions w))
 
 -- calls and steps
-tells_call : (space : Space) (regions : ℕ) (w : CallWord) → Tells (call space regions w)
+pub tells_call : (space : Space) (regions : ℕ) (w : CallWord) → Tells (call space regions w)
 unfolding put get del cput search_call stop add atomic
 tells_call space regions call_words.Put = tells_then tells_short_text (λ key. tells_then (tells_more_assigns space until.End []) (λ sets. tells_give _))
 tells_call space regions call_words.Get = tells_then tells_short_text (λ key. tells_then tells_end (λ u. tells_give _))
@@ -368,7 +368,7 @@ tells_call space regions call_words.Stop = tells_then (tells_number_in _ _) (λ 
 tells_call space regions call_words.Add = tells_then (tells_number_in _ _) (λ n. tells_then (tells_number_in _ _) (λ g. tells_then tells_end (λ u. tells_give _)))
 tells_call space regions call_words.Atomic = tells_then tells_short_text (λ key. tells_then (tells_some_edits space) (λ edits. tells_give _))
 
-tells_step : (servers sessions : ℕ) (w : StepWord) → Tells (step servers sessions w)
+pub tells_step : (servers sessions : ℕ) (w : StepWord) → Tells (step servers sessions w)
 unfolding deliver tick halt
 tells_step servers sessions step_words.Deliver = tells_then tells_natural (λ n. tells_then (tells_sign _) (λ u. tells_then (tells_number_in _ _) (λ p. tells_then tells_end (λ v. tells_give _))))
 tells_step servers sessions step_words.Tick = tells_then (tells_actor servers sessions) (λ a. tells_then tells_end (λ u. tells_give _))
@@ -403,7 +403,7 @@ tells_steps_line : (d : Draft) → Tells (steps_line d)
 unfolding steps_line
 tells_steps_line d = tells_then tells_end (λ u. tells_give _)
 
-tells_heading : (d : Draft) (s : Section) (h : Heading) → Tells (heading_line d s h)
+pub tells_heading : (d : Draft) (s : Section) (h : Heading) → Tells (heading_line d s h)
 unfolding hx_line space_line key_line tolerate_line
 tells_heading d sections.Start headings.Hx = tells_then (tells_number_in _ _) (λ n. tells_then tells_end (λ u. tells_give _))
 tells_heading d sections.Naming headings.Space = tells_then tells_name (λ w. tells_then tells_end (λ u. tells_give _))
@@ -432,7 +432,7 @@ tells_command : (n : ℕ) (d : Draft) → Tells (command n d)
 unfolding command
 tells_command n d = tells_then tells_word (λ w. tells_line n d d.section (keyword_of w))
 
-told_toks : (line : List ℕ) (tokens : Result (List Token) LexError) → Told (toks_from line tokens)
+pub told_toks : (line : List ℕ) (tokens : Result (List Token) LexError) → Told (toks_from line tokens)
 told_toks line (Ok ts) = tt
 told_toks line (Err e) = tt
 
@@ -457,7 +457,7 @@ by_line : (n : ℕ) (r : Result Draft Reason) (f : Draft → Result Script Scrip
 by_line n (Ok d) f h more = more d
 by_line n (Err r) f h more = h
 
-by_lines : (ls : List (List ℕ)) (n : ℕ) (d : Draft) → IsRefusedByLine (read_lines n d ls)
+pub by_lines : (ls : List (List ℕ)) (n : ℕ) (d : Draft) → IsRefusedByLine (read_lines n d ls)
 unfolding read_lines
 by_lines [] n d = by_end (may_end d.section) _ _
 by_lines (l ∷ ls) n d = by_line (n + 1) (line_of (n + 1) d l) _ (told_line (n + 1) d l) (λ e. by_lines ls (n + 1) e)

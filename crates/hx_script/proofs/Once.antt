@@ -43,11 +43,11 @@ bytes_same (x ∷ xs) = rw (self_test x (eqb x x) refl) (bytes_same xs)
 bytes_differ : (a b : List ℕ) → bytes_eq a b ≡ false → a ≡ b → ⊥
 bytes_differ a b e same = false≢true (sym e ∙ subst (λ c. bytes_eq a c ≡ true) same (bytes_same a))
 
-names_push : (ns : List (List ℕ)) (n : List ℕ) → NamesDiffer ns → All (λ m. n ≢ m) ns → NamesDiffer (ns ++ n ∷ [])
+pub names_push : (ns : List (List ℕ)) (n : List ℕ) → NamesDiffer ns → All (λ m. n ≢ m) ns → NamesDiffer (ns ++ n ∷ [])
 names_push [] n d a = (All-nil (λ m. m ≢ n), tt)
 names_push (x ∷ rest) n d a = (All-push (λ m. m ≢ x) rest n d.0 (All-head (λ m. n ≢ m) x rest a), names_push rest n d.1 (All-tail (λ m. n ≢ m) x rest a))
 
-none_named : {A : Type 0} (f : A → List ℕ) (xs : List A) (n : List ℕ) → list_any (λ x. bytes_eq (f x) n) xs ≡ false → All (λ m. n ≢ m) (map f xs)
+pub none_named : {A : Type 0} (f : A → List ℕ) (xs : List A) (n : List ℕ) → list_any (λ x. bytes_eq (f x) n) xs ≡ false → All (λ m. n ≢ m) (map f xs)
 none_named f [] n e = All-nil (λ m. n ≢ m)
 none_named f (x ∷ xs) n e = All-cons (λ m. n ≢ m) (f x) (map f xs) (λ same. bytes_differ (f x) n (or_left (bytes_eq (f x) n) (list_any (λ y. bytes_eq (f y) n) xs) e) (sym same)) (none_named f xs n (or_right (bytes_eq (f x) n) (list_any (λ y. bytes_eq (f y) n) xs) e))
 

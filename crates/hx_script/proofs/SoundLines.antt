@@ -43,11 +43,11 @@ use Rattle.hx_script.proofs.Once.{or_left, or_right, named_once}
 use Rattle.hx_script.proofs.Sections.{AreAxes, Spaced, SpaceSoFar, Called, CallsSoFar, Fresh, Headed, HasServers, Complete, BySection, Sound}
 use Rattle.hx_script.proofs.Yields.{Yields, Any, yields_then, yields_give, yields_refuse, yields_check, yields_judged, yields_word, yields_number, yields_number_in, yields_number_from, yields_natural, yields_sign, yields_end}
 
-all_none : {A : Type 0} (P : A → Type 0) (xs : List A) → xs ≡ [] → All P xs
+pub all_none : {A : Type 0} (P : A → Type 0) (xs : List A) → xs ≡ [] → All P xs
 all_none P [] e = All-nil P
 all_none P (x ∷ xs) e = absurd cc
 
-shorter : {A : Type 0} (xs : List A) (x : A) (n : ℕ) → length xs < n → length (xs ++ x ∷ []) ≤ n
+pub shorter : {A : Type 0} (xs : List A) (x : A) (n : ℕ) → length xs < n → length (xs ++ x ∷ []) ≤ n
 shorter xs x n lt = omega (arith, lt, length_push xs x)
 
 yields_hx : (d : Draft) → SpaceSoFar d → CallsSoFar d → Fresh d → Yields (hx_line d) Sound
@@ -76,16 +76,16 @@ yields_key : (d : Draft) → CallsSoFar d → Fresh d → IsName d.space.name �
 unfolding key_line
 yields_key d c f i = yields_then IsName yields_name (λ w k. yields_then (λ n. (1 ≤ n) × (n ≤ 256)) (yields_number_in 1 256) (λ n h. yields_then Any yields_end (λ u t. yields_give (record d { section = sections.Attributes; regions = n; space = record d.space { key_name = w; key_parts = n } }) (record { space = key_alone w n d.space.attributes d.space.subspaces h f.0 f.1; calls = c; stage = ((i, k, h), f.1, f.2) }))))
 
-record IsNextAttribute (space : Space) (a : Attribute) : Type 0 where
+pub record IsNextAttribute (space : Space) (a : Attribute) : Type 0 where
   pub name : IsName a.name
   pub new : is_declared space a.name ≡ false
   pub kind : IsKind a.kind
 
-yields_string : (space : Space) → Yields (string_attribute space) (IsNextAttribute space)
+pub yields_string : (space : Space) → Yields (string_attribute space) (IsNextAttribute space)
 unfolding string_attribute
 yields_string space = yields_then (IsNew space) (yields_new_name space) (λ w n. yields_then Any yields_end (λ u t. yields_give (record { name = w; kind = kinds.Text }) (record { name = n.name; new = n.new; kind = tt })))
 
-yields_int : (space : Space) → Yields (int_attribute space) (IsNextAttribute space)
+pub yields_int : (space : Space) → Yields (int_attribute space) (IsNextAttribute space)
 unfolding int_attribute
 yields_int space = yields_then (IsNew space) (yields_new_name space) (λ w n. yields_then Any yields_number (λ lo u. yields_then (λ hi. int_le lo hi ≡ true) (yields_number_from lo) (λ hi h. yields_then Any yields_end (λ v t. yields_give (record { name = w; kind = kinds.Int lo hi }) (record { name = n.name; new = n.new; kind = le_z_yes (T_from_true (int_le lo hi) h) })))))
 
@@ -127,14 +127,14 @@ yields_servers : (d : Draft) → SpaceSoFar d → CallsSoFar d → Headed d × (
 unfolding servers_line
 yields_servers d s c st = yields_then (λ n. (1 ≤ n) × (n ≤ 16)) (yields_number_in 1 16) (λ n h. yields_then Any yields_end (λ u t. yields_give (record d { section = sections.Tolerance; space = record d.space { servers = n } }) (record { space = s; calls = c; stage = (st.0, st.1, h) })))
 
-below_servers : (servers n : ℕ) → 0 < servers → n ≤ min (servers - 1) 4 → (n ≤ 4) × (n < servers)
+pub below_servers : (servers n : ℕ) → 0 < servers → n ≤ min (servers - 1) 4 → (n ≤ 4) × (n < servers)
 below_servers servers n low h = (omega (arith, low, h), omega (arith, low, h))
 
 yields_tolerate : (d : Draft) → SpaceSoFar d → CallsSoFar d → Headed d × (d.sessions ≡ []) × HasServers d → Yields (tolerate_line d) Sound
 unfolding tolerate_line
 yields_tolerate d s c st = yields_then (λ n. (0 ≤ n) × (n ≤ min (d.space.servers - 1) 4)) (yields_number_in 0 (min (d.space.servers - 1) 4)) (λ n h. yields_then Any yields_end (λ u t. yields_give (record d { section = sections.Sessions; space = record d.space { tolerate = n } }) (record { space = s; calls = c; stage = (st.0, st.2, below_servers d.space.servers n st.2.0 h.1, all_none (λ (ops : List Op). All (Fits (record d.space { tolerate = n })) ops) d.sessions st.1) })))
 
-one_session_more : (sessions : List (List Op)) (calls : ℕ) (steps : List (ℕ × Step)) → length sessions < 16 → Called sessions calls steps → Called (sessions ++ [] ∷ []) calls steps
+pub one_session_more : (sessions : List (List Op)) (calls : ℕ) (steps : List (ℕ × Step)) → length sessions < 16 → Called sessions calls steps → Called (sessions ++ [] ∷ []) calls steps
 one_session_more sessions calls steps room c = record {
   few_sessions = shorter sessions [] 16 room;
   counted = omega (arith, c.counted, sum_by-append (λ (ops : List Op). length ops) sessions ([] ∷ []));
@@ -150,12 +150,12 @@ yields_steps : (d : Draft) → SpaceSoFar d → CallsSoFar d → Complete d → 
 unfolding steps_line
 yields_steps d s c st = yields_then Any yields_end (λ u t. yields_give (record d { section = sections.Steps }) (record { space = s; calls = c; stage = st }))
 
-all_last : {A : Type 0} (P : A → Type 0) (sessions : List (List A)) (x : A) → All (All P) sessions → P x → All (All P) (push_to_last sessions x)
+pub all_last : {A : Type 0} (P : A → Type 0) (sessions : List (List A)) (x : A) → All (All P) sessions → P x → All (All P) (push_to_last sessions x)
 all_last P [] x a p = a
 all_last P (xs ∷ []) x a p = All-cons (All P) (xs ++ x ∷ []) [] (All-push P xs x (All-head (All P) xs [] a) p) (All-nil (All P))
 all_last P (xs ∷ ys ∷ rest) x a p = All-cons (All P) xs (push_to_last (ys ∷ rest) x) (All-head (All P) xs (ys ∷ rest) a) (all_last P (ys ∷ rest) x (All-tail (All P) xs (ys ∷ rest) a) p)
 
-same_count : {A : Type 0} (sessions : List (List A)) (x : A) → length (push_to_last sessions x) ≡ length sessions
+pub same_count : {A : Type 0} (sessions : List (List A)) (x : A) → length (push_to_last sessions x) ≡ length sessions
 same_count [] x = refl
 same_count (xs ∷ []) x = refl
 same_count (xs ∷ ys ∷ rest) x = ap suc (same_count (ys ∷ rest) x)
@@ -165,7 +165,7 @@ sum_cons {A} xs sessions =
     let e : sum_by (λ (ops : List A). length ops) (xs ∷ sessions) ≡ 0 + length xs + sum_by (λ (ops : List A). length ops) sessions = sum_by-append (λ (ops : List A). length ops) (xs ∷ []) sessions in
     omega (arith, e)
 
-one_counted : {A : Type 0} (sessions : List (List A)) (x : A) → sum_by (λ (ops : List A). length ops) (push_to_last sessions x) ≤ sum_by (λ (ops : List A). length ops) sessions + 1
+pub one_counted : {A : Type 0} (sessions : List (List A)) (x : A) → sum_by (λ (ops : List A). length ops) (push_to_last sessions x) ≤ sum_by (λ (ops : List A). length ops) sessions + 1
 one_counted [] x = omega arith
 one_counted (xs ∷ []) x = omega (arith, sum_cons (xs ++ x ∷ []) [], sum_cons xs [], length_push xs x)
 one_counted (xs ∷ ys ∷ rest) x = omega (arith, sum_cons xs (push_to_last (ys ∷ rest) x), sum_cons xs (ys ∷ rest), one_counted (ys ∷ rest) x)
@@ -178,12 +178,12 @@ one_call_more sessions calls steps op room c = record {
   few_steps = c.few_steps;
 }
 
-some_regions : (d : Draft) → SpaceSoFar d → ArePart d.space.key_parts → 0 < d.regions
+pub some_regions : (d : Draft) → SpaceSoFar d → ArePart d.space.key_parts → 0 < d.regions
 some_regions d s p =
     let count : d.regions ≡ d.space.key_parts * 1 + sizes_sum d.space.subspaces = s.count in
     omega (arith, count, p.0)
 
-yields_call_line : (d : Draft) (w : CallWord) → d.section ≡ sections.Calls → SpaceSoFar d → CallsSoFar d → Complete d → Yields (call_line d w) Sound
+pub yields_call_line : (d : Draft) (w : CallWord) → d.section ≡ sections.Calls → SpaceSoFar d → CallsSoFar d → Complete d → Yields (call_line d w) Sound
 unfolding call_line
 yields_call_line d w e s c st = yields_then (λ u. nat_lt d.calls 16384 ≡ true) (yields_check (nat_lt d.calls 16384) Limit) (λ u room. yields_then (Fits d.space) (yields_call d.space d.regions w s.count (some_regions d s st.0.2)) (λ op f. yields_give (record d { sessions = push_to_last d.sessions op; calls = d.calls + 1 }) (record { space = s; calls = one_call_more d.sessions d.calls d.steps op (ltb-true d.calls 16384 room) c; stage = rw e (st.0, st.1, st.2, all_last (Fits d.space) d.sessions op st.3 f) })))
 
@@ -209,7 +209,7 @@ yields_step_line : (n : ℕ) (d : Draft) (w : StepWord) → d.section ≡ sectio
 unfolding step_line
 yields_step_line n d w e s c st = yields_then (λ u. nat_lt (length d.steps) 65536 ≡ true) (yields_check (nat_lt (length d.steps) 65536) Limit) (λ u room. yields_then Any (yields_step d.space.servers (length d.sessions) w) (λ x f. yields_give (record d { steps = d.steps ++ (n, x) ∷ [] }) (record { space = s; calls = one_step_more d.sessions d.calls d.steps (n, x) (ltb-true (length d.steps) 65536 room) c; stage = rw e st })))
 
-yields_heading : (d : Draft) (sec : Section) (h : Heading) → d.section ≡ sec → SpaceSoFar d → CallsSoFar d → BySection sec d → Yields (heading_line d sec h) Sound
+pub yields_heading : (d : Draft) (sec : Section) (h : Heading) → d.section ≡ sec → SpaceSoFar d → CallsSoFar d → BySection sec d → Yields (heading_line d sec h) Sound
 yields_heading d sections.Start headings.Hx e s c st = yields_hx d s c st
 yields_heading d sections.Start headings.Space e s c st = yields_refuse Order
 yields_heading d sections.Start headings.Key e s c st = yields_refuse Order

@@ -54,7 +54,7 @@ line_kept n d line after so e =
     let o = on_ok_ok (toks_from line (tokens_of line)) (line_of_toks n d) after e in
     tokens_kept n d o.0 after so (toks_sound line (tokens_of line) o.0 refl o.1) o.2
 
-a_script : (d : Draft) → SpaceSoFar d → CallsSoFar d → Complete d → IsScript (record { space = d.space; sessions = d.sessions; steps = d.steps })
+pub a_script : (d : Draft) → SpaceSoFar d → CallsSoFar d → Complete d → IsScript (record { space = d.space; sessions = d.sessions; steps = d.steps })
 a_script d s c st = record {
   space = record {
     name = st.0.0;

@@ -11,3 +11,5 @@ pub mod Calls
 pub mod Grammar
 pub mod Texts
 pub mod LoneCalls
+pub mod BundleGrammar
+pub mod BundleTexts

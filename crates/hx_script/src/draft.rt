@@ -3,6 +3,7 @@
 ghost use Rattle.std.specs.Prelude.{◌≡◌, OnOk, ◌≤◌, length};
 ghost use Rattle.hx_script.specs.Readers.{Reads, Gives};
 ghost use Rattle.hx_script.specs.Grammar.{hx_line, space_line, key_line, string_attribute, int_attribute, attribute_line, subspace_line, servers_line, tolerate_line, session_line, steps_line, push_to_last, call_line, step_line, heading_line, command, line_of};
+ghost use Rattle.hx_script.specs.BundleTexts.{script_so_far};
 ghost use Rattle.hx_script.specs.Texts.{empty_draft, finished, may_end};
 
 use crate::axes::subspace;
@@ -11,6 +12,7 @@ use crate::keyword::{CallWord, Heading, Keyword, StepWord, keyword_of};
 use crate::line::{Line, tokens_in};
 use crate::ops::{call, step};
 use crate::words::{name, new_name};
+use hx_bundle::Turns;
 use hx_types::{
     Attribute, Attributes, Calls, Kind, MOST_ATTRIBUTES, MOST_CALLS, MOST_FAILURES, MOST_PARTS,
     MOST_SERVERS, MOST_SESSIONS, MOST_STEPS, MOST_SUBSPACES, Memory, Op, Script, Sessions, Space,
@@ -93,6 +95,18 @@ fn push_to_last(sessions: &mut Sessions, op: Op) -> Result<(), Memory>
         return Ok(());
     };
     last.push(op)?;
+    Ok(())
+}
+
+/// Puts the space of one more call at the end of the last session's turns.
+#[tactic(auto, using(crate::proofs::Lists::push_at_last_place, crate::proofs::Lists::no_last))]
+pub(crate) fn push_turn(turns: &mut Turns, space: u32) -> Result<(), Memory>
+    ensures { OnOk result (turns.new ≡ push_to_last turns.old space) }
+{
+    let Some(last) = turns.last_mut() else {
+        return Ok(());
+    };
+    last.push(space)?;
     Ok(())
 }
 
@@ -221,7 +235,12 @@ impl Draft {
 
     /// One more call of the last session.
     #[tactic(auto, unfolding(crate::specs::Grammar::call_line))]
-    fn call_line(&mut self, alloc: Global, word: CallWord, line: &mut Line<'_>) -> Result<(), Stop>
+    pub(crate) fn call_line(
+        &mut self,
+        alloc: Global,
+        word: CallWord,
+        line: &mut Line<'_>,
+    ) -> Result<(), Stop>
         requires attributes { length self.old.space.attributes ≤ 16 }
         ensures { Reads (λ _. self.new) result line.new (call_line self.old word line.old) }
     {
@@ -250,7 +269,7 @@ impl Draft {
     }
 
     /// A line of the head or of a section.
-    fn heading_line(
+    pub(crate) fn heading_line(
         &mut self,
         alloc: Global,
         heading: Heading,
@@ -365,5 +384,24 @@ impl Draft {
             sessions,
             steps,
         })
+    }
+
+    /// What was read, as a script.
+    pub(crate) fn into_script(self) -> Script
+        ensures { result ≡ script_so_far self }
+    {
+        let Draft {
+            section: _,
+            space,
+            regions: _,
+            sessions,
+            calls: _,
+            steps,
+        } = self;
+        Script {
+            space,
+            sessions,
+            steps,
+        }
     }
 }

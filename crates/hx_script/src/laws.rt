@@ -6,10 +6,13 @@ ghost use Rattle.hx_types.specs.declared.spaces.Space.{Space};
 ghost use Rattle.hx_types.specs.declared.traces.Script.{Script};
 ghost use Rattle.hx_types.specs.Fitting.{IsScript};
 ghost use Rattle.hx_types.specs.Spaces.{Fits, IsSpace};
+ghost use Rattle.hx_bundle.specs.declared.bundles.Bundle.{Bundle};
+ghost use Rattle.hx_bundle.specs.Bundles.{IsBundle};
 ghost use Rattle.hx_script.specs.declared.draft.Draft.{Draft};
 ghost use Rattle.hx_script.specs.declared.errors.Reason.{Reason};
 ghost use Rattle.hx_script.specs.declared.errors.Reason.TheVariants as reasons;
 ghost use Rattle.hx_script.specs.declared.errors.ScriptError.TheVariants as errors;
+ghost use Rattle.hx_script.specs.BundleTexts.{bundle_of};
 ghost use Rattle.hx_script.specs.Grammar.{line_of};
 ghost use Rattle.hx_script.specs.LoneCalls.{TakesCalls, op_of_line, with_call};
 ghost use Rattle.hx_script.specs.Texts.{script_of};
@@ -23,6 +26,17 @@ pub fn scripts_are_valid()
 /// [`read`](crate::read) never gives the reason [`Step`](crate::Reason::Step).
 pub fn texts_are_not_refused_by_steps()
     ensures { (text : List ℕ) (line : ℕ) → script_of text ≢ Err (errors.Refused line reasons.Step) }
+{}
+
+/// What is read is a bundle within the limits, whose calls fit their spaces, and whose steps are of
+/// actors that are there.
+pub fn bundles_are_valid()
+    ensures { (text : List ℕ) (b : Bundle) → bundle_of text ≡ Ok b → IsBundle b }
+{}
+
+/// No text of one space or of several is refused because of a step.
+pub fn bundles_are_not_refused_by_steps()
+    ensures { (text : List ℕ) (line : ℕ) → bundle_of text ≢ Err (errors.Refused line reasons.Step) }
 {}
 
 /// What is read of a line is a call that fits the space.

@@ -38,6 +38,15 @@
 //! gives exactly that. [`scripts_are_valid`] says that each such script is within the limits, and
 //! that each of its calls fits its space.
 //!
+//! A script of several spaces begins with `hx 2`, and its lines come in another order: `servers I`,
+//! `tolerate I`, then 1 to 8 spaces, each with its lines `space N`, `key N I`, attributes and
+//! subspaces, and then sessions and steps. In each call and step the name of a space stands behind
+//! the first word, as in `put books "a" year=1999` or `deliver books 1.0`. Names of spaces differ.
+//! The limits of sessions, calls and steps hold of all spaces together, those of attributes and
+//! regions of each. [`read_bundle`] reads both versions, as `specs/BundleTexts.antt` and
+//! `specs/BundleGrammar.antt` define, and [`bundles_are_valid`] says that each such bundle is within
+//! the limits; [`read`] reads the first version alone, and the number 2 is Bounds to it.
+//!
 //! [`read_op`] reads one line as a call of a session of a space, by the same definitions
 //! (`specs/LoneCalls.antt`); [`calls_are_read_as_in_sessions`] says what a session makes of that
 //! line. No calls stand before it, so no count is full.
@@ -50,7 +59,10 @@
 // other crates can name it. None of them is handed out but those below.
 mod actors;
 mod axes;
+mod bundle_draft;
+mod bundle_reading;
 mod draft;
+mod drafts;
 mod edits;
 mod errors;
 mod keyword;
@@ -62,10 +74,11 @@ mod reading;
 mod values;
 mod words;
 
+pub use bundle_reading::{is_of_version_2, read_bundle};
 pub use errors::{Reason, ScriptError};
 pub use laws::{
-    calls_are_read_as_in_sessions, calls_fit_their_space, scripts_are_valid,
-    texts_are_not_refused_by_steps,
+    bundles_are_not_refused_by_steps, bundles_are_valid, calls_are_read_as_in_sessions,
+    calls_fit_their_space, scripts_are_valid, texts_are_not_refused_by_steps,
 };
 pub use lone_calls::read_op;
 pub use reading::read;

@@ -19,7 +19,7 @@ fn line_len(text: &[u8]) -> usize
 
 /// The first line without its newline, and the text after it.
 #[tactic(auto, using(crate::proofs::Lines::line_and_rest, crate::proofs::Lines::line_alone))]
-fn first_line(text: &[u8]) -> (&[u8], &[u8])
+pub(crate) fn first_line(text: &[u8]) -> (&[u8], &[u8])
     requires { 0 < length text.now }
     ensures lines { lines_of text.now ≡ result.0.now ∷ lines_of result.1.now }
     ensures shorter { length result.1.now < length text.now }

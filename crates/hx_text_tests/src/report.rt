@@ -1,9 +1,14 @@
+ghost use Rattle.std.specs.Prelude.{◌≡◌, length};
+ghost use Rattle.hx_bundle.specs.Bundles.{IsBundle};
+
 use crate::parts::{is_printed, list, script_of, shared_list, text};
+use hx_bundle::Bundle;
 use hx_report::*;
+use hx_script::{bundles_are_valid, read_bundle};
 use hx_trace::Trace;
 use hx_types::{
     Actor, Answer, Assign, Caller, Edit, EditKind, Entry, Epoch, Input, Message, Note, Op, Places,
-    Post, PostId, Posts, ServerId, SessionId, Shared, Totals, Update, Value, Version,
+    Post, PostId, Posts, Sequence, ServerId, SessionId, Shared, Totals, Update, Value, Version,
 };
 use std::process::Abort;
 
@@ -183,13 +188,19 @@ const ATOMIC_LINES: &str = "report 1\n\
     driver 1 posts 2 deliver 2 lose 0 twice 0\n\
     end\n";
 
-/// Whether the report of the script with the trace of the call has these lines.
-fn is_reported<R: Abort + AllocGlobal>(rt: &R, call: Call, script: &str, lines: &str) -> bool {
-    let script = script_of(rt, script);
+/// The trace of the call.
+fn trace_of<R: Abort + AllocGlobal>(rt: &R, call: Call) -> Trace {
     let mut trace = Trace::new(rt.alloc());
     for entry in list(rt, entries(rt, call)).into_vec() {
         trace.push(entry).expect(rt, "memory");
     }
+    trace
+}
+
+/// Whether the report of the script with the trace of the call has these lines.
+fn is_reported<R: Abort + AllocGlobal>(rt: &R, call: Call, script: &str, lines: &str) -> bool {
+    let script = script_of(rt, script);
+    let trace = trace_of(rt, call);
     let totals = Totals {
         posts: 2,
         deliver: 2,
@@ -210,4 +221,84 @@ fn reports_a_put_with_its_trace(rt: HostRuntime) {
 #[test]
 fn reports_a_text_that_is_too_long(rt: HostRuntime) {
     assert!(rt; is_reported(&rt, Call::Append, ATOMIC, ATOMIC_LINES));
+}
+
+/// Two spaces, with a call of the session in each.
+const TWO: &str = "hx 2\n\
+    servers 1\n\
+    tolerate 0\n\
+    space one\n\
+    key k 1\n\
+    string v\n\
+    space two\n\
+    key k 1\n\
+    string w\n\
+    session 1\n\
+    put one \"a\" v=\"x\"\n\
+    atomic two \"a\" append w=\"x\"\n";
+
+const TWO_LINES: &str = "report 2\n\
+    space one\n\
+    key k 1\n\
+    string v\n\
+    servers 1\n\
+    tolerate 0\n\
+    call u1.1 begin 1 end 3 put \"a\" v=\"x\" -> done version 1\n\
+    history \"a\"\n\
+    item 1 u1.1 done present v=\"x\"\n\
+    epoch 1 servers 1 lost -\n\
+    entry 1 u1 tick\n\
+    post 1.0 s1 call epoch 1 number 1\n\
+    entry 2 s1 deliver 1.0\n\
+    post 2.0 u1 reply number 1 version 1\n\
+    entry 3 u1 deliver 2.0\n\
+    driver 1 posts 2 deliver 1 lose 0 twice 0\n\
+    driver 2 posts 0 deliver 1 lose 0 twice 0\n\
+    space two\n\
+    key k 1\n\
+    string w\n\
+    servers 1\n\
+    tolerate 0\n\
+    call u1.1 begin 1 end 3 atomic \"a\" append w=\"x\" -> toolong version 1\n\
+    history \"a\"\n\
+    item 1 u1.1 toolong present w=\"x\"\n\
+    epoch 1 servers 1 lost -\n\
+    entry 1 u1 tick\n\
+    post 1.0 s1 call epoch 1 number 1\n\
+    entry 2 s1 deliver 1.0\n\
+    post 2.0 u1 reply number 1 version 1\n\
+    entry 3 u1 deliver 2.0\n\
+    end\n";
+
+/// The bundle of a text with two spaces. What a test can't get ends it.
+fn bundle_of_two<R: Abort + AllocGlobal>(rt: &R, text: &str) -> Bundle
+    ensures valid { IsBundle result }
+    ensures two { length result.spaces ≡ 2 }
+{
+    bundles_are_valid();
+    let Ok(bundle) = read_bundle(rt.alloc(), text.as_bytes()) else {
+        panic!(rt; "a bundle");
+    };
+    if bundle.spaces.len() != 2 {
+        panic!(rt; "two spaces");
+    }
+    bundle
+}
+
+#[test]
+fn reports_two_spaces(rt: HostRuntime) {
+    let bundle = bundle_of_two(&rt, TWO);
+    let traces = [trace_of(&rt, Call::Put), trace_of(&rt, Call::Append)];
+    let totals = |posts, deliver| Totals {
+        posts,
+        deliver,
+        lose: 0,
+        twice: 0,
+    };
+    let drivers = [
+        list(&rt, [totals(2, 1), totals(0, 1)]),
+        Sequence::new(rt.alloc()),
+    ];
+    let reported = report_bundle(rt.alloc(), &bundle, &traces, &drivers, true);
+    assert!(rt; is_printed(reported, TWO_LINES));
 }
