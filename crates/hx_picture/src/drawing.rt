@@ -14,16 +14,33 @@ const LONGEST_LABEL: usize = 24;
 /// How far a post of an actor to itself bows out, in pixels.
 const BOW: usize = 40;
 
-/// The diagram of a run.
-pub fn picture(alloc: Global, run: &Run) -> Result<String, PictureError> {
+/// The diagrams of the runs of a report, one below the other.
+pub fn picture(alloc: Global, runs: &[Run]) -> Result<String, PictureError> {
     let mut svg = String::new(alloc);
-    draw(alloc, &mut svg, run)?;
+    head(&mut svg, runs)?;
+    let mut top = 0_usize;
+    for run in runs {
+        diagram(alloc, &mut svg, run, top)?;
+        top = top.saturating_add(height(run.entries.len()));
+    }
+    svg.push_str("</svg>\n")?;
     Ok(svg)
 }
 
-/// The parts of the diagram, those in front last.
+/// The diagram of a run, so far down.
+fn diagram(alloc: Global, svg: &mut String, run: &Run, top: usize) -> Result<(), PictureError> {
+    if top == 0 {
+        return draw(alloc, svg, run);
+    }
+    write!(svg, "<g transform=\"translate(0 {top})\">\n")?;
+    draw(alloc, svg, run)?;
+    svg.push_str("</g>\n")?;
+    Ok(())
+}
+
+/// The parts of a diagram, those in front last.
 fn draw(alloc: Global, svg: &mut String, run: &Run) -> Result<(), PictureError> {
-    head(svg, run)?;
+    title(svg, run)?;
     epochs(svg, run)?;
     lines(svg, run)?;
     calls(svg, run)?;
@@ -31,14 +48,17 @@ fn draw(alloc: Global, svg: &mut String, run: &Run) -> Result<(), PictureError> 
         arrows(alloc, svg, run, post)?;
     }
     points(svg, run)?;
-    svg.push_str("</svg>\n")?;
     Ok(())
 }
 
-/// The size, the style, the title and the legend.
-fn head(svg: &mut String, run: &Run) -> Result<(), AllocError> {
-    let wide = width(run.actors.names().len());
-    let high = height(run.entries.len());
+/// The size, that of the widest run and of all heights, and what all diagrams share.
+fn head(svg: &mut String, runs: &[Run]) -> Result<(), AllocError> {
+    let mut wide = 0_usize;
+    let mut high = 0_usize;
+    for run in runs {
+        wide = wide.max(width(run.actors.names().len()));
+        high = high.saturating_add(height(run.entries.len()));
+    }
     write!(
         svg,
         "<svg xmlns=\"http://www.w3.org/2000/svg\" width=\"{wide}\" height=\"{high}\" viewBox=\"0 0 {wide} {high}\" font-family=\"ui-sans-serif, system-ui, sans-serif\" font-size=\"12\">\n"
@@ -52,7 +72,12 @@ fn head(svg: &mut String, run: &Run) -> Result<(), AllocError> {
             "<marker id=\"{name}\" viewBox=\"0 0 8 8\" refX=\"8\" refY=\"4\" markerWidth=\"7\" markerHeight=\"7\" orient=\"auto\"><path d=\"M0 0L8 4L0 8z\" fill=\"{color}\"/></marker>"
         )?;
     }
-    svg.push_str("</defs>\n<text x=\"16\" y=\"28\" font-size=\"16\" font-weight=\"600\">space ")?;
+    svg.push_str("</defs>\n")
+}
+
+/// The title of a diagram and its legend.
+fn title(svg: &mut String, run: &Run) -> Result<(), AllocError> {
+    svg.push_str("<text x=\"16\" y=\"28\" font-size=\"16\" font-weight=\"600\">space ")?;
     push_text(svg, run.space, 40)?;
     svg.push_str("</text>\n")?;
     legend(svg)

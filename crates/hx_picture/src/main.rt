@@ -1,5 +1,6 @@
 //! A picture of a run: reads the report of `hx replay --trace` on standard input, and writes a
-//! space-time diagram of it as SVG on standard output.
+//! space-time diagram of it as SVG on standard output, one below the other where it has several
+//! spaces.
 //!
 //! Every actor has a line, time runs down, each entry is a point on the line of its actor, and each
 //! delivery an arrow from the entry that made the post; a post that was never delivered ends in
@@ -60,6 +61,6 @@ fn picture_of(alloc: Global, bytes: &[u8]) -> Result<String, PictureError> {
     let Ok(text) = str::from_utf8(bytes) else {
         return Err(PictureError::NoReport { line: 1 });
     };
-    let run = runs::read_run(alloc, text)?;
-    drawing::picture(alloc, &run)
+    let runs = runs::read_runs(alloc, text)?;
+    drawing::picture(alloc, runs.as_slice())
 }

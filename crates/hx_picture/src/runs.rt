@@ -42,7 +42,7 @@ pub struct Call<'a> {
     pub told: &'a str,
 }
 
-/// What a report tells of a run. Entry n is the n-th from 1.
+/// What a report tells of the run of a space. Entry n is the n-th from 1.
 #[derive(Drop)]
 pub struct Run<'a> {
     pub space: &'a str,
@@ -52,37 +52,56 @@ pub struct Run<'a> {
     pub posts: Vec<Post<'a>>,
 }
 
-/// Reads a report with its trace.
-pub fn read_run(alloc: Global, text: &str) -> Result<Run<'_>, PictureError> {
-    let mut run = Run {
-        space: "",
-        actors: Actors::new(alloc),
-        calls: Vec::new(alloc),
-        entries: Vec::new(alloc),
-        posts: Vec::new(alloc),
-    };
-    read_lines(&mut run, text)?;
-    run.actors.sort();
-    Ok(run)
+impl<'a> Run<'a> {
+    /// A run of that space of which nothing is told yet.
+    fn new(alloc: Global, space: &'a str) -> Self {
+        Run {
+            space,
+            actors: Actors::new(alloc),
+            calls: Vec::new(alloc),
+            entries: Vec::new(alloc),
+            posts: Vec::new(alloc),
+        }
+    }
 }
 
-/// Reads the lines of a report, which has to have entries, and not too many of them.
-fn read_lines<'a>(run: &mut Run<'a>, text: &'a str) -> Result<(), PictureError> {
-    let mut lines = 0_usize;
-    for line in text.lines() {
-        lines = lines.saturating_add(1);
-        read_line(run, line, lines)?;
+/// Reads a report with its trace: the runs of its spaces, in their order. They have to have entries,
+/// and not too many of them.
+pub fn read_runs(alloc: Global, text: &str) -> Result<Vec<Run<'_>>, PictureError> {
+    let runs = read_lines(alloc, text)?;
+    let mut entries = 0_usize;
+    for run in &runs {
+        entries = entries.saturating_add(run.entries.len());
     }
-    match run.entries.len() {
+    match entries {
         0 => Err(PictureError::NoTrace),
         entries if entries > MOST_DRAWN => Err(PictureError::TooLong { entries }),
-        _ => Ok(()),
+        _ => Ok(runs),
     }
 }
 
-/// Reads one line of a report. The first has to be a report's; lines of histories, rows, epochs and of
-/// the space are passed over.
-fn read_line<'a>(run: &mut Run<'a>, line: &'a str, number: usize) -> Result<(), PictureError> {
+/// Reads the lines of a report.
+fn read_lines(alloc: Global, text: &str) -> Result<Vec<Run<'_>>, PictureError> {
+    let mut runs = Vec::new(alloc);
+    let mut number = 0_usize;
+    for line in text.lines() {
+        number = number.saturating_add(1);
+        read_line(alloc, &mut runs, line, number)?;
+    }
+    for run in &mut runs {
+        run.actors.sort();
+    }
+    Ok(runs)
+}
+
+/// Reads one line of a report. The first has to be a report's, and calls, entries and posts are those
+/// of the space before them; all other lines are passed over.
+fn read_line<'a>(
+    alloc: Global,
+    runs: &mut Vec<Run<'a>>,
+    line: &'a str,
+    number: usize,
+) -> Result<(), PictureError> {
     let fault = PictureError::NoReport { line: number };
     if number == 1 {
         return if line.starts_with("report ") {
@@ -93,11 +112,27 @@ fn read_line<'a>(run: &mut Run<'a>, line: &'a str, number: usize) -> Result<(), 
     }
     let (word, rest) = line.split_once(" ").unwrap_or((line, ""));
     match word {
-        "space" => run.space = rest,
+        "space" => runs.push(Run::new(alloc, rest))?,
+        "call" | "entry" | "post" => {
+            let run = runs.last_mut().ok_or(fault)?;
+            add_to(run, word, rest, fault)?;
+        }
+        _ => {}
+    }
+    Ok(())
+}
+
+/// Adds what a line tells of a call, an entry or a post.
+fn add_to<'a>(
+    run: &mut Run<'a>,
+    word: &str,
+    rest: &'a str,
+    fault: PictureError,
+) -> Result<(), PictureError> {
+    match word {
         "call" => run.calls.push(call_of(rest).ok_or(fault)?)?,
         "entry" => add_entry(run, entry_of(rest).ok_or(fault)?)?,
-        "post" => add_post(run, post_of(rest).ok_or(fault)?)?,
-        _ => {}
+        _ => add_post(run, post_of(rest).ok_or(fault)?)?,
     }
     Ok(())
 }
