@@ -2,21 +2,13 @@
 use Rattle.std.proofs.Common.{◌≡◌, ℕ, false, List, Option, Some, None, refl, sym, ap, ◌∙◌, subst}
 use Rattle.std.specs.Option.{option_map}
 use Rattle.hx_types.specs.declared.calls.Answer.{Answer}
-use Rattle.hx_types.specs.declared.calls.Caller.{Caller}
 use Rattle.hx_types.specs.Effects.{key_of}
 use Rattle.hx_types.specs.Fitting.{is_refused}
 use Rattle.hx_model.specs.Histories.{CallEnd}
 use Rattle.hx_report_lines.specs.declared.blocks.Block.{Block}
 use Rattle.hx_report_lines.specs.declared.calls.CallLine.{CallLine}
 use Rattle.hx_audit.specs.Clauses.{HasItem, IsItemOfCall}
-use Rattle.hx_audit.specs.Told.{end_told, items_at}
-use Rattle.hx_audit.specs.Walking.{HasIn, IsItemWith}
-
-pub item_of_call : (b : Block) (key : List ℕ) (c : Caller) (answer : Answer) → HasIn (IsItemWith c answer) (items_at b.histories key) → IsItemOfCall b key c answer
-item_of_call b key c answer h = record { item = h.item; stands = h.stands; of_caller = h.is.0; answered = h.is.1 }
-
-pub call_of_item : (b : Block) (key : List ℕ) (c : Caller) (answer : Answer) → IsItemOfCall b key c answer → HasIn (IsItemWith c answer) (items_at b.histories key)
-call_of_item b key c answer h = record { item = h.item; stands = h.stands; is = (h.of_caller, h.answered) }
+use Rattle.hx_audit.specs.Told.{end_told}
 
 -- a call on a key that ended has its item where this key and answer have it
 pub item_told_at : (b : Block) (l : CallLine) (key : List ℕ) (answer : Answer) → key_of l.op ≡ Some key → option_map (λ (e : CallEnd). e.answer) (end_told l) ≡ Some answer

@@ -17,3 +17,4 @@ pub mod Unique
 pub mod Truth
 pub mod Placed
 mod ClauseRows
+pub mod Begun

@@ -6,3 +6,5 @@ pub mod Walking
 pub mod Finished
 pub mod Moments
 pub mod Standing
+pub mod Latest
+pub mod Notes

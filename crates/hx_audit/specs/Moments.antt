@@ -24,6 +24,12 @@ later None other = other
 later (Some m) None = Some m
 later (Some m) (Some n) = if nat_lt m n then Some n else Some m
 
+-- the earlier of two times, where there are any
+abbrev pub earlier : Option ℕ → Option ℕ → Option ℕ
+earlier None other = other
+earlier (Some m) None = Some m
+earlier (Some m) (Some n) = if nat_lt n m then Some n else Some m
+
 -- what ended here did so before the last begin
 abbrev pub is_late : Option ℕ → Option ℕ → Bool
 is_late None latest = false

@@ -2,7 +2,6 @@
 use Rattle.std.specs.Prelude.{◌≡◌, ℕ, suc, ◌+◌, ◌<◌, ◌⊎◌, Bool, true, ◌&&◌, ⊤, List, [], ◌∷◌, map, reverse, if◌then◌else◌, Option, None, Some}
 use Rattle.std.specs.List.{list_any}
 use Rattle.std.specs.Option.{option_map}
-use Rattle.hx_types.specs.declared.calls.Answer.{Answer}
 use Rattle.hx_types.specs.declared.calls.Caller.{Caller}
 use Rattle.hx_types.specs.declared.calls.Row.{Row}
 use Rattle.hx_types.specs.declared.ids.Version.{Version}
@@ -18,7 +17,7 @@ use Rattle.hx_report_lines.specs.declared.histories.ItemLine.{ItemLine}
 use Rattle.hx_report_lines.specs.Values.{Ascends, caller_below}
 use Rattle.hx_audit.specs.declared.verdicts.Clause.{Clause}
 use Rattle.hx_audit.specs.Accounts.{Account, IsChangeShownBy, began_before, ended_before, last_change, no_change_before}
-use Rattle.hx_audit.specs.Told.{account_of, answer_told, item_told, same_caller}
+use Rattle.hx_audit.specs.Told.{account_of, item_told, same_caller}
 use Rattle.hx_audit.specs.Verdicts.{KeepsInPiece, Placed}
 
 -- calls ascend by caller
@@ -67,19 +66,9 @@ pub record HasIn {A : Type 0} (P : A → Type 0) (xs : List A) : Type 0 where
   pub stands : IsIn item xs
   pub is : P item
 
--- an item of the caller with this answer
-abbrev pub IsItemWith : Caller → Answer → ItemLine → Type 0
-IsItemWith c answer x = (x.caller ≡ c) × (answer_told x.word x.object ≡ answer)
-
 -- the last change in the history of a key, where it has to be shown, is shown
 abbrev pub IsShownAt : Block → FinishedSearch → HistoryLines → Type 0
 IsShownAt b s h = IsChangeShownBy (account_of b) s h.key (last_change (account_of b) s.end [] (reverse (map (item_told b.calls) h.items)))
-
--- a walk down a history, newest first: what is left of it decides, and whether an item above ended before the search began
-pub record IsShownFrom (b : Block) (s : FinishedSearch) (items rest : List ItemLine) (over : Bool) : Type 0 where
-  pub newer : List Item
-  pub over_is : over ≡ list_any (λ (x : Item). ended_before (account_of b) x.caller s.begin) newer
-  pub same : last_change (account_of b) s.end newer (reverse (map (item_told b.calls) rest)) ≡ last_change (account_of b) s.end [] (reverse (map (item_told b.calls) items))
 
 -- the same in each of these histories
 abbrev pub AllShown : Block → FinishedSearch → List HistoryLines → Type 0

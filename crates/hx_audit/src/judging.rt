@@ -1,14 +1,12 @@
 //! The audit.
 
 ghost use Rattle.std.specs.Prelude.{◌≡◌, ◌↔◌, ◌+◌, suc, [], ◌∷◌, IfOk, IfSome, IfNone, IsTrue};
-ghost use Rattle.std.specs.BTreeSet.{contains};
 ghost use Rattle.std.specs.List.{All};
-ghost use Rattle.std.specs.Ordering.{nat_cmp};
 ghost use Rattle.hx_types.specs.Words.{IsIn};
 ghost use Rattle.hx_report_lines.specs.Values.{IsBlock};
 ghost use Rattle.hx_report_lines.specs.declared.calls.CallLine.{CallLine};
 ghost use Rattle.hx_audit.specs.Clauses.{KeepsInCall, KeepsInHistory};
-ghost use Rattle.hx_audit.specs.Standing.{AreMarkedFor};
+ghost use Rattle.hx_audit.specs.Notes.{AreNotesFor};
 ghost use Rattle.hx_audit.specs.Verdicts.{IsVerdict, OfCall, OfHistory, block_from, blocks_from, calls_from, histories_from, rank_of};
 ghost use Rattle.hx_audit.specs.Walking.{IsFirstNot, IsFirstOf, IsOrdered};
 
@@ -16,26 +14,25 @@ use crate::foreign::first_foreign;
 use crate::legal::first_illegal;
 use crate::lines::{after_block, after_call, after_calls, after_history, after_space, further};
 use crate::missing::has_item;
+use crate::notes::{Notes, notes_for};
 use crate::rows::first_untrue;
-use crate::standing::marked_for;
 use crate::times::first_late;
 use crate::verdicts::{Clause, Verdict};
 use crate::whole::is_whole;
 use hx_report_lines::{Block, CallLine, HistoryLines, Report};
 use hx_types::Memory;
 use std::alloc::Global;
-use std::collections::BTreeSet;
 
 /// Whether the clause is kept at the line of a call.
-fn is_kept_at(clause: Clause, block: &Block, marked: &BTreeSet<usize>, call: &CallLine) -> bool
+fn is_kept_at(clause: Clause, block: &Block, notes: &Notes<'_>, call: &CallLine) -> bool
     requires ordered { IsOrdered block.now }
-    requires marked { AreMarkedFor clause block.now (contains nat_cmp marked.now) }
+    requires notes { AreNotesFor clause block.now notes.now }
     requires stands { IsIn call.now block.now.calls }
     ensures { IsTrue result ↔ KeepsInCall clause block.now call.now 0 }
 {
     match clause {
-        Clause::Missing => has_item(block, marked, call),
-        Clause::Whole => is_whole(block, call),
+        Clause::Missing => has_item(block, &notes.marked, call),
+        Clause::Whole => is_whole(notes.latest.as_slice(), call),
         Clause::Foreign | Clause::Legal | Clause::Order | Clause::True => true,
     }
 }
@@ -75,16 +72,16 @@ fn first_in_items(
 fn first_in_call(
     clause: Clause,
     block: &Block,
-    marked: &BTreeSet<usize>,
+    notes: &Notes<'_>,
     call: &CallLine,
     line: u64,
 ) -> Result<Option<u64>, Memory>
     requires ordered { IsOrdered block.now }
-    requires marked { AreMarkedFor clause block.now (contains nat_cmp marked.now) }
+    requires notes { AreNotesFor clause block.now notes.now }
     requires stands { IsIn call.now block.now.calls }
     ensures { IfOk result (IsFirstOf clause (record { line = line; block = block.now; piece = OfCall call.now } ∷ [])) }
 {
-    if !is_kept_at(clause, block, marked, call) {
+    if !is_kept_at(clause, block, notes, call) {
         return Ok(Some(line));
     }
     match first_in_rows(clause, block, call) {
@@ -123,19 +120,19 @@ fn first_in_history(
 fn first_of_calls(
     clause: Clause,
     block: &Block,
-    marked: &BTreeSet<usize>,
+    notes: &Notes<'_>,
     calls: &[CallLine],
     first: u64,
 ) -> Result<Option<u64>, Memory>
     requires ordered { IsOrdered block.now }
-    requires marked { AreMarkedFor clause block.now (contains nat_cmp marked.now) }
+    requires notes { AreNotesFor clause block.now notes.now }
     requires stand { (call : CallLine) → IsIn call calls.now → IsIn call block.now.calls }
     ensures { IfOk result (IsFirstOf clause (calls_from block.now first calls.now)) }
 {
     let mut line = first;
     let mut rest = calls;
     while let Some((call, others)) = rest.split_first() {
-        let broken = first_in_call(clause, block, marked, call, line)?;
+        let broken = first_in_call(clause, block, notes, call, line)?;
         if broken.is_some() {
             return Ok(broken);
         }
@@ -181,9 +178,9 @@ fn first_of_block(
 {
     let calls = block.calls.as_slice();
     let histories = block.histories.as_slice();
-    let marked = marked_for(alloc, clause, block)?;
+    let notes = notes_for(alloc, clause, block)?;
     let first = after_space(line, block)?;
-    let broken = first_of_calls(clause, block, &marked, calls, first)?;
+    let broken = first_of_calls(clause, block, &notes, calls, first)?;
     if broken.is_some() {
         return Ok(broken);
     }

@@ -2,10 +2,11 @@
 //! which line.
 //!
 //! A report tells calls, histories and rows. [`audit`] judges these alone, whoever made the report:
-//! six clauses, one after another over the whole report. An item finds its call, and a row its
-//! history, by halving; the items mark the calls that stand in a history, so that no call is looked
-//! for in one; and a search goes through each key's history from the newest item down to the change
-//! that it has to show.
+//! six clauses, one after another over the whole report. An item finds its call where that stands if
+//! sessions make as many calls each, or else by halving, and a row its history by halving. The items
+//! mark the calls that stand in a history, so that no call is looked for in one. And a search finds
+//! the change of each key that it has to show by halving, among those that began before all later
+//! changes of the key.
 //!
 //! No contract says that there is memory, so an audit that always answered `Memory` would be proved.
 #![tactic(auto)]
@@ -13,10 +14,12 @@
 mod foreign;
 mod histories;
 mod judging;
+mod latest;
 mod legal;
 mod lines;
 mod lookups;
 mod missing;
+mod notes;
 mod rows;
 mod searches;
 mod standing;

@@ -1,6 +1,6 @@
 //! The calls of callers.
 
-ghost use Rattle.std.specs.Prelude.{◌≡◌, ◌↔◌, ℕ, true, false, length, slice_get, IsTrue};
+ghost use Rattle.std.specs.Prelude.{◌≡◌, ℕ, true, false, length, slice_get};
 ghost use Rattle.std.specs.List.{AllWithin};
 ghost use Rattle.std.specs.Option.{option_copied};
 ghost use Rattle.hx_types.specs.Words.{when_some};
@@ -23,13 +23,6 @@ fn is_same(caller: Caller, other: Caller) -> bool
     ensures { result ≡ same_caller caller other }
 {
     caller.session.0 == other.session.0 && caller.number == other.number
-}
-
-/// Whether two callers are one.
-pub fn is_one(caller: Caller, other: Caller) -> bool
-    ensures { IsTrue result ↔ (caller ≡ other) }
-{
-    is_same(caller, other)
 }
 
 /// Where the calls of lower callers end.

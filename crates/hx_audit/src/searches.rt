@@ -10,7 +10,7 @@ ghost use Rattle.hx_audit.specs.Told.{account_of, call_at, item_told, search_tol
 ghost use Rattle.hx_audit.specs.Walking.{CallsAscend, IsOrdered};
 
 use crate::lookups::call_of;
-use crate::times::{began_before, call_began_before, ended_before};
+use crate::times::{began_before, ended_before};
 use hx_report_lines::{Block, CallLine, ItemLine, ItemWord};
 use hx_types::{Answer, Op, Rows, Terms};
 
@@ -59,7 +59,7 @@ pub fn search_of(call: &CallLine) -> Option<Finished<'_>>
 }
 
 /// Whether an item changed the object of its key.
-fn changes(calls: &[CallLine], item: &ItemLine) -> bool
+pub fn changes(calls: &[CallLine], item: &ItemLine) -> bool
     requires { CallsAscend calls.now }
     ensures { result ≡ changes_object (item_told calls.now item.now) }
 {
@@ -83,19 +83,6 @@ pub fn call_of_item<'a>(block: &'a Block, item: &ItemLine) -> Option<&'a CallLin
     ensures { option_copied result ≡ call_at block.now.calls item.now.caller }
 {
     call_of(block.calls.as_slice(), item.caller)
-}
-
-/// Whether an item, whose call is at hand, changed the object of its key, and began before a time.
-pub fn is_change_begun(block: &Block, call: Option<&CallLine>, item: &ItemLine, time: u64) -> bool
-    requires ordered { IsOrdered block.now }
-    requires call { option_copied call ≡ call_at block.now.calls item.now.caller }
-    ensures { result ≡ (changes_object (item_told block.now.calls item.now) && began_before (account_of block.now) item.now.caller time) }
-{
-    if call_began_before(call, time) {
-        changes(block.calls.as_slice(), item)
-    } else {
-        false
-    }
 }
 
 /// Whether an item changed the object of its key, and ended before a time.

@@ -46,7 +46,8 @@ fn end_of(block: &Block, caller: Caller) -> Option<u64>
     }
 }
 
-fn is_below(time: Option<u64>, other: u64) -> bool
+/// Whether a time, if there is one, is before another.
+pub fn is_before(time: Option<u64>, other: u64) -> bool
     ensures { result ≡ is_late time (Some other) }
 {
     match time {
@@ -55,23 +56,23 @@ fn is_below(time: Option<u64>, other: u64) -> bool
     }
 }
 
-/// Whether a call, if there is one, began before a time.
-pub fn call_began_before(call: Option<&CallLine>, time: u64) -> bool
-    ensures { result ≡ is_late (option_map (λ (l : CallSeen). l.begin) (option_copied call.entry)) (Some time) }
+/// When a call began, if there is one.
+pub fn call_begin(call: Option<&CallLine>) -> Option<u64>
+    ensures { result ≡ option_map (λ (l : CallSeen). l.begin) (option_copied call.entry) }
 {
     match call {
-        Some(call) => call.begin < time,
-        None => false,
+        Some(call) => Some(call.begin),
+        None => None,
     }
 }
 
-/// Whether a call, if there is one, ended before a time.
-pub fn call_ended_before(call: Option<&CallLine>, time: u64) -> bool
-    ensures { result ≡ is_late (when_some (option_copied call.entry) None time_of_end) (Some time) }
+/// When a call ended, if there is one that did.
+pub fn call_end(call: Option<&CallLine>) -> Option<u64>
+    ensures { result ≡ when_some (option_copied call.entry) None time_of_end }
 {
     match call {
-        Some(call) => is_below(end_of_call(call), time),
-        None => false,
+        Some(call) => end_of_call(call),
+        None => None,
     }
 }
 
@@ -80,7 +81,7 @@ pub fn began_before(block: &Block, caller: Caller, time: u64) -> bool
     requires { IsOrdered block.now }
     ensures { result ≡ began_before (account_of block.now) caller time }
 {
-    is_below(begin_of(block, caller), time)
+    is_before(begin_of(block, caller), time)
 }
 
 /// Whether the call of a caller ended before a time.
@@ -88,7 +89,7 @@ pub fn ended_before(block: &Block, caller: Caller, time: u64) -> bool
     requires { IsOrdered block.now }
     ensures { result ≡ ended_before (account_of block.now) caller time }
 {
-    is_below(end_of(block, caller), time)
+    is_before(end_of(block, caller), time)
 }
 
 /// Whether a call that ended here did so before the last of these begins.

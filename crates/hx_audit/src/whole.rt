@@ -1,15 +1,19 @@
 //! Searches that don't show a change that they have to.
 
-ghost use Rattle.std.specs.Prelude.{◌≡◌, ◌↔◌, IsTrue, true};
+ghost use Rattle.std.specs.Prelude.{◌≡◌, ◌↔◌, IsTrue, Some};
+ghost use Rattle.std.specs.List.{All};
 ghost use Rattle.hx_types.specs.Words.{IsIn};
+ghost use Rattle.hx_report_lines.specs.declared.blocks.Block.{Block as BlockSeen};
 ghost use Rattle.hx_audit.specs.Clauses.{IsWhole};
 ghost use Rattle.hx_audit.specs.Finished.{finished_view};
-ghost use Rattle.hx_audit.specs.Walking.{AllShown, IsObjectShown, IsOrdered, IsShownAt, row_with};
+ghost use Rattle.hx_audit.specs.Latest.{AllFall, AreLatest, Falls, IsLatestShown, ShowsLatest};
+ghost use Rattle.hx_audit.specs.Walking.{IsObjectShown, IsOrdered, row_with};
 
-use crate::searches::{Finished, call_of_item, either, is_change_begun, search_of};
-use crate::times::call_ended_before;
+use crate::latest::{LatestChange, LatestChanges, last_before};
+use crate::searches::{Finished, search_of};
+use crate::times::is_before;
 use hx_region::matches;
-use hx_report_lines::{Block, CallLine, HistoryLines, ItemLine};
+use hx_report_lines::{CallLine, ItemLine};
 use hx_types::{Object, Row, Same, Text, Version};
 
 /// Whether a row has this key, version and object.
@@ -46,54 +50,45 @@ fn is_shown(search: &Finished<'_>, key: &Text, item: &ItemLine) -> bool
     }
 }
 
-/// The same where something was over before the search began; else nothing has to be shown.
-fn is_shown_if(over: bool, search: &Finished<'_>, key: &Text, item: &ItemLine) -> bool
-    ensures { IsTrue result ↔ (over ≡ true → IsObjectShown (finished_view search.now) key.now item.now.version item.now.object) }
+/// Whether a search shows a change of a key, if that has to be shown.
+fn is_change_shown(search: &Finished<'_>, key: &Text, change: &LatestChange<'_>) -> bool
+    ensures { IsTrue result ↔ IsLatestShown (finished_view search.now) key.now (Some change.now) }
 {
-    !over || is_shown(search, key, item)
+    !is_before(change.over, search.begin) || is_shown(search, key, change.item)
 }
 
 /// Whether a search shows the last change of a key that began before it ended, if that or an item
 /// after it ended before the search began.
-fn is_shown_at(block: &Block, search: &Finished<'_>, history: &HistoryLines) -> bool
-    requires { IsOrdered block.now }
-    ensures { IsTrue result ↔ IsShownAt block.now (finished_view search.now) history.now }
+fn is_shown_at(search: &Finished<'_>, latest: &LatestChanges<'_>) -> bool
+    requires { Falls latest.now.changes.items }
+    ensures { IsTrue result ↔ ShowsLatest (finished_view search.now) latest.now }
 {
-    let mut over = false;
-    let mut rest = history.items.as_slice();
-    while let Some((item, older)) = rest.split_last() {
-        let call = call_of_item(block, item);
-        over = either(call_ended_before(call, search.begin), over);
-        if is_change_begun(block, call, item, search.end) {
-            return is_shown_if(over, search, &history.key, item);
-        }
-        rest = older;
+    match last_before(latest.changes.as_slice(), search.end) {
+        Some(change) => is_change_shown(search, &latest.history.key, change),
+        None => true,
     }
-    true
 }
 
 /// Whether a search shows what it has to of each history.
-fn are_shown(block: &Block, search: &Finished<'_>, histories: &[HistoryLines]) -> bool
-    requires { IsOrdered block.now }
-    ensures { IsTrue result ↔ AllShown block.now (finished_view search.now) histories.now }
+fn are_shown(search: &Finished<'_>, histories: &[LatestChanges<'_>]) -> bool
+    requires { AllFall histories.now }
+    ensures { IsTrue result ↔ All (ShowsLatest (finished_view search.now)) histories.now }
 {
-    let mut rest = histories;
-    while let Some((history, others)) = rest.split_first() {
-        if !is_shown_at(block, search, history) {
+    for latest in histories {
+        if !is_shown_at(search, latest) {
             return false;
         }
-        rest = others;
     }
     true
 }
 
 /// Whether a finished search is whole at every key. True of any other call.
-pub fn is_whole(block: &Block, call: &CallLine) -> bool
-    requires { IsOrdered block.now }
-    ensures { IsTrue result ↔ IsWhole block.now call.now }
+pub fn is_whole(histories: &[LatestChanges<'_>], call: &CallLine) -> bool
+    requires { AllFall histories.now }
+    ensures { (block : BlockSeen) → IsOrdered block → AreLatest block histories.now → IsTrue result ↔ IsWhole block call.now }
 {
     match search_of(call) {
-        Some(search) => are_shown(block, &search, block.histories.as_slice()),
+        Some(search) => are_shown(&search, histories),
         None => true,
     }
 }
