@@ -213,7 +213,7 @@ module _ (script : Script) (clock : TableId) (boxes : List Boxed) (w : ℕ) wher
       many = few;
       booked = booked-new i c o n t;
       total = subst IsTotal (sym t) refl;
-      fault = inl f;
+      fault = (false, inl f);
     },
     record { desks = news-of c.desks.items n; totals = t; fault = f },
   )

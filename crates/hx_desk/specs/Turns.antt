@@ -1,12 +1,13 @@
 -- What a turn of an actor does: which entries came, what was posted for them, and why a turn may fail.
-use Rattle.std.specs.Prelude.{ℕ, ◌≡◌, ◌≢◌, ◌+◌, ◌≤◌, ◌<◌, ◌^◌, true, false, List, ◌++◌, length, map, ⊤}
+use Rattle.std.specs.Prelude.{ℕ, ◌≡◌, ◌≢◌, ◌+◌, ◌≤◌, ◌<◌, ◌^◌, Bool, true, false, List, ◌++◌, length, map, ⊤}
 use Rattle.hx_types.specs.declared.limits.TheConstants.{MOST_ENTRIES}
 use Rattle.hx_types.specs.declared.totals.Totals.{Totals}
 use Rattle.hx_types.specs.declared.traces.Input.{Input}
 use Rattle.hx_types.specs.declared.traces.Script.{Script}
 use Rattle.hx_types.specs.declared.traces.Input.TheVariants.{Halt}
-use Rattle.hx_model.specs.Runs.{has_halted, made_of, does_something}
+use Rattle.hx_model.specs.Runs.{entry_of, has_halted, made_of, does_something}
 use Rattle.hx_clock.specs.declared.parts.Stamped.{Stamped}
+use Rattle.hx_law_threads.specs.Cuts.{is_retry}
 use Rattle.hx_mail.specs.declared.views.Mailed.{Mailed}
 use Rattle.hx_mail.specs.Boxes.{Boxed}
 use Rattle.hx_outbox.specs.declared.outboxes.Outbox.{Outbox}
@@ -42,16 +43,17 @@ pub record HasRoom (out : Outbox) (d : Desk) (t : Totals) : Type 0 where
   pub posts : t.posts < 2 ^ 61
   pub total : IsTotal t
 
--- the actor has one more entry to make: of what was taken for it and not delivered, or of a tick, where that makes something
-pub record HasMoreToMake (script : Script) (d : Desk) : Type 0 where
+-- the actor has one more entry to make: of what was taken for it and not delivered, or of a tick, where that makes something; `retry` is whether that entry is a retry
+pub record HasMoreToMake (script : Script) (retry : Bool) (d : Desk) : Type 0 where
   pub input : Input
   pub no_halt : input ≢ Halt
   pub running : has_halted script (entries_before d.part.items) d.actor ≡ false
   -- it was told of all that was taken but for this
   pub told : told d.part.items ++ told_by d.actor input ≡ map (λ s. s.mailed) (ins_of d.inbox)
   pub enough : does_something input (made_of script (entries_before d.part.items) d.actor input) ≡ true
+  pub retries : is_retry (entry_of d.actor input (made_of script (entries_before d.part.items) d.actor input)) ≡ retry
 
--- an actor is worn that has made the most entries that it may make, and has one more to make
-abbrev pub IsFaultOf : Script → Desk → Fault → Type 0
-IsFaultOf script d Memory = ⊤
-IsFaultOf script d (Worn a) = (a ≡ d.actor) × (length d.part.items ≡ MOST_ENTRIES) × HasMoreToMake script d
+-- an actor is worn that has made the most entries that it may make, and has one more to make; `retry` is whether that entry is a retry
+abbrev pub IsFaultOf : Script → Bool → Desk → Fault → Type 0
+IsFaultOf script retry d Memory = ⊤
+IsFaultOf script retry d (Worn a) = (a ≡ d.actor) × (length d.part.items ≡ MOST_ENTRIES) × HasMoreToMake script retry d

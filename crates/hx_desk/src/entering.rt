@@ -3,8 +3,9 @@ ghost use Rattle.std.specs.Prelude.{ℕ, ◌≡◌, ◌<◌, ◌^◌, true, fals
 ghost use Rattle.hx_types.specs.declared.limits.TheConstants.{MOST_ENTRIES};
 ghost use Rattle.hx_types.specs.declared.traces.Input.TheVariants.{Tick};
 ghost use Rattle.hx_types.specs.Fitting.{IsScript};
-ghost use Rattle.hx_model.specs.Runs.{has_halted, made_of, does_something};
+ghost use Rattle.hx_model.specs.Runs.{entry_of, has_halted, made_of, does_something};
 ghost use Rattle.hx_clock.specs.declared.parts.Stamped.{Stamped};
+ghost use Rattle.hx_law_threads.specs.Cuts.{is_retry};
 ghost use Rattle.hx_mail.specs.declared.views.Mailed.{Mailed};
 ghost use Rattle.hx_machine.specs.Machines.{entry_in};
 ghost use Rattle.hx_outbox.specs.Offers.{firsts_of};
@@ -147,8 +148,8 @@ fn step_on<R: Wait, G: Gate>(
     }
 }
 
-/// Makes an entry of an input that the actor can be given, and that makes something, unless the actor
-/// is worn or memory is wanting. After a fault the actor is as it was.
+/// Makes an entry, which is no retry, of an input that the actor can be given, and that makes
+/// something, unless the actor is worn or memory is wanting. After a fault the actor is as it was.
 pub(crate) fn enter<R: Wait, G: Gate>(
     rt: &R,
     alloc: Global,
@@ -168,11 +169,12 @@ pub(crate) fn enter<R: Wait, G: Gate>(
     requires running { has_halted script.now (entries_before desk.old.part.items) desk.old.actor ≡ false }
     requires given { CanBeGiven script.now desk.old input }
     requires enough { does_something input (made_of script.now (entries_before desk.old.part.items) desk.old.actor input) ≡ true }
+    requires turns { is_retry (entry_of desk.old.actor input (made_of script.now (entries_before desk.old.part.items) desk.old.actor input)) ≡ false }
     requires out { IsOutbox boxes.now out.old }
     requires room { HasRoom out.old desk.old totals.old }
     ensures desk { MatchResult result (λ _. (w : ℕ) → IsDesk script.now clock.now boxes.now w (told_by desk.old.actor input) desk.old → IsDesk script.now clock.now boxes.now w [] desk.new) (λ _. (w : ℕ) (rest : List Mailed) → IsDesk script.now clock.now boxes.now w rest desk.old → IsDesk script.now clock.now boxes.now w rest desk.new) }
     ensures turn { MatchResult result (λ _. (x : Stamped) × IsMadeOf script.now desk.old input x × IsTurn boxes.now desk.old desk.new out.old out.new totals.old totals.new (state fate.old) (state fate.new) (x ∷ [])) (λ _. IsTurn boxes.now desk.old desk.new out.old out.new totals.old totals.new (state fate.old) (state fate.new) []) }
-    ensures fault { MatchResult result (λ _. ⊤) (λ fault. IsFaultOf script.now desk.new fault) }
+    ensures fault { MatchResult result (λ _. ⊤) (λ fault. IsFaultOf script.now false desk.new fault) }
 {
     if is_worn(desk) {
         Err(Fault::Worn(desk.actor))

@@ -68,7 +68,7 @@ fn finish<R: Wait, G: Gate>(
     requires room { HasRoom out.old desk.old totals.old }
     ensures desk { (w : ℕ) → IsDesk script.now clock.now boxes.now w [] desk.old → IsDesk script.now clock.now boxes.now w [] desk.new }
     ensures retried { MatchResult result (λ _. HasRetried script.now desk.old desk.new) (λ _. desk.new.part.items ≡ desk.old.part.items) }
-    ensures fault { MatchResult result (λ _. ⊤) (λ fault. IsFaultOf script.now desk.new fault) }
+    ensures fault { MatchResult result (λ _. ⊤) (λ fault. IsFaultOf script.now true desk.new fault) }
     ensures turn { (xs : List Stamped) × IsTurn boxes.now desk.old desk.new out.old out.new totals.old totals.new (state fate.old) (state fate.new) xs }
 {
     if !makes_anything(&plan) {
@@ -106,7 +106,7 @@ fn tick<R: Wait, G: Gate>(
     requires room { HasRoom out.old desk.old totals.old }
     ensures desk { (w : ℕ) → IsDesk script.now clock.now boxes.now w [] desk.old → IsDesk script.now clock.now boxes.now w [] desk.new }
     ensures retried { MatchResult result (λ _. HasRetried script.now desk.old desk.new) (λ _. desk.new.part.items ≡ desk.old.part.items) }
-    ensures fault { MatchResult result (λ _. ⊤) (λ fault. IsFaultOf script.now desk.new fault) }
+    ensures fault { MatchResult result (λ _. ⊤) (λ fault. IsFaultOf script.now true desk.new fault) }
     ensures turn { (xs : List Stamped) × IsTurn boxes.now desk.old desk.new out.old out.new totals.old totals.new (state fate.old) (state fate.new) xs }
 {
     match foresee(alloc, script, clock, desk, Input::Tick) {
@@ -118,7 +118,8 @@ fn tick<R: Wait, G: Gate>(
 }
 
 /// A tick of an actor that waits for what may have been lost: one that hasn't halted, is no session
-/// that can begin its next call, and whose tick makes something. No other actor does anything.
+/// that can begin its next call, and whose tick makes something. No other actor does anything. Where
+/// the actor is worn, the entry that it has still to make is this retry.
 pub fn retry<R: Wait, G: Gate>(
     rt: &R,
     alloc: Global,
@@ -138,7 +139,7 @@ pub fn retry<R: Wait, G: Gate>(
     requires room { HasRoom out.old desk.old totals.old }
     ensures desk { (w : ℕ) → IsWholeDesk script.now clock.now boxes.now w desk.old → IsWholeDesk script.now clock.now boxes.now w desk.new }
     ensures retried { MatchResult result (λ _. HasRetried script.now desk.old desk.new) (λ _. desk.new.part.items ≡ desk.old.part.items) }
-    ensures fault { MatchResult result (λ _. ⊤) (λ fault. IsFaultOf script.now desk.new fault) }
+    ensures fault { MatchResult result (λ _. ⊤) (λ fault. IsFaultOf script.now true desk.new fault) }
     ensures turn { (xs : List Stamped) × IsTurn boxes.now desk.old desk.new out.old out.new totals.old totals.new (state fate.old) (state fate.new) xs }
 {
     if rests(&desk.machine) {

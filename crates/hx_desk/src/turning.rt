@@ -98,7 +98,7 @@ fn begin<R: Wait, G: Gate>(
     requires out { IsOutbox boxes.now out.old }
     requires room { HasRoom out.old desk.old totals.old }
     ensures desk { MatchResult result (λ _. (w : ℕ) → IsDesk script.now clock.now boxes.now w [] desk.old → IsDesk script.now clock.now boxes.now w [] desk.new) (λ _. (w : ℕ) → IsDesk script.now clock.now boxes.now w [] desk.old → IsBrokenDesk script.now clock.now boxes.now w desk.new) }
-    ensures fault { MatchResult result (λ _. ⊤) (λ fault. IsFaultOf script.now desk.new fault) }
+    ensures fault { MatchResult result (λ _. ⊤) (λ fault. IsFaultOf script.now false desk.new fault) }
     ensures turn { (xs : List Stamped) × IsTurn boxes.now desk.old desk.new out.old out.new totals.old totals.new (state fate.old) (state fate.new) xs }
     ensures retries { HasNoRetry desk.old desk.new }
 {
@@ -142,7 +142,7 @@ fn answer<R: Wait, G: Gate>(
     requires out { IsOutbox boxes.now out.old }
     requires room { HasRoom out.old desk.old totals.old }
     ensures desk { MatchResult result (λ _. (w : ℕ) → IsDesk script.now clock.now boxes.now w [] desk.old → IsDesk script.now clock.now boxes.now w [] desk.new) (λ _. (w : ℕ) → IsDesk script.now clock.now boxes.now w [] desk.old → IsBrokenDesk script.now clock.now boxes.now w desk.new) }
-    ensures fault { MatchResult result (λ _. ⊤) (λ fault. IsFaultOf script.now desk.new fault) }
+    ensures fault { MatchResult result (λ _. ⊤) (λ fault. IsFaultOf script.now false desk.new fault) }
     ensures turn { (xs : List Stamped) × IsTurn boxes.now desk.old desk.new out.old out.new totals.old totals.new (state fate.old) (state fate.new) xs }
     ensures retries { HasNoRetry desk.old desk.new }
 {
@@ -158,7 +158,8 @@ fn answer<R: Wait, G: Gate>(
 
 /// One turn of an actor: its kept envelopes are put again; it takes an envelope and makes an entry of
 /// it, or, where its box is empty and it is a session that can begin its next call, it begins that. A
-/// halted server drops what it takes.
+/// halted server drops what it takes. Where the actor is worn, the entry that it has still to make is
+/// no retry.
 pub fn turn<R: Wait, G: Gate>(
     rt: &R,
     alloc: Global,
@@ -177,7 +178,7 @@ pub fn turn<R: Wait, G: Gate>(
     requires out { IsOutbox boxes.now out.old }
     requires room { HasRoom out.old desk.old totals.old }
     ensures desk { MatchResult result (λ _. (w : ℕ) → IsWholeDesk script.now clock.now boxes.now w desk.old → IsWholeDesk script.now clock.now boxes.now w desk.new) (λ _. (w : ℕ) → IsWholeDesk script.now clock.now boxes.now w desk.old → IsBrokenDesk script.now clock.now boxes.now w desk.new) }
-    ensures fault { MatchResult result (λ _. ⊤) (λ fault. IsFaultOf script.now desk.new fault) }
+    ensures fault { MatchResult result (λ _. ⊤) (λ fault. IsFaultOf script.now false desk.new fault) }
     ensures turn { (xs : List Stamped) × IsTurn boxes.now desk.old desk.new out.old out.new totals.old totals.new (state fate.old) (state fate.new) xs }
     ensures retries { HasNoRetry desk.old desk.new }
 {

@@ -1,8 +1,9 @@
 -- A crew before and after one of its actors had a turn.
-use Rattle.std.proofs.Common.{◌≡◌, ℕ, zero, suc, ◌+◌, ◌<◌, ◌≤◌, ◌⊎◌, ⊎_elim, inl, inr, List, [], ◌∷◌, ◌++◌, length, slice_get, slice_index_or, slice_set, Some, None, refl, ap, sym, subst, ◌∙◌, arith}
+use Rattle.std.proofs.Common.{◌≡◌, ℕ, zero, suc, ◌+◌, ◌<◌, ◌≤◌, ◌⊎◌, ⊎_elim, inl, inr, Bool, true, false, List, [], ◌∷◌, ◌++◌, length, slice_get, slice_index_or, slice_set, Some, None, refl, ap, sym, subst, ◌∙◌, arith}
 use Rattle.std.specs.List.{AllByRecursion}
 use Rattle.std.proofs.lemmas.Option.{none-some, slice_get_within}
 use Rattle.atomic_table.specs.Seated.{TableId}
+use Rattle.hx_types.specs.declared.ids.Actor.{Actor}
 use Rattle.hx_types.specs.declared.traces.Script.{Script}
 use Rattle.hx_types.specs.Words.{IsIn}
 use Rattle.hx_clock.specs.declared.parts.Stamped.{Stamped}
@@ -19,8 +20,8 @@ use Rattle.hx_desk.specs.Desks.{HasNoRetry, IsBrokenDesk, IsLater, IsWholeDesk}
 use Rattle.hx_desk.specs.Inboxes.{ins_of}
 use Rattle.hx_desk.specs.Turns.{IsFaultOf}
 use Rattle.hx_driver.specs.declared.crews.Crew.{Crew}
-use Rattle.hx_driver.specs.Crews.{HasFault, IsCrew, IsDeskOf}
-use Rattle.hx_driver.specs.Slices.{DoneTo, HaveNoRetry, IsLaterCrew, MayHaveRetried}
+use Rattle.hx_driver.specs.Crews.{HasFault, HasWorn, IsCrew, IsDeskOf}
+use Rattle.hx_driver.specs.Slices.{DoneTo, HasFaultSince, HaveNoRetry, IsLaterCrew, MayHaveRetried}
 use Rattle.hx_driver.proofs.Booking.{booked-turn, IsTurnIn}
 use Rattle.hx_driver.proofs.Places.{both-and, both-refl, both-set, both-trans, each-at, each-set, in-set, set-length}
 
@@ -29,13 +30,51 @@ pub desk-at : (script : Script) (clock : TableId) (boxes : List Boxed) (w : ℕ)
     → IsWholeDesk script clock boxes w d
 desk-at script clock boxes w c at d h calm within is = (each-at (IsDeskOf script clock boxes w c) c.desks.items at d h.desks within is).whole calm
 
+-- the actor whose turn it is, is one of those before
+done-at : (R : Desk → Desk → Type 0) (n : ℕ) (ds es : List Desk) (e : Desk) → DoneTo R n ds es → n < length es → e ≡ slice_index_or es n e → IsIn e ds
+done-at R n [] [] e h lt is = absurd (omega (arith, lt))
+done-at R n [] (x ∷ es) e h lt is = absurd h
+done-at R n (d ∷ ds) [] e h lt is = absurd h
+done-at R zero (d ∷ ds) (x ∷ es) e h lt is = inl (is ∙ h.0)
+done-at R (suc n) (d ∷ ds) (x ∷ es) e h lt is = inr (done-at R n ds es e h.1 (omega (arith, lt)) is)
+
+-- the fault that the turn met
+module _ (script : Script) (boxes : List Boxed) (c c' : Crew) (at : ℕ) (d d' : Desk) (f f' : FateState) (xs : List Stamped) (k : IsTurnIn boxes c c' at d d' f f' xs) where
+  worn-of : (retry : Bool) (a : Actor) → c'.fault ≡ Some (a_fault.Worn a) → IsFaultOf script retry d' (a_fault.Worn a) → HasWorn script retry c'
+  worn-of retry a e why = record {
+    desk = d';
+    is = subst (IsIn d') (sym k.desks) (in-set c.desks.items at d' k.within);
+    fault = e ∙ ap (λ b. Some (a_fault.Worn b)) why.0;
+    most = why.1;
+    more = why.2;
+  }
+
+  pub fault-of : (retry : Bool) (fault : Fault) → c'.fault ≡ Some fault → IsFaultOf script retry d' fault → HasFault script retry c'
+  fault-of retry a_fault.Memory e why = inr (inl e)
+  fault-of retry (a_fault.Worn a) e why = inr (inr (worn-of retry a e why))
+
+  -- where it made nothing, the actor is as it was among the desks before
+  pub fault-since : (fault : Fault) → c'.fault ≡ Some fault → IsFaultOf script true d' fault → d'.part.items ≡ d.part.items
+      → (before : List Desk) → DoneTo (MayHaveRetried script) at before c.desks.items → HasFaultSince script before c'
+  unfolding worn-of
+  fault-since a_fault.Memory e why same before h = inr (inl e)
+  fault-since (a_fault.Worn a) e why same before h =
+      inr
+      (inr (record {
+        worn = worn-of true a e why;
+        desk = d;
+        was = done-at (MayHaveRetried script) at before c.desks.items d h k.within k.desk;
+        actor = k.turn.later.actor;
+        part = same;
+      }))
+
 -- the crew after the turn: without a fault, or with one
 module _ (script : Script) (clock : TableId) (boxes : List Boxed) (w : ℕ) (c c' : Crew) (at : ℕ) (d d' : Desk) (f f' : FateState) (xs : List Stamped)
     (k : IsTurnIn boxes c c' at d d' f f' xs) (calm : c.fault ≡ None) (h : IsCrew script clock boxes w c) where
   same-desk : (e : Desk) → IsDeskOf script clock boxes w c e → IsDeskOf script clock boxes w c' e
   same-desk e g = record { broken = g.broken; whole = λ n. g.whole calm }
 
-  moved : IsDeskOf script clock boxes w c' d' → HasFault script c' → IsCrew script clock boxes w c'
+  moved : IsDeskOf script clock boxes w c' d' → ((retry : Bool) × HasFault script retry c') → IsCrew script clock boxes w c'
   moved here fault = record {
     out = k.turn.out.0;
     desks =
@@ -48,22 +87,11 @@ module _ (script : Script) (clock : TableId) (boxes : List Boxed) (w : ℕ) (c c
   }
 
   pub moved-calm : c'.fault ≡ None → IsWholeDesk script clock boxes w d' → IsCrew script clock boxes w c'
-  moved-calm none whole = moved (record { broken = record { rest = whole.rest; desk = whole.desk }; whole = λ n. whole }) (inl none)
+  moved-calm none whole = moved (record { broken = record { rest = whole.rest; desk = whole.desk }; whole = λ n. whole }) (false, inl none)
 
-  fault-of : (fault : Fault) → c'.fault ≡ Some fault → IsFaultOf script d' fault → HasFault script c'
-  fault-of a_fault.Memory e why = inr (inl e)
-  fault-of (a_fault.Worn a) e why =
-      inr
-      (inr (record {
-        desk = d';
-        is = subst (IsIn d') (sym k.desks) (in-set c.desks.items at d' k.within);
-        fault = e ∙ ap (λ b. Some (a_fault.Worn b)) why.0;
-        most = why.1;
-        more = why.2;
-      }))
-
-  pub moved-fault : (fault : Fault) → c'.fault ≡ Some fault → IsFaultOf script d' fault → IsBrokenDesk script clock boxes w d' → IsCrew script clock boxes w c'
-  moved-fault fault e why broken = moved (record { broken = broken; whole = λ n. absurd (none-some fault (sym n ∙ e)) }) (fault-of fault e why)
+  pub moved-fault : (retry : Bool) (fault : Fault) → c'.fault ≡ Some fault → IsFaultOf script retry d' fault → IsBrokenDesk script clock boxes w d' → IsCrew script clock boxes w c'
+  moved-fault retry fault e why broken =
+      moved (record { broken = broken; whole = λ n. absurd (none-some fault (sym n ∙ e)) }) (retry, fault-of script boxes c c' at d d' f f' xs k retry fault e why)
 
 -- the crew is the same later
 later-refl : (d : Desk) → IsLater d d
@@ -130,17 +158,31 @@ no-retry-trans d e f h later k n x le at =
     (λ (ge : length e.part.items ≤ n). k n x ge at)
     (below-or-not n (length e.part.items))
 
-pub none-retried : (boxes : List Boxed) (c c' : Crew) (at : ℕ) (d d' : Desk) (f f' : FateState) (xs : List Stamped) → IsTurnIn boxes c c' at d d' f f' xs → HasNoRetry d d' → HaveNoRetry c c'
-none-retried boxes c c' at d d' f f' xs k h =
-    subst (Both HasNoRetry c.desks.items) (sym k.desks) (both-set HasNoRetry no-retry-refl c.desks.items at d d' k.desk h)
+pub none-retried : (script : Script) (boxes : List Boxed) (c c' : Crew) (at : ℕ) (d d' : Desk) (f f' : FateState) (xs : List Stamped) → IsTurnIn boxes c c' at d d' f f' xs
+    → HasNoRetry d d' → HasFault script false c' → HaveNoRetry script c c'
+none-retried script boxes c c' at d d' f f' xs k h fault = record {
+  desks = subst (Both HasNoRetry c.desks.items) (sym k.desks) (both-set HasNoRetry no-retry-refl c.desks.items at d d' k.desk h);
+  fault = λ e. fault;
+}
 
-pub none-retried-refl : (c : Crew) → HaveNoRetry c c
-none-retried-refl c = both-refl HasNoRetry no-retry-refl c.desks.items
+pub none-retried-refl : (script : Script) (c : Crew) → HaveNoRetry script c c
+none-retried-refl script c = record { desks = both-refl HasNoRetry no-retry-refl c.desks.items; fault = λ e. inl e }
 
-pub none-retried-trans : (a b c : Crew) → HaveNoRetry a b → IsLaterCrew b c → HaveNoRetry b c → HaveNoRetry a c
-none-retried-trans a b c h later k =
-    both-trans HasNoRetry (λ x y. IsLater x y × HasNoRetry x y) HasNoRetry (λ x y z m n. no-retry-trans x y z m n.0 n.1) a.desks.items b.desks.items c.desks.items h
-    (both-and IsLater HasNoRetry b.desks.items c.desks.items later.desks k)
+-- after a fault nothing changes
+fault-stays : (script : Script) (retry : Bool) (b c : Crew) → IsLaterCrew b c → HasFault script retry b → (b.fault ≡ None → HasFault script retry c) → HasFault script retry c
+fault-stays script retry b c later fault calm =
+    ⊎_elim calm
+    (λ (h : (b.fault ≡ Some a_fault.Memory) ⊎ HasWorn script retry b).
+    ⊎_elim (λ (e : b.fault ≡ Some a_fault.Memory). subst (HasFault script retry) (sym (later.stays a_fault.Memory e)) fault)
+    (λ (k : HasWorn script retry b). subst (HasFault script retry) (sym (later.stays (a_fault.Worn k.desk.actor) k.fault)) fault) h) fault
+
+pub none-retried-trans : (script : Script) (a b c : Crew) → HaveNoRetry script a b → IsLaterCrew b c → HaveNoRetry script b c → HaveNoRetry script a c
+none-retried-trans script a b c h later k = record {
+  desks =
+      both-trans HasNoRetry (λ x y. IsLater x y × HasNoRetry x y) HasNoRetry (λ x y z m n. no-retry-trans x y z m n.0 n.1) a.desks.items b.desks.items c.desks.items h.desks
+      (both-and IsLater HasNoRetry b.desks.items c.desks.items later.desks k.desks);
+  fault = λ e. fault-stays script false b c later (h.fault e) k.fault;
+}
 
 -- one actor after the other
 pub done-none : (R : Desk → Desk → Type 0) (ds : List Desk) → DoneTo R 0 ds ds

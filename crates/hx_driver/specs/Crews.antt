@@ -1,5 +1,5 @@
 -- A crew: the actors of one driver with its ports, its totals and its fault.
-use Rattle.std.specs.Prelude.{ℕ, ◌≡◌, ◌+◌, ◌*◌, ◌≤◌, ◌⊎◌, List, length, None, Some}
+use Rattle.std.specs.Prelude.{ℕ, ◌≡◌, ◌+◌, ◌*◌, ◌≤◌, ◌⊎◌, Bool, List, length, None, Some}
 use Rattle.std.specs.List.{AllByRecursion}
 use Rattle.atomic_table.specs.Seated.{TableId}
 use Rattle.hx_types.specs.declared.limits.TheConstants.{MOST_ACTORS, MOST_ENTRIES}
@@ -51,17 +51,17 @@ pub record IsDeskOf (script : Script) (clock : TableId) (boxes : List Boxed) (w 
   pub broken : IsBrokenDesk script clock boxes w d
   pub whole : c.fault ≡ None → IsWholeDesk script clock boxes w d
 
--- one of the actors is worn: it has made the most entries that it may make, and has one more to make
-pub record HasWorn (script : Script) (c : Crew) : Type 0 where
+-- one of the actors is worn: it has made the most entries that it may make, and has one more to make; `retry` is whether that entry is a retry
+pub record HasWorn (script : Script) (retry : Bool) (c : Crew) : Type 0 where
   pub desk : Desk
   pub is : IsIn desk c.desks.items
   pub fault : c.fault ≡ Some (a_fault.Worn desk.actor)
   pub most : length desk.part.items ≡ MOST_ENTRIES
-  pub more : HasMoreToMake script desk
+  pub more : HasMoreToMake script retry desk
 
 -- the fault is a want of memory, or one of the actors is worn
-abbrev pub HasFault : Script → Crew → Type 0
-HasFault script c = (c.fault ≡ None) ⊎ ((c.fault ≡ Some a_fault.Memory) ⊎ HasWorn script c)
+abbrev pub HasFault : Script → Bool → Crew → Type 0
+HasFault script retry c = (c.fault ≡ None) ⊎ ((c.fault ≡ Some a_fault.Memory) ⊎ HasWorn script retry c)
 
 pub record IsCrew (script : Script) (clock : TableId) (boxes : List Boxed) (w : ℕ) (c : Crew) : Type 0 where
   pub out : IsOutbox boxes c.out
@@ -69,4 +69,4 @@ pub record IsCrew (script : Script) (clock : TableId) (boxes : List Boxed) (w : 
   pub many : length c.desks.items ≤ MOST_ACTORS
   pub booked : IsBooked c
   pub total : IsTotal c.totals
-  pub fault : HasFault script c
+  pub fault : (retry : Bool) × HasFault script retry c

@@ -49,7 +49,7 @@ impl Driver {
         ensures crew { (w : ℕ) → IsCrew script.now clock.now boxes.now w self.old.crew → IsCrew script.now clock.now boxes.now w self.new.crew }
         ensures later { IsLaterCrew self.old.crew self.new.crew }
         ensures posted { IsPosted self.old.crew self.new.crew (state self.old.fate) (state self.new.fate) }
-        ensures retries { HaveNoRetry self.old.crew self.new.crew }
+        ensures retries { HaveNoRetry script.now self.old.crew self.new.crew }
     {
         rounds(
             rt,

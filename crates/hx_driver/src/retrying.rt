@@ -4,7 +4,7 @@ ghost use Rattle.hx_outbox.specs.Places.{AreBoxes};
 ghost use Rattle.hx_desk.specs.declared.desks.Desk.{Desk};
 ghost use Rattle.hx_desk.specs.Desks.{HasRetried};
 ghost use Rattle.hx_driver.specs.Crews.{IsCrew, IsPosted};
-ghost use Rattle.hx_driver.specs.Slices.{DoneTo, HaveRetried, IsLaterCrew, MayHaveRetried};
+ghost use Rattle.hx_driver.specs.Slices.{DoneTo, HasFaultSince, HaveRetried, IsLaterCrew, MayHaveRetried};
 
 use crate::crews::Crew;
 use hx_clock::Clock;
@@ -37,6 +37,7 @@ fn retry_of<R: Wait, G: Gate>(
     ensures posted { IsPosted crew.old crew.new (state fate.old) (state fate.new) }
     ensures calm { crew.new.fault ≡ None → (before : List Desk) → DoneTo (HasRetried script.now) at before crew.old.desks.items → DoneTo (HasRetried script.now) (at + 1) before crew.new.desks.items }
     ensures some { (before : List Desk) → DoneTo (MayHaveRetried script.now) at before crew.old.desks.items → DoneTo (MayHaveRetried script.now) (at + 1) before crew.new.desks.items }
+    ensures fault { (before : List Desk) → DoneTo (MayHaveRetried script.now) at before crew.old.desks.items → HasFaultSince script.now before crew.new }
 {
     let retried = retry(
         rt,
@@ -77,6 +78,7 @@ fn retry_unless_fault<R: Wait, G: Gate>(
     ensures posted { IsPosted crew.old crew.new (state fate.old) (state fate.new) }
     ensures calm { crew.new.fault ≡ None → (crew.old.fault ≡ None) × ((before : List Desk) → DoneTo (HasRetried script.now) at before crew.old.desks.items → DoneTo (HasRetried script.now) (at + 1) before crew.new.desks.items) }
     ensures some { (before : List Desk) → DoneTo (MayHaveRetried script.now) at before crew.old.desks.items → DoneTo (MayHaveRetried script.now) (at + 1) before crew.new.desks.items }
+    ensures fault { (before : List Desk) → DoneTo (MayHaveRetried script.now) at before crew.old.desks.items → HasFaultSince script.now before crew.old → HasFaultSince script.now before crew.new }
 {
     match crew.fault {
         None => retry_of(rt, alloc, script, clock, boxes, gate, crew, fate, at),

@@ -37,7 +37,7 @@ fn turn_of<R: Wait, G: Gate>(
     ensures crew { (w : ℕ) → IsCrew script.now clock.now boxes.now w crew.old → IsCrew script.now clock.now boxes.now w crew.new }
     ensures later { IsLaterCrew crew.old crew.new }
     ensures posted { IsPosted crew.old crew.new (state fate.old) (state fate.new) }
-    ensures retries { HaveNoRetry crew.old crew.new }
+    ensures retries { HaveNoRetry script.now crew.old crew.new }
 {
     let turned = turn(
         rt,
@@ -76,7 +76,7 @@ fn turn_unless_fault<R: Wait, G: Gate>(
     ensures crew { (w : ℕ) → IsCrew script.now clock.now boxes.now w crew.old → IsCrew script.now clock.now boxes.now w crew.new }
     ensures later { IsLaterCrew crew.old crew.new }
     ensures posted { IsPosted crew.old crew.new (state fate.old) (state fate.new) }
-    ensures retries { HaveNoRetry crew.old crew.new }
+    ensures retries { HaveNoRetry script.now crew.old crew.new }
 {
     match crew.fault {
         None => turn_of(rt, alloc, script, clock, boxes, gate, crew, fate, at),
@@ -122,7 +122,7 @@ fn works<R: Wait, G: Gate>(
     ensures crew { (w : ℕ) → IsCrew script.now clock.now boxes.now w crew.old → IsCrew script.now clock.now boxes.now w crew.new }
     ensures later { IsLaterCrew crew.old crew.new }
     ensures posted { IsPosted crew.old crew.new (state fate.old) (state fate.new) }
-    ensures retries { HaveNoRetry crew.old crew.new }
+    ensures retries { HaveNoRetry script.now crew.old crew.new }
 {
     let before = done_by(crew, at);
     turn_unless_fault(rt, alloc, script, clock, boxes, gate, crew, fate, at);
@@ -148,7 +148,7 @@ fn turns_of<R: Wait, G: Gate>(
     ensures crew { (w : ℕ) → IsCrew script.now clock.now boxes.now w crew.old → IsCrew script.now clock.now boxes.now w crew.new }
     ensures later { IsLaterCrew crew.old crew.new }
     ensures posted { IsPosted crew.old crew.new (state fate.old) (state fate.new) }
-    ensures retries { HaveNoRetry crew.old crew.new }
+    ensures retries { HaveNoRetry script.now crew.old crew.new }
 {
     for turn in 0..MOST_TURNS_TOGETHER {
         if !works(rt, alloc, script, clock, boxes, gate, crew, fate, at) {
@@ -175,7 +175,7 @@ fn round<R: Wait, G: Gate>(
     ensures crew { (w : ℕ) → IsCrew script.now clock.now boxes.now w crew.old → IsCrew script.now clock.now boxes.now w crew.new }
     ensures later { IsLaterCrew crew.old crew.new }
     ensures posted { IsPosted crew.old crew.new (state fate.old) (state fate.new) }
-    ensures retries { HaveNoRetry crew.old crew.new }
+    ensures retries { HaveNoRetry script.now crew.old crew.new }
 {
     let mut worked = false;
     for at in 0..crew.desks.len() {
@@ -202,7 +202,7 @@ pub fn rounds<R: Wait, G: Gate>(
     ensures crew { (w : ℕ) → IsCrew script.now clock.now boxes.now w crew.old → IsCrew script.now clock.now boxes.now w crew.new }
     ensures later { IsLaterCrew crew.old crew.new }
     ensures posted { IsPosted crew.old crew.new (state fate.old) (state fate.new) }
-    ensures retries { HaveNoRetry crew.old crew.new }
+    ensures retries { HaveNoRetry script.now crew.old crew.new }
 {
     let mut lull = Lull::new();
     for _round in 0..u32::MAX {

@@ -1,31 +1,46 @@
 -- What a course tells: the crews at its cuts are earlier ones, and each retry comes first after a cut.
-use Rattle.std.proofs.Common.{◌≡◌, ℕ, ◌+◌, ◌<◌, ◌≤◌, inl, inr, ⊎_elim, true, false, List, [], ◌∷◌, map, length, Some, slice_get, refl, ap, sym, subst, ◌∙◌, arith, length-append, true≢false}
+use Rattle.std.proofs.Common.{◌≡◌, ℕ, ◌+◌, ◌<◌, ◌≤◌, ◌⊎◌, inl, inr, ⊎_elim, true, false, List, [], ◌∷◌, map, length, Option, Some, None, slice_get, refl, ap, sym, subst, ◌∙◌, arith, length-append, true≢false}
 use Rattle.std.specs.List.{AllByRecursion}
 use Rattle.atomic_table.specs.Seated.{TableId}
+use Rattle.hx_types.specs.declared.ids.Actor.{Actor}
 use Rattle.hx_types.specs.declared.traces.Script.{Script}
 use Rattle.hx_types.specs.Words.{IsIn}
 use Rattle.hx_clock.specs.declared.parts.Stamped.{Stamped}
-use Rattle.hx_clock.proofs.Lists.{each_map, get-below}
+use Rattle.hx_clock.proofs.Lists.{each_in, each_map, get-below}
 use Rattle.hx_law_threads.specs.Cuts.{is_retry, is_waiting}
 use Rattle.hx_law_threads.specs.Pacing.{AreRising}
 use Rattle.hx_mail.specs.Boxes.{Boxed}
 use Rattle.hx_outbox.specs.Zipped.{Both}
 use Rattle.hx_desk.specs.declared.desks.Desk.{Desk}
+use Rattle.hx_desk.specs.declared.faults.Fault.{Fault}
+use Rattle.hx_desk.specs.declared.faults.Fault.TheVariants.{Memory, Worn}
 use Rattle.hx_desk.specs.Desks.{entries_before, HasNoRetry, HasRetried, IsLater}
 use Rattle.hx_driver.specs.declared.crews.Crew.{Crew}
-use Rattle.hx_driver.specs.Slices.{IsLaterCrew, MayHaveRetried}
+use Rattle.hx_driver.specs.Crews.{HasFault, HasWorn}
+use Rattle.hx_driver.specs.Slices.{HasFaultSince, HasWornSince, IsLaterCrew, MayHaveRetried}
 use Rattle.hx_law_drivers.specs.Courses.{AreSliced, IsCourse, IsCutAt, AreRetried, IsSliced}
 use Rattle.hx_law_drivers.specs.Crews.{cut_of, desks_of}
-use Rattle.hx_law_drivers.proofs.Lists.{both_and, both_back, both_map, both_then, bool_cases, lt_or_le, prefix_get, snoc_get}
+use Rattle.hx_law_drivers.specs.Laws.{IsWornAt}
+use Rattle.hx_law_drivers.proofs.Lists.{both_and, both_back, both_map, both_then, bool_cases, in_flat, lt_or_le, prefix_get, snoc_get}
 use Rattle.hx_law_drivers.proofs.Desks.{calm_before, fewer_before, later_crews, later_desks, of_desks, AreCalm, AreLater}
 
-sliced_later : (xs ys : List Crew) → AreSliced xs ys → AreLater xs ys
-sliced_later xs ys h = both_map IsSliced IsLaterCrew (λ x y k. k.later) xs ys h
+-- the only worn actor of a fault is the one that it names
+worn_same : (o : Option Fault) (a b : Actor) → o ≡ Some (Worn a) → o ≡ Some (Worn b) → a ≡ b
+worn_same o a b e k = cc
 
-sliced_desks : (xs ys : List Crew) → AreSliced xs ys → Both HasNoRetry (desks_of xs) (desks_of ys)
-sliced_desks xs ys h = of_desks IsSliced HasNoRetry (λ x y k. k.retries) xs ys h
+not_none : (o : Option Fault) (a : Actor) → o ≡ Some (Worn a) → o ≡ None → ⊥
+not_none o a e k = cc
+
+not_memory : (o : Option Fault) (a : Actor) → o ≡ Some (Worn a) → o ≡ Some Memory → ⊥
+not_memory o a e k = cc
 
 module _ (script : Script) where
+  sliced_later : (xs ys : List Crew) → AreSliced script xs ys → AreLater xs ys
+  sliced_later xs ys h = both_map (IsSliced script) IsLaterCrew (λ x y k. k.later) xs ys h
+
+  sliced_desks : (xs ys : List Crew) → AreSliced script xs ys → Both HasNoRetry (desks_of xs) (desks_of ys)
+  sliced_desks xs ys h = of_desks (IsSliced script) HasNoRetry (λ x y k. k.retries.desks) xs ys h
+
   retried_desks : (xs ys : List Crew) → AreRetried script xs ys → Both (MayHaveRetried script) (desks_of xs) (desks_of ys)
   retried_desks xs ys h = of_desks (λ (c c' : Crew). Both (MayHaveRetried script) c.desks.items c'.desks.items) (MayHaveRetried script) (λ x y k. k) xs ys h.some
 
@@ -33,7 +48,7 @@ module _ (script : Script) where
   calm_retried xs ys h calm = of_desks (λ (c c' : Crew). Both (HasRetried script) c.desks.items c'.desks.items) (HasRetried script) (λ x y k. k) xs ys (h.calm calm)
 
   -- the same desk before slices, and before a retry
-  sliced_back : (xs ys : List Crew) (e : Desk) → AreSliced xs ys → IsIn e (desks_of ys) → (d : Desk) × IsIn d (desks_of xs) × (IsLater d e × HasNoRetry d e)
+  sliced_back : (xs ys : List Crew) (e : Desk) → AreSliced script xs ys → IsIn e (desks_of ys) → (d : Desk) × IsIn d (desks_of xs) × (IsLater d e × HasNoRetry d e)
   sliced_back xs ys e h i =
       both_back (λ d e. IsLater d e × HasNoRetry d e) (desks_of xs) (desks_of ys) e
       (both_and IsLater HasNoRetry (desks_of xs) (desks_of ys) (later_desks xs ys (sliced_later xs ys h)) (sliced_desks xs ys h)) i
@@ -140,3 +155,51 @@ module _ (script : Script) where
         (r.0, inr r.1, (r.2.0, r.2.1, same ∙ r.2.2, r.2.3)))
         (λ (ge : length d.0.part.items ≤ n). (cut, inl refl, (d.0, d.1, same, omega (arith, ge, lt, one_more d.0 m.0 d.2.1)))) (lt_or_le n (length d.0.part.items)))
         (λ (ge : length m.0.part.items ≤ n). absurd (true≢false (sym retry ∙ m.2.1 n x ge at))) (lt_or_le n (length m.0.part.items))
+
+    -- an actor that is worn after a turn has no retry to make
+    worn_in_turn : (cuts : List (List Crew)) (c : Crew) (a : Actor) → HasFault script false c → c.fault ≡ Some (Worn a) → IsWornAt script cuts c a
+    worn_in_turn cuts c a h e =
+        ⊎_elim (λ (n : c.fault ≡ None). absurd (not_none c.fault a e n))
+        (λ (r : (c.fault ≡ Some Memory) ⊎ HasWorn script false c).
+        ⊎_elim (λ (m : c.fault ≡ Some Memory). absurd (not_memory c.fault a e m))
+        (λ (k : HasWorn script false c). record {
+          desk = k.desk;
+          is = k.is;
+          actor = worn_same c.fault k.desk.actor a k.fault e;
+          most = k.most;
+          retry = false;
+          more = k.more;
+          due = λ t. absurd (true≢false (sym t));
+        }) r) h
+
+    -- one that is worn after a retry has that retry to make
+    worn_in_retry : (cut : List Crew) (older : List (List Crew)) (before c : Crew) (a : Actor) → IsIn before cut → HasWornSince script before.desks.items c → c.fault ≡ Some (Worn a)
+        → IsWornAt script (cut ∷ older) c a
+    worn_in_retry cut older before c a i k e = record {
+      desk = k.worn.desk;
+      is = k.worn.is;
+      actor = worn_same c.fault k.worn.desk.actor a k.worn.fault e;
+      most = k.worn.most;
+      retry = true;
+      more = k.worn.more;
+      due = λ t. (cut, inl refl, (k.desk, in_flat (λ (x : Crew). x.desks.items) cut before k.desk i k.was, k.actor, ap length (sym k.part)));
+    }
+
+    -- an actor that is worn at the end of a course has a retry to make only where it made nothing since a cut
+    pub worn_due : (start : List Crew) (cuts : List (List Crew)) (now : List Crew) → AreCalm start → IsCourse script clock boxes w start cuts now
+        → (c : Crew) → IsIn c now → (a : Actor) → c.fault ≡ Some (Worn a) → IsWornAt script cuts c a
+    worn_due start [] now calm h c i a e =
+        let b = both_back (IsSliced script) start now c h i in
+        worn_in_turn [] c a (b.2.retries.fault (each_in (λ (x : Crew). x.fault ≡ None) start b.0 calm b.1)) e
+    worn_due start (cut ∷ older) now calm h c i a e =
+        let mid = h.2.0 in
+        let m = both_back (IsSliced script) mid now c h.2.2 i in
+        let d = both_back (λ (x y : Crew). x.fault ≡ None → HasFaultSince script x.desks.items y) cut mid m.0 h.2.1.fault m.1 in
+        let since = d.2 (each_in (λ (x : Crew). x.fault ≡ None) cut d.0 h.0.rest.calm d.1) in
+        ⊎_elim (λ (n : m.0.fault ≡ None). worn_in_turn (cut ∷ older) c a (m.2.retries.fault n) e)
+        (λ (r : (m.0.fault ≡ Some Memory) ⊎ HasWornSince script d.0.desks.items m.0).
+        ⊎_elim (λ (k : m.0.fault ≡ Some Memory). absurd (not_memory c.fault a e (ap (λ (x : Crew). x.fault) (m.2.later.stays Memory k) ∙ k)))
+        (λ (k : HasWornSince script d.0.desks.items m.0).
+        let same : c ≡ m.0 = m.2.later.stays (Worn k.worn.desk.actor) k.worn.fault in
+        subst (λ (x : Crew). IsWornAt script (cut ∷ older) x a) (sym same)
+        (worn_in_retry cut older d.0 m.0 a d.1 k (ap (λ (x : Crew). x.fault) (sym same) ∙ e))) r) since

@@ -2,6 +2,7 @@ pub mod Lists
 pub mod Desks
 pub mod Courses
 pub mod Seen
+pub mod Longer
 pub mod Opens
 pub mod Repeats
 pub mod Paced

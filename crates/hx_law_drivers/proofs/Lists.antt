@@ -1,5 +1,5 @@
 -- Lists place by place, prefixes, and sums.
-use Rattle.std.proofs.Common.{◌≡◌, ℕ, zero, suc, ◌<◌, ◌≤◌, ◌⊎◌, inl, inr, ⊎_elim, Bool, true, false, List, [], ◌∷◌, ◌++◌, map, take, length, flat_map, Some, slice_get, refl, ap, sym, subst, ◌∙◌, arith, length-append}
+use Rattle.std.proofs.Common.{◌≡◌, ℕ, zero, suc, ◌+◌, ◌<◌, ◌≤◌, ◌⊎◌, inl, inr, ⊎_elim, Bool, true, false, List, [], ◌∷◌, ◌++◌, map, take, length, flat_map, Some, slice_get, refl, ap, sym, subst, ◌∙◌, arith, length-append}
 use Rattle.std.specs.List.{AllByRecursion}
 use mathlib.Core.List.{IsPrefix}
 use Rattle.hx_types.specs.Words.{IsIn}
@@ -16,6 +16,11 @@ lt_or_le (suc m) (suc n) = ⊎_elim (λ (h : m < n). inl (omega (arith, h))) (λ
 pub bool_cases : (b : Bool) → (b ≡ true) ⊎ (b ≡ false)
 bool_cases true = inl refl
 bool_cases false = inr refl
+
+pub bools_same : (a b : Bool) → (a ≡ true → b ≡ true) → (b ≡ true → a ≡ true) → a ≡ b
+bools_same true b f g = sym (f refl)
+bools_same false true f g = g refl
+bools_same false false f g = refl
 
 -- a prefix of a list
 module _ {A : Type 0} where
@@ -151,6 +156,12 @@ module _ {A : Type 0} where
   pub total_under : (g h : A → ℕ) (xs : List A) → ((x : A) → IsIn x xs → g x ≤ h x) → total g xs ≤ total h xs
   total_under g h [] f = omega arith
   total_under g h (x ∷ xs) f = omega (arith, f x (inl refl), total_under g h xs (λ y i. f y (inr i)))
+
+  -- where one item has so much to spare, so has the sum
+  pub total_under_by : (g h : A → ℕ) (n : ℕ) (xs : List A) (x : A) → IsIn x xs → ((y : A) → IsIn y xs → g y ≤ h y) → g x + n ≤ h x → total g xs + n ≤ total h xs
+  total_under_by g h n [] x i f le = absurd i
+  total_under_by g h n (y ∷ xs) x (inl e) f le = omega (arith, ap g e, ap h e, le, total_under g h xs (λ z j. f z (inr j)))
+  total_under_by g h n (y ∷ xs) x (inr i) f le = omega (arith, f y (inl refl), total_under_by g h n xs x i (λ z j. f z (inr j)) le)
 
   -- an item that counts
   pub total_some : (g : A → ℕ) (xs : List A) → 1 ≤ total g xs → (x : A) × IsIn x xs × (1 ≤ g x)

@@ -1,5 +1,5 @@
 -- What was taken was made by an entry of the trace, and so the trace goes on with an entry that delivers it.
-use Rattle.std.proofs.Common.{◌≡◌, ◌≢◌, ℕ, ◌≤◌, inl, List, map, Some, refl, ap, sym, subst, ◌∙◌, arith}
+use Rattle.std.proofs.Common.{◌≡◌, ◌≢◌, ℕ, ◌≤◌, inl, Bool, true, List, ◌∷◌, map, Some, refl, ap, sym, subst, ◌∙◌, arith}
 use Rattle.std.specs.List.{AllByRecursion}
 use Rattle.atomic_table.specs.Seated.{TableId}
 use Rattle.hx_types.specs.declared.ids.Actor.{Actor}
@@ -13,6 +13,7 @@ use Rattle.hx_clock.specs.declared.parts.Stamped.{Stamped}
 use Rattle.hx_clock.specs.Views.{total}
 use Rattle.hx_clock.proofs.Lists.{each_in, in_right}
 use Rattle.hx_law_threads.specs.Own.{own_entries, past_of}
+use Rattle.hx_law_threads.specs.Pacing.{IsPaced}
 use Rattle.hx_law_threads.specs.Merged.{parts_in, ActorPart, AreWholeParts, IsMerged}
 use Rattle.hx_law_threads.proofs.Runs.{merged_run}
 use Rattle.hx_law_threads.proofs.Lists.{in_map}
@@ -30,13 +31,13 @@ use Rattle.hx_desk.specs.Turns.{HasMoreToMake}
 use Rattle.hx_driver.specs.declared.crews.Crew.{Crew}
 use Rattle.hx_driver.specs.Crews.{IsCrew, IsDeskOf}
 use Rattle.hx_driver.specs.Slices.{IsLaterCrew}
-use Rattle.hx_law_drivers.specs.Crews.{desks_of, part_of, parts_of}
+use Rattle.hx_law_drivers.specs.Crews.{desks_of, doubled_by, lost_by, part_of, parts_of}
 use Rattle.hx_law_drivers.specs.Joined.{put_total, taken_weight, AreOnce}
-use Rattle.hx_law_drivers.specs.Laws.{HaveRun, MayComeNext}
+use Rattle.hx_law_drivers.specs.Laws.{HaveRun, IsDue, MayComeNext}
 use Rattle.hx_law_drivers.proofs.Lists.{both_self, in_flat, of_flat, total_least, total_some}
 use Rattle.hx_law_drivers.proofs.Desks.{crew_self, AreLater}
 use Rattle.hx_law_drivers.proofs.Opens.{put_counts}
-use Rattle.hx_law_drivers.proofs.Paced.{own_parts}
+use Rattle.hx_law_drivers.proofs.Paced.{own_parts, paced_further}
 use Rattle.hx_law_drivers.proofs.Same.{mailed}
 use Rattle.hx_law_drivers.proofs.Seen.{found_before, past_is_before}
 
@@ -92,8 +93,9 @@ module _ (script : Script) (clock : TableId) (boxes : List Boxed) (w : ℕ) (sta
       let same : AreLater now now = both_self IsLaterCrew crew_self now in
       found_before script now merged (own_parts script clock boxes w start now run) whole is now same e.0 e.1 m e.2
 
-  pub next_entry : (d : Desk) → IsIn d (desks_of now) → HasMoreToMake script d → (x : Entry) × MayComeNext script trace d x
-  next_entry d i more =
+  pub next_entry : (d : Desk) → IsIn d (desks_of now) → (retry : Bool) → HasMoreToMake script retry d
+      → (x : Entry) × MayComeNext script trace d x × ((retry ≡ true → IsDue run.cuts d) → IsPaced script (x ∷ trace) (lost_by now) (doubled_by now))
+  next_entry d i retry more =
       let a : Actor = d.actor in
       let input : Input = more.input in
       let made = merged_run script (parts_of now) merged (own_parts script clock boxes w start now run) whole is in
@@ -110,4 +112,8 @@ module _ (script : Script) (clock : TableId) (boxes : List Boxed) (w : ℕ) (sta
         made = sym (made_own script trace a input) ∙ ap (λ l. made_of script l a input) same;
         enough = more.enough;
       } in
-      (entry_of a input (made_of script (entries_before d.part.items) a input), record { actor = refl; no_halt = more.no_halt; told = more.told; run = (step, made.run) })
+      let x : Entry = entry_of a input (made_of script (entries_before d.part.items) a input) in (
+        x,
+        record { actor = refl; no_halt = more.no_halt; told = more.told; run = (step, made.run) },
+        λ due. paced_further script clock boxes w start now run merged whole is x (step, made.run) d i refl more.told (λ t. due (sym more.retries ∙ t)),
+      )

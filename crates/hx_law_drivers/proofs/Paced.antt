@@ -1,5 +1,5 @@
 -- The trace of a run of drivers is paced by the cuts of its course.
-use Rattle.std.proofs.Common.{◌≡◌, ℕ, zero, suc, ◌≤◌, Bool, true, false, List, [], ◌∷◌, map, length, Some, slice_get, option_map, refl, ap, sym, subst, ◌∙◌, arith, true≢false}
+use Rattle.std.proofs.Common.{◌≡◌, ℕ, zero, suc, ◌≤◌, Bool, true, false, List, [], ◌∷◌, ◌++◌, map, length, Some, slice_get, option_map, refl, ap, sym, subst, ◌∙◌, arith, true≢false}
 use Rattle.std.specs.Prelude.{not, ◌&&◌}
 use Rattle.std.specs.List.{AllByRecursion, IsDistinct}
 use Rattle.atomic_table.specs.Seated.{TableId}
@@ -9,11 +9,11 @@ use Rattle.hx_types.specs.declared.traces.Entry.{Entry}
 use Rattle.hx_types.specs.declared.traces.Script.{Script}
 use Rattle.hx_types.specs.declared.ids.Actor.TheVariants.{Coordinator, Server, Session}
 use Rattle.hx_types.specs.Words.{same_actor, when_some, IsIn}
-use Rattle.hx_model.specs.Runs.{session_of}
+use Rattle.hx_model.specs.Runs.{session_of, IsRun}
 use Rattle.hx_model.specs.Schedule.{entries_of}
 use Rattle.hx_clock.specs.declared.parts.Stamped.{Stamped}
 use Rattle.hx_clock.proofs.Lists.{each_all, each_in, each_map}
-use Rattle.hx_law_threads.specs.Own.{past_of, IsOwn}
+use Rattle.hx_law_threads.specs.Own.{own_entries, past_of, IsOwn}
 use Rattle.hx_law_threads.specs.Merged.{parts_in, ActorPart, AreOwnParts, AreWholeParts, IsMerged, IsOwnPart}
 use Rattle.hx_law_threads.specs.Cuts.{is_idle_actor, is_retry, is_waiting, open_at, whole_of, Cut, HasCallUnderWay}
 use Rattle.hx_law_threads.specs.Laws.{entry_in, IsReadInPart}
@@ -25,28 +25,27 @@ use Rattle.hx_law_threads.proofs.Reading.{read_in_parts}
 use Rattle.hx_law_threads.proofs.Retries.{retriers_waited}
 use Rattle.hx_law_threads.proofs.Runs.{merged_run}
 use Rattle.hx_machine.specs.Machines.{has_ended}
+use Rattle.hx_mail.specs.declared.views.Sent.{Sent}
 use Rattle.hx_mail.specs.Boxes.{Boxed}
 use Rattle.hx_outbox.specs.Zipped.{Both}
 use Rattle.hx_desk.specs.declared.desks.Desk.{Desk}
-use Rattle.hx_desk.specs.Desks.{entries_before, IsLater}
+use Rattle.hx_desk.specs.Desks.{entries_before, told, IsLater}
+use Rattle.hx_desk.specs.Inboxes.{ins_of}
+use Rattle.hx_desk.specs.Told.{told_by}
 use Rattle.hx_driver.specs.declared.crews.Crew.{Crew}
 use Rattle.hx_driver.specs.Crews.{IsCrew, IsDeskOf}
 use Rattle.hx_driver.specs.Slices.{IsLaterCrew}
 use Rattle.hx_law_drivers.specs.Courses.{IsCourse, IsCutAt}
 use Rattle.hx_law_drivers.specs.Crews.{cut_of, desks_of, doubled_by, lost_by, part_of, parts_of, HaveAllActors}
-use Rattle.hx_law_drivers.specs.Laws.{HaveRun}
+use Rattle.hx_law_drivers.specs.Laws.{HaveRun, IsDue}
 use Rattle.hx_law_drivers.specs.Rests.{AreAtRest, IsRested}
-use Rattle.hx_law_drivers.proofs.Lists.{both_and, both_back, both_in, both_self, each_of_map, each_two, of_flat, prefix_take}
+use Rattle.hx_law_drivers.proofs.Lists.{bools_same, both_and, both_back, both_in, both_self, each_of_map, each_two, of_flat, prefix_take}
 use Rattle.hx_law_drivers.proofs.Desks.{actors_later, actors_of_parts, all_parts, crew_self, entries_of_desk, have_cut, later_desks, lost_before, AreCalm, AreLater}
 use Rattle.hx_law_drivers.proofs.Courses.{cuts_are, cuts_later, cuts_rise, cuts_since, earlier_retry, retries_follow, start_later, waiters_retry, RetriesNext}
-use Rattle.hx_law_drivers.proofs.Seen.{found_before, past_is_before, seen_before, seen_now, IsSeen}
+use Rattle.hx_law_drivers.proofs.Longer.{named_on, paced_on, seen_on}
+use Rattle.hx_law_drivers.proofs.Seen.{count_own, found_before, length_past, past_is_before, seen_before, seen_now, IsSeen}
 use Rattle.hx_law_drivers.proofs.Opens.{few_open}
-use Rattle.hx_law_drivers.proofs.Repeats.{repeats_few}
-
-bools_same : (a b : Bool) → (a ≡ true → b ≡ true) → (b ≡ true → a ≡ true) → a ≡ b
-bools_same true b f g = sym (f refl)
-bools_same false true f g = g refl
-bools_same false false f g = refl
+use Rattle.hx_law_drivers.proofs.Repeats.{repeats_few, repeats_on}
 
 under_way : (a b : Bool) → (not a && not b) ≡ false → (not a && b) ≡ false → a ≡ true
 under_way true b e f = refl
@@ -191,6 +190,31 @@ module _ (script : Script) (clock : TableId) (boxes : List Boxed) (w : ℕ) wher
 
       repeated : AreRepeatedAtMost trace (doubled_by now)
       repeated = repeats_few script clock boxes w now run.crews run.once trace seen_end
+
+      -- with one more entry of a desk's actor, of what was taken for it: no retry, or one that is due
+      module _ (x : Entry) (run_on : IsRun script (x ∷ trace)) (d : Desk) (is_desk : IsIn d (desks_of now)) (actor : x.actor ≡ d.actor)
+          (took : told d.part.items ++ told_by d.actor x.input ≡ map (λ (s : Sent). s.mailed) (ins_of d.inbox)) where
+        open_on : (k : List Crew) → IsMoment k → length (open_at script (cut_of k) (x ∷ trace)) ≤ lost_by now
+        open_on k m =
+            let few = few_open script clock boxes w run.boxes_are k now m.cut.crews_are m.cut.rest m.later run.order m.actors (x ∷ trace) (cut_of k)
+            (seen_on x trace (cut_of k) (desks_of k) (within_moment k m) (seen_before script now merged own_parts whole is k m.later m.actors.apart))
+            (λ e j mail l. named_on x trace mail.id mail.post (found_before script now merged own_parts whole is k m.later e j mail l)) in
+            omega (arith, few, lost_before k now m.later)
+
+        due_cut : IsDue run.cuts d → (cut : Cut) × IsIn cut (map cut_of run.cuts) × (cut x.actor ≡ entries_of x.actor trace)
+        due_cut k =
+            let m = each_in IsMoment run.cuts k.0 moments k.1 in
+            let made = merged_run script (parts_of now) merged own_parts whole is in
+            let own : own_entries d.actor trace ≡ past_of d.part.items = each_in (λ (p : ActorPart). own_entries p.actor trace ≡ past_of p.part) (parts_of now) (part_of d) made.own (in_map part_of (desks_of now) d is_desk) in
+            let count : entries_of x.actor trace ≡ length d.part.items = ap (λ a. entries_of a trace) actor ∙ count_own d.actor trace ∙ ap length own ∙ length_past d.part.items in
+            (cut_of k.0, in_map cut_of run.cuts k.0 k.1, ap (cut_of k.0) (actor ∙ k.2.2) ∙ entries_of_desk (desks_of k.0) k.2.0 m.actors.apart k.2.1 ∙ k.2.3 ∙ sym count)
+
+        pub paced_further : (is_retry x ≡ true → IsDue run.cuts d) → IsPaced script (x ∷ trace) (lost_by now) (doubled_by now)
+        paced_further due = record {
+          cuts = map cut_of run.cuts;
+          paced = paced_on x trace script run_on (lost_by now) (map cut_of run.cuts) paced_by (λ t. due_cut (due t)) (at_moments (λ (cut : Cut). length (open_at script cut (x ∷ trace)) ≤ lost_by now) open_on);
+          repeated = repeats_on script clock boxes w now run.crews run.once trace seen_end x d is_desk took;
+        }
 
       pub paced : IsPaced script trace (lost_by now) (doubled_by now)
       paced = record { cuts = map cut_of run.cuts; paced = paced_by; repeated = repeated }

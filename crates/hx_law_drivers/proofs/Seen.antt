@@ -1,6 +1,7 @@
 -- What the trace of merged parts shows of the crews at a moment.
 use Rattle.std.proofs.Common.{◌≡◌, ℕ, suc, ◌+◌, inl, inr, ⊎_elim, Bool, true, false, cond, List, [], ◌∷◌, map, take, length, Some, slice_get, refl, ap, sym, ◌∙◌, arith}
 use Rattle.std.specs.List.{IsDistinct}
+use Rattle.std.proofs.lemmas.List.{length-reverse}
 use Rattle.hx_types.specs.declared.ids.Actor.{Actor}
 use Rattle.hx_types.specs.declared.messages.Post.{Post}
 use Rattle.hx_types.specs.declared.messages.PostId.{PostId}
@@ -30,6 +31,7 @@ use Rattle.hx_law_threads.proofs.Weights.{posts_weigh}
 use Rattle.hx_mail.specs.declared.views.Mailed.{Mailed}
 use Rattle.hx_outbox.specs.Offers.{named}
 use Rattle.hx_outbox.specs.Zipped.{Both}
+use Rattle.hx_outbox.proofs.Lists.{map-length}
 use Rattle.hx_desk.specs.declared.desks.Desk.{Desk}
 use Rattle.hx_desk.specs.Desks.{entries_before, made_by, told, IsLater}
 use Rattle.hx_desk.specs.Told.{told_by}
@@ -42,6 +44,9 @@ use Rattle.hx_law_drivers.proofs.Desks.{entries_of_desk, later_desks, AreLater}
 pub past_is_before : (part : List Stamped) → entries_before part ≡ past_of part
 past_is_before part = map_reverse (λ (x : Stamped). x.entry) part
 
+pub length_past : (part : List Stamped) → length (past_of part) ≡ length part
+length_past part = length-reverse (map (λ (x : Stamped). x.entry) part) ∙ map-length (λ (x : Stamped). x.entry) part
+
 -- what a post weighs by its name
 abbrev pub by_name : (PostId → ℕ) → Mailed → ℕ
 by_name h m = h m.id
@@ -51,7 +56,7 @@ pub record IsSeen (trace : List Entry) (cut : Cut) (ds : List Desk) : Type 0 whe
   pub sums : (f : ℕ → Entry → ℕ) → total_at f cut trace ≡ total (λ (d : Desk). total_over f d.part.items) ds
   pub own : (d : Desk) → IsIn d ds → own_at cut trace d.actor ≡ past_of d.part.items
 
-names_weigh : (h : PostId → ℕ) (entry place : ℕ) (ps : List Post) → total h (names_from entry place ps) ≡ total (by_name h) (named entry place ps)
+pub names_weigh : (h : PostId → ℕ) (entry place : ℕ) (ps : List Post) → total h (names_from entry place ps) ≡ total (by_name h) (named entry place ps)
 names_weigh h entry place [] = refl
 names_weigh h entry place (p ∷ ps) = ap (λ n. h (record { entry = entry; place = place }) + n) (names_weigh h entry (place + 1) ps ∙ ap (λ k. total (by_name h) (named entry k ps)) (let e : place + 1 ≡ suc place = omega arith in e))
 
@@ -61,7 +66,7 @@ made_weigh h (x ∷ part) =
     let here = named (x.stamp.0 + 1) 0 x.entry.outputs in
     omega (arith, names_weigh h (x.stamp.0 + 1) 0 x.entry.outputs, made_weigh h part, total-append (by_name h) here (made_by part))
 
-told_one : (h : PostId → ℕ) (a : Actor) (i : Input) → total h (delivered_by i) ≡ total (by_name h) (told_by a i)
+pub told_one : (h : PostId → ℕ) (a : Actor) (i : Input) → total h (delivered_by i) ≡ total (by_name h) (told_by a i)
 told_one h a Tick = refl
 told_one h a Halt = refl
 told_one h a (Deliver id from message) = refl

@@ -1,8 +1,6 @@
 -- The trace of a run of drivers shows what is at the desks.
-use Rattle.std.proofs.Common.{◌≡◌, ◌≢◌, ℕ, inl, inr, List, [], ◌∷◌, map, ap, sym, subst, ◌∙◌}
+use Rattle.std.proofs.Common.{◌≡◌, ◌≢◌, ℕ, inl, inr, List, [], ◌∷◌, ap, sym, subst, ◌∙◌}
 use Rattle.std.specs.Prelude.{length, reverse}
-use Rattle.std.proofs.lemmas.List.{length-reverse}
-use Rattle.hx_outbox.proofs.Lists.{map-length}
 use Rattle.hx_types.specs.Words.{IsIn}
 use Rattle.atomic_table.specs.Seated.{TableId}
 use Rattle.hx_types.specs.declared.ids.Actor.{Actor}
@@ -25,7 +23,7 @@ use Rattle.hx_law_drivers.specs.Crews.{desks_of, part_of, parts_of}
 use Rattle.hx_law_drivers.specs.Laws.{HaveRun, ShowsDesks}
 use Rattle.hx_law_drivers.proofs.Lists.{of_flat}
 use Rattle.hx_law_drivers.proofs.Paced.{own_parts}
-use Rattle.hx_law_drivers.proofs.Seen.{count_own}
+use Rattle.hx_law_drivers.proofs.Seen.{count_own, length_past}
 
 fed_in : (script : Script) (xs : List Stamped) (z : Stamped) → IsFed script xs → IsIn z xs → IsFedBy script z.stamp.0 z.entry.actor z.entry.input
 fed_in script [] z h i = absurd i
@@ -35,9 +33,6 @@ fed_in script (x ∷ xs) z h (inr i) = fed_in script xs z h.2 i
 -- no driver halts an actor
 no_halt : (script : Script) (n : ℕ) (a : Actor) (input : Input) → IsFedBy script n a input → input ≢ Halt
 no_halt script n a input h e = subst (IsFedBy script n a) e h
-
-length_past : (part : List Stamped) → length (past_of part) ≡ length part
-length_past part = length-reverse (map (λ (x : Stamped). x.entry) part) ∙ map-length (λ (x : Stamped). x.entry) part
 
 module _ (script : Script) (clock : TableId) (boxes : List Boxed) (w : ℕ) (start now : List Crew) (run : HaveRun script clock boxes w start now)
     (merged : List Stamped) (whole : AreWholeParts (parts_in (parts_of now))) (is : IsMerged (parts_in (parts_of now)) merged) where

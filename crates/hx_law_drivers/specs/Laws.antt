@@ -1,8 +1,10 @@
 -- The laws on a run of drivers: its trace is paced.
-use Rattle.std.specs.Prelude.{ℕ, ◌≡◌, ◌≢◌, ◌≤◌, List, [], ◌∷◌, ◌++◌, length, map, slice_get, Some}
+use Rattle.std.specs.Prelude.{ℕ, ◌≡◌, ◌≢◌, ◌≤◌, Bool, true, List, [], ◌∷◌, ◌++◌, length, map, slice_get, None, Some}
 use Rattle.std.specs.List.{AllByRecursion}
 use Rattle.atomic_table.specs.Seated.{TableId}
 use Rattle.hx_types.specs.declared.calls.Caller.{Caller}
+use Rattle.hx_types.specs.declared.ids.Actor.{Actor}
+use Rattle.hx_types.specs.declared.limits.TheConstants.{MOST_ENTRIES}
 use Rattle.hx_types.specs.declared.messages.PostId.{PostId}
 use Rattle.hx_types.specs.declared.traces.Entry.{Entry}
 use Rattle.hx_types.specs.declared.traces.Script.{Script}
@@ -22,6 +24,7 @@ use Rattle.hx_mail.specs.declared.views.Mailed.{Mailed}
 use Rattle.hx_mail.specs.Boxes.{Boxed}
 use Rattle.hx_outbox.specs.Places.{AreBoxes}
 use Rattle.hx_desk.specs.declared.desks.Desk.{Desk}
+use Rattle.hx_desk.specs.declared.faults.Fault.TheVariants.{Worn}
 use Rattle.hx_desk.specs.Desks.{told}
 use Rattle.hx_desk.specs.Inboxes.{ins_of}
 use Rattle.hx_desk.specs.Told.{told_by}
@@ -38,6 +41,7 @@ pub record HaveRun (script : Script) (clock : TableId) (boxes : List Boxed) (w :
   pub valid : IsScript script
   pub boxes_are : AreBoxes script clock boxes
   pub new : (d : Desk) → IsIn d (desks_of start) → d.part.items ≡ []
+  pub calm : AllByRecursion (λ (c : Crew). c.fault ≡ None) start
   pub actors : HaveAllActors script start
   pub numbered : AreNumbered w start
   pub cuts : List (List Crew)
@@ -86,13 +90,34 @@ pub record MayComeNext (script : Script) (trace : List Entry) (d : Desk) (x : En
   pub told : told d.part.items ++ told_by d.actor x.input ≡ map (λ s. s.mailed) (ins_of d.inbox)
   pub run : IsRun script (x ∷ trace)
 
--- where an actor has one more entry to make, the trace with it is still a run
+-- a retry of this actor is due: it made nothing since one of the cuts
+abbrev pub IsDue : List (List Crew) → Desk → Type 0
+IsDue cuts d = (cut : List Crew) × IsIn cut cuts × ((e : Desk) × IsIn e (desks_of cut) × (d.actor ≡ e.actor) × (length e.part.items ≡ length d.part.items))
+
+-- where an actor has one more entry to make, the trace with it is still a run; and it is still paced, where that entry is no retry, or one that is due
 abbrev pub TracesGoOn : Type 0
 TracesGoOn =
-    (script : Script) (clock : TableId) (boxes : List Boxed) (w : ℕ) (start now : List Crew) → HaveRun script clock boxes w start now
-    → (d : Desk) → IsIn d (desks_of now) → HasMoreToMake script d
+    (script : Script) (clock : TableId) (boxes : List Boxed) (w : ℕ) (start now : List Crew) (run : HaveRun script clock boxes w start now)
+    → (d : Desk) → IsIn d (desks_of now) → (retry : Bool) → HasMoreToMake script retry d
     → (trace : List Entry) → IsTraceOf now trace
-    → (x : Entry) × MayComeNext script trace d x
+    → (x : Entry) × MayComeNext script trace d x × ((retry ≡ true → IsDue run.cuts d) → IsPaced script (x ∷ trace) (lost_by now) (doubled_by now))
+
+-- the actor is at one of the driver's desks, made the most entries that it may make and has one more to make, and where that is a retry, it is due
+pub record IsWornAt (script : Script) (cuts : List (List Crew)) (c : Crew) (a : Actor) : Type 0 where
+  pub desk : Desk
+  pub is : IsIn desk c.desks.items
+  pub actor : desk.actor ≡ a
+  pub most : length desk.part.items ≡ MOST_ENTRIES
+  pub retry : Bool
+  pub more : HasMoreToMake script retry desk
+  pub due : retry ≡ true → IsDue cuts desk
+
+-- so is an actor that a driver met worn
+abbrev pub WornActorsAreDue : Type 0
+WornActorsAreDue =
+    (script : Script) (clock : TableId) (boxes : List Boxed) (w : ℕ) (start now : List Crew) (run : HaveRun script clock boxes w start now)
+    → (c : Crew) → IsIn c now → (a : Actor) → c.fault ≡ Some (Worn a)
+    → IsWornAt script run.cuts c a
 
 -- the post is one of the trace: an entry of one of the driver's actors made it
 pub record IsPostBy (c : Crew) (trace : List Entry) (m : Mailed) : Type 0 where

@@ -2,7 +2,7 @@
 //! an actor retries only where nothing else can go on but for what was lost.
 #![tactic(auto)]
 
-ghost use Rattle.hx_law_drivers.specs.Laws.{EndedRunsEndCalls, PartsAreOwn, PutsArePosts, RestedRunsArePacedToEnd, RunsArePaced, TracesGoOn, TracesShowDesks};
+ghost use Rattle.hx_law_drivers.specs.Laws.{EndedRunsEndCalls, PartsAreOwn, PutsArePosts, RestedRunsArePacedToEnd, RunsArePaced, TracesGoOn, TracesShowDesks, WornActorsAreDue};
 
 /// The parts of all desks of drivers, merged by their stamps, are a run of the script in which no entry
 /// is a halt, and each actor's entries in it are those of its desk.
@@ -11,9 +11,12 @@ pub fn traces_show_desks()
 {}
 
 /// Where an actor has one more entry to make, of what was taken for it and not delivered or of a tick
-/// that makes something, there is an entry of it with which the trace of all parts is still a run.
+/// that makes something, there is an entry of it with which the trace of all parts is still a run; it is
+/// still paced too, unless that entry is a retry of an actor that made something since the last moment
+/// of retries. What a driver met worn is such an actor, and its entry no such retry.
 pub fn traces_go_on()
     ensures more { TracesGoOn }
+    ensures worn { WornActorsAreDue }
 {}
 
 /// What a driver put into a box are posts that its own actors made in the trace of all parts, none of

@@ -19,10 +19,11 @@ use Rattle.hx_outbox.proofs.Outs.{more-refl, more-trans}
 use Rattle.hx_outbox.proofs.Offering.{offered-both, offered-none}
 use Rattle.hx_desk.specs.declared.desks.Desk.{Desk}
 use Rattle.hx_desk.specs.declared.faults.Fault.{Fault}
+use Rattle.hx_desk.specs.declared.faults.Fault.TheVariants.{Memory, Worn}
 use Rattle.hx_desk.specs.Desks.{HasNoRetry, HasRetried, IsLater}
 use Rattle.hx_driver.specs.declared.crews.Crew.{Crew}
-use Rattle.hx_driver.specs.Crews.{made_weight, weight_in, IsCrew, IsDeskOf, IsPosted}
-use Rattle.hx_driver.specs.Slices.{HaveNoRetry, HaveRetried, IsLaterCrew, MayHaveRetried}
+use Rattle.hx_driver.specs.Crews.{made_weight, weight_in, HasFault, HasWorn, IsCrew, IsDeskOf, IsPosted}
+use Rattle.hx_driver.specs.Slices.{HasFaultSince, HaveNoRetry, HaveRetried, IsLaterCrew, MayHaveRetried}
 use Rattle.hx_law_drivers.specs.Courses.{AreRetried, AreSliced, IsCourse, IsCutAt, IsSliced}
 use Rattle.hx_law_drivers.specs.Rests.{AreAtRest, SomeGoesOn}
 use Rattle.hx_run.specs.Rounds.{Advance, HasMachine, HaveMachines, StayCrews, StaysCrew}
@@ -105,17 +106,35 @@ desks-no-retry (d ∷ ds) [] fs a l b = absurd a
 desks-no-retry (d ∷ ds) (e ∷ es) [] a l b = absurd b
 desks-no-retry (d ∷ ds) (e ∷ es) (f ∷ fs) a l b = (no-retry-trans d e f a.0 l.0 b.0, desks-no-retry ds es fs a.1 l.1 b.1)
 
-sliced-refl : (c : Crew) → IsSliced c c
-sliced-refl c = record { later = crew-refl c; retries = both-refl HasNoRetry no-retry-refl c.desks.items }
+-- after a fault nothing changes
+fault-stays : (script : Script) (c d : Crew) → IsLaterCrew c d → HasFault script false c → (c.fault ≡ None → HasFault script false d) → HasFault script false d
+fault-stays script c d later fault calm =
+    ⊎_elim calm
+    (λ (h : (c.fault ≡ Some Memory) ⊎ HasWorn script false c).
+    ⊎_elim (λ (e : c.fault ≡ Some Memory). subst (HasFault script false) (sym (later.stays Memory e)) fault)
+    (λ (k : HasWorn script false c). subst (HasFault script false) (sym (later.stays (Worn k.desk.actor) k.fault)) fault) h) fault
 
-sliced-trans : (c d e : Crew) → IsSliced c d → IsSliced d e → IsSliced c e
-sliced-trans c d e a b = record { later = crew-trans c d e a.later b.later; retries = desks-no-retry c.desks.items d.desks.items e.desks.items a.retries b.later.desks b.retries }
+none-retried-refl : (script : Script) (c : Crew) → HaveNoRetry script c c
+none-retried-refl script c = record { desks = both-refl HasNoRetry no-retry-refl c.desks.items; fault = λ e. inl e }
 
-pub are-sliced-refl : (crews : List Crew) → AreSliced crews crews
-are-sliced-refl crews = both-refl IsSliced sliced-refl crews
+none-retried-trans : (script : Script) (c d e : Crew) → HaveNoRetry script c d → IsLaterCrew d e → HaveNoRetry script d e → HaveNoRetry script c e
+none-retried-trans script c d e a later b = record {
+  desks = desks-no-retry c.desks.items d.desks.items e.desks.items a.desks later.desks b.desks;
+  fault = λ n. fault-stays script d e later (a.fault n) b.fault;
+}
 
-pub are-sliced-trans : (xs ys zs : List Crew) → AreSliced xs ys → AreSliced ys zs → AreSliced xs zs
-are-sliced-trans xs ys zs h k = both-trans IsSliced sliced-trans xs ys zs h k
+module _ (script : Script) where
+  sliced-refl : (c : Crew) → IsSliced script c c
+  sliced-refl c = record { later = crew-refl c; retries = none-retried-refl script c }
+
+  sliced-trans : (c d e : Crew) → IsSliced script c d → IsSliced script d e → IsSliced script c e
+  sliced-trans c d e a b = record { later = crew-trans c d e a.later b.later; retries = none-retried-trans script c d e a.retries b.later b.retries }
+
+  pub are-sliced-refl : (crews : List Crew) → AreSliced script crews crews
+  are-sliced-refl crews = both-refl (IsSliced script) sliced-refl crews
+
+  pub are-sliced-trans : (xs ys zs : List Crew) → AreSliced script xs ys → AreSliced script ys zs → AreSliced script xs zs
+  are-sliced-trans xs ys zs h k = both-trans (IsSliced script) sliced-trans xs ys zs h k
 
 -- what each driver posted
 pub posted-refl : (c : Crew) (f : FateState) → IsPosted c c f f
@@ -152,17 +171,17 @@ have-machines script clock boxes w [] h = tt
 have-machines script clock boxes w (c ∷ crews) h = (crew-machines script clock boxes w c h.0, have-machines script clock boxes w crews h.1)
 
 module _ (script : Script) (clock : TableId) (boxes : List Boxed) (w : ℕ) where
-  pub course-slice : (start : List Crew) (cuts : List (List Crew)) (now later : List Crew) → IsCourse script clock boxes w start cuts now → AreSliced now later → IsCourse script clock boxes w start cuts later
-  course-slice start [] now later h k = are-sliced-trans start now later h k
-  course-slice start (cut ∷ cuts) now later h k = (h.0, h.1, (h.2.0, h.2.1, are-sliced-trans h.2.0 now later h.2.2 k))
+  pub course-slice : (start : List Crew) (cuts : List (List Crew)) (now later : List Crew) → IsCourse script clock boxes w start cuts now → AreSliced script now later → IsCourse script clock boxes w start cuts later
+  course-slice start [] now later h k = are-sliced-trans script start now later h k
+  course-slice start (cut ∷ cuts) now later h k = (h.0, h.1, (h.2.0, h.2.1, are-sliced-trans script h.2.0 now later h.2.2 k))
 
   -- one more round
   pub course-on : (start now later : List Crew) → AllByRecursion (IsCrew script clock boxes w) now → ((cuts : List (List Crew)) × IsCourse script clock boxes w start cuts now) → Advance script now later
       → (cuts : List (List Crew)) × IsCourse script clock boxes w start cuts later
   course-on start now later crews h k =
-      ⊎_elim (λ (a : AreSliced now later). (h.0, course-slice start h.0 now later h.1 a))
+      ⊎_elim (λ (a : AreSliced script now later). (h.0, course-slice start h.0 now later h.1 a))
       (λ (b : AreAtRest script now × SomeGoesOn script now × AreRetried script now later).
-      (now ∷ h.0, (record { crews_are = crews; rest = b.0; goes_on = b.1 }, h.1, (later, b.2, are-sliced-refl later)))) k
+      (now ∷ h.0, (record { crews_are = crews; rest = b.0; goes_on = b.1 }, h.1, (later, b.2, are-sliced-refl script later)))) k
 
 -- a round of retries, of which the first k drivers had theirs without a fault
 pub record HasRetriedWell (script : Script) (c c' : Crew) : Type 0 where
@@ -202,7 +221,7 @@ may-retry script d = inr refl
 
 -- all had theirs
 pub all-retried : (script : Script) (k : ℕ) (cs ds : List Crew) → length ds ≤ k → RetriedTo script k cs ds → AreRetried script cs ds
-all-retried script k cs ds le h = record { later = later k cs ds le h; calm = λ e. calm k cs ds le h; some = some k cs ds le h }
+all-retried script k cs ds le h = record { later = later k cs ds le h; calm = λ e. calm k cs ds le h; some = some k cs ds le h; fault = fault k cs ds le h }
   where
     later : (k : ℕ) (cs ds : List Crew) → length ds ≤ k → RetriedTo script k cs ds → Both IsLaterCrew cs ds
     later k [] [] le h = tt
@@ -225,10 +244,17 @@ all-retried script k cs ds le h = record { later = later k cs ds le h; calm = λ
     some zero (c ∷ cs) (d ∷ ds) le h = absurd (omega (arith, le))
     some (suc k) (c ∷ cs) (d ∷ ds) le h = (h.0.retried.some, some k cs ds (omega (arith, le)) h.1)
 
+    fault : (k : ℕ) (cs ds : List Crew) → length ds ≤ k → RetriedTo script k cs ds → Both (λ (c c' : Crew). c.fault ≡ None → HasFaultSince script c.desks.items c') cs ds
+    fault k [] [] le h = tt
+    fault k [] (d ∷ ds) le h = absurd h
+    fault k (c ∷ cs) [] le h = absurd h
+    fault zero (c ∷ cs) (d ∷ ds) le h = absurd (omega (arith, le))
+    fault (suc k) (c ∷ cs) (d ∷ ds) le h = (h.0.retried.fault, fault k cs ds (omega (arith, le)) h.1)
+
 -- the driver of number k met a fault
 pub retried-part : {D : Type 0} (f : D → Crew) (script : Script) (k : ℕ) (cs : List Crew) (ds : List D) (d y : D) → RetriedTo script k cs (map f ds) → k < length ds
     → IsLaterCrew (f (slice_index_or ds k d)) (f y) → HaveRetried script (f (slice_index_or ds k d)) (f y) → ((f y).fault ≡ None → ⊥) → AreRetried script cs (map f (slice_set ds k y))
-retried-part {D} f script k cs ds d y h lt l r g = record { later = later k cs ds h lt l; calm = λ a. absurd (faulty k ds lt a); some = some k cs ds h lt r.some }
+retried-part {D} f script k cs ds d y h lt l r g = record { later = later k cs ds h lt l; calm = λ a. absurd (faulty k ds lt a); some = some k cs ds h lt r.some; fault = fault k cs ds h lt r.fault }
   where
     faulty : (k : ℕ) (ds : List D) → k < length ds → AllByRecursion (λ (x : Crew). x.fault ≡ None) (map f (slice_set ds k y)) → ⊥
     faulty k [] lt a = omega (arith, lt)
@@ -262,6 +288,21 @@ retried-part {D} f script k cs ds d y h lt l r g = record { later = later k cs d
     some k (x ∷ cs) [] h lt m = absurd h
     some zero (x ∷ cs) (u ∷ ds) h lt m = (subst (λ (v : Crew). Both (MayHaveRetried script) v.desks.items (f y).desks.items) h.0 m, same-some cs ds h.1)
     some (suc k) (x ∷ cs) (u ∷ ds) h lt m = (h.0.retried.some, some k cs ds h.1 (omega (arith, lt)) m)
+
+    same-fault : (cs : List Crew) (ds : List D) → RetriedTo script 0 cs (map f ds) → Both (λ (u v : Crew). u.fault ≡ None → HasFaultSince script u.desks.items v) cs (map f ds)
+    same-fault [] [] h = tt
+    same-fault [] (u ∷ ds) h = absurd h
+    same-fault (x ∷ cs) [] h = absurd h
+    same-fault (x ∷ cs) (u ∷ ds) h = ((λ e. inl (ap (λ (v : Crew). v.fault) h.0 ∙ e)), same-fault cs ds h.1)
+
+    fault : (k : ℕ) (cs : List Crew) (ds : List D) → RetriedTo script k cs (map f ds) → k < length ds
+        → ((f (slice_index_or ds k d)).fault ≡ None → HasFaultSince script (f (slice_index_or ds k d)).desks.items (f y))
+        → Both (λ (u v : Crew). u.fault ≡ None → HasFaultSince script u.desks.items v) cs (map f (slice_set ds k y))
+    fault k [] [] h lt m = absurd (omega (arith, lt))
+    fault k [] (u ∷ ds) h lt m = absurd h
+    fault k (x ∷ cs) [] h lt m = absurd h
+    fault zero (x ∷ cs) (u ∷ ds) h lt m = (subst (λ (v : Crew). v.fault ≡ None → HasFaultSince script v.desks.items (f y)) h.0 m, same-fault cs ds h.1)
+    fault (suc k) (x ∷ cs) (u ∷ ds) h lt m = (h.0.retried.fault, fault k cs ds h.1 (omega (arith, lt)) m)
 
 -- the crews after a retry of one of them stay crews
 pub stay-next : {D : Type 0} (f : D → Crew) (script : Script) (clock : TableId) (boxes : List Boxed) (cs : List Crew) (ds : List D) (k : ℕ) (d y : D) → StayCrews script clock boxes cs (map f ds)

@@ -22,7 +22,7 @@ use Rattle.hx_driver.specs.Slices.{IsLaterCrew}
 use Rattle.hx_law_drivers.specs.Crews.{parts_of, AreNumbered, HaveAllActors}
 use Rattle.hx_law_drivers.specs.Courses.{IsCourse}
 use Rattle.hx_law_drivers.specs.Joined.{AreInOrder, AreOnce}
-use Rattle.hx_law_drivers.specs.Laws.{EndedRunsEndCalls, PartsAreOwn, PutsArePosts, RestedRunsArePacedToEnd, RunsArePaced, TracesGoOn}
+use Rattle.hx_law_drivers.specs.Laws.{EndedRunsEndCalls, PartsAreOwn, PutsArePosts, RestedRunsArePacedToEnd, RunsArePaced, TracesGoOn, WornActorsAreDue}
 use Rattle.hx_cluster.specs.Clusters.{actors_dealt, AreNewCrews}
 use Rattle.hx_cluster.specs.Everyone.{actors_of}
 use Rattle.hx_gather.specs.declared.gathering.SeatedPart.{SeatedPart}
@@ -91,7 +91,7 @@ same-parts [] = refl
 same-parts (p ∷ actors) = ap (λ l. p.part ∷ l) (same-parts actors)
 
 module _ (script : Script) (clock : TableId) (w : ℕ) (start now : List Crew) (fault : Option Fault) (closed : AreClosed script clock w start now fault)
-    (own : PartsAreOwn) (paced : RunsArePaced) (rested : RestedRunsArePacedToEnd) (ended : EndedRunsEndCalls) (goes-on : TracesGoOn) (puts : PutsArePosts)
+    (own : PartsAreOwn) (paced : RunsArePaced) (rested : RestedRunsArePacedToEnd) (ended : EndedRunsEndCalls) (goes-on : TracesGoOn) (worns : WornActorsAreDue) (puts : PutsArePosts)
     (actors : List SeatedPart) (totals : List Totals) (ports : List Ported) (left : IsLeft script clock now actors totals ports)
     (trace : List Entry) (made : (merged : List Stamped) × IsMerged (gathered.parts_of actors) merged × HasStampsAsPlaces merged × (trace ≡ map (λ (x : Stamped). x.entry) merged))
     (whole : AreWholeParts (gathered.parts_of actors)) where
@@ -118,18 +118,18 @@ module _ (script : Script) (clock : TableId) (w : ℕ) (start now : List Crew) (
 
   pub ran-of : (seat : Seated) → seat.clock ≡ clock → IsDrawn seat.view trace → (worn : Option Actor) → fault ≡ fault_of worn → IsRan script w trace seat totals ports worn
   ran-of seat same drawn worn e =
-      is-ran script clock w start now fault closed own paced rested ended goes-on puts trace made.0 is-whole is-merged made.3 totals left.totals_are dealt numbered many seat same drawn worn e ports left.ports_are
+      is-ran script clock w start now fault closed own paced rested ended goes-on worns puts trace made.0 is-whole is-merged made.3 totals left.totals_are dealt numbered many seat same drawn worn e ports left.ports_are
 
-  pub met-of : (seat : Seated) → seat.clock ≡ clock → (met : List (Option Actor)) → met ≡ map (λ (c : Crew). worn_in c.fault) now → HaveMetWorn script w seat.clock trace ports met
+  pub met-of : (seat : Seated) → seat.clock ≡ clock → (met : List (Option Actor)) → met ≡ map (λ (c : Crew). worn_in c.fault) now → HaveMetWorn script w seat.clock trace totals ports met
   met-of seat same met e =
-      have-met script clock w start now fault closed own paced rested ended goes-on puts trace made.0 is-whole is-merged made.3 totals left.totals_are dealt numbered many seat same met e ports left.ports_are
+      have-met script clock w start now fault closed own paced rested ended goes-on worns puts trace made.0 is-whole is-merged made.3 totals left.totals_are dealt numbered many seat same met e ports left.ports_are
 
   pub lowest-of : (worn : Option Actor) → fault ≡ fault_of worn → (met : List (Option Actor)) → met ≡ map (λ (c : Crew). worn_in c.fault) now → worn ≡ lowest_of met
   lowest-of worn e met is =
-      lowest-told script clock w start now fault closed own paced rested ended goes-on puts trace made.0 is-whole is-merged made.3 totals left.totals_are dealt numbered many worn e met is
+      lowest-told script clock w start now fault closed own paced rested ended goes-on worns puts trace made.0 is-whole is-merged made.3 totals left.totals_are dealt numbered many worn e met is
 
   pub risen-of : (i : ℕ) (t : Totals) (f f' : FateState) → ((c : Crew) → slice_get now i ≡ Some c → HasPosted c f f') → slice_get totals i ≡ Some t → HasRisen script w trace i t f f'
-  risen-of i t f f' posted g = has-risen script clock w start now fault closed own paced rested ended goes-on puts trace made.0 is-whole is-merged made.3 totals left.totals_are dealt numbered many i t f f' posted g
+  risen-of i t f f' posted g = has-risen script clock w start now fault closed own paced rested ended goes-on worns puts trace made.0 is-whole is-merged made.3 totals left.totals_are dealt numbered many i t f f' posted g
 
 -- as many actors are counted as there are
 pub left-counts : (script : Script) (n k : ℕ) → n ≡ 1 + script.space.servers + length script.sessions → k < n → k < length (actors_of script)

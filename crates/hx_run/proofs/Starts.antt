@@ -8,7 +8,7 @@ use Rattle.hx_types.specs.declared.ids.Actor.{Actor}
 use Rattle.hx_types.specs.declared.traces.Script.{Script}
 use Rattle.hx_types.specs.Fitting.{IsScript}
 use Rattle.hx_types.specs.Words.{same_actor, IsIn}
-use Rattle.hx_clock.proofs.Lists.{each_all, each_in, in_left, in_right}
+use Rattle.hx_clock.proofs.Lists.{each_all, each_in, each_map, in_left, in_right}
 use Rattle.hx_law_threads.proofs.Lists.{in_append, in_map, map_append, of_filter}
 use Rattle.hx_mail.specs.Boxes.{Boxed}
 use Rattle.hx_fate.specs.declared.fates.FateState.{FateState}
@@ -32,13 +32,13 @@ use Rattle.hx_run.proofs.Counted.{AreDealtFrom}
 use Rattle.hx_run.proofs.Courses.{crew-trans, stay-each}
 use Rattle.hx_run.proofs.Zipped.{both-map, both-trans, some-same}
 
-sliced-later : (xs ys : List Crew) → Both IsSliced xs ys → Both IsLaterCrew xs ys
-sliced-later xs ys h = both-map IsSliced IsLaterCrew (λ x y k. k.later) xs ys h
+sliced-later : (script : Script) (xs ys : List Crew) → Both (IsSliced script) xs ys → Both IsLaterCrew xs ys
+sliced-later script xs ys h = both-map (IsSliced script) IsLaterCrew (λ x y k. k.later) xs ys h
 
 pub course-later : (script : Script) (clock : TableId) (boxes : List Boxed) (w : ℕ) (start : List Crew) (cuts : List (List Crew)) (now : List Crew) → IsCourse script clock boxes w start cuts now → Both IsLaterCrew start now
-course-later script clock boxes w start [] now h = sliced-later start now h
+course-later script clock boxes w start [] now h = sliced-later script start now h
 course-later script clock boxes w start (cut ∷ older) now h =
-    both-trans IsLaterCrew crew-trans start h.2.0 now (both-trans IsLaterCrew crew-trans start cut h.2.0 (course-later script clock boxes w start older cut h.1) h.2.1.later) (sliced-later h.2.0 now h.2.2)
+    both-trans IsLaterCrew crew-trans start h.2.0 now (both-trans IsLaterCrew crew-trans start cut h.2.0 (course-later script clock boxes w start older cut h.1) h.2.1.later) (sliced-later script h.2.0 now h.2.2)
 
 index-same : (xs ys : List Crew) → Both IsLaterCrew xs ys → map (λ (c : Crew). c.out.index) ys ≡ map (λ (c : Crew). c.out.index) xs
 index-same [] [] h = refl
@@ -113,6 +113,7 @@ module _ (script : Script) (clock : TableId) (boxes : List Boxed) (w : ℕ) (sta
           valid = valid;
           boxes_are = are;
           new = new-parts start new.new;
+          calm = each_map IsNewCrew (λ (c : Crew). c.fault ≡ None) start (λ c i k. k.fault) new.new;
           actors = new.actors;
           numbered = new.numbered;
           cuts = k.0;

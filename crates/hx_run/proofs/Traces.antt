@@ -48,10 +48,10 @@ use Rattle.hx_desk.specs.Desks.{entries_before, told, IsDesk}
 use Rattle.hx_desk.specs.Told.{told_by}
 use Rattle.hx_desk.specs.Inboxes.{ins_of}
 use Rattle.hx_driver.specs.declared.crews.Crew.{Crew}
-use Rattle.hx_driver.specs.Crews.{HasFault, HasWorn, IsCrew}
+use Rattle.hx_driver.specs.Crews.{IsCrew}
 use Rattle.hx_law_drivers.specs.Crews.{desks_of, doubled_by, lost_by, part_of, parts_of, AreNumbered}
 use Rattle.hx_law_drivers.specs.Joined.{outs_at}
-use Rattle.hx_law_drivers.specs.Laws.{ArePostsBy, EndedRunsEndCalls, HaveRun, IsTraceOf, MayComeNext, PartsAreOwn, PutsArePosts, RestedRunsArePacedToEnd, RunsArePaced, TracesGoOn}
+use Rattle.hx_law_drivers.specs.Laws.{ArePostsBy, EndedRunsEndCalls, HaveRun, IsTraceOf, IsWornAt, MayComeNext, PartsAreOwn, PutsArePosts, RestedRunsArePacedToEnd, RunsArePaced, TracesGoOn, WornActorsAreDue}
 use Rattle.hx_law_drivers.proofs.Desks.{one_desk}
 use Rattle.hx_law_drivers.proofs.Paced.{actors_now}
 use Rattle.hx_cluster.specs.Everyone.{actors_of}
@@ -157,20 +157,6 @@ first-in (c ∷ crews) f e = by c.fault refl e (λ q. first-in crews f q)
 desk-in : (crews : List Crew) (c : Crew) (d : Desk) → IsIn c crews → IsIn d c.desks.items → IsIn d (desks_of crews)
 desk-in crews c d i j = in-flat (λ (k : Crew). k.desks.items) crews c d i j
 
-worn-desk : (script : Script) (c : Crew) (a : Actor) → HasFault script c → c.fault ≡ Some (Worn a) → (k : HasWorn script c) × (k.desk.actor ≡ a)
-worn-desk script c a h e =
-    ⊎_elim (λ (n : c.fault ≡ None). absurd (some-none c.fault e n))
-    (λ (r : _). ⊎_elim (λ (m : c.fault ≡ Some Memory). absurd (not-memory c.fault e m)) (λ (k : HasWorn script c). (k, same k.desk.actor c.fault k.fault e)) r) h
-  where
-    some-none : (o : Option Fault) → o ≡ Some (Worn a) → o ≡ None → ⊥
-    some-none o p q = cc
-
-    not-memory : (o : Option Fault) → o ≡ Some (Worn a) → o ≡ Some Memory → ⊥
-    not-memory o p q = cc
-
-    same : (b : Actor) (o : Option Fault) → o ≡ Some (Worn b) → o ≡ Some (Worn a) → b ≡ a
-    same b o p q = cc
-
 worn-fault : (o : Option Fault) (a : Actor) → worn_in o ≡ Some a → o ≡ Some (Worn a)
 worn-fault None a e = absurd cc
 worn-fault (Some Memory) a e = absurd cc
@@ -203,7 +189,7 @@ delivered-next a (y ∷ trace) x =
     ap (λ l. here ++ l) (delivered-next a trace x) ∙ sym (append_assoc here (delivered_to a trace) (cond (same_actor x.actor a) (told_by a x.input) []))
 
 module _ (script : Script) (clock : TableId) (w : ℕ) (start now : List Crew) (fault : Option Fault) (closed : AreClosed script clock w start now fault)
-    (own : PartsAreOwn) (paced : RunsArePaced) (rested : RestedRunsArePacedToEnd) (ended : EndedRunsEndCalls) (goes-on : TracesGoOn) (puts : PutsArePosts)
+    (own : PartsAreOwn) (paced : RunsArePaced) (rested : RestedRunsArePacedToEnd) (ended : EndedRunsEndCalls) (goes-on : TracesGoOn) (worns : WornActorsAreDue) (puts : PutsArePosts)
     (trace : List Entry) (merged : List Stamped) (whole : AreWholeParts (parts_in (parts_of now))) (is : IsMerged (parts_in (parts_of now)) merged) (made : trace ≡ map (λ (x : Stamped). x.entry) merged)
     (totals : List Totals) (totals-are : totals ≡ map (λ (c : Crew). c.totals) now) (dealt : AreDealtFrom script w 0 now) (numbered : AreNumbered w now) (many : length now ≡ w) where
   abbrev boxes : List Boxed
@@ -312,29 +298,31 @@ module _ (script : Script) (clock : TableId) (w : ℕ) (start now : List Crew) (
 
   -- an actor that a driver met worn
   module _ (c : Crew) (is-in : IsIn c now) (a : Actor) (is-worn : c.fault ≡ Some (Worn a)) where
-    the-worn : (k : HasWorn script c) × (k.desk.actor ≡ a)
-    the-worn = worn-desk script c a (each_in (IsCrew script clock boxes w) now c run-is.crews is-in).fault is-worn
+    the-worn : IsWornAt script run-is.cuts c a
+    the-worn = worns script clock boxes w start now run-is c is-in a is-worn
 
-    in-desks : IsIn the-worn.0.desk (desks_of now)
-    in-desks = desk-in now c the-worn.0.desk is-in the-worn.0.is
+    in-desks : IsIn the-worn.desk (desks_of now)
+    in-desks = desk-in now c the-worn.desk is-in the-worn.is
 
     worn-count : entries_of a (reverse trace) ≡ MOST_ENTRIES
-    worn-count =
-        subst (λ b. entries_of b (reverse trace) ≡ MOST_ENTRIES) the-worn.1 (desk-count the-worn.0.desk in-desks ∙ the-worn.0.most)
+    worn-count = subst (λ b. entries_of b (reverse trace) ≡ MOST_ENTRIES) the-worn.actor (desk-count the-worn.desk in-desks ∙ the-worn.most)
 
-    worn-more : (ports : List Ported) → Both (IsFirstPort clock now) (actors_of script) ports → HasOneMore script w clock trace ports a
+    worn-more : (ports : List Ported) → Both (IsFirstPort clock now) (actors_of script) ports → HasOneMore script w clock trace totals ports a
     worn-more ports p =
-        let d : Desk = the-worn.0.desk in
-        let next = goes-on script clock boxes w start now run-is d in-desks the-worn.0.more (reverse trace) traced in
+        let d : Desk = the-worn.desk in
+        let next = goes-on script clock boxes w start now run-is d in-desks the-worn.retry the-worn.more (reverse trace) traced in
         record {
           entry = next.0;
-          actor = next.1.actor ∙ the-worn.1;
+          actor = next.1.actor ∙ the-worn.actor;
           no_halt = no-halt next.0.input next.1.no_halt;
           run = next.1.run;
+          paced =
+              subst (λ n. IsPaced script (next.0 ∷ reverse trace) n (doubled_in totals)) lost-is
+              (subst (λ n. IsPaced script (next.0 ∷ reverse trace) (lost_by now) n) doubled-is (next.2 the-worn.due));
           ports_are = both-map (IsFirstPort clock now) (IsPortOfActor script w clock (trace ++ next.0 ∷ [])) (port-next d in-desks next.0 next.1) (actors_of script) ports p;
         }
 
-    worn-is : (ports : List Ported) → Both (IsFirstPort clock now) (actors_of script) ports → IsWorn script w clock trace ports a
+    worn-is : (ports : List Ported) → Both (IsFirstPort clock now) (actors_of script) ports → IsWorn script w clock trace totals ports a
     worn-is ports p = (worn-count, worn-more ports p)
 
   ends : (worn : Option Actor) → fault ≡ fault_of worn → (ports : List Ported) → Both (IsFirstPort clock now) (actors_of script) ports → HasEnd script w clock trace totals ports worn
@@ -381,17 +369,17 @@ module _ (script : Script) (clock : TableId) (w : ℕ) (start now : List Crew) (
       subst (λ u. HasRisen script w trace i u f f') c.2 (posted-risen script w trace i c.0 f f' (crew-posts is_asked i c.0 c.1) (posted c.0 c.1))
 
   -- ---- what each driver met
-  met-one : (ports : List Ported) → Both (IsFirstPort clock now) (actors_of script) ports → (i : ℕ) (a : Actor) → slice_get (map (λ (c : Crew). worn_in c.fault) now) i ≡ Some (Some a) → (is_dealt script w i a ≡ true) × IsWorn script w clock trace ports a
+  met-one : (ports : List Ported) → Both (IsFirstPort clock now) (actors_of script) ports → (i : ℕ) (a : Actor) → slice_get (map (λ (c : Crew). worn_in c.fault) now) i ≡ Some (Some a) → (is_dealt script w i a ≡ true) × IsWorn script w clock trace totals ports a
   met-one ports p i a g =
       let c = get-map (λ (c : Crew). worn_in c.fault) now i (Some a) g in
       let k = get-in now i c.0 c.1 in
       let is-worn : c.0.fault ≡ Some (Worn a) = worn-fault c.0.fault a c.2 in
       let d = the-worn c.0 k a is-worn in
-      (ap (is_dealt script w i) (sym d.1) ∙ dealt-at script w now c.0 dealt i c.1 d.0.desk d.0.is, worn-is c.0 k a is-worn ports p)
+      (ap (is_dealt script w i) (sym d.actor) ∙ dealt-at script w now c.0 dealt i c.1 d.desk d.is, worn-is c.0 k a is-worn ports p)
 
   pub have-met : (seat : Seated) → seat.clock ≡ clock → (met : List (Option Actor)) → met ≡ map (λ (c : Crew). worn_in c.fault) now → (ports : List Ported) → Both (IsFirstPort clock now) (actors_of script) ports
-      → HaveMetWorn script w seat.clock trace ports met
-  have-met seat same met e ports p = subst (λ k. HaveMetWorn script w k trace ports met) (sym same) (record {
+      → HaveMetWorn script w seat.clock trace totals ports met
+  have-met seat same met e ports p = subst (λ k. HaveMetWorn script w k trace totals ports met) (sym same) (record {
     count = ap length e ∙ map-length (λ (c : Crew). worn_in c.fault) now ∙ many;
     each = λ i a g. met-one ports p i a (subst (λ l. slice_get l i ≡ Some (Some a)) e g);
   })

@@ -134,22 +134,23 @@ ArePortsOfActors script w clock trace ports = Both (IsPortOfActor script w clock
 
 -- ---- all of it
 
--- with one more entry of the actor, which is no halt, the trace is still a run, and what its entries deliver is still a prefix of what was taken; where that entry is a retry, it isn't said that it would be the actor's first after the last cut, so that it was due
-pub record HasOneMore (script : Script) (w : ℕ) (clock : TableId) (trace : List Entry) (ports : List Ported) (a : Actor) : Type 0 where
+-- with one more entry of the actor, which is no halt, the trace is still a run, and what its entries deliver is still a prefix of what was taken; it is still paced too, so that, where that entry is a retry, it was due
+pub record HasOneMore (script : Script) (w : ℕ) (clock : TableId) (trace : List Entry) (totals : List Totals) (ports : List Ported) (a : Actor) : Type 0 where
   pub entry : Entry
   pub actor : entry.actor ≡ a
   pub no_halt : is_halt entry.input ≡ false
   pub run : IsRun script (entry ∷ reverse trace)
+  pub paced : IsPaced script (entry ∷ reverse trace) (lost_in totals) (doubled_in totals)
   pub ports_are : ArePortsOfActors script w clock (trace ++ entry ∷ []) ports
 
 -- the actor made all the entries that it may make, and has one more to make
-abbrev pub IsWorn : Script → ℕ → TableId → List Entry → List Ported → Actor → Type 0
-IsWorn script w clock trace ports a = (entries_of a (reverse trace) ≡ MOST_ENTRIES) × HasOneMore script w clock trace ports a
+abbrev pub IsWorn : Script → ℕ → TableId → List Entry → List Totals → List Ported → Actor → Type 0
+IsWorn script w clock trace totals ports a = (entries_of a (reverse trace) ≡ MOST_ENTRIES) × HasOneMore script w clock trace totals ports a
 
 -- for each driver the actor that it met worn, if it met one: one of its own
-pub record HaveMetWorn (script : Script) (w : ℕ) (clock : TableId) (trace : List Entry) (ports : List Ported) (met : List (Option Actor)) : Type 0 where
+pub record HaveMetWorn (script : Script) (w : ℕ) (clock : TableId) (trace : List Entry) (totals : List Totals) (ports : List Ported) (met : List (Option Actor)) : Type 0 where
   pub count : length met ≡ w
-  pub each : (i : ℕ) (a : Actor) → slice_get met i ≡ Some (Some a) → (is_dealt script w i a ≡ true) × IsWorn script w clock trace ports a
+  pub each : (i : ℕ) (a : Actor) → slice_get met i ≡ Some (Some a) → (is_dealt script w i a ≡ true) × IsWorn script w clock trace totals ports a
 
 -- of several that drivers met, the one of the lowest driver
 abbrev pub lowest_of : List (Option Actor) → Option Actor
@@ -161,7 +162,7 @@ abbrev pub HasEnd : Script → ℕ → TableId → List Entry → List Totals �
 HasEnd script w clock trace totals ports None =
     HaveCallsEnded script trace × IsPacedToEnd script (reverse trace) (lost_in totals) (doubled_in totals)
 HasEnd script w clock trace totals ports (Some a) =
-    IsWorn script w clock trace ports a × IsPaced script (reverse trace) (lost_in totals) (doubled_in totals)
+    IsWorn script w clock trace totals ports a × IsPaced script (reverse trace) (lost_in totals) (doubled_in totals)
 
 -- what drivers of w threads made of a script; no actor made more entries than it may, and the seat of the clock has all entries, each with the stamp that says its place
 pub record IsRan (script : Script) (w : ℕ) (trace : List Entry) (seat : Seated) (totals : List Totals) (ports : List Ported) (worn : Option Actor) : Type 0 where

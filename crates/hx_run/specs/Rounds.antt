@@ -36,7 +36,7 @@ first_fault (c ∷ crews) = first_some c.fault (first_fault crews)
 
 -- one round: slices of all drivers, or a retry of each where they are at rest and a session goes on
 abbrev pub Advance : Script → List Crew → List Crew → Type 0
-Advance script crews crews' = AreSliced crews crews' ⊎ (AreAtRest script crews × SomeGoesOn script crews × AreRetried script crews crews')
+Advance script crews crews' = AreSliced script crews crews' ⊎ (AreAtRest script crews × SomeGoesOn script crews × AreRetried script crews crews')
 
 -- the rounds end with the fault of the lowest driver that has one, or, where none has, with all calls ended and nothing left to do
 pub record AreOver (script : Script) (crews : List Crew) (fault : Option Fault) : Type 0 where

@@ -36,7 +36,7 @@ fn slice_one<R: Wait, G: Gate>(
     requires boxes { AreBoxes script.now clock.now boxes.now }
     requires crew { (w : ℕ) × IsCrew script.now clock.now boxes.now w driver.old.crew }
     ensures crew { StaysCrew script.now clock.now boxes.now driver.old.crew driver.new.crew }
-    ensures sliced { IsSliced driver.old.crew driver.new.crew }
+    ensures sliced { IsSliced script.now driver.old.crew driver.new.crew }
     ensures posted { IsPosted driver.old.crew driver.new.crew (state (driver.old.fate.vtable, driver.old.fate.value)) (state (driver.new.fate.vtable, driver.new.fate.value)) }
 {
     driver.slice(rt, alloc, script, clock, boxes, gate, at_work);
@@ -56,7 +56,7 @@ fn slice_all<R: Threads + Wait + Sync, G: Gate + Sync>(
     requires boxes { AreBoxes script.now clock.now boxes.now }
     requires crews { All (λ d. (w : ℕ) × IsCrew script.now clock.now boxes.now w d.crew) drivers.old }
     ensures crews { StayCrews script.now clock.now boxes.now (map (λ d. d.crew) drivers.old) (map (λ d. d.crew) drivers.new) }
-    ensures sliced { AreSliced (map (λ d. d.crew) drivers.old) (map (λ d. d.crew) drivers.new) }
+    ensures sliced { AreSliced script.now (map (λ d. d.crew) drivers.old) (map (λ d. d.crew) drivers.new) }
     ensures posted { Both (λ d d'. IsPosted d.crew d'.crew (state (d.fate.vtable, d.fate.value)) (state (d'.fate.vtable, d'.fate.value))) drivers.old drivers.new }
 {
     let at_work = AtWork::new(drivers.len());
@@ -70,7 +70,7 @@ fn slice_all<R: Threads + Wait + Sync, G: Gate + Sync>(
             requires boxes { AreBoxes script.now clock.now boxes.now }
             requires crew { (w : ℕ) × IsCrew script.now clock.now boxes.now w driver.now.crew }
             ensures crew { StaysCrew script.entry.now clock.entry.now boxes.entry.now driver.entry.now.crew driver.exit.now.crew }
-            ensures sliced { IsSliced driver.entry.now.crew driver.exit.now.crew }
+            ensures sliced { IsSliced script.entry.now driver.entry.now.crew driver.exit.now.crew }
             ensures posted { IsPosted driver.entry.now.crew driver.exit.now.crew (state (driver.entry.now.fate.vtable, driver.entry.now.fate.value)) (state (driver.exit.now.fate.vtable, driver.exit.now.fate.value)) }
         { slice_one(rt, alloc, script, clock, boxes, gate, driver, shared) },
     );

@@ -133,7 +133,7 @@ pub fn run<R: Threads + Wait + Sync, G: Gate + Sync>(
     requires workers { (1 ≤ workers) × (workers ≤ 16) × (workers ≤ length fates.items) }
     requires capacity { 1 ≤ capacity }
     ensures ran { IfOk result (λ ran. IsRan script.now workers ran.trace ran.seat ran.totals.items ran.ports.items ran.worn) }
-    ensures met { IfOk result (λ ran. HaveMetWorn script.now workers ran.seat.clock ran.trace ran.ports.items ran.met_worn.items) }
+    ensures met { IfOk result (λ ran. HaveMetWorn script.now workers ran.seat.clock ran.trace ran.totals.items ran.ports.items ran.met_worn.items) }
     ensures lowest { IfOk result (λ ran. ran.worn ≡ lowest_of ran.met_worn.items) }
     ensures fates { IfOk result (λ ran. length ran.fates.items ≡ workers) }
     ensures risen { IfOk result (λ ran. (i : ℕ) (f : _) (g : _) (t : TotalsSeen) → slice_get fates.items i ≡ Some f → slice_get ran.fates.items i ≡ Some g → slice_get ran.totals.items i ≡ Some t → HasRisen script.now workers ran.trace i t (state f) (state g)) }

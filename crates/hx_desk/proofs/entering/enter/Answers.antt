@@ -1,4 +1,4 @@
-use Rattle.std.proofs.Common.{refl, sym, subst}
+use Rattle.std.proofs.Common.{false, refl, sym, subst}
 use Rattle.hx_desk.specs.Turns.{IsFaultOf}
 use Rattle.hx_desk.proofs.Results.{match-map}
 use Rattle.hx_desk.proofs.Turned.{turn-self}
@@ -12,8 +12,8 @@ pub returns-then-is_worn-clause-fault : goal.returns-then-is_worn-clause-fault
 returns-then-is_worn-clause-fault g c = (
   refl,
   c.is_worn.ensures.most c.if-is_worn.true,
-  more-to-make c.args.script.now c.args.clock.now c.args.boxes.now c.requires.desk.0 c.args.desk.now c.args.input c.requires.desk.1 c.requires.running c.requires.given c.requires.enough,
+  more-to-make c.args.script.now c.args.clock.now c.args.boxes.now c.requires.desk.0 false c.args.desk.now c.args.input c.requires.desk.1 c.requires.running c.requires.given c.requires.enough c.requires.turns,
 )
 
 pub returns-else-is_worn-clause-fault : goal.returns-else-is_worn-clause-fault
-returns-else-is_worn-clause-fault g c = match-map _ _ _ _ c.step_on.result (λ x k. k) (λ f k. subst (IsFaultOf c.args.script.now c.step_on.new.desk) (sym k) tt) c.step_on.ensures.fault
+returns-else-is_worn-clause-fault g c = match-map _ _ _ _ c.step_on.result (λ x k. k) (λ f k. subst (IsFaultOf c.args.script.now false c.step_on.new.desk) (sym k) tt) c.step_on.ensures.fault

@@ -1,9 +1,10 @@
-use Rattle.std.proofs.Common.{◌∙◌, refl, sym, [], ◌∷◌, append-nil}
+use Rattle.std.proofs.Common.{◌∙◌, true, refl, sym, [], ◌∷◌, append-nil}
 use Rattle.hx_types.specs.declared.traces.Input.TheVariants.{Tick}
+use Rattle.hx_desk.specs.Desks.{entries_before}
 use Rattle.hx_desk.proofs.Results.{match-elim, match-map}
 use Rattle.hx_desk.proofs.Same.{desk-input}
 use Rattle.hx_desk.proofs.Turned.{turn-self}
-use Rattle.hx_desk.proofs.Waiting.{plan-enough, retried-one}
+use Rattle.hx_desk.proofs.Waiting.{plan-enough, retried-one, tick-retries}
 use Rattle.hx_desk.proofs.Worn.{more-to-make}
 use Rattle.hx_desk.proofs.retrying.finish.Goals as goal
 
@@ -17,7 +18,7 @@ pub returns-then-is_worn-clause-fault : goal.returns-then-is_worn-clause-fault
 returns-then-is_worn-clause-fault g c =
     let d = c.args.desk.now in
     let enough = sym (plan-enough c.args.script.now d c.args.plan c.requires.ready) ∙ sym c.makes_anything.ensures ∙ c.if-not-makes_anything.false in
-    (refl, c.is_worn.ensures.most c.if-is_worn.true, more-to-make c.args.script.now c.args.clock.now c.args.boxes.now c.requires.desk.0 d Tick c.requires.desk.1 c.requires.running tt enough)
+    (refl, c.is_worn.ensures.most c.if-is_worn.true, more-to-make c.args.script.now c.args.clock.now c.args.boxes.now c.requires.desk.0 true d Tick c.requires.desk.1 c.requires.running tt enough (tick-retries c.args.script.now (entries_before d.part.items) d.actor c.requires.waits))
 
 pub returns-else-is_worn-clause-desk : goal.returns-else-is_worn-clause-desk
 returns-else-is_worn-clause-desk g c w h =

@@ -31,6 +31,10 @@ enter-requires-clause-running g c =
 pub enter-requires-clause-enough : goal.enter-requires-clause-enough
 enter-requires-clause-enough g c = taken-enough c.in-Some.input _ c.in-Some.ensures.given.1
 
+pub enter-requires-clause-turns : goal.enter-requires-clause-turns
+enter-requires-clause-turns g c =
+    no-tick c.receive.new.desk.actor c.in-Some.input (made_of c.args.script.now (entries_before c.receive.new.desk.part.items) c.receive.new.desk.actor c.in-Some.input) c.in-Some.ensures.given.1
+
 pub enter-requires-clause-room : goal.enter-requires-clause-room
 enter-requires-clause-room g c = room-same c.args.out.now c.args.desk.now c.receive.new.desk c.args.totals.now c.receive.ensures.taken.kept c.requires.room
 

@@ -11,6 +11,10 @@ pub enter-requires-clause-enough : goal.enter-requires-clause-enough
 enter-requires-clause-enough g c =
     idle-enough c.args.script.now (entries_before c.args.desk.now.part.items) c.args.desk.now.actor (sym (c.idle.ensures c.args.script.now c.args.desk.now.actor (entries_before c.args.desk.now.part.items) c.requires.desk.1.machine) ∙ c.if-idle.true)
 
+pub enter-requires-clause-turns : goal.enter-requires-clause-turns
+enter-requires-clause-turns g c =
+    tick-begins c.args.script.now (entries_before c.args.desk.now.part.items) c.args.desk.now.actor (sym (c.idle.ensures c.args.script.now c.args.desk.now.actor (entries_before c.args.desk.now.part.items) c.requires.desk.1.machine) ∙ c.if-idle.true)
+
 pub returns-then-idle-clause-desk : goal.returns-then-idle-clause-desk
 returns-then-idle-clause-desk g c =
     match-map _ _ _ _ c.enter.result (λ _ k w h. k w h) (λ _ k w h. broken-of c.args.script.now c.args.clock.now c.args.boxes.now w [] c.enter.new.desk (k w [] h)) c.enter.ensures.desk

@@ -26,7 +26,7 @@ returns-then-halted-clause-desk g c =
     (λ _ k w h. c.discard.ensures.desk w h.rest (c.resend.ensures.desk w h.rest h.desk)) c.discard.ensures.fault
 
 pub returns-then-halted-clause-fault : goal.returns-then-halted-clause-fault
-returns-then-halted-clause-fault g c = match-map _ _ _ _ c.discard.result (λ x k. k) (λ f k. subst (IsFaultOf c.args.script.now c.discard.new.desk) (sym k) tt) c.discard.ensures.fault
+returns-then-halted-clause-fault g c = match-map _ _ _ _ c.discard.result (λ x k. k) (λ f k. subst (IsFaultOf c.args.script.now false c.discard.new.desk) (sym k) tt) c.discard.ensures.fault
 
 pub returns-then-halted-clause-turn : goal.returns-then-halted-clause-turn
 returns-then-halted-clause-turn g c =

@@ -1,7 +1,7 @@
 use Rattle.std.proofs.Common.{ℕ, ◌≡◌, None}
 use Rattle.hx_desk.specs.Desks.{HasRetried}
 use Rattle.hx_driver.specs.Crews.{IsCrew, IsPosted}
-use Rattle.hx_driver.specs.Slices.{DoneTo, IsLaterCrew, MayHaveRetried}
+use Rattle.hx_driver.specs.Slices.{DoneTo, HasFaultSince, IsLaterCrew, MayHaveRetried}
 use Rattle.hx_driver.proofs.retrying.retry_each.Given as goal
 
 abbrev pub invariant-loop-at : goal.invariant-loop-at
@@ -13,3 +13,4 @@ invariant-loop-at g l =
     ((g.dyn-1.0.entry l.fate.vtable).1.state l.fate.value)
     × (l.crew.fault ≡ None → DoneTo (HasRetried l.script) l.at l.initial.crew.desks.items l.crew.desks.items)
     × DoneTo (MayHaveRetried l.script) l.at l.initial.crew.desks.items l.crew.desks.items
+    × (l.initial.crew.fault ≡ None → HasFaultSince l.script l.initial.crew.desks.items l.crew)

@@ -1,8 +1,8 @@
-use Rattle.std.proofs.Common.{refl, inl, inr, Some}
+use Rattle.std.proofs.Common.{true, refl, inl, inr, Some}
 use Rattle.hx_desk.specs.Desks.{HasRetried}
 use Rattle.hx_driver.specs.Slices.{MayHaveRetried}
 use Rattle.hx_driver.proofs.Booking.{has-room, posted-turn, turn-in, with_turn}
-use Rattle.hx_driver.proofs.Moving.{crew-later, desk-at, done-turn, moved-calm, moved-fault}
+use Rattle.hx_driver.proofs.Moving.{crew-later, desk-at, done-turn, fault-since, moved-calm, moved-fault}
 use Rattle.hx_driver.proofs.retrying.retry_of.Goals as goal
 
 pub retry-retried-requires-clause-room : goal.retry-retried-requires-clause-room
@@ -18,7 +18,7 @@ pub returns-in-Err-clause-crew : goal.returns-in-Err-clause-crew
 returns-in-Err-clause-crew g c w h =
     moved-fault _ _ _ w c.args.crew.now (with_turn c.args.crew.now c.args.at c.retry-retried.new.desk c.retry-retried.new.out c.retry-retried.new.totals (Some c.in-Err.fault)) c.args.at c.index_mut.result.now c.retry-retried.new.desk _ _ c.retry-retried.ensures.turn.0
     (turn-in _ c.args.crew.now c.args.at c.index_mut.result.now c.retry-retried.new.desk c.retry-retried.new.out c.retry-retried.new.totals (Some c.in-Err.fault) _ _ c.retry-retried.ensures.turn.0 c.requires.at c.index_mut.ensures.value c.retry-retried.ensures.turn.1)
-    c.requires.calm h c.in-Err.fault refl c.in-Err.ensures.fault
+    c.requires.calm h true c.in-Err.fault refl c.in-Err.ensures.fault
     (let whole = c.retry-retried.ensures.desk w (desk-at _ _ _ w c.args.crew.now c.args.at c.index_mut.result.now h c.requires.calm c.requires.at c.index_mut.ensures.value) in record { rest = whole.rest; desk = whole.desk })
 
 pub returns-in-Ok-clause-later : goal.returns-in-Ok-clause-later
@@ -48,3 +48,11 @@ returns-in-Err-clause-posted g c =
 pub returns-in-Err-clause-some : goal.returns-in-Err-clause-some
 returns-in-Err-clause-some g c =
     done-turn (MayHaveRetried c.args.script.now) _ c.args.crew.now (with_turn c.args.crew.now c.args.at c.retry-retried.new.desk c.retry-retried.new.out c.retry-retried.new.totals (Some c.in-Err.fault)) c.args.at c.index_mut.result.now c.retry-retried.new.desk _ _ c.retry-retried.ensures.turn.0 (turn-in _ c.args.crew.now c.args.at c.index_mut.result.now c.retry-retried.new.desk c.retry-retried.new.out c.retry-retried.new.totals (Some c.in-Err.fault) _ _ c.retry-retried.ensures.turn.0 c.requires.at c.index_mut.ensures.value c.retry-retried.ensures.turn.1) (inr c.in-Err.ensures.retried)
+
+pub returns-in-Ok-clause-fault : goal.returns-in-Ok-clause-fault
+returns-in-Ok-clause-fault g c before h = inl c.requires.calm
+
+pub returns-in-Err-clause-fault : goal.returns-in-Err-clause-fault
+returns-in-Err-clause-fault g c =
+    fault-since c.args.script.now _ c.args.crew.now (with_turn c.args.crew.now c.args.at c.retry-retried.new.desk c.retry-retried.new.out c.retry-retried.new.totals (Some c.in-Err.fault)) c.args.at c.index_mut.result.now c.retry-retried.new.desk _ _ c.retry-retried.ensures.turn.0 (turn-in _ c.args.crew.now c.args.at c.index_mut.result.now c.retry-retried.new.desk c.retry-retried.new.out c.retry-retried.new.totals (Some c.in-Err.fault) _ _ c.retry-retried.ensures.turn.0 c.requires.at c.index_mut.ensures.value c.retry-retried.ensures.turn.1)
+    c.in-Err.fault refl c.in-Err.ensures.fault c.in-Err.ensures.retried

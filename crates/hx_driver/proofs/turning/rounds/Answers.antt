@@ -3,7 +3,7 @@ use Rattle.hx_driver.proofs.Moving.{crew-later-refl, crew-later-trans, none-retr
 use Rattle.hx_driver.proofs.turning.rounds.Goals as goal
 
 pub loop-round-init : goal.loop-round-init
-loop-round-init g c = ((λ w h. h), crew-later-refl c.args.crew.now, posted-none c.args.crew.now _, none-retried-refl c.args.crew.now)
+loop-round-init g c = ((λ w h. h), crew-later-refl c.args.crew.now, posted-none c.args.crew.now _, none-retried-refl c.args.script.now c.args.crew.now)
 
 pub round-worked-requires-clause-crew : goal.round-worked-requires-clause-crew
 round-worked-requires-clause-crew g c = (c.requires.crew.0, c.loop-round.invariant.0 c.requires.crew.0 c.requires.crew.1)
@@ -15,7 +15,7 @@ loop-round-preserved g c =
       (λ w h. n.crew w (i.0 w h)),
       crew-later-trans c.args.crew.now c.loop-round.crew c.round-worked.new.crew i.1 n.later,
       posted-trans c.args.crew.now c.loop-round.crew c.round-worked.new.crew _ _ _ i.2 n.posted,
-      none-retried-trans c.args.crew.now c.loop-round.crew c.round-worked.new.crew i.3 n.later n.retries,
+      none-retried-trans c.args.script.now c.args.crew.now c.loop-round.crew c.round-worked.new.crew i.3 n.later n.retries,
     )
 
 pub returns-then-is_over-clause-crew : goal.returns-then-is_over-clause-crew
@@ -29,4 +29,4 @@ returns-then-is_over-clause-posted g c = posted-trans c.args.crew.now c.loop-rou
 
 pub returns-then-is_over-clause-retries : goal.returns-then-is_over-clause-retries
 returns-then-is_over-clause-retries g c =
-    none-retried-trans c.args.crew.now c.loop-round.crew c.round-worked.new.crew c.loop-round.invariant.3 c.round-worked.ensures.later c.round-worked.ensures.retries
+    none-retried-trans c.args.script.now c.args.crew.now c.loop-round.crew c.round-worked.new.crew c.loop-round.invariant.3 c.round-worked.ensures.later c.round-worked.ensures.retries

@@ -10,4 +10,4 @@ invariant-loop-round g l =
     × IsPosted l.initial.crew l.crew
     ((g.dyn-1.0.entry l.initial.fate.vtable).1.state l.initial.fate.value)
     ((g.dyn-1.0.entry l.fate.vtable).1.state l.fate.value)
-    × HaveNoRetry l.initial.crew l.crew
+    × HaveNoRetry l.script l.initial.crew l.crew

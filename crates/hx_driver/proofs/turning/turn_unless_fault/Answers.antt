@@ -9,4 +9,4 @@ pub returns-in-Some-clause-posted : goal.returns-in-Some-clause-posted
 returns-in-Some-clause-posted g c = posted-none c.args.crew.now _
 
 pub returns-in-Some-clause-retries : goal.returns-in-Some-clause-retries
-returns-in-Some-clause-retries g c = none-retried-refl c.args.crew.now
+returns-in-Some-clause-retries g c = none-retried-refl c.args.script.now c.args.crew.now

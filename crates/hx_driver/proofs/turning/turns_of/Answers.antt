@@ -6,7 +6,7 @@ use Rattle.hx_driver.proofs.Places.{both-length}
 use Rattle.hx_driver.proofs.turning.turns_of.Goals as goal
 
 pub loop-turn-init : goal.loop-turn-init
-loop-turn-init g c = ((λ w h. h), crew-later-refl c.args.crew.now, posted-none c.args.crew.now _, none-retried-refl c.args.crew.now)
+loop-turn-init g c = ((λ w h. h), crew-later-refl c.args.crew.now, posted-none c.args.crew.now _, none-retried-refl c.args.script.now c.args.crew.now)
 
 pub works-requires-clause-crew : goal.works-requires-clause-crew
 works-requires-clause-crew g c = (c.requires.crew.0, c.loop-turn.invariant.0 c.requires.crew.0 c.requires.crew.1)
@@ -22,7 +22,7 @@ loop-turn-preserved g c =
       (λ w h. n.crew w (i.0 w h)),
       crew-later-trans c.args.crew.now c.loop-turn.crew c.works.new.crew i.1 n.later,
       posted-trans c.args.crew.now c.loop-turn.crew c.works.new.crew _ _ _ i.2 n.posted,
-      none-retried-trans c.args.crew.now c.loop-turn.crew c.works.new.crew i.3 n.later n.retries,
+      none-retried-trans c.args.script.now c.args.crew.now c.loop-turn.crew c.works.new.crew i.3 n.later n.retries,
     )
 
 pub returns-then-not-works-clause-crew : goal.returns-then-not-works-clause-crew
@@ -36,4 +36,4 @@ returns-then-not-works-clause-posted g c = posted-trans c.args.crew.now c.loop-t
 
 pub returns-then-not-works-clause-retries : goal.returns-then-not-works-clause-retries
 returns-then-not-works-clause-retries g c =
-    none-retried-trans c.args.crew.now c.loop-turn.crew c.works.new.crew c.loop-turn.invariant.3 c.works.ensures.later c.works.ensures.retries
+    none-retried-trans c.args.script.now c.args.crew.now c.loop-turn.crew c.works.new.crew c.loop-turn.invariant.3 c.works.ensures.later c.works.ensures.retries
