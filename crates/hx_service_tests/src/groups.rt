@@ -1,4 +1,4 @@
-//! Groups: what is found is changed, and nothing where the search is refused.
+//! Groups: what is found is changed, a row is left whose put is refused, and nothing is done where the search is.
 use crate::scripts::{BOOKS, called, has_session, service_of};
 use hx_service::{Grouped, Service};
 use hx_types::{Assign, Assigns, Exact, Op, SessionId, Term, Terms, Text, Value, fits};
@@ -85,5 +85,24 @@ fn a_group_whose_search_is_refused_changes_nothing(rt: HostRuntime) {
     drop(terms);
     drop(third);
     drop(fourth);
+    drop(service);
+}
+
+#[test]
+fn a_group_leaves_a_row_whose_key_is_lost(rt: HostRuntime) {
+    let mut service = service_of(&rt, BOOKS);
+    let put = called(&rt, &mut service, 1, "put \"a\" genre=\"b\" year=1999");
+    let first = called(&rt, &mut service, 1, "stop 1");
+    let second = called(&rt, &mut service, 1, "stop 2");
+    let terms = years(&rt);
+    let sets = year(&rt);
+    let changed = grouped(&rt, &mut service, SessionId(2), &terms, &sets);
+    assert_eq!(rt; (changed.done, changed.left), (0, 1));
+    assert_eq!(rt; service.receipts().len(), 5);
+    drop(sets);
+    drop(terms);
+    drop(put);
+    drop(first);
+    drop(second);
     drop(service);
 }

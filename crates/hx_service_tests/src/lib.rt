@@ -1,4 +1,4 @@
-//! Tests of services: calls and their receipts, refusals, groups, a report, and a roster; and that a lock on a service
+//! Tests of services: calls and their receipts, refusals, limits, groups, a report, and a roster; and that a lock on a service
 //! may cross threads.
 #![tactic(auto)]
 
@@ -6,6 +6,8 @@
 mod calls;
 #[cfg(test)]
 mod groups;
+#[cfg(test)]
+mod limits;
 #[cfg(test)]
 mod plans;
 #[cfg(test)]

@@ -1,2 +1,3 @@
+pub mod Boxing
 pub mod Mailed
 pub mod Gathered

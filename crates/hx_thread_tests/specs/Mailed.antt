@@ -6,12 +6,17 @@ use Rattle.hx_types.specs.declared.ids.Actor.TheVariants.{Coordinator, Server}
 use Rattle.hx_types.specs.declared.messages.Message.TheVariants as a_message
 use Rattle.hx_types.specs.declared.messages.Post.{Post}
 use Rattle.hx_types.specs.declared.spaces.Space.{Space}
+use Rattle.hx_types.specs.declared.traces.Script.{Script}
 use Rattle.hx_types.specs.Words.{post}
 use Rattle.hx_mail.specs.declared.views.BoxNames.{BoxNames}
 
--- a space of two regions on four servers
+-- a space of two regions on one server
 abbrev pub small : Space
-small = record { name = 115 ∷ []; key_name = 107 ∷ []; key_parts = 2; attributes = []; subspaces = []; servers = 4; tolerate = 1 }
+small = record { name = 115 ∷ []; key_name = 107 ∷ []; key_parts = 2; attributes = []; subspaces = []; servers = 1; tolerate = 0 }
+
+-- a script of it without a session
+abbrev pub no_calls : Script
+no_calls = record { space = small; sessions = []; steps = [] }
 
 abbrev pub first_server : Actor
 first_server = Server (record { 0 = 1 })

@@ -1,5 +1,5 @@
-//! Tests of fates, of mailboxes and of what is gathered from several threads: a module for each crate that
-//! they are of, and a run that is gathered from parts made by hand.
+//! Tests of fates, of mailboxes, of what drivers put into them and of what is gathered from several threads: a
+//! module for each crate that they are of, and a run that is gathered from parts made by hand.
 #![tactic(auto)]
 
 #[cfg(test)]
@@ -10,5 +10,7 @@ mod fate;
 mod gather;
 #[cfg(test)]
 mod mail;
+#[cfg(test)]
+mod outbox;
 #[cfg(test)]
 mod small_run;

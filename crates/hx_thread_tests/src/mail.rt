@@ -17,9 +17,10 @@ use std::process::Abort;
 use std::sync::Wait;
 use std::test::Fail;
 
-const SERVER: Actor = Actor::Server(ServerId(1));
+pub const SERVER: Actor = Actor::Server(ServerId(1));
 
-fn space(alloc: Global) -> Result<Space, Memory>
+/// A space of two regions on one server.
+pub fn space(alloc: Global) -> Result<Space, Memory>
     ensures { IfOk result (λ space. space ≡ small) }
 {
     Ok(Space {
@@ -28,8 +29,8 @@ fn space(alloc: Global) -> Result<Space, Memory>
         key_parts: 2,
         attributes: Attributes::new(alloc),
         subspaces: Subspaces::new(alloc),
-        servers: 4,
-        tolerate: 1,
+        servers: 1,
+        tolerate: 0,
     })
 }
 
@@ -44,7 +45,7 @@ fn halting() -> Post
 }
 
 /// The coordinator asks server 1 to halt.
-fn ask(alloc: Global, clock: &Clock, seat: &mut Seat) -> Result<Envelope, Memory>
+pub fn ask(alloc: Global, clock: &Clock, seat: &mut Seat) -> Result<Envelope, Memory>
     requires clock { seat.old.clock ≡ clock.now }
     requires own { (k : ℕ) × (part : List Stamped) × Owns seat.old.view k part × (length part < 2) }
     ensures clock { seat.new.clock ≡ clock.now }

@@ -66,7 +66,7 @@ fn goes_through(update: Option<&Update>, version: u64, places: &[(u32, u64, bool
 }
 
 /// Whether the object has this genre and year.
-fn is_book(object: &Object, genre: &str, year: i64) -> bool {
+pub fn is_book(object: &Object, genre: &str, year: i64) -> bool {
     match (object.get(0), object.get(1)) {
         (Some(Value::Text(text)), Some(Value::Int(number))) => {
             text.as_str() == genre && *number == year
@@ -76,7 +76,7 @@ fn is_book(object: &Object, genre: &str, year: i64) -> bool {
 }
 
 /// The note of a call's end: its number, its version and its answer.
-fn ended(trace: &Trace, place: usize) -> Option<(u32, u64, &Answer)> {
+pub fn ended(trace: &Trace, place: usize) -> Option<(u32, u64, &Answer)> {
     match trace.get(place)?.notes.get(0)? {
         Note::Ended {
             number,

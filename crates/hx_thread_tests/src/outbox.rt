@@ -1,0 +1,122 @@
+//! Envelopes that a driver puts into boxes of one place: what finds no room is kept, and put again.
+ghost use Rattle.std.specs.Prelude.{◌≡◌, [], IfOk};
+ghost use Rattle.hx_clock.specs.Views.{Owns};
+ghost use Rattle.hx_mail.specs.Boxes.{IsPortOf};
+ghost use Rattle.hx_outbox.specs.Outboxes.{IsOutbox, IsOutPort, out_weight, outs_of};
+ghost use Rattle.hx_outbox.specs.Places.{AreBoxes, names_for};
+ghost use Rattle.hx_thread_tests.specs.Mailed.{no_calls, small};
+
+use crate::clocks::begun;
+use crate::mail::{SERVER, ask, space};
+use hx_clock::{Clock, Seat};
+use hx_mail::{Envelope, Mailbox, Port};
+use hx_outbox::{Outbox, put_kept, put_or_keep};
+use hx_types::{Actor, Memory, Script, Sessions, Space, Steps};
+use std::alloc::Global;
+use std::collections::VecDeque;
+use std::process::Abort;
+use std::sync::Wait;
+use std::test::Fail;
+
+/// A script of the small space, without a session.
+fn script(alloc: Global) -> Result<Script, Memory>
+    ensures { IfOk result (λ script. script ≡ no_calls) }
+{
+    Ok(Script {
+        space: space(alloc)?,
+        sessions: Sessions::new(alloc),
+        steps: Steps::new(alloc),
+    })
+}
+
+/// An empty box of one place, with its first port and that of a driver.
+fn open<'a, R: Wait + Abort>(
+    rt: &R,
+    alloc: Global,
+    clock: &'a Clock,
+    owner: Actor,
+    space: &'a Space,
+) -> (Mailbox<'a>, Port, Port)
+    requires space { space.now ≡ small }
+    ensures names { result.0.names ≡ names_for no_calls clock.now owner }
+    ensures first { IsPortOf result.0 result.1 }
+    ensures other { IsOutPort 0 result.0 result.2 × (outs_of result.2 ≡ []) }
+{
+    let Ok((mailbox, mut first)) = Mailbox::new(alloc, clock, owner, space, 0, 1) else {
+        panic!(rt; "no memory");
+    };
+    let Ok(other) = mailbox.split(rt, &mut first) else {
+        panic!(rt; "no memory");
+    };
+    (mailbox, first, other)
+}
+
+/// How many envelopes were put into the server's box, and how many are kept.
+fn counts(out: &Outbox, kept: &VecDeque<Envelope>) -> (Option<u64>, usize) {
+    (out.sent.get(1).copied(), kept.len())
+}
+
+/// Puts two envelopes, and puts what was kept again: how many were put, and are kept, before and after that.
+fn put_two_and_kept<R: Wait + Abort>(
+    rt: &R,
+    alloc: Global,
+    script: &Script,
+    clock: &Clock,
+    boxes: &[Mailbox<'_>],
+    out: &mut Outbox,
+    inbox: (&Mailbox<'_>, &mut Port),
+    seat: &mut Seat,
+) -> ((Option<u64>, usize), (Option<u64>, usize))
+    requires script { script.now ≡ no_calls }
+    requires boxes { AreBoxes script.now clock.now boxes.now }
+    requires out { IsOutbox boxes.now out.old }
+    requires empty { out_weight (λ m. 1) out.old.ports.items ≡ 0 }
+    requires inbox { IsPortOf inbox.0.now inbox.1.now }
+    requires clock { seat.old.clock ≡ clock.now }
+    requires own { Owns seat.old.view 0 [] }
+{
+    let Ok(mut kept) = VecDeque::with_capacity(alloc, 2) else {
+        panic!(rt; "no memory");
+    };
+    let Ok(first) = ask(alloc, clock, seat) else {
+        panic!(rt; "no memory");
+    };
+    let Ok(second) = ask(alloc, clock, seat) else {
+        panic!(rt; "no memory");
+    };
+    put_or_keep(rt, script, clock, boxes, out, &mut kept, first);
+    put_or_keep(rt, script, clock, boxes, out, &mut kept, second);
+    let before = counts(out, &kept);
+    let (mailbox, port) = inbox;
+    drop(mailbox.take(rt, port));
+    put_kept(rt, script, clock, boxes, out, &mut kept);
+    (before, counts(out, &kept))
+}
+
+#[test]
+fn what_finds_no_room_is_kept_and_put_again(rt: HostRuntime) -> Result<(), Fail> {
+    let alloc: Global = rt.alloc();
+    let script = script(alloc)?;
+    let (mut clock, mut counting) = begun(&rt, alloc);
+    let (_, mut seat) = clock.enrol(&mut counting);
+    let (first, _, out) = open(&rt, alloc, &clock, Actor::Coordinator, &script.space);
+    let (second, mut inbox, other) = open(&rt, alloc, &clock, SERVER, &script.space);
+    let mut out = Outbox {
+        index: 0,
+        ports: vec![in alloc; out, other]?,
+        sent: vec![in alloc; 0, 0]?,
+    };
+    let boxes = [first, second];
+    let told = put_two_and_kept(
+        &rt,
+        alloc,
+        &script,
+        &clock,
+        &boxes,
+        &mut out,
+        (&boxes[1], &mut inbox),
+        &mut seat,
+    );
+    assert_eq!(rt; told, ((Some(1), 1), (Some(2), 0)));
+    Ok(())
+}
