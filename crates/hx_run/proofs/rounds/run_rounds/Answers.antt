@@ -6,7 +6,7 @@ use Rattle.hx_run.proofs.rounds.run_rounds.Goals as goal
 pub loop-round-init : goal.loop-round-init
 loop-round-init g c = (
   stay-refl c.args.script.now c.args.clock.now c.args.boxes.now (map (λ d. d.crew) c.args.drivers.now),
-  λ w h. ([], are-sliced-refl (map (λ d. d.crew) c.args.drivers.now)),
+  λ w h. ([], are-sliced-refl c.args.script.now (map (λ d. d.crew) c.args.drivers.now)),
   both-refl _ (λ d. posted-refl d.crew _) c.args.drivers.now,
 )
 
