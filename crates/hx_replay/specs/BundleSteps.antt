@@ -1,0 +1,24 @@
+-- Why the steps of a bundle weren't all taken.
+use Rattle.std.specs.Prelude.{◌≡◌, Some, ⊤}
+use Rattle.hx_bundle.specs.declared.bundles.Bundle.{Bundle}
+use Rattle.hx_bundle.specs.declared.bundles.BundleStep.{BundleStep}
+use Rattle.hx_model.specs.Schedule.{StepFault, Worn}
+use Rattle.hx_spaces.specs.Clusters.{traces_of}
+use Rattle.hx_spaces.specs.Courses.{Course}
+use Rattle.hx_spaces.specs.Stepping.{bundle_fault}
+use Rattle.hx_replay.specs.declared.steps.Stopped.{Stopped}
+use Rattle.hx_replay.specs.declared.steps.Stopped.TheVariants as a_stop
+use Rattle.hx_replay.specs.Courses.{IsRefusedIn, IsWornAtBundleStep}
+use Rattle.hx_replay.specs.Steps.{IsRefusal}
+
+-- why one step wasn't taken
+abbrev pub BundleStopsAt : Course → BundleStep → Stopped → Type 0
+BundleStopsAt c s a_stop.Memory = ⊤
+BundleStopsAt c s (a_stop.Refused line) = (line ≡ s.line) × ((fault : StepFault) × (bundle_fault c s.space s.step ≡ Some fault) × IsRefusal fault)
+BundleStopsAt c s (a_stop.Worn a) = bundle_fault c s.space s.step ≡ Some (Worn a)
+
+-- why the steps weren't all taken
+abbrev pub BundleStops : Bundle → Course → Stopped → Type 0
+BundleStops bundle c a_stop.Memory = ⊤
+BundleStops bundle c (a_stop.Refused line) = IsRefusedIn bundle line (traces_of c)
+BundleStops bundle c (a_stop.Worn a) = IsWornAtBundleStep bundle c a
