@@ -1,7 +1,8 @@
 -- The first post that waits is delivered.
-use Rattle.std.proofs.Common.{◌≡◌, true, false, not, List, Option, None, Some, refl, sym, ap, ◌∙◌, subst}
+use Rattle.std.proofs.Common.{◌≡◌, true, false, not, List, length, Option, None, Some, refl, sym, ap, ◌∙◌, subst}
 use Rattle.std.proofs.lemmas.Bool.{false≢true}
 use Rattle.std.specs.Borrow.{Bor}
+use Rattle.std.specs.Option.{option_map}
 use Rattle.std.specs.Prelude.{IfNone, IfSome, is_some, reverse, slice_get}
 use Rattle.hx_types.specs.declared.messages.Post.{Post}
 use Rattle.hx_types.specs.declared.messages.PostId.{PostId}
@@ -11,12 +12,14 @@ use Rattle.hx_types.specs.declared.traces.Script.{Script}
 use Rattle.hx_types.specs.declared.traces.Input.TheVariants.{Deliver}
 use Rattle.hx_types.specs.declared.traces.Step.{Step}
 use Rattle.hx_types.specs.declared.traces.Step.TheVariants as a_step
-use Rattle.hx_types.specs.Words.{when_some}
+use Rattle.hx_types.specs.Words.{below, first_some, when_some}
 use Rattle.hx_model.specs.Runs.{has_halted}
+use Rattle.hx_model.specs.Schedule.{Next, delivery_of, entry_by, idle_among, next_input, with_entry}
 use Rattle.hx_world.specs.declared.ends.StepError.{StepError}
-use Rattle.hx_world.specs.Idle.{IsNextStep, IsRunningPost, RefusesNext}
+use Rattle.hx_world.specs.Idle.{IsNextStep, IsPostedFirst, IsRunningPost, RefusesDelivery, RefusesNext}
 use Rattle.hx_world.specs.Invariant.{IsQueue}
 use Rattle.hx_world.specs.Names.{can_receive}
+use Rattle.hx_world.specs.Nexts.{DeliversNext}
 use Rattle.hx_world.specs.Turns.{HasNoTurn, HasTurn}
 use Rattle.hx_world.specs.Worlds.{Advances, Refuses, Steps}
 use Rattle.hx_world.proofs.Queueing.{lowest_posted}
@@ -39,27 +42,50 @@ missed script t id (Some b) n e = absurd (false≢true (sym e))
 module _ (script other : Script) (trace before : List Entry) (waiting : List PostId) (id : PostId) (p : Post)
     (q : IsQueue script (reverse trace) waiting) (same : script ≡ other) (earlier : trace ≡ before)
     (first : slice_get waiting 0 ≡ Some id) (r : IsRunningPost script (reverse trace) id p) where
+  pub posted : IsPostedFirst other (reverse before) id
+  posted = lowest_posted script other trace before waiting id q same earlier first (receives script (reverse trace) id p r)
+
   -- its delivery is the next step
   pub running_next : IsNextStep other (reverse before) (a_step.Deliver id)
-  running_next = delivery_next other (reverse before) id (lowest_posted script other trace before waiting id q same earlier first (receives script (reverse trace) id p r))
+  running_next = delivery_next other (reverse before) id posted
 
   here : IsNextStep script (reverse trace) (a_step.Deliver id)
   here = delivery_next script (reverse trace) id (lowest_posted script script trace trace waiting id q refl refl first (receives script (reverse trace) id p r))
 
   -- which was made
-  pub made_next : (input : Input) (new : List Entry) → input ≡ Deliver id p.from p.message → HasTurn script (reverse trace) new p.to input → Advances other (reverse before) new true
+  pub made_next : (input : Input) (new : List Entry) → input ≡ Deliver id p.from p.message → HasTurn script (reverse trace) new p.to input → DeliversNext other (reverse before) new true
   made_next input new is h =
-      subst (λ (l : List Entry). Advances other (reverse l) new true) earlier
-      (subst (λ (x : Script). Advances x (reverse trace) new true) same
-      (advanced script (reverse trace) new (a_step.Deliver id) here
-      (delivered script (reverse trace) new id p r.named (subst (λ (x : Input). HasTurn script (reverse trace) new p.to x) is h))))
+      let o = posted in
+      let made =
+      subst (λ (l : List Entry). Steps other (reverse l) new (a_step.Deliver id)) earlier
+      (subst (λ (x : Script). Steps x (reverse trace) new (a_step.Deliver id)) same
+      (delivered script (reverse trace) new id p r.named (subst (λ (x : Input). HasTurn script (reverse trace) new p.to x) is h))) in (
+        delivery_of id o.sent,
+        o.first,
+        made.trace ∙ ap (λ (x : Option Post). with_entry (reverse before) (option_map (entry_by other (reverse before)) (option_map (delivery_of id) x))) o.named,
+      )
 
   -- or not
-  pub refused_next : (input : Input) (e : StepError) → input ≡ Deliver id p.from p.message → HasNoTurn script (reverse trace) p.to input e → RefusesNext other (reverse before) e
+  pub refused_next : (input : Input) (e : StepError) → input ≡ Deliver id p.from p.message → HasNoTurn script (reverse trace) p.to input e → RefusesDelivery other (reverse before) e
   refused_next input e is h =
-      subst (λ (l : List Entry). RefusesNext other (reverse l) e) earlier
-      (subst (λ (x : Script). RefusesNext x (reverse trace) e) same
-      (a_step.Deliver id, here, not_delivered script (reverse trace) id p r.named e (subst (λ (x : Input). HasNoTurn script (reverse trace) p.to x e) is h)))
+      subst (λ (l : List Entry). RefusesDelivery other (reverse l) e) earlier
+      (subst (λ (x : Script). RefusesDelivery x (reverse trace) e) same (
+        id,
+        lowest_posted script script trace trace waiting id q refl refl first (receives script (reverse trace) id p r),
+        not_delivered script (reverse trace) id p r.named e (subst (λ (x : Input). HasNoTurn script (reverse trace) p.to x e) is h),
+      ))
+
+-- the first delivery is the next entry
+pub delivers_next : (script : Script) (old new : List Entry) → DeliversNext script old new true → Advances script old new true
+delivers_next script old new (next, first, made) =
+    let is : next_input script old ≡ Some next = ap (λ (o : Option Next). first_some o (idle_among script old (below (length script.sessions)))) first in
+    record {
+      trace = made ∙ sym (ap (λ (o : Option Next). with_entry old (option_map (entry_by script old) o)) is);
+      told = sym (ap (λ (o : Option Next). is_some (option_map (entry_by script old) o)) is);
+    }
+
+pub refuses_next : (script : Script) (t : List Entry) (e : StepError) → RefusesDelivery script t e → RefusesNext script t e
+refuses_next script t e (id, first, why) = (a_step.Deliver id, delivery_next script t id first, why)
 
 -- the step after a look at the queue was made
 pub made_after : (script after : Script) (trace later : List Entry) (new : List Entry) (step : Step) → after ≡ script → later ≡ trace

@@ -13,3 +13,4 @@ pub mod Delivering
 pub mod Beginning
 pub mod Spending
 pub mod Submitted
+pub mod Resting

@@ -7,6 +7,7 @@ use Rattle.hx_types.specs.declared.calls.Op.{Op}
 use Rattle.hx_types.specs.declared.messages.Post.{Post}
 use Rattle.hx_types.specs.declared.messages.PostId.{PostId}
 use Rattle.hx_types.specs.declared.ids.Actor.{Actor}
+use Rattle.hx_types.specs.declared.ids.SessionId.{SessionId}
 use Rattle.hx_types.specs.declared.spaces.Space.{Space}
 use Rattle.hx_types.specs.declared.traces.Entry.{Entry}
 use Rattle.hx_types.specs.declared.traces.Script.{Script}
@@ -20,12 +21,15 @@ use Rattle.hx_model.specs.Runs.{is_empty, does_something, session_of}
 use Rattle.hx_model.specs.Schedule as model
 use Rattle.hx_model.specs.Schedule.{Next, StepFault, delivery_of, entry_by, fault_of, first_delivery, idle_among, is_idle, is_worn, next_entry, next_input, step_input, undelivered, with_entry, worn_fault}
 use Rattle.hx_model.specs.SessionSteps.{SessionState, SessionStep, begin, session_step, session_tick, staying}
+use Rattle.hx_world.specs.declared.ends.DrainError.{DrainError}
 use Rattle.hx_world.specs.declared.ends.StepError.{StepError}
 use Rattle.hx_world.specs.declared.ends.StepError.TheVariants as an_error
 use Rattle.hx_world.specs.declared.sessions.CountedSession.{CountedSession}
 use Rattle.hx_world.specs.Idle.{IsFirstIdle, IsNextStep, IsNoneIdle, IsPostedFirst, is_idle_at}
 use Rattle.hx_world.specs.Invariant.{AreAt, IsSessionAt, session_at}
-use Rattle.hx_world.specs.Worlds.{Advances, IsWornOut, Refuses, Steps}
+use Rattle.hx_world.specs.Nexts as nexts
+use Rattle.hx_world.specs.Nexts.{FailsAt}
+use Rattle.hx_world.specs.Worlds.{Advances, IsWornOut, Refuses, Steps, drain_error}
 use Rattle.hx_world.proofs.Seating.{item_at}
 use Rattle.hx_world.proofs.Stepping.{delivery_fault, not_idle, tick_fault}
 
@@ -188,3 +192,46 @@ no_other script t step (an_error.Worn a) n r o = o
 pub next_told : (script : Script) (t : List Entry) (step : Option Step) → MatchOption step (next_input script t ≡ None) (IsNextStep script t) → is_some step ≡ is_some (next_entry script t)
 next_told script t None none = sym (ap (λ (o : Option Next). is_some (option_map (entry_by script t) o)) none)
 next_told script t (Some step) n = sym (ap (λ (o : Option Next). is_some (option_map (entry_by script t) o)) n.is_next)
+
+-- ---- a session that is told to begin
+
+some_same : {A : Type 0} {x y : A} → Some x ≡ Some y → x ≡ y
+some_same {A} {x} {y} h = ap (λ (o : Option A). from o) h where
+  from : Option A → A
+  from None = x
+  from (Some z) = z
+
+-- an error that ends no drain
+pub other_told : (e : StepError) → drain_error e ≡ None → IsOther e
+other_told an_error.Memory h = cc
+other_told an_error.Unsent h = tt
+other_told an_error.Halted h = tt
+other_told an_error.NotServer h = tt
+other_told an_error.Idle h = tt
+other_told (an_error.Worn a) h = cc
+
+module _ (script : Script) (t : List Entry) (u : SessionId) (idle : is_idle (session_of script u t) ≡ true) where
+  begin_fault : fault_of script t (a_step.Tick (Session u)) ≡ worn_fault t (Session u)
+  begin_fault =
+      tick_fault script t (Session u) refl
+      ∙ ap (λ (o : Option StepFault). first_some o (worn_fault t (Session u))) (not_idle script t (Session u) (idle_makes script.space (session_of script u t) idle))
+
+  -- only a worn session can't
+  pub begin_fails : (e : StepError) (f : DrainError) → Refuses script t (a_step.Tick (Session u)) e → drain_error e ≡ Some f → FailsAt t (Some (nexts.tick_of u)) f
+  begin_fails an_error.Memory f r h = subst (FailsAt t (Some (nexts.tick_of u))) (some_same h) tt
+  begin_fails (an_error.Worn a) f r h =
+      let w = worn_by (is_worn (Session u) t) (Session u) a (sym begin_fault ∙ r) in
+      subst (FailsAt t (Some (nexts.tick_of u))) (some_same h) (nexts.tick_of u, refl, w.1, subst (λ (x : Actor). is_worn x t ≡ true) w.1 w.0)
+  begin_fails an_error.Unsent f r h = cc
+  begin_fails an_error.Halted f r h = cc
+  begin_fails an_error.NotServer f r h = cc
+  begin_fails an_error.Idle f r h = cc
+
+  -- no other error comes
+  pub begin_no_other : (e : StepError) → Refuses script t (a_step.Tick (Session u)) e → IsOther e → ⊥
+  begin_no_other an_error.Memory r o = o
+  begin_no_other an_error.Unsent r o = no_fault (is_worn (Session u) t) (Session u) model.Unsent (λ x e. cc) (sym begin_fault ∙ r)
+  begin_no_other an_error.Halted r o = no_fault (is_worn (Session u) t) (Session u) model.Halted (λ x e. cc) (sym begin_fault ∙ r)
+  begin_no_other an_error.NotServer r o = no_fault (is_worn (Session u) t) (Session u) model.NotServer (λ x e. cc) (sym begin_fault ∙ r)
+  begin_no_other an_error.Idle r o = no_fault (is_worn (Session u) t) (Session u) model.Idle (λ x e. cc) (sym begin_fault ∙ r)
+  begin_no_other (an_error.Worn a) r o = o

@@ -14,7 +14,7 @@ use Rattle.hx_model.specs.Schedule.{entries_of}
 use Rattle.hx_world.specs.Invariant.{server_at, session_at}
 use Rattle.hx_world.specs.Worlds.{HasFewEntries, most_entries}
 
-sum_to : ℕ → (ℕ → ℕ) → ℕ
+pub sum_to : ℕ → (ℕ → ℕ) → ℕ
 sum_to zero f = 0
 sum_to (suc n) f = sum_to n f + f n
 
@@ -23,7 +23,7 @@ unfolding sum_to
 sum_least zero f g h = omega arith
 sum_least (suc n) f g h = let r = sum_least n f g h in let k = h n in omega (arith, r, k)
 
-sum_more : (n : ℕ) (f g : ℕ → ℕ) → ((i : ℕ) → f i ≤ g i) → (i : ℕ) → i < n → f i + 1 ≤ g i → sum_to n f + 1 ≤ sum_to n g
+pub sum_more : (n : ℕ) (f g : ℕ → ℕ) → ((i : ℕ) → f i ≤ g i) → (i : ℕ) → i < n → f i + 1 ≤ g i → sum_to n f + 1 ≤ sum_to n g
 unfolding sum_to
 sum_more zero f g h i within more = absurd (omega arith)
 sum_more (suc n) f g h i within more =
@@ -32,10 +32,13 @@ sum_more (suc n) f g h i within more =
       | inr e ↦ (let r = sum_more n f g h i (let below : i < n = omega (arith, within, e) in below) more in let k = h n in omega (arith, r, k))
     ]
 
-sum_most : (n most : ℕ) (f : ℕ → ℕ) → ((i : ℕ) → f i ≤ most) → sum_to n f ≤ n * most
+pub sum_most : (n most : ℕ) (f : ℕ → ℕ) → ((i : ℕ) → i < n → f i ≤ most) → sum_to n f ≤ n * most
 unfolding sum_to
 sum_most zero most f h = omega arith
-sum_most (suc n) most f h = let r = sum_most n most f h in let k = h n in omega (arith, r, k)
+sum_most (suc n) most f h =
+    let r = sum_most n most f (λ i p. h i (let below : i < suc n = omega (arith, p) in below)) in
+    let k = h n (let last : n < suc n = omega arith in last) in
+    omega (arith, r, k)
 
 -- the entries of the actors together
 tally : Script → List Entry → ℕ
@@ -94,8 +97,8 @@ unfolding tally
 few_in_all script t valid run few =
     let all = tally_all script t run in
     let coordinator = few Coordinator in
-    let servers = sum_most script.space.servers 1048576 (λ i. entries_of (Server (server_at i)) t) (λ i. few (Server (server_at i))) in
-    let sessions = sum_most (length script.sessions) 1048576 (λ i. entries_of (Session (session_at i)) t) (λ i. few (Session (session_at i))) in
+    let servers = sum_most script.space.servers 1048576 (λ i. entries_of (Server (server_at i)) t) (λ i p. few (Server (server_at i))) in
+    let sessions = sum_most (length script.sessions) 1048576 (λ i. entries_of (Session (session_at i)) t) (λ i p. few (Session (session_at i))) in
     omega (arith, all, coordinator, servers, sessions, valid.sessions, valid.space.servers.1)
 
 -- the same of a trace that stands oldest first

@@ -260,6 +260,9 @@ module _ (script : Script) (actors : Actors) (log : Log) (w : IsWorldOn script a
     pub session_here : (x : CountedSession) → x ≡ get_or actors.sessions.items (u.0 - 1) x → IsSessionAt script t (u.0 - 1) x
     session_here x e = w.sessions_are.each (u.0 - 1) x (item_read actors.sessions.items (u.0 - 1) x (let within = session_in in omega (arith, within, actors.sessions.ok.0)) e)
 
+    pub session_state : (x : CountedSession) → x ≡ get_or actors.sessions.items (u.0 - 1) x → x.session.state ≡ session_of script u t
+    session_state x e = (session_here x e).state ∙ ap (λ (v : SessionId). session_of script v t) session_is
+
     -- it can take the input
     pub can_attend : (x : CountedSession) → x ≡ get_or actors.sessions.items (u.0 - 1) x → (input : Input) → MayTake t (Session u) input → session.CanTake x.session.space x.session.state input
     can_attend x e input may =

@@ -1,16 +1,17 @@
 -- Which session begins its next call, and which step the schedule takes next.
-use Rattle.std.specs.Prelude.{◌≡◌, ℕ, ◌<◌, Bool, true, false, List, length, slice_get, None, Some}
+use Rattle.std.specs.Prelude.{◌≡◌, ℕ, ◌<◌, Bool, true, false, List, length, slice_get, Some}
 use Rattle.hx_types.specs.declared.messages.Post.{Post}
 use Rattle.hx_types.specs.declared.messages.PostId.{PostId}
 use Rattle.hx_types.specs.declared.traces.Entry.{Entry}
 use Rattle.hx_types.specs.declared.traces.Script.{Script}
 use Rattle.hx_types.specs.declared.traces.Step.{Step}
+use Rattle.hx_types.specs.declared.traces.Step.TheVariants as a_step
 use Rattle.hx_types.specs.Words.{when_some}
 use Rattle.hx_model.specs.Runs.{has_halted, post_named}
 use Rattle.hx_model.specs.Schedule.{Next, delivery_of, fault_of, first_delivery, is_idle, next_input, step_input, undelivered, worn_fault}
 use Rattle.hx_world.specs.declared.sessions.CountedSession.{CountedSession}
 use Rattle.hx_world.specs.declared.ends.StepError.{StepError}
-use Rattle.hx_world.specs.Worlds.{Advances, IsStepOf, Refuses}
+use Rattle.hx_world.specs.Worlds.{IsStepOf, Refuses}
 
 -- the session of this place has a call left and none under way
 abbrev pub is_idle_at : List CountedSession → ℕ → Bool
@@ -45,11 +46,10 @@ pub record IsRunningPost (script : Script) (t : List Entry) (id : PostId) (p : P
   pub named : post_named id t ≡ Some p
   pub running : has_halted script t p.to ≡ false
 
--- the first delivery was made, if there is one
-abbrev pub Delivers : Script → List Entry → List Entry → Bool → Type 0
-Delivers script old new true = Advances script old new true
-Delivers script old new false = first_delivery script old (undelivered old) ≡ None
-
 -- why the next step wasn't made
 abbrev pub RefusesNext : Script → List Entry → StepError → Type 0
 RefusesNext script t e = (step : Step) × IsNextStep script t step × Refuses script t step e
+
+-- why the first delivery wasn't made
+abbrev pub RefusesDelivery : Script → List Entry → StepError → Type 0
+RefusesDelivery script t e = (id : PostId) × IsPostedFirst script t id × Refuses script t (a_step.Deliver id) e

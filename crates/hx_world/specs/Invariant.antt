@@ -15,7 +15,7 @@ use Rattle.hx_model.specs.Schedule.{entries_of, undelivered}
 use Rattle.hx_law_posts.specs.Posts.{EpochsStaySmall, PostsStaySound, VersionsStaySmall}
 use Rattle.hx_law_folds.specs.Folding.{IsServerOf as AreInOrder, folded_server}
 use Rattle.hx_world.specs.declared.actors.Actors.{Actors}
-use Rattle.hx_world.specs.declared.clusters.Cluster.{Cluster}
+use Rattle.hx_world.specs.declared.inside.Inside.{Inside}
 use Rattle.hx_world.specs.declared.coordinators.CountedCoordinator.{CountedCoordinator}
 use Rattle.hx_world.specs.declared.logs.Log.{Log}
 use Rattle.hx_world.specs.declared.servers.CountedServer.{CountedServer}
@@ -84,5 +84,5 @@ abbrev pub IsWorldOn : Script → Actors → Log → Type 0
 IsWorldOn script actors log =
     IsWorldOf script (reverse log.trace) actors.servers.items actors.sessions.items actors.coordinator log.waiting.items
 
-abbrev pub IsWorld : Cluster → Type 0
-IsWorld cluster = IsWorldOn cluster.script cluster.actors cluster.log
+abbrev pub IsWorld : Inside → Type 0
+IsWorld inside = IsWorldOn inside.script inside.actors inside.log

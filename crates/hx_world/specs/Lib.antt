@@ -6,6 +6,7 @@ pub mod Filing
 pub mod Idle
 pub mod Invariant
 pub mod Names
+pub mod Nexts
 pub mod Servers
 pub mod Sessions
 pub mod Starting

@@ -1,12 +1,13 @@
 ghost use Rattle.std.specs.Prelude.{◌≡◌, true, false, OnOk, OnErr, IfErr, reverse};
 ghost use Rattle.hx_types.specs.declared.ids.Actor.TheVariants as an_actor;
-ghost use Rattle.hx_model.specs.Runs.{MayTake, has_halted, is_actor};
+ghost use Rattle.hx_model.specs.Runs.{MayTake, has_halted, is_actor, session_of};
+ghost use Rattle.hx_model.specs.Schedule.{is_idle};
 ghost use Rattle.hx_world.specs.Invariant.{IsWorld};
 ghost use Rattle.hx_world.specs.Turns.{HasNoTurn, HasTurn};
 
-use crate::clusters::Cluster;
 use crate::coordinators::{CountedCoordinator, coordinator_takes};
 use crate::ends::StepError;
+use crate::inside::Inside;
 use crate::servers::{CountedServer, server_takes};
 use crate::sessions::{CountedSession, session_takes};
 use hx_types::{Actor, Input, ServerId, SessionId};
@@ -30,81 +31,101 @@ impl Drop for Actors {
 }
 
 /// Whether an actor has halted. Only servers do.
-pub fn has_halted(cluster: &Cluster, actor: Actor) -> bool
-    requires world { IsWorld cluster.now }
-    requires actor { is_actor cluster.now.script actor ≡ true }
-    ensures { result ≡ has_halted cluster.now.script (reverse cluster.now.log.trace) actor }
+pub fn has_halted(inside: &Inside, actor: Actor) -> bool
+    requires world { IsWorld inside.now }
+    requires actor { is_actor inside.now.script actor ≡ true }
+    ensures { result ≡ has_halted inside.now.script (reverse inside.now.log.trace) actor }
 {
     match actor {
         Actor::Server(server) => {
-            let counted = &cluster.actors.servers[server.0 as usize - 1];
+            let counted = &inside.actors.servers[server.0 as usize - 1];
             counted.server.halted()
         }
         _ => false,
     }
 }
 
+/// Whether a session has a call left and none under way.
+pub fn is_idle(inside: &Inside, session: SessionId) -> bool
+    requires world { IsWorld inside.now }
+    requires actor { is_actor inside.now.script (an_actor.Session session) ≡ true }
+    ensures { result ≡ is_idle (session_of inside.now.script session (reverse inside.now.log.trace)) }
+{
+    let counted = &inside.actors.sessions[session.0 as usize - 1];
+    counted.session.idle()
+}
+
+/// Whether a call of a session is under way: then it is neither idle nor at its end.
+pub fn is_busy(inside: &Inside, session: SessionId) -> bool
+    requires world { IsWorld inside.now }
+    requires actor { is_actor inside.now.script (an_actor.Session session) ≡ true }
+    ensures { result ≡ (session_of inside.now.script session (reverse inside.now.log.trace)).under_way }
+{
+    let counted = &inside.actors.sessions[session.0 as usize - 1];
+    !counted.session.idle() && !counted.session.ended()
+}
+
 /// An actor takes an input, if it hasn't halted and the entry that it makes of it may be made.
 pub fn actor_takes(
     alloc: Global,
-    cluster: &mut Cluster,
+    inside: &mut Inside,
     actor: Actor,
     input: Input,
 ) -> Result<(), StepError>
-    requires world { IsWorld cluster.old }
-    requires actor { is_actor cluster.old.script actor ≡ true }
-    requires may { MayTake (reverse cluster.old.log.trace) actor input }
-    ensures world { IsWorld cluster.new }
-    ensures script { cluster.new.script ≡ cluster.old.script }
-    ensures ok { OnOk result (HasTurn cluster.old.script (reverse cluster.old.log.trace) (reverse cluster.new.log.trace) actor input) }
-    ensures err { IfErr result (HasNoTurn cluster.old.script (reverse cluster.old.log.trace) actor input) }
-    ensures same { OnErr result (cluster.new.log.trace ≡ cluster.old.log.trace) }
+    requires world { IsWorld inside.old }
+    requires actor { is_actor inside.old.script actor ≡ true }
+    requires may { MayTake (reverse inside.old.log.trace) actor input }
+    ensures world { IsWorld inside.new }
+    ensures script { inside.new.script ≡ inside.old.script }
+    ensures ok { OnOk result (HasTurn inside.old.script (reverse inside.old.log.trace) (reverse inside.new.log.trace) actor input) }
+    ensures err { IfErr result (HasNoTurn inside.old.script (reverse inside.old.log.trace) actor input) }
+    ensures same { OnErr result (inside.new.log.trace ≡ inside.old.log.trace) }
 {
-    if has_halted(cluster, actor) {
+    if has_halted(inside, actor) {
         return Err(StepError::Halted);
     }
-    running_takes(alloc, cluster, actor, input)
+    running_takes(alloc, inside, actor, input)
 }
 
 /// An actor that hasn't halted takes an input, if the entry that it makes of it may be made.
 pub fn running_takes(
     alloc: Global,
-    cluster: &mut Cluster,
+    inside: &mut Inside,
     actor: Actor,
     input: Input,
 ) -> Result<(), StepError>
-    requires world { IsWorld cluster.old }
-    requires actor { is_actor cluster.old.script actor ≡ true }
-    requires running { has_halted cluster.old.script (reverse cluster.old.log.trace) actor ≡ false }
-    requires may { MayTake (reverse cluster.old.log.trace) actor input }
-    ensures world { IsWorld cluster.new }
-    ensures script { cluster.new.script ≡ cluster.old.script }
-    ensures ok { OnOk result (HasTurn cluster.old.script (reverse cluster.old.log.trace) (reverse cluster.new.log.trace) actor input) }
-    ensures err { IfErr result (HasNoTurn cluster.old.script (reverse cluster.old.log.trace) actor input) }
-    ensures same { OnErr result (cluster.new.log.trace ≡ cluster.old.log.trace) }
+    requires world { IsWorld inside.old }
+    requires actor { is_actor inside.old.script actor ≡ true }
+    requires running { has_halted inside.old.script (reverse inside.old.log.trace) actor ≡ false }
+    requires may { MayTake (reverse inside.old.log.trace) actor input }
+    ensures world { IsWorld inside.new }
+    ensures script { inside.new.script ≡ inside.old.script }
+    ensures ok { OnOk result (HasTurn inside.old.script (reverse inside.old.log.trace) (reverse inside.new.log.trace) actor input) }
+    ensures err { IfErr result (HasNoTurn inside.old.script (reverse inside.old.log.trace) actor input) }
+    ensures same { OnErr result (inside.new.log.trace ≡ inside.old.log.trace) }
 {
     match actor {
-        Actor::Coordinator => to_coordinator(alloc, cluster, input),
-        Actor::Server(server) => to_server(alloc, cluster, server, input),
-        Actor::Session(session) => to_session(alloc, cluster, session, input),
+        Actor::Coordinator => to_coordinator(alloc, inside, input),
+        Actor::Server(server) => to_server(alloc, inside, server, input),
+        Actor::Session(session) => to_session(alloc, inside, session, input),
     }
 }
 
 /// Gives an input to the coordinator.
 #[inline(never)]
-fn to_coordinator(alloc: Global, cluster: &mut Cluster, input: Input) -> Result<(), StepError>
-    requires world { IsWorld cluster.old }
-    requires may { MayTake (reverse cluster.old.log.trace) an_actor.Coordinator input }
-    ensures world { IsWorld cluster.new }
-    ensures script { cluster.new.script ≡ cluster.old.script }
-    ensures ok { OnOk result (HasTurn cluster.old.script (reverse cluster.old.log.trace) (reverse cluster.new.log.trace) an_actor.Coordinator input) }
-    ensures err { IfErr result (HasNoTurn cluster.old.script (reverse cluster.old.log.trace) an_actor.Coordinator input) }
-    ensures same { OnErr result (cluster.new.log.trace ≡ cluster.old.log.trace) }
+fn to_coordinator(alloc: Global, inside: &mut Inside, input: Input) -> Result<(), StepError>
+    requires world { IsWorld inside.old }
+    requires may { MayTake (reverse inside.old.log.trace) an_actor.Coordinator input }
+    ensures world { IsWorld inside.new }
+    ensures script { inside.new.script ≡ inside.old.script }
+    ensures ok { OnOk result (HasTurn inside.old.script (reverse inside.old.log.trace) (reverse inside.new.log.trace) an_actor.Coordinator input) }
+    ensures err { IfErr result (HasNoTurn inside.old.script (reverse inside.old.log.trace) an_actor.Coordinator input) }
+    ensures same { OnErr result (inside.new.log.trace ≡ inside.old.log.trace) }
 {
     coordinator_takes(
         alloc,
-        &mut cluster.actors.coordinator,
-        &mut cluster.log,
+        &mut inside.actors.coordinator,
+        &mut inside.log,
         input,
     )?;
     Ok(())
@@ -113,42 +134,42 @@ fn to_coordinator(alloc: Global, cluster: &mut Cluster, input: Input) -> Result<
 /// Gives an input to a server that hasn't halted.
 fn to_server(
     alloc: Global,
-    cluster: &mut Cluster,
+    inside: &mut Inside,
     server: ServerId,
     input: Input,
 ) -> Result<(), StepError>
-    requires world { IsWorld cluster.old }
-    requires actor { is_actor cluster.old.script (an_actor.Server server) ≡ true }
-    requires running { has_halted cluster.old.script (reverse cluster.old.log.trace) (an_actor.Server server) ≡ false }
-    requires may { MayTake (reverse cluster.old.log.trace) (an_actor.Server server) input }
-    ensures world { IsWorld cluster.new }
-    ensures script { cluster.new.script ≡ cluster.old.script }
-    ensures ok { OnOk result (HasTurn cluster.old.script (reverse cluster.old.log.trace) (reverse cluster.new.log.trace) (an_actor.Server server) input) }
-    ensures err { IfErr result (HasNoTurn cluster.old.script (reverse cluster.old.log.trace) (an_actor.Server server) input) }
-    ensures same { OnErr result (cluster.new.log.trace ≡ cluster.old.log.trace) }
+    requires world { IsWorld inside.old }
+    requires actor { is_actor inside.old.script (an_actor.Server server) ≡ true }
+    requires running { has_halted inside.old.script (reverse inside.old.log.trace) (an_actor.Server server) ≡ false }
+    requires may { MayTake (reverse inside.old.log.trace) (an_actor.Server server) input }
+    ensures world { IsWorld inside.new }
+    ensures script { inside.new.script ≡ inside.old.script }
+    ensures ok { OnOk result (HasTurn inside.old.script (reverse inside.old.log.trace) (reverse inside.new.log.trace) (an_actor.Server server) input) }
+    ensures err { IfErr result (HasNoTurn inside.old.script (reverse inside.old.log.trace) (an_actor.Server server) input) }
+    ensures same { OnErr result (inside.new.log.trace ≡ inside.old.log.trace) }
 {
-    let counted = &mut cluster.actors.servers[server.0 as usize - 1];
-    server_takes(alloc, counted, &mut cluster.log, input)?;
+    let counted = &mut inside.actors.servers[server.0 as usize - 1];
+    server_takes(alloc, counted, &mut inside.log, input)?;
     Ok(())
 }
 
 /// Gives an input to a session.
 fn to_session(
     alloc: Global,
-    cluster: &mut Cluster,
+    inside: &mut Inside,
     session: SessionId,
     input: Input,
 ) -> Result<(), StepError>
-    requires world { IsWorld cluster.old }
-    requires actor { is_actor cluster.old.script (an_actor.Session session) ≡ true }
-    requires may { MayTake (reverse cluster.old.log.trace) (an_actor.Session session) input }
-    ensures world { IsWorld cluster.new }
-    ensures script { cluster.new.script ≡ cluster.old.script }
-    ensures ok { OnOk result (HasTurn cluster.old.script (reverse cluster.old.log.trace) (reverse cluster.new.log.trace) (an_actor.Session session) input) }
-    ensures err { IfErr result (HasNoTurn cluster.old.script (reverse cluster.old.log.trace) (an_actor.Session session) input) }
-    ensures same { OnErr result (cluster.new.log.trace ≡ cluster.old.log.trace) }
+    requires world { IsWorld inside.old }
+    requires actor { is_actor inside.old.script (an_actor.Session session) ≡ true }
+    requires may { MayTake (reverse inside.old.log.trace) (an_actor.Session session) input }
+    ensures world { IsWorld inside.new }
+    ensures script { inside.new.script ≡ inside.old.script }
+    ensures ok { OnOk result (HasTurn inside.old.script (reverse inside.old.log.trace) (reverse inside.new.log.trace) (an_actor.Session session) input) }
+    ensures err { IfErr result (HasNoTurn inside.old.script (reverse inside.old.log.trace) (an_actor.Session session) input) }
+    ensures same { OnErr result (inside.new.log.trace ≡ inside.old.log.trace) }
 {
-    let counted = &mut cluster.actors.sessions[session.0 as usize - 1];
-    session_takes(alloc, counted, &mut cluster.log, input)?;
+    let counted = &mut inside.actors.sessions[session.0 as usize - 1];
+    session_takes(alloc, counted, &mut inside.log, input)?;
     Ok(())
 }

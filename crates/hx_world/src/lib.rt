@@ -3,9 +3,9 @@
 #![tactic(auto)]
 
 mod actors;
-mod clusters;
 mod coordinators;
 mod ends;
+mod inside;
 mod logs;
 mod schedule;
 mod servers;

@@ -1,13 +1,16 @@
-ghost use Rattle.std.specs.Prelude.{◌≡◌, None, false, IfOk, OnErr, IfErr, IfNone, IfSome, MatchOption, is_some, reverse};
-ghost use Rattle.hx_model.specs.Schedule.{first_delivery, next_entry, next_input, undelivered};
-ghost use Rattle.hx_world.specs.Idle.{Delivers, IsFirstIdle, IsNextStep, IsNoneIdle, IsPostedFirst, IsRunningPost, RefusesNext};
+ghost use Rattle.std.specs.Prelude.{◌≡◌, None, Some, true, false, IfOk, OnErr, OnOk, IfErr, IfNone, IfSome, MatchOption, is_some, reverse};
+ghost use Rattle.hx_types.specs.declared.ids.Actor.TheVariants as an_actor;
+ghost use Rattle.hx_model.specs.Runs.{is_actor, session_of};
+ghost use Rattle.hx_model.specs.Schedule.{first_delivery, is_idle, next_entry, next_input, undelivered};
+ghost use Rattle.hx_world.specs.Idle.{IsFirstIdle, IsNextStep, IsNoneIdle, IsPostedFirst, IsRunningPost, RefusesDelivery, RefusesNext};
 ghost use Rattle.hx_world.specs.Invariant.{IsWorld};
 ghost use Rattle.hx_world.specs.Names.{can_receive};
+ghost use Rattle.hx_world.specs.Nexts.{DeliversNext, FailsAt, Makes, delivery_in, tick_of};
 ghost use Rattle.hx_world.specs.Worlds.{Advances, Fails, drain_error};
 
 use crate::actors::{has_halted, running_takes};
-use crate::clusters::Cluster;
 use crate::ends::{DrainError, StepError};
+use crate::inside::Inside;
 use crate::logs::sent_post;
 use crate::sessions::CountedSession;
 use crate::steps::{delivery, tick};
@@ -16,16 +19,54 @@ use hx_types::{Actor, Post, PostId, SessionId, Step};
 use std::alloc::Global;
 
 /// Makes the next entry, if there is one.
-pub fn advance(alloc: Global, cluster: &mut Cluster) -> Result<bool, DrainError>
-    requires world { IsWorld cluster.old }
-    ensures world { IsWorld cluster.new }
-    ensures script { cluster.new.script ≡ cluster.old.script }
-    ensures advances { IfOk result (Advances cluster.old.script (reverse cluster.old.log.trace) (reverse cluster.new.log.trace)) }
-    ensures fails { IfErr result (Fails cluster.old.script (reverse cluster.old.log.trace)) }
-    ensures err { OnErr result (cluster.new.log.trace ≡ cluster.old.log.trace) }
+pub fn advance(alloc: Global, inside: &mut Inside) -> Result<bool, DrainError>
+    requires world { IsWorld inside.old }
+    ensures world { IsWorld inside.new }
+    ensures script { inside.new.script ≡ inside.old.script }
+    ensures advances { IfOk result (Advances inside.old.script (reverse inside.old.log.trace) (reverse inside.new.log.trace)) }
+    ensures fails { IfErr result (Fails inside.old.script (reverse inside.old.log.trace)) }
+    ensures err { OnErr result (inside.new.log.trace ≡ inside.old.log.trace) }
 {
-    match make_next(alloc, cluster) {
+    match make_next(alloc, inside) {
         Ok(made) => Ok(made),
+        Err(error) => match drain_error(error) {
+            Some(error) => Err(error),
+            None => unreachable!(),
+        },
+    }
+}
+
+/// Delivers the lowest post that waits for an actor that hasn't halted, if there is one.
+pub fn deliver_first(alloc: Global, inside: &mut Inside) -> Result<bool, DrainError>
+    requires world { IsWorld inside.old }
+    ensures world { IsWorld inside.new }
+    ensures script { inside.new.script ≡ inside.old.script }
+    ensures delivers { IfOk result (DeliversNext inside.old.script (reverse inside.old.log.trace) (reverse inside.new.log.trace)) }
+    ensures fails { IfErr result (FailsAt (reverse inside.old.log.trace) (delivery_in inside.old.script (reverse inside.old.log.trace))) }
+    ensures err { OnErr result (inside.new.log.trace ≡ inside.old.log.trace) }
+{
+    match deliver_next(alloc, inside) {
+        Ok(made) => Ok(made),
+        Err(error) => match drain_error(error) {
+            Some(error) => Err(error),
+            None => unreachable!(),
+        },
+    }
+}
+
+/// An idle session begins its next call.
+pub fn begin(alloc: Global, inside: &mut Inside, session: SessionId) -> Result<(), DrainError>
+    requires world { IsWorld inside.old }
+    requires session { is_actor inside.old.script (an_actor.Session session) ≡ true }
+    requires idle { is_idle (session_of inside.old.script session (reverse inside.old.log.trace)) ≡ true }
+    ensures world { IsWorld inside.new }
+    ensures script { inside.new.script ≡ inside.old.script }
+    ensures begins { OnOk result (Makes inside.old.script (reverse inside.old.log.trace) (reverse inside.new.log.trace) (tick_of session)) }
+    ensures fails { IfErr result (FailsAt (reverse inside.old.log.trace) (Some (tick_of session))) }
+    ensures err { OnErr result (inside.new.log.trace ≡ inside.old.log.trace) }
+{
+    match tick(alloc, inside, Actor::Session(session)) {
+        Ok(()) => Ok(()),
         Err(error) => match drain_error(error) {
             Some(error) => Err(error),
             None => unreachable!(),
@@ -35,57 +76,57 @@ pub fn advance(alloc: Global, cluster: &mut Cluster) -> Result<bool, DrainError>
 
 /// Makes the next entry, if there is one: the delivery of the lowest post that waits for an actor that
 /// hasn't halted, else a tick of the lowest idle session.
-fn make_next(alloc: Global, cluster: &mut Cluster) -> Result<bool, StepError>
-    requires world { IsWorld cluster.old }
-    ensures world { IsWorld cluster.new }
-    ensures script { cluster.new.script ≡ cluster.old.script }
-    ensures advances { IfOk result (Advances cluster.old.script (reverse cluster.old.log.trace) (reverse cluster.new.log.trace)) }
-    ensures refused { IfErr result (RefusesNext cluster.old.script (reverse cluster.old.log.trace)) }
-    ensures err { OnErr result (cluster.new.log.trace ≡ cluster.old.log.trace) }
+fn make_next(alloc: Global, inside: &mut Inside) -> Result<bool, StepError>
+    requires world { IsWorld inside.old }
+    ensures world { IsWorld inside.new }
+    ensures script { inside.new.script ≡ inside.old.script }
+    ensures advances { IfOk result (Advances inside.old.script (reverse inside.old.log.trace) (reverse inside.new.log.trace)) }
+    ensures refused { IfErr result (RefusesNext inside.old.script (reverse inside.old.log.trace)) }
+    ensures err { OnErr result (inside.new.log.trace ≡ inside.old.log.trace) }
 {
-    if deliver_next(alloc, cluster)? {
+    if deliver_next(alloc, inside)? {
         return Ok(true);
     }
-    let Some(place) = first_idle(cluster.actors.sessions.as_slice()) else {
+    let Some(place) = first_idle(inside.actors.sessions.as_slice()) else {
         return Ok(false);
     };
-    tick(alloc, cluster, Actor::Session(SessionId(place as u32 + 1)))?;
+    tick(alloc, inside, Actor::Session(SessionId(place as u32 + 1)))?;
     Ok(true)
 }
 
 /// Delivers the lowest post that waits for an actor that hasn't halted, if there is one. The names before it
 /// go: who has halted takes no post any more.
-fn deliver_next(alloc: Global, cluster: &mut Cluster) -> Result<bool, StepError>
-    requires world { IsWorld cluster.old }
-    ensures world { IsWorld cluster.new }
-    ensures script { cluster.new.script ≡ cluster.old.script }
-    ensures delivers { IfOk result (Delivers cluster.old.script (reverse cluster.old.log.trace) (reverse cluster.new.log.trace)) }
-    ensures rests { IfOk result (λ made. made ≡ false → cluster.new.log.trace ≡ cluster.old.log.trace) }
-    ensures refused { IfErr result (RefusesNext cluster.old.script (reverse cluster.old.log.trace)) }
-    ensures err { OnErr result (cluster.new.log.trace ≡ cluster.old.log.trace) }
+fn deliver_next(alloc: Global, inside: &mut Inside) -> Result<bool, StepError>
+    requires world { IsWorld inside.old }
+    ensures world { IsWorld inside.new }
+    ensures script { inside.new.script ≡ inside.old.script }
+    ensures delivers { IfOk result (DeliversNext inside.old.script (reverse inside.old.log.trace) (reverse inside.new.log.trace)) }
+    ensures rests { IfOk result (λ made. made ≡ false → inside.new.log.trace ≡ inside.old.log.trace) }
+    ensures refused { IfErr result (RefusesDelivery inside.old.script (reverse inside.old.log.trace)) }
+    ensures err { OnErr result (inside.new.log.trace ≡ inside.old.log.trace) }
 {
-    while let Some(id) = lowest(&cluster.log.waiting) {
-        if let Some(post) = running_post(cluster, id) {
+    while let Some(id) = lowest(&inside.log.waiting) {
+        if let Some(post) = running_post(inside, id) {
             let to = post.to;
             let Ok(input) = delivery(alloc, id, post) else {
                 return Err(StepError::Memory);
             };
-            running_takes(alloc, cluster, to, input)?;
+            running_takes(alloc, inside, to, input)?;
             return Ok(true);
         }
-        let _ = cluster.log.waiting.pop_front();
+        let _ = inside.log.waiting.pop_front();
     }
     Ok(false)
 }
 
 /// The post of a name, if its receiver hasn't halted.
-fn running_post(cluster: &Cluster, id: PostId) -> Option<&Post>
-    requires world { IsWorld cluster.now }
-    ensures some { IfSome result (λ post. IsRunningPost cluster.now.script (reverse cluster.now.log.trace) id post.now) }
-    ensures none { IfNone result (can_receive cluster.now.script (reverse cluster.now.log.trace) id ≡ false) }
+fn running_post(inside: &Inside, id: PostId) -> Option<&Post>
+    requires world { IsWorld inside.now }
+    ensures some { IfSome result (λ post. IsRunningPost inside.now.script (reverse inside.now.log.trace) id post.now) }
+    ensures none { IfNone result (can_receive inside.now.script (reverse inside.now.log.trace) id ≡ false) }
 {
-    match sent_post(&cluster.log, id) {
-        Some(post) if !has_halted(cluster, post.to) => Some(post),
+    match sent_post(&inside.log, id) {
+        Some(post) if !has_halted(inside, post.to) => Some(post),
         _ => None,
     }
 }
@@ -103,46 +144,46 @@ fn drain_error(error: StepError) -> Option<DrainError>
 }
 
 /// Whether there is a next entry.
-pub fn has_next(cluster: &mut Cluster) -> bool
-    requires { IsWorld cluster.old }
-    ensures world { IsWorld cluster.new }
-    ensures script { cluster.new.script ≡ cluster.old.script }
-    ensures trace { cluster.new.log.trace ≡ cluster.old.log.trace }
-    ensures next { result ≡ is_some (next_entry cluster.old.script (reverse cluster.old.log.trace)) }
+pub fn has_next(inside: &mut Inside) -> bool
+    requires { IsWorld inside.old }
+    ensures world { IsWorld inside.new }
+    ensures script { inside.new.script ≡ inside.old.script }
+    ensures trace { inside.new.log.trace ≡ inside.old.log.trace }
+    ensures next { result ≡ is_some (next_entry inside.old.script (reverse inside.old.log.trace)) }
 {
-    next_step(cluster).is_some()
+    next_step(inside).is_some()
 }
 
 /// The step that the schedule takes next: the delivery of the lowest post that waits for an actor
 /// that hasn't halted, else a tick of the lowest idle session.
-fn next_step(cluster: &mut Cluster) -> Option<Step>
-    requires { IsWorld cluster.old }
-    ensures world { IsWorld cluster.new }
-    ensures script { cluster.new.script ≡ cluster.old.script }
-    ensures trace { cluster.new.log.trace ≡ cluster.old.log.trace }
-    ensures next { MatchOption result (next_input cluster.old.script (reverse cluster.old.log.trace) ≡ None) (IsNextStep cluster.old.script (reverse cluster.old.log.trace)) }
+fn next_step(inside: &mut Inside) -> Option<Step>
+    requires { IsWorld inside.old }
+    ensures world { IsWorld inside.new }
+    ensures script { inside.new.script ≡ inside.old.script }
+    ensures trace { inside.new.log.trace ≡ inside.old.log.trace }
+    ensures next { MatchOption result (next_input inside.old.script (reverse inside.old.log.trace) ≡ None) (IsNextStep inside.old.script (reverse inside.old.log.trace)) }
 {
-    if let Some(id) = first_waiting(cluster) {
+    if let Some(id) = first_waiting(inside) {
         return Some(Step::Deliver(id));
     }
-    let place = first_idle(cluster.actors.sessions.as_slice())?;
+    let place = first_idle(inside.actors.sessions.as_slice())?;
     Some(Step::Tick(Actor::Session(SessionId(place as u32 + 1))))
 }
 
 /// The name of the post that is delivered next: the lowest one that was never delivered and whose
 /// receiver hasn't halted. The names before it go: who has halted takes no post any more.
-fn first_waiting(cluster: &mut Cluster) -> Option<PostId>
-    requires { IsWorld cluster.old }
-    ensures world { IsWorld cluster.new }
-    ensures script { cluster.new.script ≡ cluster.old.script }
-    ensures trace { cluster.new.log.trace ≡ cluster.old.log.trace }
-    ensures first { MatchOption result (first_delivery cluster.old.script (reverse cluster.old.log.trace) (undelivered (reverse cluster.old.log.trace)) ≡ None) (IsPostedFirst cluster.old.script (reverse cluster.old.log.trace)) }
+pub fn first_waiting(inside: &mut Inside) -> Option<PostId>
+    requires { IsWorld inside.old }
+    ensures world { IsWorld inside.new }
+    ensures script { inside.new.script ≡ inside.old.script }
+    ensures trace { inside.new.log.trace ≡ inside.old.log.trace }
+    ensures first { MatchOption result (first_delivery inside.old.script (reverse inside.old.log.trace) (undelivered (reverse inside.old.log.trace)) ≡ None) (IsPostedFirst inside.old.script (reverse inside.old.log.trace)) }
 {
-    while let Some(id) = lowest(&cluster.log.waiting) {
-        if running_post(cluster, id).is_some() {
+    while let Some(id) = lowest(&inside.log.waiting) {
+        if running_post(inside, id).is_some() {
             return Some(id);
         }
-        let _ = cluster.log.waiting.pop_front();
+        let _ = inside.log.waiting.pop_front();
     }
     None
 }

@@ -8,7 +8,7 @@ ghost use Rattle.hx_law_growing.specs.Growing.{calls_in, with_call_of};
 ghost use Rattle.hx_world.specs.Invariant.{IsWorld};
 ghost use Rattle.hx_world.specs.Sessions.{HasCall, IsSameSession};
 
-use crate::clusters::Cluster;
+use crate::inside::Inside;
 use crate::sessions::CountedSession;
 use hx_types::{Calls, Exact, Memory, Op, Script, SessionId, Sessions};
 use std::alloc::Global;
@@ -17,26 +17,26 @@ use std::mem;
 /// Appends a call to those of a session, in the script and in the session itself, and gives its number.
 pub fn submit_call(
     alloc: Global,
-    cluster: &mut Cluster,
+    inside: &mut Inside,
     session: SessionId,
     op: Op,
 ) -> Result<u32, Memory>
-    requires world { IsWorld cluster.old }
-    requires actor { is_actor cluster.old.script (an_actor.Session session) ≡ true }
-    requires fits { Fits cluster.old.script.space op }
-    requires few { calls_in cluster.old.script < MOST_CALLS }
-    ensures world { IsWorld cluster.new }
-    ensures number { IfOk result (λ n. n ≡ length (calls_of cluster.old.script session) + 1) }
-    ensures script { OnOk result (cluster.new.script ≡ with_call_of cluster.old.script session op) }
-    ensures same { OnErr result (cluster.new.script ≡ cluster.old.script) }
-    ensures trace { cluster.new.log.trace ≡ cluster.old.log.trace }
+    requires world { IsWorld inside.old }
+    requires actor { is_actor inside.old.script (an_actor.Session session) ≡ true }
+    requires fits { Fits inside.old.script.space op }
+    requires few { calls_in inside.old.script < MOST_CALLS }
+    ensures world { IsWorld inside.new }
+    ensures number { IfOk result (λ n. n ≡ length (calls_of inside.old.script session) + 1) }
+    ensures script { OnOk result (inside.new.script ≡ with_call_of inside.old.script session op) }
+    ensures same { OnErr result (inside.new.script ≡ inside.old.script) }
+    ensures trace { inside.new.log.trace ≡ inside.old.log.trace }
 {
     hx_law_growing::runs_grow();
     hx_law_growing::states_grow();
     hx_law_growing::calls_grow();
     hx_law_posts::posts_of_runs_are_sound();
-    let counted = &mut cluster.actors.sessions[session.0 as usize - 1];
-    let number = extend_script(alloc, &mut cluster.script, counted, session, op)?;
+    let counted = &mut inside.actors.sessions[session.0 as usize - 1];
+    let number = extend_script(alloc, &mut inside.script, counted, session, op)?;
     Ok(number)
 }
 

@@ -1,22 +1,25 @@
-ghost use Rattle.std.specs.Prelude.{◌≡◌, ◌+◌, ◌<◌, ◌≤◌, [], IfErr, IfOk, OnErr, OnOk, is_some, length, reverse, true};
+ghost use Rattle.std.specs.Prelude.{◌≡◌, ◌+◌, ◌<◌, ◌≤◌, [], IfErr, IfOk, MatchOption, None, OnErr, OnOk, Some, is_some, length, reverse, true};
 ghost use Rattle.hx_types.specs.declared.ids.Actor.TheVariants as an_actor;
 ghost use Rattle.hx_types.specs.declared.limits.TheConstants.{MOST_CALLS};
 ghost use Rattle.hx_types.specs.Fitting.{IsScript, calls_of};
 ghost use Rattle.hx_types.specs.Spaces.{Fits};
-ghost use Rattle.hx_model.specs.Runs.{IsRun, is_actor};
-ghost use Rattle.hx_model.specs.Schedule.{next_entry};
+ghost use Rattle.hx_model.specs.Runs.{IsRun, is_actor, session_of};
+ghost use Rattle.hx_model.specs.Schedule.{is_idle, next_entry};
 ghost use Rattle.hx_law_growing.specs.Growing.{calls_in, with_call_of};
+ghost use Rattle.hx_world.specs.Idle.{IsPostedFirst};
+ghost use Rattle.hx_world.specs.Nexts.{DeliversNext, FailsAt, Makes, delivery_in, tick_of};
 ghost use Rattle.hx_world.specs.Worlds.{Advances, DrainFails, Drains, Fails, HasFewEntries, IsPartOf, IsStepOf, Refuses, Steps, most_entries};
 
-use crate::clusters::Cluster;
+use crate::actors::{is_busy, is_idle};
 use crate::ends::{DrainError, Drained, StepError};
+use crate::inside::Inside;
 use crate::logs::empty;
-use crate::schedule::{advance, has_next};
+use crate::schedule::{advance, begin, deliver_first, first_waiting, has_next};
 use crate::starting::start_actors;
 use crate::steps::take_step;
 use crate::submitting::submit_call;
 use hx_trace::Trace;
-use hx_types::{Exact, Memory, Op, Script, SessionId, Step};
+use hx_types::{Exact, Memory, Op, PostId, Script, SessionId, Step};
 use std::alloc::Global;
 use std::marker::Model;
 use std::mem::ManuallyDrop;
@@ -27,12 +30,12 @@ use std::mem::ManuallyDrop;
 /// The actors are those of HyperDex and of chain replication; that they stand on one thread and
 /// take their inputs by a fixed schedule is this project's choice.
 pub struct World {
-    cluster: Cluster,
+    inside: Inside,
 }
 
 impl Drop for World {
     fn drop(self) {
-        let World { cluster: _ } = self;
+        let World { inside: _ } = self;
     }
 }
 
@@ -42,9 +45,9 @@ impl Model for World {
 
     ghost Value = { WorldState };
 
-    ghost view = { λ w. record { script = w.cluster.script; trace = w.cluster.log.trace } };
+    ghost view = { λ w. record { script = w.inside.script; trace = w.inside.log.trace } };
 
-    ghost invariant = { λ w. IsWorld w.cluster };
+    ghost invariant = { λ w. IsWorld w.inside };
 }
 
 impl World {
@@ -57,7 +60,7 @@ impl World {
         let actors = start_actors(alloc, script)?;
         let script = script.copy(alloc)?;
         Ok(World {
-            cluster: Cluster {
+            inside: Inside {
                 script,
                 actors,
                 log: empty(alloc),
@@ -69,7 +72,7 @@ impl World {
     pub fn script(&self) -> &Script
         ensures { result.now ≡ self.now.script }
     {
-        &self.cluster.script
+        &self.inside.script
     }
 
     /// Appends a call to those of a session, and gives its number, from 1. The trace stays: it is a run of the script with the
@@ -85,7 +88,23 @@ impl World {
         ensures trace { self.new.trace ≡ self.old.trace }
         ensures err { OnErr result (self.new ≡ self.old) }
     {
-        submit_call(alloc, &mut self.cluster, session, op)
+        submit_call(alloc, &mut self.inside, session, op)
+    }
+
+    /// Whether a session has a call left and none under way.
+    pub fn is_idle(&self, session: SessionId) -> bool
+        requires { is_actor self.now.script (an_actor.Session session) ≡ true }
+        ensures { result ≡ is_idle (session_of self.now.script session (reverse self.now.trace)) }
+    {
+        is_idle(&self.inside, session)
+    }
+
+    /// Whether a call of a session is under way.
+    pub fn is_busy(&self, session: SessionId) -> bool
+        requires { is_actor self.now.script (an_actor.Session session) ≡ true }
+        ensures { result ≡ (session_of self.now.script session (reverse self.now.trace)).under_way }
+    {
+        is_busy(&self.inside, session)
     }
 
     /// What was done so far: a run of the script.
@@ -95,7 +114,7 @@ impl World {
         ensures run { IsRun self.now.script (reverse self.now.trace) }
         ensures few { HasFewEntries (reverse self.now.trace) }
     {
-        &self.cluster.log.trace
+        &self.inside.log.trace
     }
 
     /// The trace by itself.
@@ -105,8 +124,8 @@ impl World {
         ensures run { IsRun self.script (reverse result) }
         ensures few { HasFewEntries (reverse result) }
     {
-        let World { cluster } = self;
-        let log = cluster.log;
+        let World { inside } = self;
+        let log = inside.log;
         log.trace
     }
 
@@ -118,9 +137,9 @@ impl World {
         ensures run { IsRun self.script (reverse result) }
         ensures few { HasFewEntries (reverse result) }
     {
-        let World { cluster } = self;
-        let _left = ManuallyDrop::new(cluster.actors);
-        let log = cluster.log;
+        let World { inside } = self;
+        let _left = ManuallyDrop::new(inside.actors);
+        let log = inside.log;
         log.trace
     }
 
@@ -141,8 +160,9 @@ impl World {
         ensures refused { IfErr result (Refuses self.old.script (reverse self.old.trace) step.now) }
         ensures err { OnErr result (self.new.trace ≡ self.old.trace) }
         ensures few { HasFewEntries (reverse self.new.trace) }
+        ensures most { length self.new.trace ≤ most_entries }
     {
-        take_step(alloc, &mut self.cluster, step)
+        take_step(alloc, &mut self.inside, step)
     }
 
     /// Makes up to n entries by the schedule: always the delivery of the lowest post that wasn't
@@ -174,6 +194,49 @@ impl World {
         }
     }
 
+    /// Makes the one entry that delivers the lowest post that was never delivered and whose receiver
+    /// hasn't halted, as a drain does first, and tells whether there was one. So several worlds can be
+    /// run by one schedule.
+    ///
+    /// [`DrainError::Worn`] comes exactly where the receiver has made 1,048,576 entries. After an
+    /// error nothing has changed.
+    pub fn deliver_next(&mut self, alloc: Global) -> Result<bool, DrainError>
+        ensures script { self.new.script ≡ self.old.script }
+        ensures delivers { IfOk result (DeliversNext self.old.script (reverse self.old.trace) (reverse self.new.trace)) }
+        ensures fails { IfErr result (FailsAt (reverse self.old.trace) (delivery_in self.old.script (reverse self.old.trace))) }
+        ensures err { OnErr result (self.new.trace ≡ self.old.trace) }
+        ensures few { HasFewEntries (reverse self.new.trace) }
+        ensures most { length self.new.trace ≤ most_entries }
+    {
+        deliver_first(alloc, &mut self.inside)
+    }
+
+    /// The name of the post that [`World::deliver_next`] would deliver. The trace stays; the names of
+    /// posts to halted servers are forgotten on the way.
+    pub fn oldest(&mut self) -> Option<PostId>
+        ensures first { MatchOption result (delivery_in self.old.script (reverse self.old.trace) ≡ None) (IsPostedFirst self.old.script (reverse self.old.trace)) }
+        ensures state { self.new ≡ self.old }
+    {
+        first_waiting(&mut self.inside)
+    }
+
+    /// Makes the one entry with which an idle session begins its next call.
+    ///
+    /// [`DrainError::Worn`] comes exactly where the session has made 1,048,576 entries. After an
+    /// error nothing has changed.
+    pub fn begin(&mut self, alloc: Global, session: SessionId) -> Result<(), DrainError>
+        requires session { is_actor self.old.script (an_actor.Session session) ≡ true }
+        requires idle { is_idle (session_of self.old.script session (reverse self.old.trace)) ≡ true }
+        ensures script { self.new.script ≡ self.old.script }
+        ensures begins { OnOk result (Makes self.old.script (reverse self.old.trace) (reverse self.new.trace) (tick_of session)) }
+        ensures fails { IfErr result (FailsAt (reverse self.old.trace) (Some (tick_of session))) }
+        ensures err { OnErr result (self.new.trace ≡ self.old.trace) }
+        ensures few { HasFewEntries (reverse self.new.trace) }
+        ensures most { length self.new.trace ≤ most_entries }
+    {
+        begin(alloc, &mut self.inside, session)
+    }
+
     fn advance(&mut self, alloc: Global) -> Result<bool, DrainError>
         ensures script { self.new.script ≡ self.old.script }
         ensures advances { IfOk result (Advances self.old.script (reverse self.old.trace) (reverse self.new.trace)) }
@@ -182,7 +245,7 @@ impl World {
         ensures few { HasFewEntries (reverse self.new.trace) }
         ensures most { length self.new.trace ≤ most_entries }
     {
-        advance(alloc, &mut self.cluster)
+        advance(alloc, &mut self.inside)
     }
 
     fn has_next(&mut self) -> bool
@@ -191,6 +254,6 @@ impl World {
         ensures few { HasFewEntries (reverse self.new.trace) }
         ensures most { length self.new.trace ≤ most_entries }
     {
-        has_next(&mut self.cluster)
+        has_next(&mut self.inside)
     }
 }

@@ -5,50 +5,50 @@ use Rattle.hx_world.proofs.Turning.{ascending, can_serve, may_serve, not_served,
 use Rattle.hx_world.proofs.actors.to_server.Goals as goal
 
 pub overflow_sub-server : goal.overflow_sub-server
-overflow_sub-server c = server_low c.args.cluster.now.script c.args.cluster.now.actors c.args.cluster.now.log c.requires.world c.args.server c.requires.actor
+overflow_sub-server c = server_low c.args.inside.now.script c.args.inside.now.actors c.args.inside.now.log c.requires.world c.args.server c.requires.actor
 
 pub index_mut-counted-requires : goal.index_mut-counted-requires
-index_mut-counted-requires c = server_in c.args.cluster.now.script c.args.cluster.now.actors c.args.cluster.now.log c.requires.world c.args.server c.requires.actor
+index_mut-counted-requires c = server_in c.args.inside.now.script c.args.inside.now.actors c.args.inside.now.log c.requires.world c.args.server c.requires.actor
 
 pub server_takes-requires-clause-can : goal.server_takes-requires-clause-can
 server_takes-requires-clause-can c =
-    can_serve c.args.cluster.now.script c.args.cluster.now.actors c.args.cluster.now.log c.requires.world c.args.server c.requires.actor
+    can_serve c.args.inside.now.script c.args.inside.now.actors c.args.inside.now.log c.requires.world c.args.server c.requires.actor
     c.index_mut-counted.result.now c.index_mut-counted.ensures.value c.args.input c.requires.running c.requires.may
 
 pub server_takes-requires-clause-may : goal.server_takes-requires-clause-may
 server_takes-requires-clause-may c =
-    may_serve c.args.cluster.now.script c.args.cluster.now.actors c.args.cluster.now.log c.requires.world c.args.server c.requires.actor
+    may_serve c.args.inside.now.script c.args.inside.now.actors c.args.inside.now.log c.requires.world c.args.server c.requires.actor
     c.index_mut-counted.result.now c.index_mut-counted.ensures.value c.args.input c.requires.may
 
 pub server_takes-requires-clause-ascending : goal.server_takes-requires-clause-ascending
-server_takes-requires-clause-ascending c = ascending c.args.cluster.now.script c.args.cluster.now.actors c.args.cluster.now.log c.requires.world
+server_takes-requires-clause-ascending c = ascending c.args.inside.now.script c.args.inside.now.actors c.args.inside.now.log c.requires.world
 
 pub returns-in_err-server_takes-clause-world : goal.returns-in_err-server_takes-clause-world
 returns-in_err-server_takes-clause-world c =
     let after : Actors =
-    record { coordinator = c.args.cluster.now.actors.coordinator; servers = with_item c.args.cluster.now.actors.servers (c.args.server.0 - 1) c.server_takes.new.counted; sessions = c.args.cluster.now.actors.sessions } in
-    unserved c.args.cluster.now.script c.args.cluster.now.actors c.args.cluster.now.log c.requires.world c.args.server c.requires.actor
+    record { coordinator = c.args.inside.now.actors.coordinator; servers = with_item c.args.inside.now.actors.servers (c.args.server.0 - 1) c.server_takes.new.counted; sessions = c.args.inside.now.actors.sessions } in
+    unserved c.args.inside.now.script c.args.inside.now.actors c.args.inside.now.log c.requires.world c.args.server c.requires.actor
     c.index_mut-counted.result.now c.index_mut-counted.ensures.value c.args.input c.requires.running c.requires.may c.server_takes.new.counted after c.server_takes.new.log c.in_err-server_takes.ensures.same c.in_err-server_takes.ensures.same_log refl refl refl
 
 pub returns-in_err-server_takes-clause-err : goal.returns-in_err-server_takes-clause-err
 returns-in_err-server_takes-clause-err c =
     let why =
-    not_served c.args.cluster.now.script c.args.cluster.now.actors c.args.cluster.now.log c.requires.world c.args.server c.requires.actor
+    not_served c.args.inside.now.script c.args.inside.now.actors c.args.inside.now.log c.requires.world c.args.server c.requires.actor
     c.index_mut-counted.result.now c.index_mut-counted.ensures.value c.args.input c.requires.running c.requires.may c.in_err-server_takes.field-0.0 c.in_err-server_takes.ensures.barred in
     search (rules, why)
 
 pub returns-clause-world : goal.returns-clause-world
 returns-clause-world c =
     let after : Actors =
-    record { coordinator = c.args.cluster.now.actors.coordinator; servers = with_item c.args.cluster.now.actors.servers (c.args.server.0 - 1) c.server_takes.new.counted; sessions = c.args.cluster.now.actors.sessions } in
-    (served c.args.cluster.now.script c.args.cluster.now.actors c.args.cluster.now.log c.requires.world c.args.server c.requires.actor
+    record { coordinator = c.args.inside.now.actors.coordinator; servers = with_item c.args.inside.now.actors.servers (c.args.server.0 - 1) c.server_takes.new.counted; sessions = c.args.inside.now.actors.sessions } in
+    (served c.args.inside.now.script c.args.inside.now.actors c.args.inside.now.log c.requires.world c.args.server c.requires.actor
     c.index_mut-counted.result.now c.index_mut-counted.ensures.value c.args.input c.requires.running c.requires.may c.server_takes.new.counted after c.server_takes.new.log
     c.in_ok-server_takes.ensures.log c.in_ok-server_takes.ensures.taken c.in_ok-server_takes.ensures.admitted refl refl refl).world
 
 pub returns-clause-ok : goal.returns-clause-ok
 returns-clause-ok c =
     let after : Actors =
-    record { coordinator = c.args.cluster.now.actors.coordinator; servers = with_item c.args.cluster.now.actors.servers (c.args.server.0 - 1) c.server_takes.new.counted; sessions = c.args.cluster.now.actors.sessions } in
-    (served c.args.cluster.now.script c.args.cluster.now.actors c.args.cluster.now.log c.requires.world c.args.server c.requires.actor
+    record { coordinator = c.args.inside.now.actors.coordinator; servers = with_item c.args.inside.now.actors.servers (c.args.server.0 - 1) c.server_takes.new.counted; sessions = c.args.inside.now.actors.sessions } in
+    (served c.args.inside.now.script c.args.inside.now.actors c.args.inside.now.log c.requires.world c.args.server c.requires.actor
     c.index_mut-counted.result.now c.index_mut-counted.ensures.value c.args.input c.requires.running c.requires.may c.server_takes.new.counted after c.server_takes.new.log
     c.in_ok-server_takes.ensures.log c.in_ok-server_takes.ensures.taken c.in_ok-server_takes.ensures.admitted refl refl refl).turn

@@ -4,10 +4,10 @@ use Rattle.hx_world.proofs.schedule.deliver_next.Given as goal
 
 abbrev pub invariant-loop-id : goal.invariant-loop-id
 invariant-loop-id l = record {
-  world : IsWorld l.cluster;
-  script : l.cluster.script ≡ l.initial.cluster.script;
-  trace : l.cluster.log.trace ≡ l.initial.cluster.log.trace;
+  world : IsWorld l.inside;
+  script : l.inside.script ≡ l.initial.inside.script;
+  trace : l.inside.log.trace ≡ l.initial.inside.log.trace;
 }
 
 abbrev pub decreases-loop-id : goal.decreases-loop-id
-decreases-loop-id l = l.cluster.log.waiting.len
+decreases-loop-id l = l.inside.log.waiting.len

@@ -1,0 +1,13 @@
+pub mod Places
+pub mod Starts
+pub mod Keeping
+pub mod Deliveries
+pub mod NextCalls
+pub mod StepsTaken
+pub mod Seats
+pub mod Lengths
+pub mod Spending
+pub mod Openings
+pub mod FairTurns
+pub mod OwnSteps
+pub mod Resting

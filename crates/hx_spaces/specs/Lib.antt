@@ -1,0 +1,7 @@
+pub mod Courses
+pub mod Begins
+pub mod Clusters
+pub mod Keeping
+pub mod Stepping
+pub mod Draining
+pub mod Walks
