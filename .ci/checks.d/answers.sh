@@ -52,11 +52,28 @@ for script in cases/share_refused/*.hx; do
   for workers in 1 3 16; do refused "$script" "$line" share --workers "$workers"; done
 done
 
-# One caller's share is the replay of the script without its steps.
+# One caller's share is the replay of the script without its steps. Scripts of several spaces aren't shared.
 for script in examples/*.hx cases/replay/*.hx; do
+  line=$(grep -n -m 1 '^ *hx 2' "$script") && { refused "$script" "line ${line%%:*}: bounds" share --workers 1; continue; }
   cmp -s <(hx share --workers 1 <"$script") <(sed '/^ *steps *\(#.*\)\?$/,$d' "$script" | hx replay) \
     || complain "hx share --workers 1 <$script writes something else than its replay without steps"
 done
+
+# Calls are counted over all spaces, and so are steps.
+of_two_spaces() {
+  printf 'hx 2\nservers 1\ntolerate 0\nspace one\nkey k 1\nspace two\nkey k 1\nsession 1\n'
+  yes $'get one "a"\nget two "a"' | head -n "$1"
+  [ "$2" -eq 0 ] || { printf 'steps\n'; yes $'tick one c\ntick two c' | head -n "$2"; }
+}
+planned() {
+  told=$(of_two_spaces "$1" "$2" | hx plan 2>&1)
+  status=$?
+  [ "$status $told" = "$3" ] || complain "a plan of $1 calls and $2 steps of two spaces ends with $status and '$told'"
+}
+planned 16384 0 '0 end'
+planned 16385 0 '3 line 16393: limit'
+planned 0 65536 '0 end'
+planned 0 65537 '3 line 65546: limit'
 
 # A put whose leader halts after any number of deliveries is done once, and a get of another session finds it.
 survives() {

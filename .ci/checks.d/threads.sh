@@ -50,6 +50,15 @@ done
 ran --workers 16
 tells '16 posts [0-9]+ deliver [0-9]+ lose 0 twice 0'
 
+# Each of several spaces has its share of the threads, and its lines of drivers.
+for workers in 1 3 16; do
+  report=$(hx run --workers "$workers" --lose 5 --seed "$workers" <examples/shop.hx) || complain "hx run --workers $workers <examples/shop.hx fails"
+  [[ $report != *'-> open'* && $report == 'report 2'*$'\nspace customers\n'*$'\nspace orders\n'*$'\nend' ]] || complain "hx run --workers $workers <examples/shop.hx leaves a call open"
+  share=$((workers < 8 ? workers : 8))
+  [ "$(grep -c '^driver ' <<<"$report")" -eq $((2 * share)) ] || complain "hx run --workers $workers <examples/shop.hx hasn't $share drivers for each space"
+  consistent "hx run --workers $workers <examples/shop.hx" <<<"$report"
+done
+
 # Additions of two sessions to one number: as many as were done are in it.
 counted=$(hx run --workers 4 <cases/replay/counted_by_two_sessions.hx)
 done_adds=$(grep -c 'atomic .* -> done ' <<<"$counted")

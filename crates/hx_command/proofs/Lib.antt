@@ -1,4 +1,9 @@
 pub mod Handing
+pub mod Chunks
+pub mod Spaced
+pub mod Parts
+pub mod Running
+pub mod Scripts
 pub mod Deciding
 pub mod Tuning
 pub mod Wording

@@ -10,13 +10,12 @@ use Rattle.hx_words.specs.declared.commands.Share.{Share}
 use Rattle.hx_words.specs.declared.commands.Soak.{Soak}
 use Rattle.hx_replay.specs.Calling.{Drawn, EndsAudit, Filled}
 use Rattle.hx_replay.specs.Commands.{SaysAudit}
-use Rattle.hx_replay.specs.Causes.{IsJudged}
 use Rattle.hx_command.specs.Telling.{AnswersAudit, Told}
-use Rattle.hx_command.specs.Threads.{EndsRun, EndsShare, Handed, IsDecided, nothing}
+use Rattle.hx_command.specs.Threads.{EndsRun, EndsShare, Handed, IsDecided, IsTextJudged, Language, any_version, nothing, version_1}
 use Rattle.hx_replay.specs.declared.outcomes.Outcome.{Outcome}
 use Rattle.hx_replay.specs.declared.outcomes.Outcome.TheVariants.{Fine, Memory}
-use Rattle.hx_replay.specs.declared.words.Command.TheVariants.{Plan}
-use Rattle.hx_command.proofs.Deciding.{no_script}
+use Rattle.hx_replay.specs.declared.texts.Scripted.{Scripted}
+use Rattle.hx_command.proofs.Deciding.{no_script, no_scripted}
 
 pub same_some : {A : Type 0} (x y : A) → Some x ≡ Some y → y ≡ x
 same_some x y e = cc
@@ -50,21 +49,21 @@ pub shared_at : (script : Script) (source : Drawn) (sink : Filled) (h : Handed) 
 shared_at script source sink h outcome fine ends = subst (λ (o : Outcome). EndsShare script source sink h o) fine ends
 
 -- ---- what is told of any words where there was no memory before the call
-nothing_run : (run : Run) (source : Drawn) (sink : Filled) → (script : Script) × EndsRun run script source sink nothing Memory
-nothing_run run source sink = (no_script, refl)
+nothing_run : (run : Run) (source : Drawn) (sink : Filled) → (scripted : Scripted) × EndsRun run scripted source sink nothing Memory
+nothing_run run source sink = (no_scripted, refl)
 
 nothing_shared : (source : Drawn) (sink : Filled) → (script : Script) × EndsShare script source sink nothing Memory
 nothing_shared source sink = (no_script, refl)
 
-nothing_decided : (source : Drawn) (sink : Filled) → IsDecided source sink Memory
-nothing_decided source sink =
+nothing_decided : {A : Type 0} (language : Language A) (source : Drawn) (sink : Filled) → IsDecided language source sink Memory
+nothing_decided language source sink =
     record {
       judged = by source.before;
       faulty = λ text wanted told faulty still. inr refl;
       complete = λ text told short taken still well. inr (inl refl);
     }
   where
-    by : (o : Option (List ℕ)) → IfSome o (λ text. IsJudged Plan text Memory)
+    by : (o : Option (List ℕ)) → IfSome o (λ text. IsTextJudged language text Memory)
     by None = tt
     by (Some text) = tt
 
@@ -75,9 +74,9 @@ nothing_told words source sink =
       h = nothing;
       alone = λ unthreaded. inl refl;
       run = λ run says. nothing_run run source sink;
-      decided = λ run says. nothing_decided source sink;
+      decided = λ run says. nothing_decided any_version source sink;
       soak = λ soak says. refl;
       soaked = λ soak says still. inr (inl refl);
       share = λ share says. nothing_shared source sink;
-      share_decided = λ share says. nothing_decided source sink;
+      share_decided = λ share says. nothing_decided version_1 source sink;
     }

@@ -1,3 +1,4 @@
 pub mod Threads
+pub mod Reading
 pub mod Telling
 pub mod Showing

@@ -11,18 +11,19 @@ use Rattle.hx_words.specs.declared.commands.Run.{Run}
 use Rattle.hx_words.specs.declared.commands.Share.{Share}
 use Rattle.hx_words.specs.declared.commands.Soak.{Soak}
 use Rattle.hx_words.specs.Saying.{SaysRun, SaysShare, SaysSoak}
+use Rattle.hx_replay.specs.declared.texts.Scripted.{Scripted}
 use Rattle.hx_replay.specs.declared.outcomes.Outcome.{Outcome}
 use Rattle.hx_replay.specs.declared.outcomes.Outcome.TheVariants as an_outcome
 use Rattle.hx_replay.specs.Calling.{Drawn, Ends, EndsAudit, Filled, Shows, Writes}
 use Rattle.hx_replay.specs.Commands.{Asks, SaysAudit}
 use Rattle.hx_replay.specs.declared.words.Question.{Question}
 use Rattle.hx_command.specs.Showing.{shown_text}
-use Rattle.hx_command.specs.Threads.{EndsRun, EndsShare, EndsSoak, Handed, IsDecided, IsUnthreaded}
+use Rattle.hx_command.specs.Threads.{EndsRun, EndsShare, EndsSoak, Handed, IsDecided, IsUnthreaded, any_version, version_1}
 
 -- the answer to words that start no threads was written
 pub record AnswersAlone (words : List (String Global)) (source : Drawn) (sink : Filled) (h : Handed) : Type 0 where
   pub unthreaded : IsUnthreaded words
-  pub writes : Writes words source sink h.trace
+  pub writes : Writes words source sink h.traces
 
 -- the report that was read breaks no clause, and `audit yes` was written
 pub record AnswersAudit (words : List (String Global)) (source : Drawn) (sink : Filled) : Type 0 where
@@ -33,8 +34,8 @@ pub record AnswersAudit (words : List (String Global)) (source : Drawn) (sink : 
 pub record AnswersRun (words : List (String Global)) (source : Drawn) (sink : Filled) (h : Handed) : Type 0 where
   pub command : Run
   pub says : SaysRun words command
-  pub script : Script
-  pub ends : EndsRun command script source sink h an_outcome.Fine
+  pub scripted : Scripted
+  pub ends : EndsRun command scripted source sink h an_outcome.Fine
 
 -- the summary of a soak was written
 pub record AnswersSoak (words : List (String Global)) (sink : Filled) (h : Handed) : Type 0 where
@@ -56,14 +57,14 @@ Answers words source sink h = AnswersAlone words source sink h ⊎ (AnswersAudit
 -- how a call ends, by its words; some value is handed back
 pub record Told (words : List (String Global)) (source : Drawn) (sink : Filled) (outcome : Outcome) : Type 0 where
   pub h : Handed
-  pub alone : IsUnthreaded words → (outcome ≡ an_outcome.Memory) ⊎ Ends words source sink outcome h.trace
-  pub run : (command : Run) → SaysRun words command → (script : Script) × EndsRun command script source sink h outcome
-  pub decided : (command : Run) → SaysRun words command → IsDecided source sink outcome
+  pub alone : IsUnthreaded words → (outcome ≡ an_outcome.Memory) ⊎ Ends words source sink outcome h.traces
+  pub run : (command : Run) → SaysRun words command → (scripted : Scripted) × EndsRun command scripted source sink h outcome
+  pub decided : (command : Run) → SaysRun words command → IsDecided any_version source sink outcome
   pub soak : (command : Soak) → SaysSoak words command → EndsSoak command sink h outcome
   pub soaked : (command : Soak) → SaysSoak words command → ¬ Rose sink.faults_before sink.faults_after
       → (outcome ≡ an_outcome.Fine) ⊎ (outcome ≡ an_outcome.Memory) ⊎ ((a : Actor) × (outcome ≡ an_outcome.Worn a))
   pub share : (command : Share) → SaysShare words command → (script : Script) × EndsShare script source sink h outcome
-  pub share_decided : (command : Share) → SaysShare words command → IsDecided source sink outcome
+  pub share_decided : (command : Share) → SaysShare words command → IsDecided version_1 source sink outcome
 
 -- how the program ends with these words: what was asked was shown, or the call ended as its words have it
 pub record EndsProgram (words : List (String Global)) (source : Drawn) (sink : Filled) (outcome : Outcome) : Type 0 where

@@ -13,6 +13,7 @@ ghost use Rattle.hx_command.specs.Showing.{shown_text};
 ghost use Rattle.hx_replay.specs.declared.words.Question.{Question};
 
 use crate::finished::Finished;
+use crate::space_runs::MOST_DRIVERS;
 use crate::top::hyperstore;
 use hx_desk::Open;
 use hx_fate::{Fate, Losing};
@@ -156,12 +157,12 @@ fn command<R: Threads + Wait + Sync, S: Source, K: Sink>(
     }
 }
 
-/// How many drivers the words start, and the seed that their fates draw from, where they say one.
+/// How many drivers the words may start, and the seed that their fates draw from, where they say one.
 fn drivers_of(words: &[String]) -> (u32, Option<u64>)
     ensures { HasEnough words.now result.0 }
 {
     match run_of(words) {
-        Some(run) => (run.workers, run.seed),
+        Some(run) => (MOST_DRIVERS, run.seed),
         None => match soak_of(words) {
             Some(soak) => (soak.workers, None),
             None => (0, None),
@@ -201,8 +202,12 @@ fn called<R: Threads + Wait + Sync, S: Source, K: Sink>(
     }
     let Finished { done, ports, .. } = hyperstore(rt, alloc, words, source, sink, fates, &Open);
     drop(ports);
-    let Done { outcome, trace, .. } = done;
-    let _left = ManuallyDrop::new(trace);
+    let Done {
+        outcome,
+        traces,
+        ..
+    } = done;
+    let _left = ManuallyDrop::new(traces);
     outcome
 }
 

@@ -1,19 +1,21 @@
-ghost use Rattle.std.specs.Prelude.{◌≡◌, ◌≤◌, length, IfOk};
+ghost use Rattle.std.specs.Prelude.{◌≡◌, ◌≤◌, [], ◌∷◌, false, length, reverse, IfOk};
+ghost use Rattle.hx_report.specs.Reporting.{IsReport};
 ghost use Rattle.hx_types.specs.Fitting.{IsScript};
 ghost use Rattle.hx_types.specs.declared.traces.Script.{Script as ScriptSeen};
 ghost use Rattle.hx_words.specs.Limits.{IsShare};
 ghost use Rattle.hx_replay.specs.Outcomes.{IsSilent, status_of};
-ghost use Rattle.hx_command.specs.Threads.{EndsShare, EndsWith, IsDecided, IsSharedBy, IsSharedReport, IsWornShared, IsWritten, only};
+ghost use Rattle.hx_command.specs.Threads.{EndsShare, EndsWith, IsDecided, IsSharedBy, IsHandedWorn, IsSharedReport, IsWornShared, IsWritten, only, version_1};
 
 use crate::finished::{Finished, ended, unthreaded};
 use crate::reading::read_script;
 use hx_desk::Gate;
 use hx_io::{Sink, Source, write_all};
-use hx_replay::{Done, Outcome, status};
+use hx_replay::{Done, Outcome, one_trace, status};
 use hx_report::report;
 use hx_share::{Shared, share};
+use hx_spaces::Traces;
 use hx_trace::Trace;
-use hx_types::{Memory, Script};
+use hx_types::{Actor, Memory, Script};
 use hx_words::Share;
 use std::alloc::Global;
 use std::sync::Wait;
@@ -34,9 +36,9 @@ pub fn share_words<R: Threads + Wait + Sync, S: Source, K: Sink, G: Gate + Sync>
     ensures share { (script : ScriptSeen) × EndsShare script
         (record { before = S.left source.old; after = S.left source.new; faults_before = S.faults source.old; faults_after = S.faults source.new })
         (record { before = K.held sink.old; after = K.held sink.new; faults_before = K.faults sink.old; faults_after = K.faults sink.new })
-        (record { trace = result.done.trace; seat = result.seat; totals = result.totals.items; ports = result.ports.items; fates = length result.fates.items })
+        (record { traces = result.done.traces; seats = result.seats.items; totals = result.totals.items; ports = result.ports.items; fates = length result.fates.items })
         result.done.outcome }
-    ensures decided { IsDecided
+    ensures decided { IsDecided version_1
         (record { before = S.left source.old; after = S.left source.new; faults_before = S.faults source.old; faults_after = S.faults source.new })
         (record { before = K.held sink.old; after = K.held sink.new; faults_before = K.faults sink.old; faults_after = K.faults sink.new })
         result.done.outcome }
@@ -63,7 +65,7 @@ fn answer_share<R: Threads + Wait + Sync, K: Sink, G: Gate + Sync>(
     requires limits { IsShare command }
     ensures ends { EndsWith (IsSharedReport script.now) (IsWornShared script.now)
         (record { before = K.held sink.old; after = K.held sink.new; faults_before = K.faults sink.old; faults_after = K.faults sink.new })
-        (record { trace = result.done.trace; seat = result.seat; totals = result.totals.items; ports = result.ports.items; fates = length result.fates.items })
+        (record { traces = result.done.traces; seats = result.seats.items; totals = result.totals.items; ports = result.ports.items; fates = length result.fates.items })
         result.done.outcome }
     ensures status { result.done.status ≡ status_of result.done.outcome }
     ensures silent { IsSilent result.done.outcome → sink.new ≡ sink.old }
@@ -86,7 +88,7 @@ fn share_script<R: Threads + Wait + Sync, G: Gate + Sync>(
 ) -> Result<Shared, Memory>
     requires script { IsScript script.now }
     requires limits { IsShare command }
-    ensures { IfOk result (λ shared. IsSharedBy script.now (only shared.trace) shared.worn) }
+    ensures { IfOk result (λ shared. IsSharedBy script.now shared.trace (only (shared.trace ∷ [])) shared.worn) }
 {
     hx_law_searches::histories_are_linear();
     hx_law_order::runs_have_one_order();
@@ -100,10 +102,10 @@ fn share_script<R: Threads + Wait + Sync, G: Gate + Sync>(
 /// Hands back what callers shared until an actor was worn, or writes the report of all their calls.
 fn report_share<K: Sink>(alloc: Global, script: &Script, sink: &mut K, shared: Shared) -> Finished
     requires script { IsScript script.now }
-    requires shared { IsSharedBy script.now (only shared.trace) shared.worn }
+    requires shared { IsSharedBy script.now shared.trace (only (shared.trace ∷ [])) shared.worn }
     ensures ends { EndsWith (IsSharedReport script.now) (IsWornShared script.now)
         (record { before = K.held sink.old; after = K.held sink.new; faults_before = K.faults sink.old; faults_after = K.faults sink.new })
-        (record { trace = result.done.trace; seat = result.seat; totals = result.totals.items; ports = result.ports.items; fates = length result.fates.items })
+        (record { traces = result.done.traces; seats = result.seats.items; totals = result.totals.items; ports = result.ports.items; fates = length result.fates.items })
         result.done.outcome }
     ensures status { result.done.status ≡ status_of result.done.outcome }
     ensures silent { IsSilent result.done.outcome → sink.new ≡ sink.old }
@@ -111,37 +113,59 @@ fn report_share<K: Sink>(alloc: Global, script: &Script, sink: &mut K, shared: S
 {
     let Shared { trace, worn } = shared;
     if let Some(actor) = worn {
-        return traced(alloc, Outcome::Worn(actor), trace);
+        return hand_worn(alloc, actor, trace);
     }
-    match report(alloc, script, &trace, &[], false) {
-        Ok(bytes) => write_share(alloc, sink, trace, bytes.as_slice()),
+    match reported(alloc, script, trace) {
+        Ok((traces, bytes)) => write_share(alloc, sink, traces, bytes.as_slice()),
         Err(_) => ended(alloc, Outcome::Memory),
     }
 }
 
+/// The traces of what callers shared until an actor was worn.
+fn hand_worn(alloc: Global, actor: Actor, trace: Trace) -> Finished
+    ensures handed { IsHandedWorn (only (trace ∷ [])) (record { traces = result.done.traces; seats = result.seats.items; totals = result.totals.items; ports = result.ports.items; fates = length result.fates.items }) actor result.done.outcome }
+    ensures status { result.done.status ≡ status_of result.done.outcome }
+{
+    match one_trace(alloc, trace) {
+        Ok(traces) => traced(alloc, Outcome::Worn(actor), traces),
+        Err(_) => ended(alloc, Outcome::Memory),
+    }
+}
+
+/// The report of what callers shared, and the traces that it tells of.
+fn reported(alloc: Global, script: &Script, trace: Trace) -> Result<(Traces, Vec<u8>), Memory>
+    requires { IsScript script.now }
+    ensures traces { IfOk result (λ made. made.0 ≡ trace ∷ []) }
+    ensures report { IfOk result (λ made. IsReport script.now (reverse trace) [] made.1.items false) }
+{
+    let bytes = report(alloc, script, &trace, &[], false)?;
+    let traces = one_trace(alloc, trace)?;
+    Ok((traces, bytes))
+}
+
 /// Writes the report of what callers shared.
-fn write_share<K: Sink>(alloc: Global, sink: &mut K, trace: Trace, bytes: &[u8]) -> Finished
+fn write_share<K: Sink>(alloc: Global, sink: &mut K, traces: Traces, bytes: &[u8]) -> Finished
     ensures written { IsWritten (record { before = K.held sink.old; after = K.held sink.new; faults_before = K.faults sink.old; faults_after = K.faults sink.new }) bytes.now result.done.outcome }
-    ensures handed { (record { trace = result.done.trace; seat = result.seat; totals = result.totals.items; ports = result.ports.items; fates = length result.fates.items }) ≡ only trace }
+    ensures handed { (record { traces = result.done.traces; seats = result.seats.items; totals = result.totals.items; ports = result.ports.items; fates = length result.fates.items }) ≡ only traces }
     ensures status { result.done.status ≡ status_of result.done.outcome }
     ensures faults { K.faults sink.old ≤ K.faults sink.new }
 {
     match write_all(sink, bytes) {
-        Ok(()) => traced(alloc, Outcome::Fine, trace),
-        Err(_) => traced(alloc, Outcome::WriteFault, trace),
+        Ok(()) => traced(alloc, Outcome::Fine, traces),
+        Err(_) => traced(alloc, Outcome::WriteFault, traces),
     }
 }
 
-/// The end of a call that hands back a trace and nothing else.
-fn traced(alloc: Global, outcome: Outcome, trace: Trace) -> Finished
+/// The end of a call that hands back traces and nothing else.
+fn traced(alloc: Global, outcome: Outcome, traces: Traces) -> Finished
     ensures outcome { result.done.outcome ≡ outcome }
-    ensures handed { (record { trace = result.done.trace; seat = result.seat; totals = result.totals.items; ports = result.ports.items; fates = length result.fates.items }) ≡ only trace }
+    ensures handed { (record { traces = result.done.traces; seats = result.seats.items; totals = result.totals.items; ports = result.ports.items; fates = length result.fates.items }) ≡ only traces }
     ensures status { result.done.status ≡ status_of outcome }
 {
     let done = Done {
         status: status(outcome),
         outcome,
-        trace,
+        traces,
     };
     unthreaded(alloc, done)
 }

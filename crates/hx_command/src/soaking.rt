@@ -1,5 +1,6 @@
-ghost use Rattle.std.specs.Prelude.{◌≡◌, ◌≤◌, ◌⊎◌, ℕ, [], length, slice_get, None, Some};
+ghost use Rattle.std.specs.Prelude.{◌≡◌, ◌≤◌, ◌⊎◌, ℕ, List, [], ◌∷◌, length, slice_get, None, Some};
 ghost use Rattle.hx_types.specs.declared.totals.Totals.{Totals as TotalsSeen};
+ghost use Rattle.hx_types.specs.declared.traces.Entry.{Entry};
 ghost use Rattle.hx_types.specs.Fitting.{IsScript};
 ghost use Rattle.hx_types.specs.declared.limits.TheConstants.{MOST_CALLS};
 ghost use Rattle.hx_soak.specs.Soaking.{script_drawn};
@@ -10,7 +11,7 @@ ghost use Rattle.hx_command.specs.Threads.{EndsOnThreads, IsSummed, IsThreaded};
 
 use crate::finished::{Finished, ended};
 use crate::threads::{Threading, run_threads};
-use crate::writing::{hand_worn, write_answer};
+use crate::writing::{hand_worn, write_run};
 use hx_desk::Gate;
 use hx_fate::{Fate, Tuning};
 use hx_io::Sink;
@@ -41,9 +42,9 @@ pub fn answer_soak<R: Threads + Wait + Sync, K: Sink, G: Gate + Sync>(
     requires drawn { script.now ≡ script_drawn command.seed command.calls }
     requires few { command.calls ≤ MOST_CALLS }
     requires workers { (1 ≤ command.workers) × (command.workers ≤ 16) × (command.workers ≤ length fates.items) }
-    ensures ends { EndsOnThreads (IsSummed command) script.now command.workers (record { before = K.held sink.old; after = K.held sink.new; faults_before = K.faults sink.old; faults_after = K.faults sink.new }) (record { trace = result.done.trace; seat = result.seat; totals = result.totals.items; ports = result.ports.items; fates = length result.fates.items }) result.done.outcome }
+    ensures ends { EndsOnThreads (IsSummed command) script.now command.workers (record { before = K.held sink.old; after = K.held sink.new; faults_before = K.faults sink.old; faults_after = K.faults sink.new }) (record { traces = result.done.traces; seats = result.seats.items; totals = result.totals.items; ports = result.ports.items; fates = length result.fates.items }) result.done.outcome }
     ensures status { result.done.status ≡ status_of result.done.outcome }
-    ensures risen { (i : ℕ) (f : _) (g : _) (t : TotalsSeen) → slice_get fates.items i ≡ Some f → slice_get result.fates.items i ≡ Some g → slice_get result.totals.items i ≡ Some t → HasRisen script.now command.workers result.done.trace i t (tuned never (state f)) (state g) }
+    ensures risen { (trace : List Entry) → slice_get result.done.traces 0 ≡ Some trace → (i : ℕ) (f : _) (g : _) (t : TotalsSeen) → slice_get fates.items i ≡ Some f → slice_get result.fates.items i ≡ Some g → slice_get result.totals.items i ≡ Some t → HasRisen script.now command.workers trace i t (tuned never (state f)) (state g) }
     ensures silent { IsSilent result.done.outcome → sink.new ≡ sink.old }
     ensures faults { K.faults sink.old ≤ K.faults sink.new }
 {
@@ -69,15 +70,15 @@ fn sum_run<K: Sink>(
     requires script { IsScript script.now }
     requires drawn { script.now ≡ script_drawn command.seed command.calls }
     requires few { command.calls ≤ MOST_CALLS }
-    requires threaded { IsThreaded script.now command.workers (record { trace = ran.trace; seat = Some ran.seat; totals = ran.totals.items; ports = ran.ports.items; fates = length ran.fates.items }) ran.worn }
-    ensures ends { EndsOnThreads (IsSummed command) script.now command.workers (record { before = K.held sink.old; after = K.held sink.new; faults_before = K.faults sink.old; faults_after = K.faults sink.new }) (record { trace = result.done.trace; seat = result.seat; totals = result.totals.items; ports = result.ports.items; fates = length result.fates.items }) result.done.outcome }
+    requires threaded { IsThreaded script.now command.workers (record { trace = ran.trace; seat = ran.seat; totals = ran.totals.items; ports = ran.ports.items; fates = length ran.fates.items }) ran.worn }
+    ensures ends { EndsOnThreads (IsSummed command) script.now command.workers (record { before = K.held sink.old; after = K.held sink.new; faults_before = K.faults sink.old; faults_after = K.faults sink.new }) (record { traces = result.done.traces; seats = result.seats.items; totals = result.totals.items; ports = result.ports.items; fates = length result.fates.items }) result.done.outcome }
     ensures status { result.done.status ≡ status_of result.done.outcome }
-    ensures kept { ((result.fates ≡ ran.fates) × (result.totals ≡ ran.totals) × (result.done.trace ≡ ran.trace)) ⊎ (result.fates.items ≡ []) }
+    ensures kept { ((result.fates ≡ ran.fates) × (result.totals ≡ ran.totals) × (result.done.traces ≡ ran.trace ∷ [])) ⊎ (result.fates.items ≡ []) }
     ensures silent { IsSilent result.done.outcome → sink.new ≡ sink.old }
     ensures faults { K.faults sink.old ≤ K.faults sink.new }
 {
     match ran.worn {
-        Some(actor) => hand_worn(ran, actor),
+        Some(actor) => hand_worn(alloc, ran, actor),
         None => write_summary(alloc, command, script, sink, ran),
     }
 }
@@ -93,16 +94,16 @@ fn write_summary<K: Sink>(
     requires script { IsScript script.now }
     requires drawn { script.now ≡ script_drawn command.seed command.calls }
     requires few { command.calls ≤ MOST_CALLS }
-    requires threaded { IsThreaded script.now command.workers (record { trace = ran.trace; seat = Some ran.seat; totals = ran.totals.items; ports = ran.ports.items; fates = length ran.fates.items }) None }
-    ensures ends { EndsOnThreads (IsSummed command) script.now command.workers (record { before = K.held sink.old; after = K.held sink.new; faults_before = K.faults sink.old; faults_after = K.faults sink.new }) (record { trace = result.done.trace; seat = result.seat; totals = result.totals.items; ports = result.ports.items; fates = length result.fates.items }) result.done.outcome }
+    requires threaded { IsThreaded script.now command.workers (record { trace = ran.trace; seat = ran.seat; totals = ran.totals.items; ports = ran.ports.items; fates = length ran.fates.items }) None }
+    ensures ends { EndsOnThreads (IsSummed command) script.now command.workers (record { before = K.held sink.old; after = K.held sink.new; faults_before = K.faults sink.old; faults_after = K.faults sink.new }) (record { traces = result.done.traces; seats = result.seats.items; totals = result.totals.items; ports = result.ports.items; fates = length result.fates.items }) result.done.outcome }
     ensures status { result.done.status ≡ status_of result.done.outcome }
-    ensures kept { ((result.fates ≡ ran.fates) × (result.totals ≡ ran.totals) × (result.done.trace ≡ ran.trace)) ⊎ (result.fates.items ≡ []) }
+    ensures kept { ((result.fates ≡ ran.fates) × (result.totals ≡ ran.totals) × (result.done.traces ≡ ran.trace ∷ [])) ⊎ (result.fates.items ≡ []) }
     ensures silent { IsSilent result.done.outcome → sink.new ≡ sink.old }
     ensures faults { K.faults sink.old ≤ K.faults sink.new }
 {
     hx_law_soak::soaks_sum_up_in_order();
     match summary(alloc, script, &ran.trace) {
-        Ok(bytes) => write_answer(sink, ran, bytes.as_slice()),
+        Ok(bytes) => write_run(alloc, sink, ran, bytes.as_slice()),
         Err(_) => ended(alloc, Outcome::Memory),
     }
 }

@@ -1,24 +1,28 @@
-ghost use Rattle.std.specs.Prelude.{◌≡◌, ◌≤◌, ◌⊎◌, ℕ, length, slice_get, Some};
+ghost use Rattle.std.specs.Prelude.{◌≡◌, ◌<◌, ◌≤◌, ◌+◌, ◌*◌, ◌⊎◌, ℕ, List, length, slice_get, Some};
 ghost use Rattle.hx_io.specs.Causes.{Rose};
 ghost use Rattle.hx_types.specs.declared.ids.Actor.{Actor};
 ghost use Rattle.hx_types.specs.declared.totals.Totals.{Totals as TotalsSeen};
+ghost use Rattle.hx_types.specs.declared.traces.Entry.{Entry};
 ghost use Rattle.hx_types.specs.declared.traces.Script.{Script as ScriptSeen};
 ghost use Rattle.hx_soak.specs.Soaking.{script_drawn};
 ghost use Rattle.hx_fate.specs.States.{never, tuned};
 ghost use Rattle.hx_run.specs.Ran.{HasRisen};
 ghost use Rattle.hx_words.specs.Limits.{IsRun, IsSoak};
 ghost use Rattle.hx_replay.specs.Outcomes.{IsSilent, status_of};
-ghost use Rattle.hx_command.specs.Threads.{EndsRun, EndsSoak, IsDecided, tuning_of};
+ghost use Rattle.hx_replay.specs.Texts.{IsScripted};
+ghost use Rattle.hx_command.specs.Threads.{EndsRun, EndsSoak, EndsWith, IsDecided, IsRunReported, IsRunWorn, any_version, most_drivers, spaces_of, tuning_of, workers_in};
 ghost use Rattle.hx_replay.specs.declared.outcomes.Outcome.{Outcome as OutcomeSeen};
+ghost use Rattle.hx_replay.specs.declared.texts.Scripted.{Scripted as ScriptedSeen};
 
 use crate::finished::{Finished, ended};
-use crate::reading::read_script;
+use crate::reading::read_any_script;
 use crate::reporting::answer_run;
 use crate::soaking::answer_soak;
+use crate::space_reports::answer_spaces;
 use hx_desk::Gate;
 use hx_fate::Fate;
 use hx_io::{Sink, Source};
-use hx_replay::Outcome;
+use hx_replay::{Outcome, Scripted};
 use hx_soak::script_of;
 use hx_words::{Run, Soak};
 use std::alloc::Global;
@@ -35,16 +39,20 @@ pub fn run_words<R: Threads + Wait + Sync, S: Source, K: Sink, G: Gate + Sync>(
     fates: Vec<Box<dyn Fate + Send>>,
     gate: &G,
 ) -> Finished
-    requires fates { command.workers ≤ length fates.items }
+    requires fates { most_drivers ≤ length fates.items }
     requires limits { IsRun command }
     ensures status { result.done.status ≡ status_of result.done.outcome }
-    ensures run { (script : ScriptSeen) × EndsRun command script
+    ensures run { (scripted : ScriptedSeen) × EndsRun command scripted
         (record { before = S.left source.old; after = S.left source.new; faults_before = S.faults source.old; faults_after = S.faults source.new })
         (record { before = K.held sink.old; after = K.held sink.new; faults_before = K.faults sink.old; faults_after = K.faults sink.new })
-        (record { trace = result.done.trace; seat = result.seat; totals = result.totals.items; ports = result.ports.items; fates = length result.fates.items })
+        (record { traces = result.done.traces; seats = result.seats.items; totals = result.totals.items; ports = result.ports.items; fates = length result.fates.items })
         result.done.outcome
-        × ((i : ℕ) (f : _) (g : _) (t : TotalsSeen) → slice_get fates.items i ≡ Some f → slice_get result.fates.items i ≡ Some g → slice_get result.totals.items i ≡ Some t → HasRisen script command.workers result.done.trace i t (tuned (tuning_of command) (state f)) (state g)) }
-    ensures decided { IsDecided
+        × ((k : ℕ) (j : ℕ) (script : ScriptSeen) (trace : List Entry) (f : _) (g : _) (t : TotalsSeen) → j < workers_in scripted command.workers
+        → slice_get (spaces_of scripted) k ≡ Some script → slice_get result.done.traces k ≡ Some trace
+        → slice_get fates.items (k * workers_in scripted command.workers + j) ≡ Some f → slice_get result.fates.items (k * workers_in scripted command.workers + j) ≡ Some g
+        → slice_get result.totals.items (k * workers_in scripted command.workers + j) ≡ Some t
+        → HasRisen script (workers_in scripted command.workers) trace j t (tuned (tuning_of command) (state f)) (state g)) }
+    ensures decided { IsDecided any_version
         (record { before = S.left source.old; after = S.left source.new; faults_before = S.faults source.old; faults_after = S.faults source.new })
         (record { before = K.held sink.old; after = K.held sink.new; faults_before = K.faults sink.old; faults_after = K.faults sink.new })
         result.done.outcome }
@@ -52,9 +60,38 @@ pub fn run_words<R: Threads + Wait + Sync, S: Source, K: Sink, G: Gate + Sync>(
     ensures source_faults { S.faults source.old ≤ S.faults source.new }
     ensures sink_faults { K.faults sink.old ≤ K.faults sink.new }
 {
-    match read_script(alloc, source) {
-        Ok(script) => answer_run(rt, alloc, command, &script, sink, fates, gate),
+    match read_any_script(alloc, source) {
+        Ok(scripted) => answer_scripted(rt, alloc, command, &scripted, sink, fates, gate),
         Err(outcome) => ended(alloc, outcome),
+    }
+}
+
+/// Runs a script on threads, of one space or several, and writes the report.
+fn answer_scripted<R: Threads + Wait + Sync, K: Sink, G: Gate + Sync>(
+    rt: &R,
+    alloc: Global,
+    command: Run,
+    scripted: &Scripted,
+    sink: &mut K,
+    fates: Vec<Box<dyn Fate + Send>>,
+    gate: &G,
+) -> Finished
+    requires scripted { IsScripted scripted.now }
+    requires fates { most_drivers ≤ length fates.items }
+    requires limits { IsRun command }
+    ensures ends { EndsWith (IsRunReported command scripted.now) (IsRunWorn command.workers scripted.now) (record { before = K.held sink.old; after = K.held sink.new; faults_before = K.faults sink.old; faults_after = K.faults sink.new }) (record { traces = result.done.traces; seats = result.seats.items; totals = result.totals.items; ports = result.ports.items; fates = length result.fates.items }) result.done.outcome }
+    ensures status { result.done.status ≡ status_of result.done.outcome }
+    ensures risen { (k : ℕ) (j : ℕ) (script : ScriptSeen) (trace : List Entry) (f : _) (g : _) (t : TotalsSeen) → j < workers_in scripted.now command.workers
+        → slice_get (spaces_of scripted.now) k ≡ Some script → slice_get result.done.traces k ≡ Some trace
+        → slice_get fates.items (k * workers_in scripted.now command.workers + j) ≡ Some f → slice_get result.fates.items (k * workers_in scripted.now command.workers + j) ≡ Some g
+        → slice_get result.totals.items (k * workers_in scripted.now command.workers + j) ≡ Some t
+        → HasRisen script (workers_in scripted.now command.workers) trace j t (tuned (tuning_of command) (state f)) (state g) }
+    ensures silent { IsSilent result.done.outcome → sink.new ≡ sink.old }
+    ensures faults { K.faults sink.old ≤ K.faults sink.new }
+{
+    match scripted {
+        Scripted::One(script) => answer_run(rt, alloc, command, script, sink, fates, gate),
+        Scripted::Several(bundle) => answer_spaces(rt, alloc, command, bundle, sink, fates, gate),
     }
 }
 
@@ -72,9 +109,9 @@ pub fn soak_words<R: Threads + Wait + Sync, K: Sink, G: Gate + Sync>(
     ensures status { result.done.status ≡ status_of result.done.outcome }
     ensures soak { EndsSoak command
         (record { before = K.held sink.old; after = K.held sink.new; faults_before = K.faults sink.old; faults_after = K.faults sink.new })
-        (record { trace = result.done.trace; seat = result.seat; totals = result.totals.items; ports = result.ports.items; fates = length result.fates.items })
+        (record { traces = result.done.traces; seats = result.seats.items; totals = result.totals.items; ports = result.ports.items; fates = length result.fates.items })
         result.done.outcome }
-    ensures risen { (i : ℕ) (f : _) (g : _) (t : TotalsSeen) → slice_get fates.items i ≡ Some f → slice_get result.fates.items i ≡ Some g → slice_get result.totals.items i ≡ Some t → HasRisen (script_drawn command.seed command.calls) command.workers result.done.trace i t (tuned never (state f)) (state g) }
+    ensures risen { (trace : List Entry) → slice_get result.done.traces 0 ≡ Some trace → (i : ℕ) (f : _) (g : _) (t : TotalsSeen) → slice_get fates.items i ≡ Some f → slice_get result.fates.items i ≡ Some g → slice_get result.totals.items i ≡ Some t → HasRisen (script_drawn command.seed command.calls) command.workers trace i t (tuned never (state f)) (state g) }
     ensures soaked { ¬ Rose (K.faults sink.old) (K.faults sink.new)
         → (result.done.outcome ≡ OutcomeSeen.Fine) ⊎ (result.done.outcome ≡ OutcomeSeen.Memory) ⊎ ((a : Actor) × (result.done.outcome ≡ OutcomeSeen.Worn a)) }
     ensures silent { IsSilent result.done.outcome → sink.new ≡ sink.old }

@@ -1,7 +1,8 @@
-ghost use Rattle.std.specs.Prelude.{◌≡◌, ◌≤◌, ◌⊎◌, ℕ, [], length, slice_get, None, Some};
+ghost use Rattle.std.specs.Prelude.{◌≡◌, ◌<◌, ◌≤◌, ◌+◌, ◌*◌, ◌⊎◌, ℕ, List, [], length, slice_get, Some};
 ghost use Rattle.hx_io.specs.Causes.{Rose};
 ghost use Rattle.hx_types.specs.declared.ids.Actor.{Actor};
 ghost use Rattle.hx_types.specs.declared.totals.Totals.{Totals as TotalsSeen};
+ghost use Rattle.hx_types.specs.declared.traces.Entry.{Entry};
 ghost use Rattle.hx_types.specs.declared.traces.Script.{Script as ScriptSeen};
 ghost use Rattle.hx_soak.specs.Soaking.{script_drawn};
 ghost use Rattle.hx_fate.specs.States.{never, tuned};
@@ -11,10 +12,11 @@ ghost use Rattle.hx_words.specs.declared.commands.Run.{Run as RunSeen};
 ghost use Rattle.hx_words.specs.declared.commands.Share.{Share as ShareSeen};
 ghost use Rattle.hx_words.specs.declared.commands.Soak.{Soak as SoakSeen};
 ghost use Rattle.hx_replay.specs.Calling.{Ends};
-ghost use Rattle.hx_replay.specs.Outcomes.{HasNoTrace, IsSilent, status_of};
+ghost use Rattle.hx_replay.specs.Outcomes.{HasNoTraces, IsSilent, status_of};
 ghost use Rattle.hx_command.specs.Telling.{Answers};
-ghost use Rattle.hx_command.specs.Threads.{EndsRun, EndsShare, EndsSoak, HasEnough, IsDecided, IsUnthreaded, tuning_of};
+ghost use Rattle.hx_command.specs.Threads.{EndsRun, EndsShare, EndsSoak, HasEnough, IsDecided, IsUnthreaded, any_version, spaces_of, tuning_of, version_1, workers_in};
 ghost use Rattle.hx_replay.specs.declared.outcomes.Outcome.{Outcome};
+ghost use Rattle.hx_replay.specs.declared.texts.Scripted.{Scripted as ScriptedSeen};
 
 use crate::finished::{Finished, unthreaded};
 use crate::shared::share_words;
@@ -29,11 +31,11 @@ use std::sync::Wait;
 use std::thread::Threads;
 
 /// The program with threads: it takes its words, the source of its script and the sink of its answer,
-/// a fate for each driver that the words start, and a gate.
+/// a fate for each driver that the words may start, and a gate.
 ///
-/// With the words of `run` it runs the script of the source on threads, and with those of `soak` a
-/// script that it draws itself; with those of `share` callers on threads make the calls of the source's
-/// script, one at a time behind one lock. All other words, `audit` among them, it hands on to
+/// With the words of `run` it runs the script of the source on threads, space after space, and with
+/// those of `soak` a script that it draws itself; with those of `share` callers on threads make the
+/// calls of the source's script, one at a time behind one lock. All other words, `audit` among them, it hands on to
 /// [`hyperstore_alone`]. Fates that no driver has are dropped.
 ///
 /// # Errors
@@ -56,27 +58,33 @@ pub fn hyperstore<R: Threads + Wait + Sync, S: Source, K: Sink, G: Gate + Sync>(
     ensures fine { result.done.outcome ≡ Outcome.Fine → Answers words.now
         (record { before = S.left source.old; after = S.left source.new; faults_before = S.faults source.old; faults_after = S.faults source.new })
         (record { before = K.held sink.old; after = K.held sink.new; faults_before = K.faults sink.old; faults_after = K.faults sink.new })
-        (record { trace = result.done.trace; seat = result.seat; totals = result.totals.items; ports = result.ports.items; fates = length result.fates.items }) }
+        (record { traces = result.done.traces; seats = result.seats.items; totals = result.totals.items; ports = result.ports.items; fates = length result.fates.items }) }
 
     // Words that start no threads end as they do alone, and hand back nothing of threads.
     ensures alone { IsUnthreaded words.now → Ends words.now
         (record { before = S.left source.old; after = S.left source.new; faults_before = S.faults source.old; faults_after = S.faults source.new })
         (record { before = K.held sink.old; after = K.held sink.new; faults_before = K.faults sink.old; faults_after = K.faults sink.new })
-        result.done.outcome result.done.trace }
-    ensures empty { IsUnthreaded words.now → (result.seat ≡ None) × (result.totals.items ≡ []) × (result.fates.items ≡ []) × (result.ports.items ≡ []) }
+        result.done.outcome result.done.traces }
+    ensures empty { IsUnthreaded words.now → (result.seats.items ≡ []) × (result.totals.items ≡ []) × (result.fates.items ≡ []) × (result.ports.items ≡ []) }
 
-    // Under `run` the text that the source gave is that of a script. Each fate was tuned as the words
-    // say, and nothing tuned it otherwise. With status 0 the trace is a run of
-    // it without halts in which every call has ended, paced by retries that come only where nothing else
-    // is left but what was lost; all that the laws say of runs holds of it, and the report was written
-    // and nothing else. A worn actor hands back the run up to there.
-    ensures run { (command : RunSeen) → SaysRun words.now command → (script : ScriptSeen) × EndsRun command script
+    // Under `run` the text that the source gave is that of a script, of one space or several, which are
+    // run one after the other. Each fate was tuned as the words say, and nothing tuned it otherwise:
+    // space k, from 0, has those from k times its number of threads on. With status 0 the trace of each
+    // space is a run of its script without halts in which every call has ended, paced by retries that
+    // come only where nothing else is left but what was lost; all that the laws say of runs holds of it,
+    // and the report was written and nothing else. A worn actor hands back the runs up to there, with
+    // empty traces for the spaces that were not run.
+    ensures run { (command : RunSeen) → SaysRun words.now command → (scripted : ScriptedSeen) × EndsRun command scripted
         (record { before = S.left source.old; after = S.left source.new; faults_before = S.faults source.old; faults_after = S.faults source.new })
         (record { before = K.held sink.old; after = K.held sink.new; faults_before = K.faults sink.old; faults_after = K.faults sink.new })
-        (record { trace = result.done.trace; seat = result.seat; totals = result.totals.items; ports = result.ports.items; fates = length result.fates.items })
+        (record { traces = result.done.traces; seats = result.seats.items; totals = result.totals.items; ports = result.ports.items; fates = length result.fates.items })
         result.done.outcome
-        × ((i : ℕ) (f : _) (g : _) (t : TotalsSeen) → slice_get fates.items i ≡ Some f → slice_get result.fates.items i ≡ Some g → slice_get result.totals.items i ≡ Some t → HasRisen script command.workers result.done.trace i t (tuned (tuning_of command) (state f)) (state g)) }
-    ensures decided { (command : RunSeen) → SaysRun words.now command → IsDecided
+        × ((k : ℕ) (j : ℕ) (script : ScriptSeen) (trace : List Entry) (f : _) (g : _) (t : TotalsSeen) → j < workers_in scripted command.workers
+        → slice_get (spaces_of scripted) k ≡ Some script → slice_get result.done.traces k ≡ Some trace
+        → slice_get fates.items (k * workers_in scripted command.workers + j) ≡ Some f → slice_get result.fates.items (k * workers_in scripted command.workers + j) ≡ Some g
+        → slice_get result.totals.items (k * workers_in scripted command.workers + j) ≡ Some t
+        → HasRisen script (workers_in scripted command.workers) trace j t (tuned (tuning_of command) (state f)) (state g)) }
+    ensures decided { (command : RunSeen) → SaysRun words.now command → IsDecided any_version
         (record { before = S.left source.old; after = S.left source.new; faults_before = S.faults source.old; faults_after = S.faults source.new })
         (record { before = K.held sink.old; after = K.held sink.new; faults_before = K.faults sink.old; faults_after = K.faults sink.new })
         result.done.outcome }
@@ -85,9 +93,9 @@ pub fn hyperstore<R: Threads + Wait + Sync, S: Source, K: Sink, G: Gate + Sync>(
     // every number of threads.
     ensures soak { (command : SoakSeen) → SaysSoak words.now command → EndsSoak command
         (record { before = K.held sink.old; after = K.held sink.new; faults_before = K.faults sink.old; faults_after = K.faults sink.new })
-        (record { trace = result.done.trace; seat = result.seat; totals = result.totals.items; ports = result.ports.items; fates = length result.fates.items })
+        (record { traces = result.done.traces; seats = result.seats.items; totals = result.totals.items; ports = result.ports.items; fates = length result.fates.items })
         result.done.outcome
-        × ((i : ℕ) (f : _) (g : _) (t : TotalsSeen) → slice_get fates.items i ≡ Some f → slice_get result.fates.items i ≡ Some g → slice_get result.totals.items i ≡ Some t → HasRisen (script_drawn command.seed command.calls) command.workers result.done.trace i t (tuned never (state f)) (state g)) }
+        × ((trace : List Entry) → slice_get result.done.traces 0 ≡ Some trace → (i : ℕ) (f : _) (g : _) (t : TotalsSeen) → slice_get fates.items i ≡ Some f → slice_get result.fates.items i ≡ Some g → slice_get result.totals.items i ≡ Some t → HasRisen (script_drawn command.seed command.calls) command.workers trace i t (tuned never (state f)) (state g)) }
     ensures soaked { (command : SoakSeen) → SaysSoak words.now command → ¬ Rose (K.faults sink.old) (K.faults sink.new)
         → (result.done.outcome ≡ Outcome.Fine) ⊎ (result.done.outcome ≡ Outcome.Memory) ⊎ ((a : Actor) × (result.done.outcome ≡ Outcome.Worn a)) }
     ensures unread { (command : SoakSeen) → SaysSoak words.now command → source.new ≡ source.old }
@@ -99,9 +107,9 @@ pub fn hyperstore<R: Threads + Wait + Sync, S: Source, K: Sink, G: Gate + Sync>(
     ensures share { (command : ShareSeen) → SaysShare words.now command → (script : ScriptSeen) × EndsShare script
         (record { before = S.left source.old; after = S.left source.new; faults_before = S.faults source.old; faults_after = S.faults source.new })
         (record { before = K.held sink.old; after = K.held sink.new; faults_before = K.faults sink.old; faults_after = K.faults sink.new })
-        (record { trace = result.done.trace; seat = result.seat; totals = result.totals.items; ports = result.ports.items; fates = length result.fates.items })
+        (record { traces = result.done.traces; seats = result.seats.items; totals = result.totals.items; ports = result.ports.items; fates = length result.fates.items })
         result.done.outcome }
-    ensures share_decided { (command : ShareSeen) → SaysShare words.now command → IsDecided
+    ensures share_decided { (command : ShareSeen) → SaysShare words.now command → IsDecided version_1
         (record { before = S.left source.old; after = S.left source.new; faults_before = S.faults source.old; faults_after = S.faults source.new })
         (record { before = K.held sink.old; after = K.held sink.new; faults_before = K.faults sink.old; faults_after = K.faults sink.new })
         result.done.outcome }
@@ -112,7 +120,7 @@ pub fn hyperstore<R: Threads + Wait + Sync, S: Source, K: Sink, G: Gate + Sync>(
     ensures read_fault { result.done.outcome ≡ Outcome.ReadFault → Rose (S.faults source.old) (S.faults source.new) }
     ensures write_fault { result.done.outcome ≡ Outcome.WriteFault → Rose (K.faults sink.old) (K.faults sink.new) }
     ensures silent { IsSilent result.done.outcome → sink.new ≡ sink.old }
-    ensures no_trace { HasNoTrace result.done.outcome → result.done.trace ≡ [] }
+    ensures no_traces { HasNoTraces result.done.outcome → result.done.traces ≡ [] }
     ensures untouched { result.done.outcome ≡ Outcome.Usage → source.new ≡ source.old }
     ensures source_faults { S.faults source.old ≤ S.faults source.new }
     ensures sink_faults { K.faults sink.old ≤ K.faults sink.new }

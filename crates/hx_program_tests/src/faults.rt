@@ -1,5 +1,7 @@
 //! What each command writes, and what it does where a read or a write fails.
-use crate::calling::{PUT_AND_GET, PUT_AND_GOT, PUT_AND_RAN, told};
+use crate::calling::{
+    PUT_AND_GET, PUT_AND_GOT, PUT_AND_RAN, TWO_RAN, TWO_REPLAYED, TWO_SPACES, told,
+};
 use std::process::Abort;
 use std::sync::Wait;
 use std::thread::Threads;
@@ -13,12 +15,16 @@ const REGIONS: &str =
     "plan u1.1 subspace 2 regions 6,7\nplan u1.2 subspace 2 regions 7\nplan u1.3 subspace 1 regions 4\nplan u1.4 subspace 0 regions 1\nplan u1.5 subspace 2 regions 6,7\nend\n";
 
 /// The words of each command that reads, a text, and what is written for it.
-const ANSWERS: [(&str, &str, &str); 5] = [
+const ANSWERS: [(&str, &str, &str); 9] = [
     ("replay", PUT_AND_GET, PUT_AND_GOT),
+    ("replay", TWO_SPACES, TWO_REPLAYED),
     ("run --workers 1", PUT_AND_GET, PUT_AND_RAN),
+    ("run --workers 1", TWO_SPACES, TWO_RAN),
     ("share --workers 1", PUT_AND_GET, PUT_AND_GOT),
     ("plan", SEARCHES, REGIONS),
+    ("plan", TWO_SPACES, "end\n"),
     ("audit", PUT_AND_GOT, "audit yes\n"),
+    ("audit", TWO_RAN, "audit yes\n"),
 ];
 
 /// Whether the call ends with status 4, with nothing written, whichever read fails: that of a byte, or

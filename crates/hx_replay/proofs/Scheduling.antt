@@ -9,7 +9,7 @@ use Rattle.hx_model.specs.Schedule.{next_entry, scheduled, stepped}
 use Rattle.hx_world.specs.Worlds.{Drains, HasFewEntries, WorldState, most_entries}
 use Rattle.hx_world.specs.declared.ends.Drained.{Drained}
 use Rattle.hx_world.specs.declared.ends.Drained.TheVariants.{Quiet, Spent}
-use Rattle.hx_replay.specs.Causes.{IsWholeRun}
+use Rattle.hx_replay.specs.Runs.{IsWholeRun}
 use Rattle.hx_replay.specs.Steps.{AreTaken}
 
 -- the trace after all steps of the script

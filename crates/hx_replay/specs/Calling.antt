@@ -12,7 +12,8 @@ use Rattle.hx_script.specs.declared.errors.Reason.TheVariants as a_reason
 use Rattle.hx_replay.specs.declared.outcomes.Outcome.{Outcome}
 use Rattle.hx_replay.specs.declared.outcomes.Outcome.TheVariants as an_outcome
 use Rattle.hx_replay.specs.declared.words.Command.{Command}
-use Rattle.hx_replay.specs.Causes.{IsAnswer, IsFaulty, IsJudged, IsRefused, IsStopped, IsTaken, IsWorn, ReadsText, limit}
+use Rattle.hx_replay.specs.Causes.{IsAnswer, IsFaulty, IsJudged, IsStopped, IsTaken, IsWorn, ReadsText, limit}
+use Rattle.hx_replay.specs.Texts.{IsRefused}
 use Rattle.hx_replay.specs.Commands.{Replays, Says, SaysAudit}
 use Rattle.hx_replay.specs.Audits.{IsAudited, IsAuditJudged, yes_line}
 use Rattle.hx_audit.specs.declared.verdicts.Clause.{Clause}
@@ -42,23 +43,23 @@ Shows sink text outcome =
     ⊎ ((outcome ≡ an_outcome.WriteFault) × Rose sink.faults_before sink.faults_after × AppendsPrefix sink.before sink.after text)
 
 -- the source was read, and the answer to its text was written
-pub record Writes (words : List (String Global)) (source : Drawn) (sink : Filled) (trace : List Entry) : Type 0 where
+pub record Writes (words : List (String Global)) (source : Drawn) (sink : Filled) (traces : List (List Entry)) : Type 0 where
   pub command : Command
   pub text : List ℕ
   pub bytes : List ℕ
   pub says : Says words command
   pub reads : ReadsText source.before source.after text
-  pub answer : IsAnswer command text trace bytes
+  pub answer : IsAnswer command text traces bytes
   pub written : Appends sink.before sink.after bytes
 
 -- the source was read, and a prefix of the answer to its text was written
-pub record WritesPrefix (words : List (String Global)) (source : Drawn) (sink : Filled) (trace : List Entry) : Type 0 where
+pub record WritesPrefix (words : List (String Global)) (source : Drawn) (sink : Filled) (traces : List (List Entry)) : Type 0 where
   pub command : Command
   pub text : List ℕ
   pub bytes : List ℕ
   pub says : Says words command
   pub reads : ReadsText source.before source.after text
-  pub answer : IsAnswer command text trace bytes
+  pub answer : IsAnswer command text traces bytes
   pub written : AppendsPrefix sink.before sink.after bytes
 
 -- how an audit ends: the source was read, and no clause of its report is broken and `audit yes` was written, or one is, or no report has the text
@@ -92,22 +93,22 @@ pub record IsAuditDecided (source : Drawn) (sink : Filled) (outcome : Outcome) :
       → (outcome ≡ an_outcome.Fine) ⊎ (outcome ≡ an_outcome.Memory)
       ⊎ ((line : ℕ) × (clause : Clause) × (outcome ≡ an_outcome.Wrong line clause))
 
--- a call with the words of a command, with `audit`, or with words that are neither, ends so with this trace
-pub record Ends (words : List (String Global)) (source : Drawn) (sink : Filled) (outcome : Outcome) (trace : List Entry) : Type 0 where
-  pub fine : outcome ≡ an_outcome.Fine → SaysAudit words ⊎ Writes words source sink trace
+-- a call with the words of a command, with `audit`, or with words that are neither, ends so with these traces
+pub record Ends (words : List (String Global)) (source : Drawn) (sink : Filled) (outcome : Outcome) (traces : List (List Entry)) : Type 0 where
+  pub fine : outcome ≡ an_outcome.Fine → SaysAudit words ⊎ Writes words source sink traces
   pub usage : (outcome ≡ an_outcome.Usage) ↔ (((command : Command) → ¬ Says words command) × ¬ SaysAudit words)
   pub refused : (line : ℕ) (reason : Reason) → outcome ≡ an_outcome.Refused line reason → SaysAudit words ⊎ ((text : List ℕ)
       × ReadsText source.before source.after text
       × (IsRefused text line reason
-      ⊎ ((reason ≡ a_reason.Step) × ((command : Command) × Says words command × Replays command) × IsStopped text line trace)))
+      ⊎ ((reason ≡ a_reason.Step) × ((command : Command) × Says words command × Replays command) × IsStopped text line traces)))
   pub too_large : outcome ≡ an_outcome.TooLarge → ConsumesExactly source.before source.after (limit + 1)
   pub read_fault : outcome ≡ an_outcome.ReadFault → Rose source.faults_before source.faults_after
-  pub write_fault : outcome ≡ an_outcome.WriteFault → Rose sink.faults_before sink.faults_after × (SaysAudit words ⊎ WritesPrefix words source sink trace)
+  pub write_fault : outcome ≡ an_outcome.WriteFault → Rose sink.faults_before sink.faults_after × (SaysAudit words ⊎ WritesPrefix words source sink traces)
   pub worn : (a : Actor) → outcome ≡ an_outcome.Worn a → (text : List ℕ)
       × ((command : Command) × Says words command × Replays command)
       × ReadsText source.before source.after text
-      × IsWorn text trace a
-  pub wears : (command : Command) (text : List ℕ) (worn : List Entry) (a : Actor) → Says words command → Replays command
+      × IsWorn text traces a
+  pub wears : (command : Command) (text : List ℕ) (worn : List (List Entry)) (a : Actor) → Says words command → Replays command
       → source.before ≡ Some text → length text ≤ limit → IsWorn text worn a
       → ¬ Rose source.faults_before source.faults_after
       → (outcome ≡ an_outcome.Worn a) ⊎ (outcome ≡ an_outcome.Memory)
@@ -124,4 +125,4 @@ pub record Ends (words : List (String Global)) (source : Drawn) (sink : Filled) 
       ⊎ ((a : Actor) × (outcome ≡ an_outcome.Worn a))
   pub audited : SaysAudit words → EndsAudit source sink outcome
   pub audit_decided : SaysAudit words → IsAuditDecided source sink outcome
-  pub audit_trace : SaysAudit words → trace ≡ []
+  pub audit_traces : SaysAudit words → traces ≡ []

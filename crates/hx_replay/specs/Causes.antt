@@ -1,38 +1,29 @@
 -- What made the program end as it did.
-use Rattle.std.specs.Prelude.{◌≡◌, ◌⊎◌, Bool, ℕ, ◌+◌, ◌<◌, ◌≤◌, List, [], length, map, reverse, Option, Some, Result, Ok, Err, ⊤}
+use Rattle.std.specs.Prelude.{◌≡◌, ◌⊎◌, Bool, ℕ, ◌+◌, ◌<◌, ◌≤◌, List, length, Option, Result, Ok, Err, ⊤}
 use Rattle.std.specs.Io.KnownBytes.{Consumes, IsAtEnd}
 use Rattle.hx_io.specs.Causes.{Rose}
 use Rattle.hx_io.specs.Pieces.{ConsumesExactly}
 use Rattle.hx_io.specs.declared.errors.ReadError.{ReadError}
 use Rattle.hx_io.specs.declared.errors.ReadError.TheVariants as a_read_error
-use Rattle.hx_types.specs.declared.calls.Caller.{Caller}
 use Rattle.hx_types.specs.declared.ids.Actor.{Actor}
 use Rattle.hx_types.specs.declared.traces.Entry.{Entry}
-use Rattle.hx_types.specs.declared.traces.Script.{Script}
-use Rattle.hx_types.specs.declared.traces.Step.{Step}
-use Rattle.hx_model.specs.Linear.{IsLinear}
-use Rattle.hx_model.specs.Runs.{IsRun}
-use Rattle.hx_model.specs.Causes.{HasCauses}
-use Rattle.hx_model.specs.Schedule.{IsScheduled, scheduled, stepped}
-use Rattle.hx_model.specs.Searching.{FinishedSearch, IsSearchTrue, IsSearchWhole, search_of}
 use Rattle.hx_script.specs.declared.errors.Reason.{Reason}
 use Rattle.hx_script.specs.declared.errors.Reason.TheVariants as a_reason
 use Rattle.hx_script.specs.declared.errors.ScriptError.{ScriptError}
 use Rattle.hx_script.specs.declared.errors.ScriptError.TheVariants as a_script_error
-use Rattle.hx_script.specs.Texts.{script_of}
-use Rattle.hx_report.specs.Reporting.{IsReport}
-use Rattle.hx_law_epochs.specs.Epochs.{LosesReplicas}
-use Rattle.hx_law_order.specs.Order.{HasOneOrder}
-use Rattle.hx_world.specs.Worlds.{HasFewEntries, IsWornOut}
 use Rattle.hx_replay.specs.declared.outcomes.Ended.{Ended}
 use Rattle.hx_replay.specs.declared.outcomes.Ended.TheVariants.{Whole, Refused, Worn}
 use Rattle.hx_replay.specs.declared.outcomes.Outcome.{Outcome}
 use Rattle.hx_replay.specs.declared.outcomes.Outcome.TheVariants as an_outcome
+use Rattle.hx_replay.specs.declared.texts.Scripted.{Scripted}
+use Rattle.hx_replay.specs.declared.texts.Scripted.TheVariants.{One, Several}
 use Rattle.hx_replay.specs.declared.words.Command.{Command}
 use Rattle.hx_replay.specs.declared.words.Command.TheVariants as a_command
 use Rattle.hx_replay.specs.Commands.{Replays}
-use Rattle.hx_replay.specs.Plans.{plans_text}
-use Rattle.hx_replay.specs.Steps.{AreTaken, IsRefusedAt, IsWornAtStep}
+use Rattle.hx_replay.specs.Courses.{BundleEnds, IsCourseCutShort, IsPlannedBundle, IsRefusedIn, IsWholeCourse, IsWornCourse}
+use Rattle.hx_replay.specs.Runs.{IsCutShort, IsOfOne, IsPlanned, IsWholeReplay, IsWornRun, ReplayEnds}
+use Rattle.hx_replay.specs.Steps.{IsRefusedAt}
+use Rattle.hx_replay.specs.Texts.{IsRefused, scripted_of}
 
 -- how many bytes a text may have
 abbrev pub limit : ℕ
@@ -53,116 +44,80 @@ pub record ReadsText (before after : Option (List ℕ)) (text : List ℕ) : Type
   pub end : IsAtEnd after
   pub small : length text ≤ limit
 
+-- the step on that line is the first that can't be taken, and is refused after these traces
+abbrev pub IsRefusedStep : Scripted → ℕ → List (List Entry) → Type 0
+IsRefusedStep (One script) line traces = IsOfOne (IsRefusedAt script line) traces
+IsRefusedStep (Several bundle) line traces = IsRefusedIn bundle line traces
+
 -- no step of the script is refused; `plan` takes none
-abbrev pub IsSteppable : Command → Script → Type 0
-IsSteppable (a_command.Replay with_trace) script = (line : ℕ) (trace : List Entry) → ¬ IsRefusedAt script line trace
-IsSteppable a_command.Plan script = ⊤
+abbrev pub IsSteppable : Command → Scripted → Type 0
+IsSteppable (a_command.Replay with_trace) scripted = (line : ℕ) (traces : List (List Entry)) → ¬ IsRefusedStep scripted line traces
+IsSteppable a_command.Plan scripted = ⊤
 
--- the text is that of a script, and no step of it is refused
+-- the text is that of a script, of one space or several, and no step of it is refused
 pub record IsTaken (command : Command) (text : List ℕ) : Type 0 where
-  pub script : Script
-  pub text_is : script_of text ≡ Ok script
-  pub steppable : IsSteppable command script
-
--- the text is refused at that line, the first that is faulty, for that reason
-abbrev pub IsRefused : List ℕ → ℕ → Reason → Type 0
-IsRefused text line reason = script_of text ≡ Err (a_script_error.Refused line reason)
+  pub scripted : Scripted
+  pub text_is : scripted_of text ≡ Ok scripted
+  pub steppable : IsSteppable command scripted
 
 -- `replay` refuses the step of the text's script that stands on that line
 pub record IsRefusedByStep (command : Command) (text : List ℕ) (line : ℕ) (reason : Reason) : Type 0 where
   pub replays : Replays command
   pub by_step : reason ≡ a_reason.Step
-  pub script : Script
-  pub text_is : script_of text ≡ Ok script
-  pub trace : List Entry
-  pub refused : IsRefusedAt script line trace
+  pub scripted : Scripted
+  pub text_is : scripted_of text ≡ Ok scripted
+  pub traces : List (List Entry)
+  pub refused : IsRefusedStep scripted line traces
 
 -- the text is refused at that line, or the step that stands there
 abbrev pub IsRefusedUnder : Command → List ℕ → ℕ → Reason → Type 0
 IsRefusedUnder command text line reason = IsRefused text line reason ⊎ IsRefusedByStep command text line reason
 
--- the run that the script's steps and then the schedule give, until there is nothing left to do
-pub record IsWholeRun (script : Script) (trace : List Entry) : Type 0 where
-  pub run : IsRun script (reverse trace)
-  pub taken : AreTaken script
-  pub scheduled : IsScheduled script (reverse trace)
-  pub few : HasFewEntries (reverse trace)
+-- the traces and the bytes that a command makes of a script
+abbrev pub CommandMakes : Command → Scripted → List (List Entry) → List ℕ → Type 0
+CommandMakes (a_command.Replay with_trace) (One script) traces bytes = IsOfOne (λ trace. IsWholeReplay with_trace script trace bytes) traces
+CommandMakes (a_command.Replay with_trace) (Several bundle) traces bytes = IsWholeCourse with_trace bundle traces bytes
+CommandMakes a_command.Plan (One script) traces bytes = IsPlanned script traces bytes
+CommandMakes a_command.Plan (Several bundle) traces bytes = IsPlannedBundle bundle traces bytes
 
--- the steps were taken, and the schedule comes to an entry of this actor, which has made 1,048,576 entries
-pub record IsWornAfterSteps (script : Script) (trace : List Entry) (a : Actor) : Type 0 where
-  pub taken : AreTaken script
-  pub entries : ℕ
-  pub trace_is : reverse trace ≡ scheduled script (stepped script [] (map (λ (s : ℕ × Step). s.1) script.steps)) entries
-  pub worn_out : IsWornOut script (reverse trace) a
+-- the text is that of a script, of one space or several, and the traces, one for each space, and the bytes are what the command makes of it
+pub record IsAnswer (command : Command) (text : List ℕ) (traces : List (List Entry)) (bytes : List ℕ) : Type 0 where
+  pub scripted : Scripted
+  pub text_is : scripted_of text ≡ Ok scripted
+  pub made : CommandMakes command scripted traces bytes
 
--- the run that the steps and the schedule of the script begin with, up to where the next entry is one of this actor, which has made 1,048,576 entries
-pub record IsWornRun (script : Script) (trace : List Entry) (a : Actor) : Type 0 where
-  pub run : IsRun script (reverse trace)
-  pub few : HasFewEntries (reverse trace)
-  pub ends : IsWornAtStep script trace a ⊎ IsWornAfterSteps script trace a
+-- the traces are those of the replay that ends where this actor has made all its entries
+abbrev pub EndsWorn : Scripted → List (List Entry) → Actor → Type 0
+EndsWorn (One script) traces a = IsOfOne (λ trace. IsWornRun script trace a) traces
+EndsWorn (Several bundle) traces a = IsWornCourse bundle traces a
 
--- the finished search holds every match that was committed before it began and not changed meanwhile, and only versions that were committed or under way during it
-pub record IsSearchWell (script : Script) (trace : List Entry) (s : FinishedSearch) : Type 0 where
-  pub true_rows : IsSearchTrue script trace s
-  pub whole : (key : List ℕ) → IsSearchWhole script trace key s
+-- the text is that of a script, and the traces are those of its replay that ends where this actor has made all its entries
+pub record IsWorn (text : List ℕ) (traces : List (List Entry)) (a : Actor) : Type 0 where
+  pub scripted : Scripted
+  pub text_is : scripted_of text ≡ Ok scripted
+  pub worn : EndsWorn scripted traces a
 
--- the trace is the run of the script that its steps and the schedule give, each key's history is linear, all of them have one order, each finished search is whole and true, every answer has its cause, a lost region has lost its replicas, and the report tells of it
-pub record IsWholeReplay (with_trace : Bool) (script : Script) (trace : List Entry) (report : List ℕ) : Type 0 where
-  pub run : IsRun script (reverse trace)
-  pub taken : AreTaken script
-  pub scheduled : IsScheduled script (reverse trace)
-  pub few : HasFewEntries (reverse trace)
-  pub linear : (key : List ℕ) → IsLinear script (reverse trace) key
-  pub one_order : HasOneOrder script (reverse trace)
-  pub searches : (c : Caller) (s : FinishedSearch) → search_of script (reverse trace) c ≡ Some s → IsSearchWell script (reverse trace) s
-  pub causes : HasCauses script (reverse trace)
-  pub lost : LosesReplicas script (reverse trace)
-  pub report_is : IsReport script (reverse trace) [] report with_trace
+-- the traces are those of the replay that ends where the step on that line is refused
+abbrev pub EndsAtStep : Scripted → ℕ → List (List Entry) → Type 0
+EndsAtStep (One script) line traces = IsOfOne (IsCutShort script line) traces
+EndsAtStep (Several bundle) line traces = IsCourseCutShort bundle line traces
 
--- the plans of the script's searches, and no trace
-pub record IsPlanned (script : Script) (trace : List Entry) (plans : List ℕ) : Type 0 where
-  pub no_trace : trace ≡ []
-  pub plans_are : plans ≡ plans_text script
+-- the text is that of a script, and the traces are those of its replay that ends where the step on that line is refused
+pub record IsStopped (text : List ℕ) (line : ℕ) (traces : List (List Entry)) : Type 0 where
+  pub scripted : Scripted
+  pub text_is : scripted_of text ≡ Ok scripted
+  pub stopped : EndsAtStep scripted line traces
 
--- the trace and the bytes that a command makes of a script
-abbrev pub CommandMakes : Command → Script → List Entry → List ℕ → Type 0
-CommandMakes (a_command.Replay with_trace) script trace bytes = IsWholeReplay with_trace script trace bytes
-CommandMakes a_command.Plan script trace bytes = IsPlanned script trace bytes
+-- what a replay makes of a script, of one space or several
+abbrev pub ScriptedEnds : Bool → Scripted → Ended → Type 0
+ScriptedEnds with_trace (One script) ended = ReplayEnds with_trace script ended
+ScriptedEnds with_trace (Several bundle) ended = BundleEnds with_trace bundle ended
 
--- the text is that of a script, and the trace and the bytes are what the command makes of it
-pub record IsAnswer (command : Command) (text : List ℕ) (trace : List Entry) (bytes : List ℕ) : Type 0 where
-  pub script : Script
-  pub text_is : script_of text ≡ Ok script
-  pub made : CommandMakes command script trace bytes
-
--- the text is that of a script, and the trace the run of it that ends where this actor has made all its entries
-pub record IsWorn (text : List ℕ) (trace : List Entry) (a : Actor) : Type 0 where
-  pub script : Script
-  pub text_is : script_of text ≡ Ok script
-  pub worn : IsWornRun script trace a
-
--- a run of the script that ends where the step on that line is refused
-pub record IsCutShort (script : Script) (line : ℕ) (trace : List Entry) : Type 0 where
-  pub run : IsRun script (reverse trace)
-  pub refused : IsRefusedAt script line trace
-
--- the text is that of a script, and the trace the run of it that ends where the step on that line is refused
-pub record IsStopped (text : List ℕ) (line : ℕ) (trace : List Entry) : Type 0 where
-  pub script : Script
-  pub text_is : script_of text ≡ Ok script
-  pub stopped : IsCutShort script line trace
-
--- what a replay makes of a script
-abbrev pub ReplayEnds : Bool → Script → Ended → Type 0
-ReplayEnds with_trace script (Whole answered) = IsWholeReplay with_trace script answered.trace answered.bytes.items
-ReplayEnds with_trace script (Refused line trace) = IsCutShort script line trace
-ReplayEnds with_trace script (Worn a trace) = IsWornRun script trace a
-
--- what a command makes of a text: an answer, or under `replay` a run that ends at a step that is refused or where an actor is worn
+-- what a command makes of a text: an answer, or under `replay` what was done before a step that is refused or where an actor is worn
 abbrev pub CommandEnds : Command → List ℕ → Ended → Type 0
-CommandEnds command text (Whole answered) = IsAnswer command text answered.trace answered.bytes.items
-CommandEnds command text (Refused line trace) = Replays command × IsStopped text line trace
-CommandEnds command text (Worn a trace) = Replays command × IsWorn text trace a
+CommandEnds command text (Whole answered) = IsAnswer command text answered.traces answered.bytes.items
+CommandEnds command text (Refused line traces) = Replays command × IsStopped text line traces
+CommandEnds command text (Worn a traces) = Replays command × IsWorn text traces a
 
 -- what a source that tells its bytes says of each outcome
 abbrev pub IsJudged : Command → List ℕ → Outcome → Type 0
@@ -216,8 +171,8 @@ IsCause command before after faults_before faults_after (an_outcome.Wrong line c
 -- the outcome with which a made value ends, faults of writing aside
 abbrev pub outcome_of : Ended → Outcome
 outcome_of (Whole answered) = an_outcome.Fine
-outcome_of (Refused line trace) = an_outcome.Refused line a_reason.Step
-outcome_of (Worn a trace) = an_outcome.Worn a
+outcome_of (Refused line traces) = an_outcome.Refused line a_reason.Step
+outcome_of (Worn a traces) = an_outcome.Worn a
 
 -- the outcome of a call that made a value, or ended before
 abbrev pub IsJudgedResult : Command → List ℕ → Result Ended Outcome → Type 0

@@ -2,6 +2,10 @@ pub mod Commands
 pub mod Outcomes
 pub mod Plans
 pub mod Steps
+pub mod Texts
+pub mod Runs
+pub mod Courses
+pub mod BundleSteps
 pub mod Causes
 pub mod Audits
 pub mod Calling

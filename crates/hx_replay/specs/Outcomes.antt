@@ -81,13 +81,13 @@ IsOfText a_reason.Limit = Unit {0}
 IsOfText a_reason.Step = ⊥
 
 -- with this outcome there is no trace
-abbrev pub HasNoTrace : Outcome → Type 0
-HasNoTrace Fine = ⊥
-HasNoTrace Usage = Unit {0}
-HasNoTrace (Refused line reason) = IsOfText reason
-HasNoTrace TooLarge = Unit {0}
-HasNoTrace ReadFault = Unit {0}
-HasNoTrace WriteFault = ⊥
-HasNoTrace Memory = Unit {0}
-HasNoTrace (Worn a) = ⊥
-HasNoTrace (Wrong line clause) = Unit {0}
+abbrev pub HasNoTraces : Outcome → Type 0
+HasNoTraces Fine = ⊥
+HasNoTraces Usage = Unit {0}
+HasNoTraces (Refused line reason) = IsOfText reason
+HasNoTraces TooLarge = Unit {0}
+HasNoTraces ReadFault = Unit {0}
+HasNoTraces WriteFault = ⊥
+HasNoTraces Memory = Unit {0}
+HasNoTraces (Worn a) = ⊥
+HasNoTraces (Wrong line clause) = Unit {0}

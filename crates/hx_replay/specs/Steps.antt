@@ -77,11 +77,11 @@ abbrev pub stopped_drain : DrainError → Stopped
 stopped_drain a_drain_error.Memory = a_stop.Memory
 stopped_drain (a_drain_error.Worn a) = a_stop.Worn a
 
--- what a replay comes to that was stopped so after this trace
-abbrev pub ended_by : Stopped → List Entry → Result Ended Memory
-ended_by a_stop.Memory trace = Err (record {})
-ended_by (a_stop.Refused line) trace = Ok (an_end.Refused line trace)
-ended_by (a_stop.Worn a) trace = Ok (an_end.Worn a trace)
+-- what a replay comes to that was stopped so after these traces
+abbrev pub ended_by : Stopped → List (List Entry) → Result Ended Memory
+ended_by a_stop.Memory traces = Err (record {})
+ended_by (a_stop.Refused line) traces = Ok (an_end.Refused line traces)
+ended_by (a_stop.Worn a) traces = Ok (an_end.Worn a traces)
 
 -- why one step wasn't taken
 abbrev pub StopsAt : Script → List Entry → ℕ → Step → Stopped → Type 0

@@ -7,9 +7,10 @@ ghost use Rattle.hx_script.specs.declared.errors.Reason.TheVariants as a_reason;
 ghost use Rattle.hx_types.specs.declared.ids.Actor.{Actor};
 ghost use Rattle.hx_types.specs.declared.traces.Entry.{Entry};
 ghost use Rattle.hx_replay.specs.Calling.{EndsAudit, IsAuditDecided};
-ghost use Rattle.hx_replay.specs.Causes.{IsAnswer, IsFaulty, IsJudged, IsRefused, IsStopped, IsTaken, IsWorn, ReadsText, limit};
+ghost use Rattle.hx_replay.specs.Causes.{IsAnswer, IsFaulty, IsJudged, IsStopped, IsTaken, IsWorn, ReadsText, limit};
+ghost use Rattle.hx_replay.specs.Texts.{IsRefused};
 ghost use Rattle.hx_replay.specs.Commands.{Replays, Says, SaysAudit};
-ghost use Rattle.hx_replay.specs.Outcomes.{HasNoTrace, IsSilent, status_of};
+ghost use Rattle.hx_replay.specs.Outcomes.{HasNoTraces, IsSilent, status_of};
 ghost use Rattle.hx_replay.specs.declared.outcomes.Outcome.{Outcome};
 ghost use Rattle.hx_replay.specs.declared.words.Command.{Command};
 
@@ -22,10 +23,10 @@ use std::alloc::Global;
 
 /// The program: it takes its words, the source of its script or report and the sink of its answer.
 ///
-/// It reads the source to its end. With the words `replay` it takes the script's steps, goes on by
-/// the schedule until there is nothing left to do, and writes the report, and with the words
-/// `replay --trace` every entry and its posts in it too; with the words `plan` it
-/// writes which regions each search of the script asks. With the word `audit` it reads a report, of
+/// It reads the source to its end: a script of one space or several. With the words `replay` it takes
+/// the script's steps, goes on by the schedule until there is nothing left to do, and writes the
+/// report, and with the words `replay --trace` every entry and its posts in it too; with the words
+/// `plan` it writes which regions each search of the script asks. With the word `audit` it reads a report, of
 /// whichever store, and writes `audit yes` where it breaks no clause.
 ///
 /// # Errors
@@ -33,8 +34,8 @@ use std::alloc::Global;
 /// Each outcome but `Memory` comes exactly where its cause holds. The answer is made whole before
 /// the first write, so nothing is written with any outcome but `Fine` and `WriteFault`.
 ///
-/// An actor makes at most 1,048,576 entries: `Worn` comes where the next entry of a replay is one
-/// more of an actor that has made so many, and the trace is the run up to there.
+/// An actor makes at most 1,048,576 entries in its space: `Worn` comes where the next entry of a
+/// replay is one more of an actor that has made so many, and the traces are the runs up to there.
 pub fn hyperstore_alone<S: Source, K: Sink>(
     alloc: Global,
     words: &[String],
@@ -43,14 +44,15 @@ pub fn hyperstore_alone<S: Source, K: Sink>(
 ) -> Done
     ensures status { result.status ≡ status_of result.outcome }
 
-    // With status 0 under a command the text that the source gave is that of a script. Under `replay`
-    // the trace is its run by its steps and the schedule, each key's history is linear, each finished
-    // search whole and true, every answer has its cause, and the report was written and nothing else;
-    // under `plan` the plans of its searches.
+    // With status 0 under a command the text that the source gave is that of a script, of one space or
+    // several, and there is a trace for each. Under `replay` these are the runs by its steps and the
+    // schedule, each key's history is linear, each finished search whole and true, every answer has
+    // its cause, each session begins its calls in order, one after another, whatever their spaces, and
+    // the report was written and nothing else; under `plan` the plans of its searches.
     ensures fine { result.outcome ≡ Outcome.Fine → SaysAudit words.now ⊎ ((command : Command) × (text : List ℕ) × (bytes : List ℕ)
         × Says words.now command
         × ReadsText (S.left source.old) (S.left source.new) text
-        × IsAnswer command text result.trace bytes
+        × IsAnswer command text result.traces bytes
         × Appends (K.held sink.old) (K.held sink.new) bytes) }
 
     // Under `audit` the text is that of a report. With status 0 no clause of it is broken and `audit yes`
@@ -64,14 +66,14 @@ pub fn hyperstore_alone<S: Source, K: Sink>(
         (record { before = S.left source.old; after = S.left source.new; faults_before = S.faults source.old; faults_after = S.faults source.new })
         (record { before = K.held sink.old; after = K.held sink.new; faults_before = K.faults sink.old; faults_after = K.faults sink.new })
         result.outcome }
-    ensures audit_trace { SaysAudit words.now → result.trace ≡ [] }
+    ensures audit_traces { SaysAudit words.now → result.traces ≡ [] }
 
     // What each other outcome comes from. A replay that refuses a step hands back the run before it.
     ensures usage { (result.outcome ≡ Outcome.Usage) ↔ (((command : Command) → ¬ Says words.now command) × ¬ SaysAudit words.now) }
     ensures refused { (line : ℕ) (reason : Reason) → result.outcome ≡ Outcome.Refused line reason → SaysAudit words.now ⊎ ((text : List ℕ)
         × ReadsText (S.left source.old) (S.left source.new) text
         × (IsRefused text line reason
-        ⊎ ((reason ≡ a_reason.Step) × ((command : Command) × Says words.now command × Replays command) × IsStopped text line result.trace))) }
+        ⊎ ((reason ≡ a_reason.Step) × ((command : Command) × Says words.now command × Replays command) × IsStopped text line result.traces))) }
     ensures too_large { result.outcome ≡ Outcome.TooLarge →
         ConsumesExactly (S.left source.old) (S.left source.new) (limit + 1) }
     ensures read_fault { result.outcome ≡ Outcome.ReadFault → Rose (S.faults source.old) (S.faults source.new) }
@@ -79,19 +81,19 @@ pub fn hyperstore_alone<S: Source, K: Sink>(
     ensures prefix { result.outcome ≡ Outcome.WriteFault → SaysAudit words.now ⊎ ((command : Command) × (text : List ℕ) × (bytes : List ℕ)
         × Says words.now command
         × ReadsText (S.left source.old) (S.left source.new) text
-        × IsAnswer command text result.trace bytes
+        × IsAnswer command text result.traces bytes
         × AppendsPrefix (K.held sink.old) (K.held sink.new) bytes) }
 
     // Under `replay` the schedule came to an entry of an actor that has made all its entries. The
-    // trace is the run up to there.
+    // traces are the runs up to there.
     ensures worn { (a : Actor) → result.outcome ≡ Outcome.Worn a → (text : List ℕ)
         × ((command : Command) × Says words.now command × Replays command)
         × ReadsText (S.left source.old) (S.left source.new) text
-        × IsWorn text result.trace a }
+        × IsWorn text result.traces a }
 
     // And where the text's script has a run that ends so, the outcome is no other.
-    ensures wears { (command : Command) → (text : List ℕ) → (trace : List Entry) → (a : Actor) → Says words.now command
-        → Replays command → S.left source.old ≡ Some text → length text ≤ limit → IsWorn text trace a
+    ensures wears { (command : Command) → (text : List ℕ) → (traces : List (List Entry)) → (a : Actor) → Says words.now command
+        → Replays command → S.left source.old ≡ Some text → length text ≤ limit → IsWorn text traces a
         → ¬ Rose (S.faults source.old) (S.faults source.new)
         → (result.outcome ≡ Outcome.Worn a) ⊎ (result.outcome ≡ Outcome.Memory) }
 
@@ -112,7 +114,7 @@ pub fn hyperstore_alone<S: Source, K: Sink>(
     // Nothing is written with the other outcomes, and there is no trace but where an actor is worn or
     // a step is refused.
     ensures silent { IsSilent result.outcome → sink.new ≡ sink.old }
-    ensures no_trace { HasNoTrace result.outcome → result.trace ≡ [] }
+    ensures no_traces { HasNoTraces result.outcome → result.traces ≡ [] }
     ensures untouched { result.outcome ≡ Outcome.Usage → source.new ≡ source.old }
 
     // Counts of faults never fall.

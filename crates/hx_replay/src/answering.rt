@@ -1,11 +1,16 @@
-ghost use Rattle.std.specs.Prelude.{◌≡◌, IfOk, IfErr};
-ghost use Rattle.hx_types.specs.Fitting.{IsScript};
-ghost use Rattle.hx_replay.specs.Causes.{CommandEnds, IsPlanned, IsTextCause};
+ghost use Rattle.std.specs.Prelude.{◌≡◌, [], IfOk, IfErr, map};
+ghost use Rattle.hx_types.specs.declared.traces.Script.{Script as ScriptSeen};
+ghost use Rattle.hx_replay.specs.Causes.{CommandEnds, CommandMakes, IsTextCause, ScriptedEnds};
+ghost use Rattle.hx_replay.specs.Texts.{IsScripted};
+ghost use Rattle.hx_replay.specs.declared.words.Command.TheVariants as a_command;
 
+use crate::bundle_replaying::replay_bundle;
 use crate::outcomes::{Ended, Outcome, Written};
-use crate::plans::plans;
-use crate::replaying::replay;
+use crate::plans::{bundle_plans, plans};
+use crate::replaying::{one_trace, replay};
+use crate::texts::{Scripted, read_scripted};
 use crate::words::Command;
+use hx_spaces::Traces;
 use hx_trace::Trace;
 use hx_types::{Memory, Script};
 use std::alloc::Global;
@@ -20,22 +25,50 @@ pub fn answer(alloc: Global, command: Command, text: &[u8]) -> Result<Ended, Out
     ensures answer { IfOk result (CommandEnds command text.now) }
     ensures cause { IfErr result (IsTextCause command text.now) }
 {
-    let script = hx_script::read(alloc, text)?;
-    hx_script::scripts_are_valid();
-    hx_law_texts::prints_are_read_back();
+    let scripted = read_scripted(alloc, text)?;
     match command {
-        Command::Replay { with_trace } => Ok(replay(alloc, &script, with_trace)?),
-        Command::Plan => Ok(Ended::Whole(plan(alloc, &script)?)),
+        Command::Replay { with_trace } => Ok(replay_scripted(alloc, &scripted, with_trace)?),
+        Command::Plan => Ok(Ended::Whole(plan(alloc, &scripted)?)),
     }
 }
 
-fn plan(alloc: Global, script: &Script) -> Result<Written, Memory>
-    requires { IsScript script.now }
-    ensures { IfOk result (λ made. IsPlanned script.now made.trace made.bytes.items) }
+/// Takes the steps of a script, of one space or several, and goes on by the schedule.
+fn replay_scripted(alloc: Global, scripted: &Scripted, with_trace: bool) -> Result<Ended, Memory>
+    requires { IsScripted scripted.now }
+    ensures { IfOk result (ScriptedEnds with_trace scripted.now) }
 {
-    let bytes = plans(alloc, script)?;
-    Ok(Written {
-        trace: Trace::new(alloc),
-        bytes,
-    })
+    match scripted {
+        Scripted::One(script) => replay(alloc, script, with_trace),
+        Scripted::Several(bundle) => replay_bundle(alloc, bundle, with_trace),
+    }
+}
+
+/// The plans of all searches, and an empty trace for each space.
+fn plan(alloc: Global, scripted: &Scripted) -> Result<Written, Memory>
+    requires { IsScripted scripted.now }
+    ensures { IfOk result (λ made. CommandMakes a_command.Plan scripted.now made.traces made.bytes.items) }
+{
+    match scripted {
+        Scripted::One(script) => {
+            let bytes = plans(alloc, script)?;
+            let traces = one_trace(alloc, Trace::new(alloc))?;
+            Ok(Written { traces, bytes })
+        }
+        Scripted::Several(bundle) => {
+            let bytes = bundle_plans(alloc, bundle)?;
+            let traces = empty_traces(alloc, bundle.spaces.as_slice())?;
+            Ok(Written { traces, bytes })
+        }
+    }
+}
+
+/// An empty trace for each space.
+fn empty_traces(alloc: Global, scripts: &[Script]) -> Result<Traces, Memory>
+    ensures { IfOk result (λ traces. traces ≡ map (λ (s : ScriptSeen). []) scripts.now) }
+{
+    let mut traces = Traces::with_capacity(alloc, scripts.len())?;
+    for _script in scripts {
+        traces.push(Trace::new(alloc))?;
+    }
+    Ok(traces)
 }

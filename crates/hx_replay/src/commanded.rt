@@ -6,9 +6,10 @@ ghost use Rattle.hx_script.specs.declared.errors.Reason.{Reason};
 ghost use Rattle.hx_script.specs.declared.errors.Reason.TheVariants as a_reason;
 ghost use Rattle.hx_types.specs.declared.ids.Actor.{Actor};
 ghost use Rattle.hx_types.specs.declared.traces.Entry.{Entry};
-ghost use Rattle.hx_replay.specs.Causes.{IsAnswer, IsCause, IsFaulty, IsJudged, IsJudgedResult, CommandEnds, IsRefused, IsStopped, IsTaken, IsWorn, ReadsText, limit};
+ghost use Rattle.hx_replay.specs.Causes.{IsAnswer, IsCause, IsFaulty, IsJudged, IsJudgedResult, CommandEnds, IsStopped, IsTaken, IsWorn, ReadsText, limit};
+ghost use Rattle.hx_replay.specs.Texts.{IsRefused};
 ghost use Rattle.hx_replay.specs.Commands.{Replays, Says};
-ghost use Rattle.hx_replay.specs.Outcomes.{HasNoTrace, IsSilent, status_of};
+ghost use Rattle.hx_replay.specs.Outcomes.{HasNoTraces, IsSilent, status_of};
 ghost use Rattle.hx_replay.specs.declared.outcomes.Outcome.{Outcome};
 ghost use Rattle.hx_replay.specs.declared.words.Command.{Command};
 
@@ -17,7 +18,7 @@ use crate::outcomes::{Done, Ended, Outcome, Written, status};
 use crate::words::{Command, command_of};
 use hx_io::{Sink, Source, read_all, write_all};
 use hx_script::Reason;
-use hx_trace::Trace;
+use hx_spaces::Traces;
 use hx_types::{Actor, LONGEST_SCRIPT};
 use std::alloc::Global;
 
@@ -35,13 +36,13 @@ pub fn command_words<S: Source, K: Sink>(
     ensures fine { result.outcome ≡ Outcome.Fine → (command : Command) × (text : List ℕ) × (bytes : List ℕ)
         × Says words.now command
         × ReadsText (S.left source.old) (S.left source.new) text
-        × IsAnswer command text result.trace bytes
+        × IsAnswer command text result.traces bytes
         × Appends (K.held sink.old) (K.held sink.new) bytes }
     ensures usage { (result.outcome ≡ Outcome.Usage) ↔ ((command : Command) → ¬ Says words.now command) }
     ensures refused { (line : ℕ) (reason : Reason) → result.outcome ≡ Outcome.Refused line reason → (text : List ℕ)
         × ReadsText (S.left source.old) (S.left source.new) text
         × (IsRefused text line reason
-        ⊎ ((reason ≡ a_reason.Step) × ((command : Command) × Says words.now command × Replays command) × IsStopped text line result.trace)) }
+        ⊎ ((reason ≡ a_reason.Step) × ((command : Command) × Says words.now command × Replays command) × IsStopped text line result.traces)) }
     ensures too_large { result.outcome ≡ Outcome.TooLarge →
         ConsumesExactly (S.left source.old) (S.left source.new) (limit + 1) }
     ensures read_fault { result.outcome ≡ Outcome.ReadFault → Rose (S.faults source.old) (S.faults source.new) }
@@ -49,14 +50,14 @@ pub fn command_words<S: Source, K: Sink>(
     ensures prefix { result.outcome ≡ Outcome.WriteFault → (command : Command) × (text : List ℕ) × (bytes : List ℕ)
         × Says words.now command
         × ReadsText (S.left source.old) (S.left source.new) text
-        × IsAnswer command text result.trace bytes
+        × IsAnswer command text result.traces bytes
         × AppendsPrefix (K.held sink.old) (K.held sink.new) bytes }
     ensures worn { (a : Actor) → result.outcome ≡ Outcome.Worn a → (text : List ℕ)
         × ((command : Command) × Says words.now command × Replays command)
         × ReadsText (S.left source.old) (S.left source.new) text
-        × IsWorn text result.trace a }
-    ensures wears { (command : Command) → (text : List ℕ) → (trace : List Entry) → (a : Actor) → Says words.now command
-        → Replays command → S.left source.old ≡ Some text → length text ≤ limit → IsWorn text trace a
+        × IsWorn text result.traces a }
+    ensures wears { (command : Command) → (text : List ℕ) → (traces : List (List Entry)) → (a : Actor) → Says words.now command
+        → Replays command → S.left source.old ≡ Some text → length text ≤ limit → IsWorn text traces a
         → ¬ Rose (S.faults source.old) (S.faults source.new)
         → (result.outcome ≡ Outcome.Worn a) ⊎ (result.outcome ≡ Outcome.Memory) }
     ensures judged { (command : Command) → Says words.now command
@@ -72,7 +73,7 @@ pub fn command_words<S: Source, K: Sink>(
         → (result.outcome ≡ Outcome.Fine) ⊎ (result.outcome ≡ Outcome.Memory)
         ⊎ ((a : Actor) × (result.outcome ≡ Outcome.Worn a)) }
     ensures silent { IsSilent result.outcome → sink.new ≡ sink.old }
-    ensures no_trace { HasNoTrace result.outcome → result.trace ≡ [] }
+    ensures no_traces { HasNoTraces result.outcome → result.traces ≡ [] }
     ensures untouched { result.outcome ≡ Outcome.Usage → source.new ≡ source.old }
     ensures source_faults { S.faults source.old ≤ S.faults source.new }
     ensures sink_faults { K.faults sink.old ≤ K.faults sink.new }
@@ -82,8 +83,8 @@ pub fn command_words<S: Source, K: Sink>(
     };
     match read_and_answer(alloc, command, source) {
         Ok(Ended::Whole(made)) => write(sink, made),
-        Ok(Ended::Refused { line, trace }) => refused(line, trace),
-        Ok(Ended::Worn { actor, trace }) => worn(actor, trace),
+        Ok(Ended::Refused { line, traces }) => refused(line, traces),
+        Ok(Ended::Worn { actor, traces }) => worn(actor, traces),
         Err(outcome) => silent(alloc, outcome),
     }
 }
@@ -92,20 +93,20 @@ pub fn command_words<S: Source, K: Sink>(
 pub fn silent(alloc: Global, outcome: Outcome) -> Done
     ensures outcome { result.outcome ≡ outcome }
     ensures status { result.status ≡ status_of outcome }
-    ensures trace { result.trace ≡ [] }
+    ensures traces { result.traces ≡ [] }
 {
     Done {
         status: status(outcome),
         outcome,
-        trace: Trace::new(alloc),
+        traces: Traces::new(alloc),
     }
 }
 
-/// A replay that ended at a step which can't be taken: its trace, and nothing to write.
-fn refused(line: u64, trace: Trace) -> Done
+/// A replay that ended at a step which can't be taken: its traces, and nothing to write.
+fn refused(line: u64, traces: Traces) -> Done
     ensures outcome { result.outcome ≡ Outcome.Refused line a_reason.Step }
     ensures status { result.status ≡ status_of result.outcome }
-    ensures trace { result.trace ≡ trace }
+    ensures traces { result.traces ≡ traces }
 {
     let outcome = Outcome::Refused {
         line,
@@ -114,21 +115,21 @@ fn refused(line: u64, trace: Trace) -> Done
     Done {
         status: status(outcome),
         outcome,
-        trace,
+        traces,
     }
 }
 
-/// A replay that a worn actor ended: its trace, and nothing to write.
-fn worn(actor: Actor, trace: Trace) -> Done
+/// A replay that a worn actor ended: its traces, and nothing to write.
+fn worn(actor: Actor, traces: Traces) -> Done
     ensures outcome { result.outcome ≡ Outcome.Worn actor }
     ensures status { result.status ≡ status_of result.outcome }
-    ensures trace { result.trace ≡ trace }
+    ensures traces { result.traces ≡ traces }
 {
     let outcome = Outcome::Worn(actor);
     Done {
         status: status(outcome),
         outcome,
-        trace,
+        traces,
     }
 }
 
@@ -155,14 +156,14 @@ fn read_and_answer<S: Source>(
 /// Writes the answer.
 fn write<K: Sink>(sink: &mut K, made: Written) -> Done
     ensures status { result.status ≡ status_of result.outcome }
-    ensures trace { result.trace ≡ made.trace }
+    ensures traces { result.traces ≡ made.traces }
     ensures ends { (result.outcome ≡ Outcome.Fine) ⊎ (result.outcome ≡ Outcome.WriteFault) }
     ensures fine { result.outcome ≡ Outcome.Fine → Appends (K.held sink.old) (K.held sink.new) made.bytes.items }
     ensures prefix { result.outcome ≡ Outcome.WriteFault → AppendsPrefix (K.held sink.old) (K.held sink.new) made.bytes.items }
     ensures fault { result.outcome ≡ Outcome.WriteFault → Rose (K.faults sink.old) (K.faults sink.new) }
     ensures faults { K.faults sink.old ≤ K.faults sink.new }
 {
-    let Written { trace, bytes } = made;
+    let Written { traces, bytes } = made;
     let outcome = match write_all(sink, bytes.as_slice()) {
         Ok(()) => Outcome::Fine,
         Err(_) => Outcome::WriteFault,
@@ -170,6 +171,6 @@ fn write<K: Sink>(sink: &mut K, made: Written) -> Done
     Done {
         status: status(outcome),
         outcome,
-        trace,
+        traces,
     }
 }

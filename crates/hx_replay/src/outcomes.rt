@@ -6,7 +6,7 @@ use hx_io::ReadError;
 use hx_print::{put_actor, put_bytes, put_number};
 use hx_report_lines::AuditError;
 use hx_script::{Reason, ScriptError};
-use hx_trace::Trace;
+use hx_spaces::Traces;
 use hx_types::{Actor, Memory};
 use std::alloc::Global;
 
@@ -37,11 +37,11 @@ pub enum Outcome {
     Wrong { line: u64, clause: Clause },
 }
 
-/// What a command writes for a script, with the steps that it stands for.
+/// What a command writes for a script, of one space or several, with the steps that it stands for.
 #[derive(Drop)]
 pub struct Written {
-    /// The steps of all actors; empty where none took one.
-    pub trace: Trace,
+    /// For each space the steps of all its actors; empty where none took one.
+    pub traces: Traces,
     /// The bytes to be written.
     pub bytes: Vec<u8>,
 }
@@ -52,9 +52,9 @@ pub enum Ended {
     /// The answer.
     Whole(Written),
     /// A replay that ended at the step on this line, which can't be taken, and the entries before it.
-    Refused { line: u64, trace: Trace },
+    Refused { line: u64, traces: Traces },
     /// A replay that ended where this actor had made all its entries, and the entries up to there.
-    Worn { actor: Actor, trace: Trace },
+    Worn { actor: Actor, traces: Traces },
 }
 
 /// What a call of the program gives back.
@@ -63,10 +63,10 @@ pub struct Done {
     /// The status with which the process ends.
     pub status: u8,
     pub outcome: Outcome,
-    /// The steps of all actors, up to the worn actor's where the outcome is `Worn`, and up to the step
-    /// that can't be taken where that is refused; else empty where there is no answer, and under
-    /// `plan`.
-    pub trace: Trace,
+    /// For each space in order the steps of all its actors, up to the worn actor's where the outcome
+    /// is `Worn`, and up to the step that can't be taken where that is refused. Under `plan` each is
+    /// empty. Where there is no answer else, and under `audit`, there is none.
+    pub traces: Traces,
 }
 
 impl From<Memory> for Outcome {

@@ -65,7 +65,7 @@ fn take(alloc: Global, world: &mut World, line: u64, step: &Step) -> Result<(), 
 }
 
 /// Why the steps stop where the one on this line failed so.
-fn stopped_by(error: StepError, line: u64) -> Stopped
+pub fn stopped_by(error: StepError, line: u64) -> Stopped
     ensures { result ≡ stopped_by error line }
 {
     match error {

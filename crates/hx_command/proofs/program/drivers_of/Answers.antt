@@ -1,12 +1,8 @@
--- The words of a run or of a soak say how many drivers it has, and no other words say any.
+-- A run has 16 fates, the words of a soak say how many drivers it has, and no other words say any.
 use Rattle.std.proofs.Common.{◌≡◌, ◌≤◌, refl, sym, subst, arith}
-use Rattle.hx_words.specs.declared.commands.Run.{Run}
 use Rattle.hx_words.specs.declared.commands.Soak.{Soak}
 use Rattle.hx_command.proofs.Wording.{none_some, not_both, same_some}
 use Rattle.hx_command.proofs.program.drivers_of.Goals as goal
-
-as_many_run : (a b : Run) → b ≡ a → b.workers ≤ a.workers
-as_many_run a b same = subst (λ (r : Run). r.workers ≤ a.workers) (sym same) (omega arith)
 
 as_many_soak : (a b : Soak) → b ≡ a → b.workers ≤ a.workers
 as_many_soak a b same = subst (λ (s : Soak). s.workers ≤ a.workers) (sym same) (omega arith)
@@ -14,7 +10,7 @@ as_many_soak a b same = subst (λ (s : Soak). s.workers ≤ a.workers) (sym same
 pub returns-in-Some : goal.returns-in-Some
 returns-in-Some c =
     record {
-      run = λ run says. as_many_run c.in-Some.run' run (same_some c.in-Some.run' run ((c.in-Some.ensures.said run).1 says));
+      run = λ run says. omega arith;
       soak = λ soak says. absurd (not_both c.args.words.now c.in-Some.run' soak ((c.in-Some.ensures.said c.in-Some.run').0 refl) says);
     }
 

@@ -1,11 +1,11 @@
 -- The fates are those of the run, or none.
 use Rattle.std.proofs.Common.{inl, inr}
-use Rattle.hx_command.proofs.Handing.{none_at}
+use Rattle.hx_command.proofs.Handing.{first_same, none_at}
 use Rattle.hx_command.proofs.reporting.answer_run.Goals as goal
 
 pub returns-in-Ok-clause-risen : goal.returns-in-Ok-clause-risen
-returns-in-Ok-clause-risen g c =
+returns-in-Ok-clause-risen g c trace first =
     elim c.report_run.ensures.kept [
-      | inl same ↦ λ i f h t p q r. rw same.2 (c.in-Ok.ensures.risen i f h t p (rw same.0 at q) (rw same.1 at r))
+      | inl same ↦ λ i f h t p q r. rw (first_same _ _ trace same.2 first) (c.in-Ok.ensures.risen i f h t p (rw same.0 at q) (rw same.1 at r))
       | inr none ↦ λ i f h t p q r. absurd (none_at _ i h none q)
     ]

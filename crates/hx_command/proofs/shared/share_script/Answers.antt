@@ -1,6 +1,6 @@
 -- All that the laws say of what callers shared.
 use Rattle.std.proofs.Common.{refl}
-use Rattle.hx_command.proofs.Handing.{is_lawful}
+use Rattle.hx_replay.proofs.Lawful.{is_lawful}
 use Rattle.hx_command.proofs.shared.share_script.Goals as goal
 
 pub returns : goal.returns
@@ -9,7 +9,12 @@ returns g c =
     record {
       shared = shared;
       lawful =
-          is_lawful c.args.script.now c.in_ok-shared.shared.trace c.requires.script shared.run c.histories_are_linear.ensures c.runs_have_one_order.ensures
-          c.searches_are_true_and_whole.ensures c.answers_have_causes.ensures c.lost_regions_have_lost_their_replicas.ensures;
+          is_lawful (record {
+            linear = c.histories_are_linear.ensures;
+            orders = c.runs_have_one_order.ensures;
+            searches = c.searches_are_true_and_whole.ensures;
+            causes = c.answers_have_causes.ensures;
+            losses = c.lost_regions_have_lost_their_replicas.ensures;
+          }) c.args.script.now c.in_ok-shared.shared.trace c.requires.script shared.run;
       alone = refl;
     }

@@ -1,21 +1,32 @@
 -- What decides a call whose script was read, and how a call ends that read none.
-use Rattle.std.proofs.Common.{[], None, ap, length}
-use Rattle.hx_command.specs.Threads.{IsReported, IsWornOnThreads}
-use Rattle.hx_command.proofs.Deciding.{decided_ran, no_script, unread_at}
-use Rattle.hx_command.proofs.Handing.{none_at, same_handed}
+use Rattle.hx_command.specs.Threads.{IsRunReported, IsRunWorn, any_version}
+use Rattle.hx_command.proofs.Deciding.{any_version_exact, decided_ran, decided_unread, no_scripted, read_with, unread_with}
+use Rattle.hx_command.proofs.Handing.{none_at}
 use Rattle.hx_command.proofs.threaded.run_words.Goals as goal
+
+pub returns-in-Ok-clause-run : goal.returns-in-Ok-clause-run
+returns-in-Ok-clause-run g c =
+    let x = c.in-Ok.scripted in (
+      x,
+      read_with any_version (IsRunReported c.args.command x) (IsRunWorn c.args.command.workers x) x _ _ _ c.answer_scripted.result.done.outcome c.in-Ok.ensures.scripted
+          c.answer_scripted.ensures.ends,
+      c.answer_scripted.ensures.risen,
+    )
 
 pub returns-in-Ok-clause-decided : goal.returns-in-Ok-clause-decided
 returns-in-Ok-clause-decided g c =
-    decided_ran (IsReported c.args.command c.in-Ok.script) (IsWornOnThreads c.in-Ok.script c.args.command.workers) c.in-Ok.script _ _ _ c.answer_run.result.done.outcome c.in-Ok.ensures.judged
-    c.answer_run.ensures.ends
+    let x = c.in-Ok.scripted in
+    decided_ran any_version any_version_exact (IsRunReported c.args.command x) (IsRunWorn c.args.command.workers x) x _ _ _ c.answer_scripted.result.done.outcome c.in-Ok.ensures.judged
+    c.answer_scripted.ensures.ends
 
 pub returns-in-Err-clause-run : goal.returns-in-Err-clause-run
 returns-in-Err-clause-run g c =
     let e = c.ended.ensures in (
-      no_script,
-      unread_at c.args.command no_script _ _ _ c.in-Err.outcome c.ended.result.done.outcome
-          (same_handed c.ended.result.done.trace [] c.ended.result.seat None c.ended.result.totals.items [] c.ended.result.ports.items [] (length c.ended.result.fates.items) 0 e.trace
-          e.seat e.totals e.ports (ap length e.fates)) e.outcome c.in-Err.ensures.cause,
-      λ i f h t p q r. absurd (none_at _ i h e.fates q),
+      no_scripted,
+      unread_with any_version (IsRunReported c.args.command no_scripted) (IsRunWorn c.args.command.workers no_scripted) no_scripted _ _ _ c.in-Err.outcome c.ended.result.done.outcome e.nothing
+          e.outcome c.in-Err.ensures.cause,
+      λ k j script trace f h t within at first p q r. absurd (none_at _ _ h e.fates q),
     )
+
+pub returns-in-Err-clause-decided : goal.returns-in-Err-clause-decided
+returns-in-Err-clause-decided g c = decided_unread any_version any_version_exact _ _ c.in-Err.outcome _ c.ended.ensures.outcome c.in-Err.ensures.judged c.in-Err.ensures.cause

@@ -5,8 +5,8 @@ use Rattle.hx_command.proofs.Handing.{risen_same}
 use Rattle.hx_command.proofs.threaded.soak_words.Goals as goal
 
 pub returns-in-Ok-clause-risen : goal.returns-in-Ok-clause-risen
-returns-in-Ok-clause-risen g c i f h t p q r =
-    risen_same c.in-Ok.script _ c.args.command.workers c.answer_soak.result.done.trace i t _ _ c.in-Ok.ensures.exact (c.answer_soak.ensures.risen i f h t p q r)
+returns-in-Ok-clause-risen g c trace first i f h t p q r =
+    risen_same c.in-Ok.script _ c.args.command.workers trace i t _ _ c.in-Ok.ensures.exact (c.answer_soak.ensures.risen trace first i f h t p q r)
 
 pub returns-in-Ok-clause-soaked : goal.returns-in-Ok-clause-soaked
 returns-in-Ok-clause-soaked g c still =

@@ -1,19 +1,23 @@
 -- All that the laws say of a run on threads, and how its fates were tuned.
-use Rattle.std.proofs.Common.{◌≡◌, refl, get_or, slice_get, Some, arith}
+use Rattle.std.proofs.Common.{◌≡◌, get_or, slice_get, Some, arith}
 use Rattle.std.proofs.lemmas.Option.{slice_get_within, slice_get-get_or}
-use Rattle.hx_command.proofs.Handing.{is_lawful, risen_from}
+use Rattle.hx_replay.proofs.Lawful.{is_lawful}
+use Rattle.hx_command.proofs.Handing.{risen_from}
 use Rattle.hx_command.proofs.threads.run_threads.Goals as goal
 
 pub returns-clause-ran : goal.returns-clause-ran
 returns-clause-ran g c =
     let e = c.in_ok-ran.ensures in
     record {
-      seat = c.in_ok-ran.ran.seat;
-      seat_is = refl;
       ran = e.ran;
       lawful =
-          is_lawful c.args.script.now c.in_ok-ran.ran.trace c.requires.script e.ran.run c.histories_are_linear.ensures c.runs_have_one_order.ensures
-          c.searches_are_true_and_whole.ensures c.answers_have_causes.ensures c.lost_regions_have_lost_their_replicas.ensures;
+          is_lawful (record {
+            linear = c.histories_are_linear.ensures;
+            orders = c.runs_have_one_order.ensures;
+            searches = c.searches_are_true_and_whole.ensures;
+            causes = c.answers_have_causes.ensures;
+            losses = c.lost_regions_have_lost_their_replicas.ensures;
+          }) c.args.script.now c.in_ok-ran.ran.trace c.requires.script e.ran.run;
       fates = e.fates;
     }
 

@@ -136,7 +136,7 @@ returns-clause-alone g c unthreaded =
       complete = e.complete;
       audited = e.audited;
       audit_decided = e.audit_decided;
-      audit_trace = e.audit_trace;
+      audit_traces = e.audit_traces;
     })
 
 pub returns-clause-run : goal.returns-clause-run

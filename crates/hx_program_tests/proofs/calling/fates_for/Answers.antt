@@ -5,17 +5,14 @@ use Rattle.hx_words.specs.declared.commands.Soak.{Soak}
 use Rattle.hx_command.proofs.Wording.{none_some, not_both, same_some}
 use Rattle.hx_program_tests.proofs.calling.fates_for.Goals as goal
 
-as_many_run : (a b : Run) (n : ℕ) → b ≡ a → n ≡ a.workers → b.workers ≤ n
-as_many_run a b n same long = subst (λ (r : Run). r.workers ≤ n) (sym same) (omega (arith, long))
-
 as_many_soak : (a b : Soak) (n : ℕ) → b ≡ a → n ≡ a.workers → b.workers ≤ n
 as_many_soak a b n same long = subst (λ (s : Soak). s.workers ≤ n) (sym same) (omega (arith, long))
 
 pub returns-in-Some : goal.returns-in-Some
 returns-in-Some g c =
     record {
-      run = λ run says. as_many_run c.in-Some.run' run _ (same_some c.in-Some.run' run ((c.in-Some.ensures.said run).1 says)) c.fates.ensures;
-      soak = λ soak says. absurd (not_both c.args.words.now c.in-Some.run' soak ((c.in-Some.ensures.said c.in-Some.run').0 refl) says);
+      run = λ run says. (let enough = c.fates.ensures in omega (arith, enough));
+      soak = λ soak says. absurd (not_both c.args.words.now c.in-Some._run soak ((c.in-Some.ensures.said c.in-Some._run).0 refl) says);
     }
 
 pub returns-in-Some-soak_of : goal.returns-in-Some-soak_of

@@ -39,7 +39,7 @@ pub returns-then-says_audit-clause-worn : goal.returns-then-says_audit-clause-wo
 returns-then-says_audit-clause-worn g c a is = absurd (ends_at _ _ _ _ _ c.silent.ensures.outcome is c.audit_source.ensures.ends)
 
 pub returns-then-says_audit-clause-wears : goal.returns-then-says_audit-clause-wears
-returns-then-says_audit-clause-wears g c command text trace a says replays left short worn still = absurd (not_both c.args.words.now command says (c.says_audit.ensures.0 c.if-says_audit.true))
+returns-then-says_audit-clause-wears g c command text traces a says replays left short worn still = absurd (not_both c.args.words.now command says (c.says_audit.ensures.0 c.if-says_audit.true))
 
 pub returns-then-says_audit-clause-judged : goal.returns-then-says_audit-clause-judged
 returns-then-says_audit-clause-judged g c command says = absurd (not_both c.args.words.now command says (c.says_audit.ensures.0 c.if-says_audit.true))
@@ -63,8 +63,8 @@ returns-else-says_audit-clause-audited g c says = absurd (false≢true (sym c.if
 pub returns-else-says_audit-clause-audit_decided : goal.returns-else-says_audit-clause-audit_decided
 returns-else-says_audit-clause-audit_decided g c says = absurd (false≢true (sym c.if-says_audit.false ∙ c.says_audit.ensures.1 says))
 
-pub returns-else-says_audit-clause-audit_trace : goal.returns-else-says_audit-clause-audit_trace
-returns-else-says_audit-clause-audit_trace g c says = absurd (false≢true (sym c.if-says_audit.false ∙ c.says_audit.ensures.1 says))
+pub returns-else-says_audit-clause-audit_traces : goal.returns-else-says_audit-clause-audit_traces
+returns-else-says_audit-clause-audit_traces g c says = absurd (false≢true (sym c.if-says_audit.false ∙ c.says_audit.ensures.1 says))
 
 pub returns-else-says_audit-clause-usage : goal.returns-else-says_audit-clause-usage
 returns-else-says_audit-clause-usage g c = (

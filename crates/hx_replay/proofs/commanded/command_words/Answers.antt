@@ -43,7 +43,7 @@ returns-in-Ok-Refused-clause-usage g c = (
 pub returns-in-Ok-Refused-clause-refused : goal.returns-in-Ok-Refused-clause-refused
 returns-in-Ok-Refused-clause-refused g c line reason told =
     told_refused _ _ _ c.in-Some.command c.in-Ok-Refused.field-0 _ _ c.refused.result.outcome _ line reason
-    ((c.in-Some.ensures c.in-Some.command).0 refl) c.in-Ok-Refused.ensures.answer c.in-Ok-Refused.field-0-is (rw c.in-Ok-Refused.field-0-is at c.refused.ensures.trace) (rw c.in-Ok-Refused.field-0-is at c.refused.ensures.outcome) told
+    ((c.in-Some.ensures c.in-Some.command).0 refl) c.in-Ok-Refused.ensures.answer c.in-Ok-Refused.field-0-is (rw c.in-Ok-Refused.field-0-is at c.refused.ensures.traces) (rw c.in-Ok-Refused.field-0-is at c.refused.ensures.outcome) told
 
 pub returns-in-Ok-Refused-clause-complete : goal.returns-in-Ok-Refused-clause-complete
 returns-in-Ok-Refused-clause-complete g c command text says left short taken source sink =
@@ -58,7 +58,7 @@ returns-in-Ok-Worn-clause-usage g c = (
 pub returns-in-Ok-Worn-clause-worn : goal.returns-in-Ok-Worn-clause-worn
 returns-in-Ok-Worn-clause-worn g c a told =
     told_worn _ _ _ c.in-Some.command c.in-Ok-Worn.field-0 _ _ c.worn.result.outcome _ a
-    ((c.in-Some.ensures c.in-Some.command).0 refl) c.in-Ok-Worn.ensures.answer c.in-Ok-Worn.field-0-is (rw c.in-Ok-Worn.field-0-is at c.worn.ensures.trace) (rw c.in-Ok-Worn.field-0-is at c.worn.ensures.outcome) told
+    ((c.in-Some.ensures c.in-Some.command).0 refl) c.in-Ok-Worn.ensures.answer c.in-Ok-Worn.field-0-is (rw c.in-Ok-Worn.field-0-is at c.worn.ensures.traces) (rw c.in-Ok-Worn.field-0-is at c.worn.ensures.outcome) told
 
 pub returns-in-Err-clause-usage : goal.returns-in-Err-clause-usage
 returns-in-Err-clause-usage g c = (
@@ -68,21 +68,21 @@ returns-in-Err-clause-usage g c = (
 )
 
 pub returns-in-Ok-Whole-clause-wears : goal.returns-in-Ok-Whole-clause-wears
-returns-in-Ok-Whole-clause-wears g c command text trace a says replays left short worn still =
-    let never : Fine ≡ Worn a = made_wears c.in-Some.command command text _ c.in-Ok-Whole.field-0 _ trace a ((c.in-Some.ensures command).1 says) left c.in-Ok-Whole.ensures.made c.in-Ok-Whole.field-0-is replays worn in absurd (cc)
+returns-in-Ok-Whole-clause-wears g c command text traces a says replays left short worn still =
+    let never : Fine ≡ Worn a = made_wears c.in-Some.command command text _ c.in-Ok-Whole.field-0 _ traces a ((c.in-Some.ensures command).1 says) left c.in-Ok-Whole.ensures.made c.in-Ok-Whole.field-0-is replays worn in absurd (cc)
 
 pub returns-in-Ok-Refused-clause-wears : goal.returns-in-Ok-Refused-clause-wears
-returns-in-Ok-Refused-clause-wears g c command text trace a says replays left short worn still =
-    let never : Refused _ _ ≡ Worn a = made_wears c.in-Some.command command text _ c.in-Ok-Refused.field-0 _ trace a ((c.in-Some.ensures command).1 says) left c.in-Ok-Refused.ensures.made c.in-Ok-Refused.field-0-is replays worn in absurd (cc)
+returns-in-Ok-Refused-clause-wears g c command text traces a says replays left short worn still =
+    let never : Refused _ _ ≡ Worn a = made_wears c.in-Some.command command text _ c.in-Ok-Refused.field-0 _ traces a ((c.in-Some.ensures command).1 says) left c.in-Ok-Refused.ensures.made c.in-Ok-Refused.field-0-is replays worn in absurd (cc)
 
 pub returns-in-Ok-Worn-clause-wears : goal.returns-in-Ok-Worn-clause-wears
-returns-in-Ok-Worn-clause-wears g c command text trace a says replays left short worn still =
+returns-in-Ok-Worn-clause-wears g c command text traces a says replays left short worn still =
     inl
     ((rw c.in-Ok-Worn.field-0-is at c.worn.ensures.outcome)
-    ∙ made_wears c.in-Some.command command text _ c.in-Ok-Worn.field-0 _ trace a ((c.in-Some.ensures command).1 says) left c.in-Ok-Worn.ensures.made c.in-Ok-Worn.field-0-is replays worn)
+    ∙ made_wears c.in-Some.command command text _ c.in-Ok-Worn.field-0 _ traces a ((c.in-Some.ensures command).1 says) left c.in-Ok-Worn.ensures.made c.in-Ok-Worn.field-0-is replays worn)
 
 pub returns-in-Err-clause-wears : goal.returns-in-Err-clause-wears
-returns-in-Err-clause-wears g c command text trace a says replays left short worn still =
+returns-in-Err-clause-wears g c command text traces a says replays left short worn still =
     inr
     (c.silent-in-Err.ensures.outcome
-    ∙ err_wears c.in-Some.command command text _ _ _ _ c.in-Err.outcome trace a ((c.in-Some.ensures command).1 says) left c.in-Err.ensures.judged c.in-Err.ensures.cause replays short worn still)
+    ∙ err_wears c.in-Some.command command text _ _ _ _ c.in-Err.outcome traces a ((c.in-Some.ensures command).1 says) left c.in-Err.ensures.judged c.in-Err.ensures.cause replays short worn still)

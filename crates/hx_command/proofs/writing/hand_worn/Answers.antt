@@ -1,0 +1,9 @@
+-- The run is handed back, or there was no memory for that.
+use Rattle.std.proofs.Common.{◌∙◌, inl, inr}
+use Rattle.hx_command.proofs.writing.hand_worn.Goals as goal
+
+pub returns-in-Ok-clause-handed : goal.returns-in-Ok-clause-handed
+returns-in-Ok-clause-handed g c = inl (c.handed.ensures.outcome, c.handed.ensures.handed ∙ c.in-Ok.ensures.handed)
+
+pub returns-in-Err-clause-handed : goal.returns-in-Err-clause-handed
+returns-in-Err-clause-handed g c = inr (c.ended.ensures.outcome, c.ended.ensures.nothing)
