@@ -46,7 +46,7 @@ def told(verdict, rest):
     if verdict in VERDICTS:
         return f"{VERDICTS[verdict]}{rest}", False
     why, place = re.fullmatch(r"(?: \(only (.*?)[,:)].*?\))?(?:: (.*))?", rest).groups()
-    at = re.sub(r"^(?:\./)?(\S+?:\d+):\d+: (?:error: )?", r" at \1 ", place or "")
+    at = re.sub(r"^(?:note: )?(?:\./)?(\S+?:\d+):\d+: (?:error: )?", r" at \1 ", place or "")
     return f"refused{at}" + (f" (only {why})" if why else ""), True
 
 
