@@ -1,1 +1,4 @@
 pub mod CauseRows
+mod Stepped
+mod SnapshotRun
+mod SnapshotRows

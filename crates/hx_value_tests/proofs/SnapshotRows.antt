@@ -1,0 +1,108 @@
+-- What the laws on chains give of a snapshot under way, in a run of which all is computed.
+use Rattle.std.specs.Prelude.{◌≤◌, ℕ, List, [], ◌∷◌, length, None, Some}
+use Rattle.std.proofs.Common.{◌≡◌, true, inl, inr, refl, ap, sym, subst, ◌∙◌, arith}
+use Rattle.hx_types.specs.declared.updates.Update.{Update}
+use Rattle.hx_types.specs.declared.calls.Answer.TheVariants as an_answer
+use Rattle.hx_types.specs.declared.ids.Actor.TheVariants.{Server}
+use Rattle.hx_types.specs.Words.{IsIn}
+use Rattle.hx_model.specs.Histories.{line_of}
+use Rattle.hx_model.specs.Holders.{IsPrefix, snap_state}
+use Rattle.hx_model.specs.Runs.{coordinator_of}
+use Rattle.hx_model.specs.ServerSteps.{Replica}
+use Rattle.hx_model.specs.Slots.{KeyState, has_place, top_of}
+use Rattle.hx_model.proofs.SmallSpace.{caller, first_update, key_slot, put_color, red, region, replica, second_update, server, shop, the_key, version}
+use Rattle.hx_law_chains.specs.Chains.{InOrder, IsComing, IsHeld, IsUp, StandsEarlier}
+use Rattle.hx_law_chains.proofs.Headline.{runs_answer_committed, runs_keep_order, runs_send_parts}
+use Rattle.hx_value_tests.proofs.SnapshotRun.{its_empty, its_line, its_post, its_red_replica, its_reply, its_run, its_script, its_sender, pending, red_kept, red_slot, script, sent_slot, snapshot, trace}
+
+none_is_some : {A : Type 0} (x : A) → None ≡ Some x → ⊥
+none_is_some x e = absurd (cc)
+
+-- the joiner has no installed replica
+not_up : (r : Replica) → IsUp script trace (region 0) (server 3) r → ⊥
+not_up r up = none_is_some r (sym its_empty ∙ up.installed)
+
+-- what the snapshot stands for: red is committed, and blue accepted
+abbrev held : KeyState
+held = record { marks = true; base = red_kept; accepted = second_update ∷ []; floor = 1; acked = []; early = [] }
+
+its_held : snap_state shop (region 0) the_key snapshot pending ≡ held
+its_held = refl
+
+-- so it is held for the joiner
+is_coming : IsComing script trace the_key (region 0) (server 3) held
+is_coming = record {
+  from = Server (server 2);
+  snapshot = snapshot;
+  pending = pending;
+  posted = its_post;
+  server = refl;
+  running = refl;
+  empty = not_up;
+  is = sym its_held;
+}
+
+is_held : IsHeld script trace the_key (region 0) (server 3) held
+is_held = inr is_coming
+
+-- ---- by the law on snapshots: it holds of each key the region's part of the line up to some version
+
+its_parts : (key : List ℕ) → IsPrefix (region 0) (line_of key trace) (snap_state shop (region 0) key snapshot pending)
+its_parts = runs_send_parts script its_script trace its_run (Server (server 2)) (region 0) (server 3) snapshot pending its_post refl refl not_up
+
+its_part : IsPrefix (region 0) (second_update ∷ first_update ∷ []) held
+its_part = subst (λ (line : List Update). IsPrefix (region 0) line held) its_line (its_parts the_key)
+
+-- that is both updates of this key; without what the first left it would be no part
+abbrev without_red : KeyState
+without_red = key_slot (second_update ∷ []) 1 [] []
+
+not_without_red : ¬ IsPrefix (region 0) (second_update ∷ first_update ∷ []) without_red
+not_without_red = λ p. absurd (let e : length (second_update ∷ first_update ∷ []) ≡ length (second_update ∷ []) = ap length p.list in omega (arith, e))
+
+-- ---- by the law on the order of chains
+
+sent_is_held : IsHeld script trace the_key (region 0) (server 2) sent_slot
+sent_is_held = inl (replica 0 (sent_slot ∷ []), record { server = refl; running = refl; installed = its_sender }, refl)
+
+red_is_held : IsHeld script trace the_key (region 1) (server 2) red_slot
+red_is_held = inl (replica 1 (red_slot ∷ []), record { server = refl; running = refl; installed = its_red_replica }, refl)
+
+red_stands : IsIn first_update (line_of the_key trace)
+red_stands = inr (inl refl)
+
+blue_stands : IsIn second_update (line_of the_key trace)
+blue_stands = inl refl
+
+-- the sender stands before the joiner, and the joiner before the replica of red's region
+sender_first : (u : Update) → StandsEarlier (coordinator_of script trace).config u (region 0) (server 2) (region 0) (server 3)
+sender_first u = inr (refl, inr (inl (refl, inl refl)))
+
+joiner_first : StandsEarlier (coordinator_of script trace).config first_update (region 0) (server 3) (region 1) (server 2)
+joiner_first = inl (omega arith)
+
+behind_sender : (u : Update) → IsIn u (line_of the_key trace) → has_place (region 0) u ≡ true → InOrder u sent_slot held
+behind_sender u stands placed =
+    runs_keep_order script its_script trace its_run the_key u stands (region 0) (region 0) (server 2) (server 3) sent_slot held placed placed sent_is_held is_held (sender_first u)
+
+before_red : InOrder first_update held red_slot
+before_red =
+    runs_keep_order script its_script trace its_run the_key first_update red_stands (region 0) (region 1) (server 3) (server 2) held red_slot refl refl is_held red_is_held joiner_first
+
+-- its sender has accepted blue, as the snapshot has
+sender_has_blue : 2 ≤ top_of sent_slot
+sender_has_blue = (behind_sender second_update blue_stands refl).accepted (omega arith)
+
+-- the snapshot has committed red, as its sender has
+snapshot_has_red : 1 ≤ held.floor
+snapshot_has_red = (behind_sender first_update red_stands refl).committed (omega arith)
+
+-- and so has the replica of red's region
+red_replica_has_red : 1 ≤ red_slot.floor
+red_replica_has_red = before_red.committed (omega arith)
+
+-- ---- by the law on answers: the put of red was answered, so red is committed in the snapshot
+
+answered_is_committed : first_update.version.0 ≤ held.floor
+answered_is_committed =
+    runs_answer_committed script its_script trace its_run (Server (server 1)) (caller 1 1) (version 1) an_answer.Done its_reply (put_color red) the_key refl refl refl first_update red_stands (omega arith) (region 0) (server 3) held refl is_held
