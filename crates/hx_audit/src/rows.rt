@@ -12,7 +12,7 @@ use crate::histories::{is_below, items_of};
 use crate::searches::{Finished, either, is_change_before, is_change_over, search_of};
 use hx_region::matches;
 use hx_report_lines::{Block, CallLine, ItemLine};
-use hx_types::{Object, Row, Same};
+use hx_types::{Object, Row, Same, Shared};
 
 fn is_object(object: Option<&Object>, other: &Object) -> bool
     ensures { IsTrue result ↔ (option_copied object.entry ≡ Some other.now) }
@@ -103,12 +103,13 @@ fn is_row_of(block: &Block, search: &Finished<'_>, above: Option<&Row>, row: &Ro
 }
 
 /// The place of the first row of a search that isn't true of it, or stands out of order.
-fn first_untrue_of(block: &Block, search: &Finished<'_>, rows: &[Row]) -> Option<usize>
+fn first_untrue_of(block: &Block, search: &Finished<'_>, rows: &[Shared<Row>]) -> Option<usize>
     requires { IsOrdered block.now }
     ensures { IsFirstNot (λ place. IfSome (slice_get rows.now place) (IsRowOf (account_of block.now) (finished_view search.now) (row_above rows.now place))) result }
 {
     let mut above = None;
     for (place, row) in rows.iter().enumerate() {
+        let row = row.get();
         if !is_row_of(block, search, above, row) {
             return Some(place);
         }

@@ -14,7 +14,7 @@ use crate::searches::{Finished, search_of};
 use crate::times::is_before;
 use hx_region::matches;
 use hx_report_lines::{CallLine, ItemLine};
-use hx_types::{Object, Row, Same, Text, Version};
+use hx_types::{Object, Row, Same, Shared, Text, Version};
 
 /// Whether a row has this key, version and object.
 fn is_row(row: &Row, key: &Text, version: Version, object: &Object) -> bool
@@ -24,12 +24,12 @@ fn is_row(row: &Row, key: &Text, version: Version, object: &Object) -> bool
 }
 
 /// Whether a row with this key, version and object is among the rows.
-fn has_row(rows: &[Row], key: &Text, version: Version, object: &Object) -> bool
+fn has_row(rows: &[Shared<Row>], key: &Text, version: Version, object: &Object) -> bool
     ensures { IsTrue result ↔ IsIn (row_with key.now version object.now) rows.now }
 {
     let mut rest = rows;
     while let Some((row, others)) = rest.split_first() {
-        if is_row(row, key, version, object) {
+        if is_row(row.get(), key, version, object) {
             return true;
         }
         rest = others;

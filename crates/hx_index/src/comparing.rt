@@ -5,7 +5,7 @@ ghost use Rattle.hx_index.specs.Orders.{compare_at, compare_rows, compare_values
 ghost use Rattle.hx_index.specs.Sides.{side_in, side_of, side_of_value};
 
 use crate::looking::Side;
-use hx_types::{Row, Term, Value};
+use hx_types::{Row, Shared, Term, Value};
 use std::cmp::Ordering;
 
 /// Texts by bytes, then numbers by size.
@@ -48,17 +48,17 @@ fn compare_rows(attribute: u32, one: &Row, other: &Row) -> Ordering
 }
 
 /// The row at a number.
-pub fn row_at(rows: &[Option<Row>], id: u32) -> Option<&Row>
+pub fn row_at(rows: &[Option<Shared<Row>>], id: u32) -> Option<&Row>
     ensures { option_copied result ≡ rows_at rows.now id }
 {
     match rows.get(id as usize) {
-        Some(row) => row.as_ref(),
-        None => None,
+        Some(Some(row)) => Some(row.get()),
+        _ => None,
     }
 }
 
 /// Whether a number stands before another, at which this row is, in the order of an attribute.
-pub fn is_before(rows: &[Option<Row>], attribute: u32, one: u32, other: u32, row: &Row) -> bool
+pub fn is_before(rows: &[Option<Shared<Row>>], attribute: u32, one: u32, other: u32, row: &Row) -> bool
     ensures { result ≡ is_lt (compare_at (rows_with other (Some row.now) (rows_at rows.now)) attribute one other) }
 {
     if one == other {

@@ -13,7 +13,7 @@ use crate::orders::{
     empty_orders, insert_everywhere, remove_everywhere, replace_everywhere, widen_everywhere,
 };
 use crate::searching::{Span, end_of_part, matching, shorter};
-use hx_types::{Memory, Row, Term, Terms};
+use hx_types::{Memory, Row, Shared, Term, Terms};
 use std::alloc::Global;
 use std::marker::Model;
 
@@ -70,7 +70,7 @@ impl Index {
     }
 
     /// Puts the row at this number, which isn't in the index, into every order. It takes no memory.
-    pub fn add(&mut self, rows: &[Option<Row>], id: u32)
+    pub fn add(&mut self, rows: &[Option<Shared<Row>>], id: u32)
         requires others { IsIndexOf (rows_without id (rows_at rows.now)) self.old }
         requires kept { IsSome (rows_at rows.now id) }
         requires room { count_of self.old < self.old.room }
@@ -84,7 +84,7 @@ impl Index {
 
     /// Takes this number out of every order, by the row that was there when it came into the index.
     /// It takes no memory.
-    pub fn forget(&mut self, rows: &[Option<Row>], id: u32, old: &Row)
+    pub fn forget(&mut self, rows: &[Option<Shared<Row>>], id: u32, old: &Row)
         requires index { IsIndexOf (rows_with id (Some old.now) (rows_at rows.now)) self.old }
         ensures index { IsIndexOf (rows_without id (rows_at rows.now)) self.new }
         ensures others { IsWithout id self.new self.old }
@@ -97,7 +97,7 @@ impl Index {
     /// At this number is another row than when it came into the index. The number goes to its new
     /// place in the orders of the attributes whose value changed, in every order where the key did,
     /// and stays in the others, in which no place is sought. It takes no memory.
-    pub fn replace(&mut self, rows: &[Option<Row>], id: u32, old: &Row)
+    pub fn replace(&mut self, rows: &[Option<Shared<Row>>], id: u32, old: &Row)
         requires index { IsIndexOf (rows_with id (Some old.now) (rows_at rows.now)) self.old }
         requires kept { IsSome (rows_at rows.now id) }
         ensures index { IsIndexOf (rows_at rows.now) self.new }

@@ -5,11 +5,11 @@ ghost use Rattle.hx_types.specs.declared.calls.Row.{Row};
 ghost use Rattle.hx_index.specs.Orders.{compare_rows, key_of, rows_at};
 
 use crate::comparing::{compare_found, row_at};
-use hx_types::{Row, Same, Text};
+use hx_types::{Row, Same, Shared, Text};
 use std::cmp::Ordering;
 
 /// Whether the row at a number has this key.
-pub fn has_key(rows: &[Option<Row>], id: u32, key: &Text) -> bool
+pub fn has_key(rows: &[Option<Shared<Row>>], id: u32, key: &Text) -> bool
     ensures { IsTrue result → IsSomeAnd (rows_at rows.now id) (λ (r : Row). key_of r ≡ key.now) }
 {
     match row_at(rows, id) {
@@ -20,7 +20,7 @@ pub fn has_key(rows: &[Option<Row>], id: u32, key: &Text) -> bool
 
 /// Whether the row at a number stands in the order of an attribute where the old one stood: the
 /// value of the attribute is the same, and the key, of which that is known.
-pub fn stays(rows: &[Option<Row>], attribute: u32, id: u32, old: &Row, keeps_key: bool) -> bool
+pub fn stays(rows: &[Option<Shared<Row>>], attribute: u32, id: u32, old: &Row, keeps_key: bool) -> bool
     requires { IsTrue keeps_key → IsSomeAnd (rows_at rows.now id) (λ (r : Row). key_of r ≡ key_of old.now) }
     ensures { IsTrue result → option_cmp (compare_rows attribute) (Some old.now) (rows_at rows.now id) ≡ Equal }
 {

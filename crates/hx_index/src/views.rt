@@ -8,13 +8,13 @@ ghost use Rattle.hx_index.specs.Sides.{matches_at, side_at};
 use crate::comparing::{row_at, side_of};
 use crate::looking::{Look, Side};
 use hx_region::matches;
-use hx_types::{Row, Term, Terms};
+use hx_types::{Row, Shared, Term, Terms};
 use std::marker::Model;
 
 /// The look at rows, by their numbers from 0.
 #[derive(Drop)]
 pub struct View<'a> {
-    rows: &'a [Option<Row>],
+    rows: &'a [Option<Shared<Row>>],
     looks: u64,
 }
 
@@ -28,7 +28,7 @@ impl<'a> Model for View<'a> {
 
 impl<'a> View<'a> {
     /// A look at these rows, whose count of looks starts at a number.
-    pub fn new(rows: &'a [Option<Row>], looks: u64) -> View<'a>
+    pub fn new(rows: &'a [Option<Shared<Row>>], looks: u64) -> View<'a>
         ensures { result ≡ record { rows = rows.entry.now; looks = looks } }
     {
         View { rows, looks }

@@ -7,7 +7,7 @@ ghost use Rattle.hx_report.specs.Reporting.{answer_lines, found_line, in_epoch_l
 use crate::labels::put_labeled;
 use crate::objects::put_object;
 use hx_print::{put_bytes, put_text};
-use hx_types::{Answer, Epoch, Memory, Object, RegionId, Row, Rows, Space, Version};
+use hx_types::{Answer, Epoch, Memory, Object, RegionId, Row, Rows, Shared, Space, Version};
 
 #[tactic(auto, unfolding(crate::specs::Reporting::version_text))]
 fn put_version(out: &mut Vec<u8>, word: &[u8], version: Version) -> Result<(), Memory>
@@ -61,12 +61,12 @@ fn put_rows(out: &mut Vec<u8>, space: &Space, rows: &Rows) -> Result<(), Memory>
     put_each_row(out, space, rows.as_slice())
 }
 
-fn put_each_row(out: &mut Vec<u8>, space: &Space, rows: &[Row]) -> Result<(), Memory>
+fn put_each_row(out: &mut Vec<u8>, space: &Space, rows: &[Shared<Row>]) -> Result<(), Memory>
     ensures { OnOk result
         (out.new.items ≡ out.old.items ++ flat_map (row_line space.now) rows.now) }
 {
     for row in rows {
-        put_row(out, space, row)?;
+        put_row(out, space, row.get())?;
     }
     Ok(())
 }

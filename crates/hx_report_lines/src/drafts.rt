@@ -17,7 +17,9 @@ use crate::kinds::{Kind, kind_of};
 use crate::tails::{driver_of, epoch_of, raw_of, rest_of_head, space_of};
 use crate::values::is;
 use hx_print::put_bytes;
-use hx_types::{Answer, Caller, Epoch, Memory, Row, Sequence, SharedList, Space, Subspaces, Text};
+use hx_types::{
+    Answer, Caller, Epoch, Memory, Row, Sequence, Shared, SharedList, Space, Subspaces, Text,
+};
 use std::alloc::Global;
 use std::mem;
 
@@ -41,7 +43,7 @@ pub enum Open {
     /// A call of which so many rows are wanted after those that were read.
     Rows {
         call: CallLine,
-        rows: Sequence<Row>,
+        rows: Sequence<Shared<Row>>,
         left: u64,
     },
     /// A history.
@@ -266,7 +268,8 @@ impl Draft {
         if *left == 0 {
             return Err(Stop::Unread);
         }
-        rows.push(row_of(alloc, &self.block.space, line)?)?;
+        let row = row_of(alloc, &self.block.space, line)?;
+        rows.push(Shared::new(alloc, row)?)?;
         *left -= 1;
         Ok(())
     }

@@ -10,7 +10,7 @@ ghost use Rattle.hx_service.specs.Services.{Grows};
 use crate::errors::ServiceError;
 use crate::receipts::Receipt;
 use crate::services::Service;
-use hx_types::{Answer, Assign, Assigns, Exact, Memory, Object, Op, Row, SessionId};
+use hx_types::{Answer, Assign, Assigns, Exact, Memory, Object, Op, Row, SessionId, Shared};
 use std::alloc::Global;
 
 /// Of how many objects a group's put was done, and how many it left as they were found or let be for another reason.
@@ -101,7 +101,7 @@ pub fn put_rows(
     alloc: Global,
     service: &mut Service,
     session: SessionId,
-    rows: &[Row],
+    rows: &[Shared<Row>],
     sets: &Assigns,
 ) -> Result<Grouped, ServiceError>
     requires may { MayPut service.old session sets.now }
@@ -113,7 +113,7 @@ pub fn put_rows(
     let mut grouped = Grouped { done: 0, left: 0 };
     let mut rest = rows;
     'rows: while let Some((row, after)) = rest.split_first() {
-        let receipt = put_row(alloc, service, session, row, sets)?;
+        let receipt = put_row(alloc, service, session, row.get(), sets)?;
         grouped = with_put(grouped, &receipt);
         rest = after;
     }

@@ -8,7 +8,7 @@ ghost use Rattle.hx_session.specs.Changes.{part_seen};
 ghost use Rattle.hx_session.specs.Joined.{key_at, rows_at, rows_in};
 
 use crate::parts::Part;
-use hx_types::{Exact, Memory, RegionId, Row, Rows};
+use hx_types::{Exact, Memory, RegionId, Row, Rows, Shared};
 use std::alloc::Global;
 
 /// The rows of all parts, of each key the one with the highest version, in byte order of keys. The
@@ -28,7 +28,7 @@ fn gathered<'a>(
     parts: &'a [Part],
     region: RegionId,
     found: &'a Rows,
-) -> Result<Vec<&'a Row>, Memory>
+) -> Result<Vec<&'a Shared<Row>>, Memory>
     ensures { IfOk result (λ rows. rows_at rows.items ≡ flat_map rows_in (map (with_part region found.now) (map part_seen parts.now))) }
 {
     let mut rows = Vec::new(alloc);
@@ -49,7 +49,7 @@ fn count_rows(parts: &[Part], region: RegionId, found: &Rows) -> usize {
 }
 
 /// The rows of a part, where the region has those that were found.
-fn rows_of<'a>(part: &'a Part, region: RegionId, found: &'a Rows) -> &'a [Row]
+fn rows_of<'a>(part: &'a Part, region: RegionId, found: &'a Rows) -> &'a [Shared<Row>]
     ensures { result.now ≡ rows_in (with_part region found.now (part_seen part.now)) }
 {
     if part.region.0 == region.0 {
@@ -62,7 +62,7 @@ fn rows_of<'a>(part: &'a Part, region: RegionId, found: &'a Rows) -> &'a [Row]
 }
 
 /// Further rows go to the end.
-fn add_rows<'a>(rows: &mut Vec<&'a Row>, others: &'a [Row]) -> Result<(), Memory>
+fn add_rows<'a>(rows: &mut Vec<&'a Shared<Row>>, others: &'a [Shared<Row>]) -> Result<(), Memory>
     ensures { OnOk result (rows_at rows.new.items ≡ rows_at rows.old.items ++ others.now) }
 {
     for row in others {
@@ -73,7 +73,7 @@ fn add_rows<'a>(rows: &mut Vec<&'a Row>, others: &'a [Row]) -> Result<(), Memory
 
 /// Copies of rows in byte order of keys: of each key the one with the highest version, and of those
 /// with that version the last.
-fn picked(alloc: Global, sorted: &[&Row]) -> Result<Rows, Memory>
+fn picked(alloc: Global, sorted: &[&Shared<Row>]) -> Result<Rows, Memory>
     requires { IsSortedByKey key_at (slice_cmp nat_cmp) sorted.now }
     ensures { IfOk result (λ rows. rows ≡ rows_joined (rows_at sorted.now) []) }
 {

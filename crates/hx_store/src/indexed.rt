@@ -11,7 +11,7 @@ use crate::copying::copy_row;
 use crate::searching::rows_at;
 use hx_index::{Ids, Index, View};
 use hx_slot::Slot;
-use hx_types::{Memory, Row, Rows, Terms};
+use hx_types::{Memory, Row, Rows, Shared, Terms};
 use std::alloc::Global;
 use std::marker::Model;
 use std::mem;
@@ -21,7 +21,7 @@ use std::mem;
 pub struct Indexed {
     index: Index,
     /// The row by which the index has the slot at each place.
-    rows: Vec<Option<Row>>,
+    rows: Vec<Option<Shared<Row>>>,
     /// The places of the slots that may have another object, each once.
     stale: Vec<u32>,
     /// Whether each place stands there.
@@ -167,18 +167,21 @@ impl Indexed {
 
 /// A copy of the committed object of the slot at a place, if there is one. It takes no memory: there
 /// is none only where a count of owners is full.
-fn row_of(alloc: Global, slots: &[Slot], place: u32) -> Result<Option<Row>, Memory>
+fn row_of(alloc: Global, slots: &[Slot], place: u32) -> Result<Option<Shared<Row>>, Memory>
     ensures { IfOk result (λ row. row ≡ kept_at slots.now place) }
 {
     match slots.get(place as usize) {
-        Some(slot) => copy_row(alloc, slot),
+        Some(slot) => match copy_row(alloc, slot)? {
+            Some(row) => Ok(Some(Shared::new(alloc, row)?)),
+            None => Ok(None),
+        },
         None => Ok(None),
     }
 }
 
 /// The index follows a change of the row at a place. It has the place by the row that was there
 /// before, or not. It takes no memory.
-fn follow(index: &mut Index, rows: &[Option<Row>], place: u32, before: &Option<Row>)
+fn follow(index: &mut Index, rows: &[Option<Shared<Row>>], place: u32, before: &Option<Shared<Row>>)
     requires kept { IsKeptAs before.now place rows.now index.old }
     requires place { place < length rows.now }
     ensures kept { IsKept rows.now index.new }

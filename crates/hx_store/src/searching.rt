@@ -3,11 +3,11 @@ ghost use Rattle.std.specs.List.{flat_map};
 ghost use Rattle.hx_types.specs.Words.{list_of};
 ghost use Rattle.hx_index.specs.Orders.{rows_at};
 
-use hx_types::{Exact, Memory, Row, Rows};
+use hx_types::{Exact, Memory, Row, Rows, Shared};
 use std::alloc::Global;
 
 /// Copies of the rows at these places, one after another.
-pub fn rows_at(alloc: Global, rows: &[Option<Row>], places: &[u32]) -> Result<Rows, Memory>
+pub fn rows_at(alloc: Global, rows: &[Option<Shared<Row>>], places: &[u32]) -> Result<Rows, Memory>
     ensures { IfOk result (λ found. found ≡ flat_map (λ i. list_of (rows_at rows.now i)) places.now) }
 {
     let mut found = Vec::new(alloc);
@@ -21,9 +21,9 @@ pub fn rows_at(alloc: Global, rows: &[Option<Row>], places: &[u32]) -> Result<Ro
 /// Adds a copy of the row at a place, if there is one.
 fn add_row_at(
     alloc: Global,
-    rows: &[Option<Row>],
+    rows: &[Option<Shared<Row>>],
     place: u32,
-    found: &mut Vec<Row>,
+    found: &mut Vec<Shared<Row>>,
 ) -> Result<(), Memory>
     ensures { OnOk result (found.new.items ≡ found.old.items ++ list_of (rows_at rows.now place)) }
 {
@@ -34,7 +34,7 @@ fn add_row_at(
 }
 
 /// Adds a copy of a row, if it is there.
-fn add_row(alloc: Global, row: &Option<Row>, found: &mut Vec<Row>) -> Result<(), Memory>
+fn add_row(alloc: Global, row: &Option<Shared<Row>>, found: &mut Vec<Shared<Row>>) -> Result<(), Memory>
     ensures { OnOk result (found.new.items ≡ found.old.items ++ list_of row.now) }
 {
     if let Some(row) = row {

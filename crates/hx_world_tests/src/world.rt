@@ -6,7 +6,7 @@ use crate::scripts::{FOUR_SERVERS, MOVED, NO_CALL, ONE_SERVER, SEARCHED, script_
 use hx_trace::Trace;
 use hx_types::{
     Actor, Answer, Caller, Exact, MOST_CALLS, Note, Object, Op, PostId, Row, Script, ServerId,
-    SessionId, Step, Update, Value, fits,
+    SessionId, Shared, Step, Update, Value, fits,
 };
 use hx_world::*;
 use std::alloc::Global;
@@ -135,7 +135,7 @@ fn calls_end_with_their_answers(rt: HostRuntime) {
 }
 
 /// Whether there is one row: that of the first update of "a", with this genre.
-fn is_row(rows: &[Row], genre: &str) -> bool {
+fn is_row(rows: &[Shared<Row>], genre: &str) -> bool {
     match rows.first() {
         Some(row) => {
             rows.len() == 1
