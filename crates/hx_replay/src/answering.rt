@@ -1,7 +1,7 @@
-ghost use Rattle.std.specs.Prelude.{◌≡◌, [], IfOk, IfErr, map};
+ghost use Rattle.std.specs.Prelude.{◌≡◌, ℕ, List, [], IfOk, IfErr, Ok, map};
 ghost use Rattle.hx_types.specs.declared.traces.Script.{Script as ScriptSeen};
 ghost use Rattle.hx_replay.specs.Causes.{CommandEnds, CommandMakes, IsTextCause, ScriptedEnds};
-ghost use Rattle.hx_replay.specs.Texts.{IsScripted};
+ghost use Rattle.hx_replay.specs.Texts.{IsScripted, scripted_of};
 ghost use Rattle.hx_replay.specs.declared.words.Command.TheVariants as a_command;
 
 use crate::bundle_replaying::replay_bundle;
@@ -14,21 +14,33 @@ use hx_spaces::Traces;
 use hx_trace::Trace;
 use hx_types::{Memory, Script};
 use std::alloc::Global;
+use std::mem::ManuallyDrop;
 
 /// What the command makes of the script of a text.
 ///
 /// # Errors
 ///
 /// `Refused` exactly where the text is no script, with its first faulty line; `Memory`.
-#[tactic(auto, using(crate::proofs::Making::made_of_replay))]
 pub fn answer(alloc: Global, command: Command, text: &[u8]) -> Result<Ended, Outcome>
     ensures answer { IfOk result (CommandEnds command text.now) }
     ensures cause { IfErr result (IsTextCause command text.now) }
 {
     let scripted = read_scripted(alloc, text)?;
+    let ended = answer_scripted(alloc, command, &scripted);
+    // The process is about to end, and a script is many small pieces.
+    let _left = ManuallyDrop::new(scripted);
+    Ok(ended?)
+}
+
+/// What the command makes of a script, of one space or several.
+#[tactic(auto, using(crate::proofs::Making::made_of_replay))]
+fn answer_scripted(alloc: Global, command: Command, scripted: &Scripted) -> Result<Ended, Memory>
+    requires { IsScripted scripted.now }
+    ensures { IfOk result (λ ended. (text : List ℕ) → scripted_of text ≡ Ok scripted.now → CommandEnds command text ended) }
+{
     match command {
-        Command::Replay { with_trace } => Ok(replay_scripted(alloc, &scripted, with_trace)?),
-        Command::Plan => Ok(Ended::Whole(plan(alloc, &scripted)?)),
+        Command::Replay { with_trace } => replay_scripted(alloc, scripted, with_trace),
+        Command::Plan => Ok(Ended::Whole(plan(alloc, scripted)?)),
     }
 }
 
