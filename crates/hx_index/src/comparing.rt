@@ -58,7 +58,13 @@ pub fn row_at(rows: &[Option<Shared<Row>>], id: u32) -> Option<&Row>
 }
 
 /// Whether a number stands before another, at which this row is, in the order of an attribute.
-pub fn is_before(rows: &[Option<Shared<Row>>], attribute: u32, one: u32, other: u32, row: &Row) -> bool
+pub fn is_before(
+    rows: &[Option<Shared<Row>>],
+    attribute: u32,
+    one: u32,
+    other: u32,
+    row: &Row,
+) -> bool
     ensures { result ≡ is_lt (compare_at (rows_with other (Some row.now) (rows_at rows.now)) attribute one other) }
 {
     if one == other {

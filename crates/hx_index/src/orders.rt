@@ -11,7 +11,13 @@ use hx_types::{Memory, Row, Shared, insert_within};
 use std::alloc::Global;
 
 /// How many numbers stand before one, at which this row is, in the order of an attribute.
-fn place_of(order: &[u32], rows: &[Option<Shared<Row>>], attribute: u32, id: u32, row: &Row) -> usize
+fn place_of(
+    order: &[u32],
+    rows: &[Option<Shared<Row>>],
+    attribute: u32,
+    id: u32,
+    row: &Row,
+) -> usize
     requires { IsStrictlySortedBy (compare_at (rows_with id (Some row.now) (rows_at rows.now)) attribute) order.now }
     ensures { IsSplit (stands_before (rows_with id (Some row.now) (rows_at rows.now)) attribute id) result order.now }
 {
@@ -36,7 +42,13 @@ pub fn insert_number(order: &mut Vec<u32>, rows: &[Option<Shared<Row>>], attribu
 }
 
 /// Takes a number, which stands by this row, out of the order of an attribute.
-pub fn remove_number(order: &mut Vec<u32>, rows: &[Option<Shared<Row>>], attribute: u32, id: u32, row: &Row)
+pub fn remove_number(
+    order: &mut Vec<u32>,
+    rows: &[Option<Shared<Row>>],
+    attribute: u32,
+    id: u32,
+    row: &Row,
+)
     requires order { IsOrder (rows_with id (Some row.now) (rows_at rows.now)) attribute order.old.items }
     ensures order { IsOrder (rows_without id (rows_at rows.now)) attribute order.new.items }
     ensures others { order.new.items ≡ without id order.old.items }
@@ -85,7 +97,12 @@ pub fn insert_everywhere(orders: &mut Vec<Vec<u32>>, rows: &[Option<Shared<Row>>
 }
 
 /// Takes a number, which stands by this row, out of every order.
-pub fn remove_everywhere(orders: &mut Vec<Vec<u32>>, rows: &[Option<Shared<Row>>], id: u32, row: &Row)
+pub fn remove_everywhere(
+    orders: &mut Vec<Vec<u32>>,
+    rows: &[Option<Shared<Row>>],
+    id: u32,
+    row: &Row,
+)
     requires orders { AreOrders (rows_with id (Some row.now) (rows_at rows.now)) orders.old.items }
     requires few { vec_len orders.old ≤ 2 ^ 32 }
     ensures { EachMoves (IsRemoved (rows_at rows.now) id) orders.old.items orders.new.items }
@@ -97,7 +114,12 @@ pub fn remove_everywhere(orders: &mut Vec<Vec<u32>>, rows: &[Option<Shared<Row>>
 
 /// A number, which stands by this old row, goes to the place of the row that is there now in every
 /// order.
-pub fn replace_everywhere(orders: &mut Vec<Vec<u32>>, rows: &[Option<Shared<Row>>], id: u32, old: &Row)
+pub fn replace_everywhere(
+    orders: &mut Vec<Vec<u32>>,
+    rows: &[Option<Shared<Row>>],
+    id: u32,
+    old: &Row,
+)
     requires orders { AreOrders (rows_with id (Some old.now) (rows_at rows.now)) orders.old.items }
     requires kept { IsSome (rows_at rows.now id) }
     requires few { vec_len orders.old ≤ 2 ^ 32 }

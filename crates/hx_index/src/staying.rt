@@ -20,7 +20,13 @@ pub fn has_key(rows: &[Option<Shared<Row>>], id: u32, key: &Text) -> bool
 
 /// Whether the row at a number stands in the order of an attribute where the old one stood: the
 /// value of the attribute is the same, and the key, of which that is known.
-pub fn stays(rows: &[Option<Shared<Row>>], attribute: u32, id: u32, old: &Row, keeps_key: bool) -> bool
+pub fn stays(
+    rows: &[Option<Shared<Row>>],
+    attribute: u32,
+    id: u32,
+    old: &Row,
+    keeps_key: bool,
+) -> bool
     requires { IsTrue keeps_key → IsSomeAnd (rows_at rows.now id) (λ (r : Row). key_of r ≡ key_of old.now) }
     ensures { IsTrue result → option_cmp (compare_rows attribute) (Some old.now) (rows_at rows.now id) ≡ Equal }
 {

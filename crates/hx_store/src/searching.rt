@@ -34,7 +34,11 @@ fn add_row_at(
 }
 
 /// Adds a copy of a row, if it is there.
-fn add_row(alloc: Global, row: &Option<Shared<Row>>, found: &mut Vec<Shared<Row>>) -> Result<(), Memory>
+fn add_row(
+    alloc: Global,
+    row: &Option<Shared<Row>>,
+    found: &mut Vec<Shared<Row>>,
+) -> Result<(), Memory>
     ensures { OnOk result (found.new.items ≡ found.old.items ++ list_of row.now) }
 {
     if let Some(row) = row {
