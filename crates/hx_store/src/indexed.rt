@@ -120,8 +120,8 @@ impl Indexed {
         self.stale.len()
     }
 
-    /// Brings the index up to date at the place that was marked last. Where a count of owners is
-    /// full, it stays as it was.
+    /// Brings the index up to date at the place that was marked last. Where there is no memory for
+    /// its row, it stays as it was.
     fn refresh_last(&mut self, alloc: Global, slots: &[Slot]) -> Result<(), Memory>
         requires of { IsOf slots.now self.old }
         requires some { 0 < marked_count self.old.stale }
@@ -165,8 +165,7 @@ impl Indexed {
     }
 }
 
-/// A copy of the committed object of the slot at a place, if there is one. It takes no memory: there
-/// is none only where a count of owners is full.
+/// A copy of the committed object of the slot at a place, if there is one, with its first owner.
 fn row_of(alloc: Global, slots: &[Slot], place: u32) -> Result<Option<Shared<Row>>, Memory>
     ensures { IfOk result (λ row. row ≡ kept_at slots.now place) }
 {
