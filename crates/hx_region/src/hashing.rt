@@ -1,4 +1,4 @@
-ghost use Rattle.std.specs.Prelude.{◌≡◌, ◌*◌, ◌/◌, ◌^◌, ◌<◌, ◌≤ℤ◌};
+ghost use Rattle.std.specs.Prelude.{◌≡◌, ◌*◌, ◌/◌, ◌+◌, ◌^◌, ◌<◌, ◌≤◌, ◌≤ℤ◌};
 ghost use Rattle.hx_model.specs.Cells.{cell_of, fnv_of, int_cell_of, reversed_bits, text_cell_of};
 ghost use Rattle.hx_types.specs.Spaces.{ArePart, IsKind};
 
@@ -62,9 +62,25 @@ pub fn int_cell(v: i64, lo: i64, hi: i64, parts: u32) -> u32
     ensures exact { result ≡ int_cell_of v lo hi parts }
     ensures within { result < parts }
 {
-    let offset = u128::from(v.clamp(lo, hi).abs_diff(lo));
-    let width = u128::from(hi.abs_diff(lo)) + 1;
-    (offset * u128::from(parts) / width) as u32
+    let offset = v.clamp(lo, hi).abs_diff(lo);
+    part_at(offset, hi.abs_diff(lo), parts)
+}
+
+/// The part in which an offset lies, where 1 to 256 parts share out the numbers from 0 to the
+/// reach.
+///
+/// Below a reach of 2^55 no product overflows 64 bits, in which a division takes less time.
+fn part_at(offset: u64, reach: u64, parts: u32) -> u32
+    requires offset { offset ≤ reach }
+    requires parts { ArePart parts }
+    ensures exact { result ≡ (offset * parts) / (reach + 1) }
+    ensures within { result < parts }
+{
+    if reach < 1 << 55 {
+        return (offset * u64::from(parts) / (reach + 1)) as u32;
+    }
+    let width = u128::from(reach) + 1;
+    (u128::from(offset) * u128::from(parts) / width) as u32
 }
 
 /// The cell of a value of an attribute on an axis of 1 to 256 parts. A value that is not of the
