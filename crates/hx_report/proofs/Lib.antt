@@ -4,5 +4,6 @@ pub mod BundleReports
 pub mod DriverLines
 pub mod EntryLines
 pub mod LostRegions
+pub mod Ranges
 pub mod Reports
 pub mod Traces

@@ -1,4 +1,5 @@
 pub mod BundleReporting
 pub mod Driving
+pub mod PrintedRows
 pub mod Reporting
 pub mod Tracing

@@ -1,6 +1,7 @@
 //! What calls were answered.
 
-ghost use Rattle.std.specs.Prelude.{◌≡◌, ◌++◌, OnOk};
+ghost use Rattle.std.specs.Prelude.{◌≡◌, ◌++◌, codes, length, OnOk};
+ghost use Rattle.std.specs.Fmt.{decimal};
 ghost use Rattle.std.specs.List.{flat_map};
 ghost use Rattle.hx_report.specs.Reporting.{answer_lines, found_line, in_epoch_line, maybe_answer_lines, region_line, row_line, rows_lines, version_line, version_text};
 
@@ -9,6 +10,7 @@ use crate::objects::put_object;
 use hx_print::{put_bytes, put_text};
 use hx_types::{Answer, Epoch, Memory, Object, RegionId, Row, Rows, Shared, Space, Version};
 
+#[inline]
 #[tactic(auto, unfolding(crate::specs::Reporting::version_text))]
 fn put_version(out: &mut Vec<u8>, word: &[u8], version: Version) -> Result<(), Memory>
     ensures { OnOk result (out.new.items ≡ out.old.items ++ version_text word.now version) }
@@ -41,14 +43,22 @@ fn put_found(
 }
 
 /// Appends the line of a row.
-#[tactic(auto, unfolding(crate::specs::Reporting::row_line))]
+#[tactic(auto, unfolding(crate::specs::Reporting::row_line, crate::specs::Reporting::version_text))]
 pub fn put_row(out: &mut Vec<u8>, space: &Space, row: &Row) -> Result<(), Memory>
     ensures { OnOk result (out.new.items ≡ out.old.items ++ row_line space.now row.now) }
 {
     put_bytes(out, b"row ")?;
     put_text(out, &row.key)?;
-    put_version(out, b"", row.version)?;
+    put_labeled(out, b" version ", row.version.0)?;
     put_object(out, &space.attributes, &row.object)?;
+    put_bytes(out, b"\n")
+}
+
+/// Appends how many rows there are.
+pub fn put_rows_head(out: &mut Vec<u8>, rows: &Rows) -> Result<(), Memory>
+    ensures { OnOk result (out.new.items ≡ out.old.items ++ codes "rows " ++ decimal (length rows.now) ++ codes "\n") }
+{
+    put_labeled(out, b"rows ", rows.len() as u64)?;
     put_bytes(out, b"\n")
 }
 
@@ -56,12 +66,12 @@ pub fn put_row(out: &mut Vec<u8>, space: &Space, row: &Row) -> Result<(), Memory
 fn put_rows(out: &mut Vec<u8>, space: &Space, rows: &Rows) -> Result<(), Memory>
     ensures { OnOk result (out.new.items ≡ out.old.items ++ rows_lines space.now rows.now) }
 {
-    put_labeled(out, b"rows ", rows.len() as u64)?;
-    put_bytes(out, b"\n")?;
+    put_rows_head(out, rows)?;
     put_each_row(out, space, rows.as_slice())
 }
 
-fn put_each_row(out: &mut Vec<u8>, space: &Space, rows: &[Shared<Row>]) -> Result<(), Memory>
+/// Appends the lines of rows.
+pub fn put_each_row(out: &mut Vec<u8>, space: &Space, rows: &[Shared<Row>]) -> Result<(), Memory>
     ensures { OnOk result
         (out.new.items ≡ out.old.items ++ flat_map (row_line space.now) rows.now) }
 {

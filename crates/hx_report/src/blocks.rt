@@ -48,7 +48,7 @@ pub fn put_block(
 {
     let both = records_and_histories(alloc, script, trace)?;
     put_space(out, &script.space)?;
-    put_records(out, script, &both.records)?;
+    put_records(alloc, out, script, &both.records)?;
     put_histories(out, &script.space, &both.histories)?;
     put_epochs(alloc, out, script, trace)?;
     put_rest(out, trace, totals, with_trace)

@@ -18,6 +18,7 @@ mod epochs;
 mod items;
 mod labels;
 mod objects;
+mod printed_rows;
 mod tracing;
 
 use crate::blocks::put_block;
