@@ -17,7 +17,7 @@ use Rattle.std.proofs.lemmas.List.Sorted.{ranks_by, sorted_far}
 use Rattle.hx_types.specs.declared.calls.Row.{Row}
 use Rattle.hx_types.specs.Words.{same_text, text_below}
 use Rattle.hx_model.specs.SessionSteps.{Part, merged_parts, rows_joined, with_row}
-use Rattle.hx_session.specs.Joined.{key_at, rows_at, rows_in}
+use Rattle.hx_session.specs.Joined.{row_key, rows_in}
 use Rattle.hx_session.proofs.Texts.{below_is, equal_from, order, same_is}
 
 -- rows that are joined to joined ones are joined together
@@ -130,11 +130,11 @@ together r s e (x ∷ rest) = by (order s.key x.key) refl (together r s e rest)
         ∙ sym (comes (kept_of r s) x rest Greater (kept Greater h))
 
 -- whether a row is of this key
-abbrev has_key : List ℕ → Bor Row → Bool
-has_key key b = same_text key b.now.key
+abbrev has_key : List ℕ → Row → Bool
+has_key key b = same_text key b.key
 
 -- the rows without the first of this key
-abbrev without : List ℕ → List (Bor Row) → List (Bor Row)
+abbrev without : List ℕ → List Row → List Row
 without key [] = []
 without key (b ∷ rest) = cond (has_key key b) rest (b ∷ without key rest)
 
@@ -151,83 +151,83 @@ rest_is : {X : Type 0} {x y : X} {xs ys : List X} → x ∷ xs ≡ y ∷ ys → 
 rest_is e = cc
 
 -- the first row of a key may as well come before all
-comes_out : (y : Bor Row) (more : List (Bor Row)) (xs : List (Bor Row)) → filter (has_key y.now.key) xs ≡ y ∷ more → (rows : List Row)
-    → rows_joined (rows_at xs) rows ≡ with_row y.now (rows_joined (rows_at (without y.now.key xs)) rows)
+comes_out : (y : Row) (more : List Row) (xs : List Row) → filter (has_key y.key) xs ≡ y ∷ more → (rows : List Row)
+    → rows_joined xs rows ≡ with_row y (rows_joined (without y.key xs) rows)
 comes_out y more [] e rows = absurd cc
-comes_out y more (x ∷ xs) e rows = by (has_key y.now.key x) refl e (comes_out y more xs)
+comes_out y more (x ∷ xs) e rows = by (has_key y.key x) refl e (comes_out y more xs)
   where
-    by : (b : Bool) → has_key y.now.key x ≡ b → cond b (x ∷ filter (has_key y.now.key) xs) (filter (has_key y.now.key) xs) ≡ y ∷ more
-        → (filter (has_key y.now.key) xs ≡ y ∷ more → (rows : List Row) → rows_joined (rows_at xs) rows ≡ with_row y.now (rows_joined (rows_at (without y.now.key xs)) rows))
-        → with_row x.now (rows_joined (rows_at xs) rows) ≡ with_row y.now (rows_joined (rows_at (cond b xs (x ∷ without y.now.key xs))) rows)
-    by true h e later = ap (λ (b : Bor Row). with_row b.now (rows_joined (rows_at xs) rows)) (first_is e)
-    by false h e later = ap (with_row x.now) (later e rows) ∙ sym (apart y.now x.now h (rows_joined (rows_at (without y.now.key xs)) rows))
+    by : (b : Bool) → has_key y.key x ≡ b → cond b (x ∷ filter (has_key y.key) xs) (filter (has_key y.key) xs) ≡ y ∷ more
+        → (filter (has_key y.key) xs ≡ y ∷ more → (rows : List Row) → rows_joined xs rows ≡ with_row y (rows_joined (without y.key xs) rows))
+        → with_row x (rows_joined xs rows) ≡ with_row y (rows_joined (cond b xs (x ∷ without y.key xs)) rows)
+    by true h e later = ap (λ (b : Row). with_row b (rows_joined xs rows)) (first_is e)
+    by false h e later = ap (with_row x) (later e rows) ∙ sym (apart y x h (rows_joined (without y.key xs) rows))
 
 -- and nothing else changes
-out_first : (y : Bor Row) (more : List (Bor Row)) (xs : List (Bor Row)) → filter (has_key y.now.key) xs ≡ y ∷ more → (w : Bor Row)
-    → filter (has_key w.now.key) (y ∷ without y.now.key xs) ≡ filter (has_key w.now.key) xs
+out_first : (y : Row) (more : List Row) (xs : List Row) → filter (has_key y.key) xs ≡ y ∷ more → (w : Row)
+    → filter (has_key w.key) (y ∷ without y.key xs) ≡ filter (has_key w.key) xs
 out_first y more [] e w = absurd cc
-out_first y more (x ∷ xs) e w = by (has_key y.now.key x) refl e (out_first y more xs)
+out_first y more (x ∷ xs) e w = by (has_key y.key x) refl e (out_first y more xs)
   where
-    past : (u v : Bool) → (u ≡ true → v ≡ false) → (y x : Bor Row) (us vs : List (Bor Row)) → cond u (y ∷ us) us ≡ vs → cond u (y ∷ cond v (x ∷ us) us) (cond v (x ∷ us) us) ≡ cond v (x ∷ vs) vs
+    past : (u v : Bool) → (u ≡ true → v ≡ false) → (y x : Row) (us vs : List Row) → cond u (y ∷ us) us ≡ vs → cond u (y ∷ cond v (x ∷ us) us) (cond v (x ∷ us) us) ≡ cond v (x ∷ vs) vs
     past true true n y x us vs e = absurd (let t = n refl in cc)
     past true false n y x us vs e = e
-    past false true n y x us vs e = ap (λ (l : List (Bor Row)). x ∷ l) e
+    past false true n y x us vs e = ap (λ (l : List Row). x ∷ l) e
     past false false n y x us vs e = e
 
-    by : (b : Bool) → has_key y.now.key x ≡ b → cond b (x ∷ filter (has_key y.now.key) xs) (filter (has_key y.now.key) xs) ≡ y ∷ more
-        → (filter (has_key y.now.key) xs ≡ y ∷ more → (w : Bor Row) → filter (has_key w.now.key) (y ∷ without y.now.key xs) ≡ filter (has_key w.now.key) xs)
-        → filter (has_key w.now.key) (y ∷ cond b xs (x ∷ without y.now.key xs)) ≡ filter (has_key w.now.key) (x ∷ xs)
-    by true h e later = ap (λ (b : Bor Row). filter (has_key w.now.key) (b ∷ xs)) (sym (first_is e))
+    by : (b : Bool) → has_key y.key x ≡ b → cond b (x ∷ filter (has_key y.key) xs) (filter (has_key y.key) xs) ≡ y ∷ more
+        → (filter (has_key y.key) xs ≡ y ∷ more → (w : Row) → filter (has_key w.key) (y ∷ without y.key xs) ≡ filter (has_key w.key) xs)
+        → filter (has_key w.key) (y ∷ cond b xs (x ∷ without y.key xs)) ≡ filter (has_key w.key) (x ∷ xs)
+    by true h e later = ap (λ (b : Row). filter (has_key w.key) (b ∷ xs)) (sym (first_is e))
     by false h e later =
-        past (has_key w.now.key y) (has_key w.now.key x) (λ t. ap (λ (k : List ℕ). same_text k x.now.key) (same-from w.now.key y.now.key t) ∙ h) y x (filter (has_key w.now.key) (without y.now.key xs)) (filter (has_key w.now.key) xs) (later e w)
+        past (has_key w.key y) (has_key w.key x) (λ t. ap (λ (k : List ℕ). same_text k x.key) (same-from w.key y.key t) ∙ h) y x (filter (has_key w.key) (without y.key xs)) (filter (has_key w.key) xs) (later e w)
 
 -- rows of each key stand in the same order
-abbrev pub StayInTurn : List (Bor Row) → List (Bor Row) → Type 0
-StayInTurn xs ys = (w : Bor Row) → filter (has_key w.now.key) ys ≡ filter (has_key w.now.key) xs
+abbrev pub StayInTurn : List Row → List Row → Type 0
+StayInTurn xs ys = (w : Row) → filter (has_key w.key) ys ≡ filter (has_key w.key) xs
 
 -- so they are joined to the same rows
-pub joined-in_turn : (xs ys : List (Bor Row)) → StayInTurn xs ys → (rows : List Row) → rows_joined (rows_at ys) rows ≡ rows_joined (rows_at xs) rows
+pub joined-in_turn : (xs ys : List Row) → StayInTurn xs ys → (rows : List Row) → rows_joined ys rows ≡ rows_joined xs rows
 joined-in_turn [] [] s rows = refl
-joined-in_turn (x ∷ xs) [] s rows = absurd (let e = s x ∙ cond-true (has_key x.now.key x) (x ∷ filter (has_key x.now.key) xs) (filter (has_key x.now.key) xs) (same-itself x.now.key) in cc)
+joined-in_turn (x ∷ xs) [] s rows = absurd (let e = s x ∙ cond-true (has_key x.key x) (x ∷ filter (has_key x.key) xs) (filter (has_key x.key) xs) (same-itself x.key) in cc)
 joined-in_turn xs (y ∷ ys) s rows =
-    let first : filter (has_key y.now.key) xs ≡ y ∷ filter (has_key y.now.key) ys =
-    sym (s y) ∙ cond-true (has_key y.now.key y) (y ∷ filter (has_key y.now.key) ys) (filter (has_key y.now.key) ys) (same-itself y.now.key)
+    let first : filter (has_key y.key) xs ≡ y ∷ filter (has_key y.key) ys =
+    sym (s y) ∙ cond-true (has_key y.key y) (y ∷ filter (has_key y.key) ys) (filter (has_key y.key) ys) (same-itself y.key)
     in
-    ap (with_row y.now) (joined-in_turn (without y.now.key xs) ys (λ w. cancel (has_key w.now.key y) (s w ∙ sym (out_first y (filter (has_key y.now.key) ys) xs first w))) rows)
-    ∙ sym (comes_out y (filter (has_key y.now.key) ys) xs first rows)
+    ap (with_row y) (joined-in_turn (without y.key xs) ys (λ w. cancel (has_key w.key y) (s w ∙ sym (out_first y (filter (has_key y.key) ys) xs first w))) rows)
+    ∙ sym (comes_out y (filter (has_key y.key) ys) xs first rows)
   where
-    cancel : (b : Bool) {us vs : List (Bor Row)} → cond b (y ∷ us) us ≡ cond b (y ∷ vs) vs → us ≡ vs
+    cancel : (b : Bool) {us vs : List Row} → cond b (y ∷ us) us ≡ cond b (y ∷ vs) vs → us ≡ vs
     cancel true e = rest_is e
     cancel false e = e
 
 -- what a stable sort by keys leaves
-tie_is : (x y : Bor Row) → ties (λ (a b : Bor Row). is_lt (slice_cmp nat_cmp (key_at a) (key_at b))) x y ≡ has_key x.now.key y
-tie_is x y = by (order x.now.key y.now.key) refl ∙ sym (same_is x.now.key y.now.key)
+tie_is : (x y : Row) → ties (λ (a b : Row). is_lt (slice_cmp nat_cmp (row_key a) (row_key b))) x y ≡ has_key x.key y
+tie_is x y = by (order x.key y.key) refl ∙ sym (same_is x.key y.key)
   where
-    by : (o : Ordering) → order x.now.key y.now.key ≡ o → (not (is_lt (order x.now.key y.now.key)) && not (is_lt (order y.now.key x.now.key))) ≡ is_eq (order x.now.key y.now.key)
-    by o h = (λ i. not (is_lt (h i)) && not (is_lt (turned x.now.key y.now.key o h i))) ∙ at o ∙ ap is_eq (sym h)
+    by : (o : Ordering) → order x.key y.key ≡ o → (not (is_lt (order x.key y.key)) && not (is_lt (order y.key x.key))) ≡ is_eq (order x.key y.key)
+    by o h = (λ i. not (is_lt (h i)) && not (is_lt (turned x.key y.key o h i))) ∙ at o ∙ ap is_eq (sym h)
       where
         at : (o : Ordering) → (not (is_lt o) && not (is_lt (ordering_reverse o))) ≡ is_eq o
         at Less = refl
         at Equal = refl
         at Greater = refl
 
-pub in_turn-from_stable : (xs ys : List (Bor Row)) → IsStableByKey key_at (slice_cmp nat_cmp) xs ys → StayInTurn xs ys
-in_turn-from_stable xs ys stable w = subst (λ (p : Bor Row → Bool). filter p ys ≡ filter p xs) (λ i y. tie_is w y i) (stable w)
+pub in_turn-from_stable : (xs ys : List Row) → IsStableByKey row_key (slice_cmp nat_cmp) xs ys → StayInTurn xs ys
+in_turn-from_stable xs ys stable w = subst (λ (p : Row → Bool). filter p ys ≡ filter p xs) (λ i y. tie_is w y i) (stable w)
 
 -- no row has a lower key than one before it
 abbrev pub Rise : List Row → Type 0
 Rise [] = ⊤
 Rise (r ∷ rest) = AllByRecursion (λ (x : Row). is_lt (order x.key r.key) ≡ false) rest × Rise rest
 
-pub rise-from_sorted : (xs : List (Bor Row)) → IsSortedByKey key_at (slice_cmp nat_cmp) xs → Rise (rows_at xs)
-rise-from_sorted xs up = by xs (sorted_far _ (ranks_by nat_list_cmp_total key_at) xs up)
+pub rise-from_sorted : (xs : List Row) → IsSortedByKey row_key (slice_cmp nat_cmp) xs → Rise xs
+rise-from_sorted xs up = by xs (sorted_far _ (ranks_by nat_list_cmp_total row_key) xs up)
   where
-    not_below : (b : Bor Row) (rest : List (Bor Row)) → ((k : ℕ) (d : Bor Row) → k < length rest → is_lt (order (get_or rest k d).now.key b.now.key) ≡ false) → AllByRecursion (λ (x : Row). is_lt (order x.key b.now.key) ≡ false) (rows_at rest)
+    not_below : (b : Row) (rest : List Row) → ((k : ℕ) (d : Row) → k < length rest → is_lt (order (get_or rest k d).key b.key) ≡ false) → AllByRecursion (λ (x : Row). is_lt (order x.key b.key) ≡ false) rest
     not_below b [] h = tt
     not_below b (c ∷ rest) h = (h zero c (omega arith), not_below b rest (λ k d l. h (suc k) d (omega (arith, l))))
 
-    by : (xs : List (Bor Row)) → ((i j : ℕ) (d : Bor Row) → i ≤ j → j < length xs → is_lt (order (get_or xs j d).now.key (get_or xs i d).now.key) ≡ false) → Rise (rows_at xs)
+    by : (xs : List Row) → ((i j : ℕ) (d : Row) → i ≤ j → j < length xs → is_lt (order (get_or xs j d).key (get_or xs i d).key) ≡ false) → Rise xs
     by [] h = tt
     by (b ∷ rest) h = (not_below b rest (λ k d l. h zero (suc k) d (omega arith) (omega (arith, l))), by rest (λ i j d l m. h (suc i) (suc j) d (omega (arith, l)) (omega (arith, m))))
 
@@ -282,35 +282,35 @@ pub record IsPassed (rows : List Row) (kept : Row) (rest whole : List Row) : Typ
   pub all : rows ++ rows_joined (kept ∷ rest) [] ≡ rows_joined whole []
   pub rise : Rise (kept ∷ rest)
 
-pub passed-none : (sorted : List (Bor Row)) (first : Bor Row) (rest : List (Bor Row)) → sorted ≡ first ∷ rest → IsSortedByKey key_at (slice_cmp nat_cmp) sorted → IsPassed [] first.now (rows_at rest) (rows_at sorted)
+pub passed-none : (sorted : List Row) (first : Row) (rest : List Row) → sorted ≡ first ∷ rest → IsSortedByKey row_key (slice_cmp nat_cmp) sorted → IsPassed [] first rest sorted
 passed-none sorted first rest e up = record {
-  all = ap (λ (l : List (Bor Row)). rows_joined (rows_at l) []) (sym e);
-  rise = subst (λ (l : List (Bor Row)). Rise (rows_at l)) e (rise-from_sorted sorted up);
+  all = ap (λ (l : List Row). rows_joined l []) (sym e);
+  rise = subst Rise e (rise-from_sorted sorted up);
 }
 
-pub passed-next : (rows : List Row) (kept x : Row) (rest whole : List Row) → IsPassed rows kept (x ∷ rest) whole → not (same_text x.key kept.key) ≡ true → IsPassed (rows ++ kept ∷ []) x rest whole
+pub passed-next : (rows : List Row) (kept x : Row) (rest whole : List Row) → IsPassed rows kept (x ∷ rest) whole → same_text x.key kept.key ≡ false → IsPassed (rows ++ kept ∷ []) x rest whole
 passed-next rows kept x rest whole p n = record {
-  all = append_assoc rows (kept ∷ []) (rows_joined (x ∷ rest) []) ∙ ap (λ (l : List Row). rows ++ l) (sym (next_key kept x rest p.rise (sym (not-not (same_text x.key kept.key)) ∙ ap not n))) ∙ p.all;
+  all = append_assoc rows (kept ∷ []) (rows_joined (x ∷ rest) []) ∙ ap (λ (l : List Row). rows ++ l) (sym (next_key kept x rest p.rise n)) ∙ p.all;
   rise = p.rise.1;
 }
 
-pub passed-later : (rows : List Row) (kept x : Row) (rest whole : List Row) → IsPassed rows kept (x ∷ rest) whole → not (same_text x.key kept.key) ≡ false → nat_lt x.version.0 kept.version.0 ≡ false → IsPassed rows x rest whole
-passed-later rows kept x rest whole p e l = record { all = ap (λ (l : List Row). rows ++ l) (sym (same_key-later kept x rest (sym (not-not (same_text x.key kept.key)) ∙ ap not e) l)) ∙ p.all; rise = p.rise.1 }
+pub passed-later : (rows : List Row) (kept x : Row) (rest whole : List Row) → IsPassed rows kept (x ∷ rest) whole → same_text x.key kept.key ≡ true → not (nat_lt x.version.0 kept.version.0) ≡ true → IsPassed rows x rest whole
+passed-later rows kept x rest whole p e l = record { all = ap (λ (l : List Row). rows ++ l) (sym (same_key-later kept x rest e (sym (not-not (nat_lt x.version.0 kept.version.0)) ∙ ap not l))) ∙ p.all; rise = p.rise.1 }
 
-pub passed-earlier : (rows : List Row) (kept x : Row) (rest whole : List Row) → IsPassed rows kept (x ∷ rest) whole → not (same_text x.key kept.key) ≡ false → nat_lt x.version.0 kept.version.0 ≡ true → IsPassed rows kept rest whole
-passed-earlier rows kept x rest whole p e l = record { all = ap (λ (l : List Row). rows ++ l) (sym (same_key-earlier kept x rest (sym (not-not (same_text x.key kept.key)) ∙ ap not e) l)) ∙ p.all; rise = (p.rise.0.1, p.rise.1.1) }
+pub passed-earlier : (rows : List Row) (kept x : Row) (rest whole : List Row) → IsPassed rows kept (x ∷ rest) whole → same_text x.key kept.key ≡ true → not (nat_lt x.version.0 kept.version.0) ≡ false → IsPassed rows kept rest whole
+passed-earlier rows kept x rest whole p e l = record { all = ap (λ (l : List Row). rows ++ l) (sym (same_key-earlier kept x rest e (sym (not-not (nat_lt x.version.0 kept.version.0)) ∙ ap not l))) ∙ p.all; rise = (p.rise.0.1, p.rise.1.1) }
 
 -- what a stable sort ensures, where each call of the closure compares two keys
-module _ {F : Type 0} (g : Mut F (Bor (Bor Row) × (Bor (Bor Row) × Unit {0})) Ordering) (f : F) where
+module _ {F : Type 0} (g : Mut F (Bor Row × (Bor Row × Unit {0})) Ordering) (f : F) where
   abbrev pub ComparesKeys : Type 0
-  ComparesKeys = (a : Bor (Bor Row) × (Bor (Bor Row) × Unit {0})) (r : Ordering) (f' : F) → Called g f a r f' → (r ≡ slice_cmp nat_cmp (key_at a.0.now) (key_at a.1.0.now)) × (f' ≡ f)
+  ComparesKeys = (a : Bor Row × (Bor Row × Unit {0})) (r : Ordering) (f' : F) → Called g f a r f' → (r ≡ slice_cmp nat_cmp (row_key a.0.now) (row_key a.1.0.now)) × (f' ≡ f)
 
-  as_keys : ComparesKeys → ComparesAs g (λ x y. is_lt (slice_cmp nat_cmp (key_at x) (key_at y))) f
-  as_keys h = always_returns_same g (λ a r. is_lt r ≡ is_lt (slice_cmp nat_cmp (key_at a.0.now) (key_at a.1.0.now))) f (λ a r f' k. (ap is_lt (h a r f' k).0, (h a r f' k).1))
+  as_keys : ComparesKeys → ComparesAs g (λ x y. is_lt (slice_cmp nat_cmp (row_key x) (row_key y))) f
+  as_keys h = always_returns_same g (λ a r. is_lt r ≡ is_lt (slice_cmp nat_cmp (row_key a.0.now) (row_key a.1.0.now))) f (λ a r f' k. (ap is_lt (h a r f' k).0, (h a r f' k).1))
 
-module _ {F : Type 0} {g : Mut F (Bor (Bor Row) × (Bor (Bor Row) × Unit {0})) Ordering} {f : F} where
-  pub sorted-from : (xs : List (Bor Row)) → IsSortedByClosure g f xs → ComparesKeys g f → IsSortedByKey key_at (slice_cmp nat_cmp) xs
-  sorted-from xs up h = up (λ x y. is_lt (slice_cmp nat_cmp (key_at x) (key_at y))) (ranks_by nat_list_cmp_total key_at) (as_keys g f h)
+module _ {F : Type 0} {g : Mut F (Bor Row × (Bor Row × Unit {0})) Ordering} {f : F} where
+  pub sorted-from : (xs : List Row) → IsSortedByClosure g f xs → ComparesKeys g f → IsSortedByKey row_key (slice_cmp nat_cmp) xs
+  sorted-from xs up h = up (λ x y. is_lt (slice_cmp nat_cmp (row_key x) (row_key y))) (ranks_by nat_list_cmp_total row_key) (as_keys g f h)
 
-  pub in_turn-from : (xs ys : List (Bor Row)) → IsStableByClosure g f xs ys → ComparesKeys g f → StayInTurn xs ys
-  in_turn-from xs ys stable h = in_turn-from_stable xs ys (stable (λ x y. is_lt (slice_cmp nat_cmp (key_at x) (key_at y))) (ranks_by nat_list_cmp_total key_at) (as_keys g f h))
+  pub in_turn-from : (xs ys : List Row) → IsStableByClosure g f xs ys → ComparesKeys g f → StayInTurn xs ys
+  in_turn-from xs ys stable h = in_turn-from_stable xs ys (stable (λ x y. is_lt (slice_cmp nat_cmp (row_key x) (row_key y))) (ranks_by nat_list_cmp_total row_key) (as_keys g f h))

@@ -1,5 +1,6 @@
 pub mod Sent
 pub mod Texts
+pub mod Prefixed
 pub mod Joining
 pub mod Kept
 pub mod Finding

@@ -2,4 +2,5 @@ pub mod Kinds
 pub mod Sessions
 pub mod Changes
 pub mod Joined
+pub mod Prefixes
 pub mod Invariant

@@ -7,6 +7,7 @@
 mod kinds;
 mod merging;
 mod parts;
+mod prefixes;
 mod prepared;
 mod sending;
 mod sessions;
