@@ -1,7 +1,7 @@
 -- The post of a name lies where the posts of its entry start.
-use Rattle.std.proofs.Common.{◌≡◌, ℕ, zero, suc, ◌+◌, ◌-◌, ◌<◌, ◌≤◌, List, [], ◌∷◌, ◌++◌, length, map, Option, Some, None, refl, sym, ap, ◌∙◌, arith, subst}
+use Rattle.std.proofs.Common.{◌≡◌, ℕ, zero, suc, ◌+◌, ◌-◌, ◌<◌, ◌≤◌, List, [], ◌∷◌, ◌++◌, length, length-append, map, Option, Some, None, refl, sym, ap, ◌∙◌, arith, subst}
 use Rattle.std.proofs.lemmas.List.{length-map}
-use Rattle.std.specs.Prelude.{slice_get, reverse, unwrap_or}
+use Rattle.std.specs.Prelude.{IfSome, MatchOption, slice_get, reverse, unwrap_or}
 use Rattle.std.specs.List.{AllByRecursion}
 use Rattle.std.specs.Option.{option_map}
 use Rattle.hx_types.specs.Words.{when_some}
@@ -14,10 +14,12 @@ use Rattle.hx_trace.specs.declared.heads.Head.{Head}
 use Rattle.hx_trace.specs.declared.heads.Taken.{Taken}
 use Rattle.hx_trace.specs.declared.heads.Taken.TheVariants.{Tick, Halt, Sent, Whole}
 use Rattle.hx_trace.specs.declared.lists.Lists.{Lists}
-use Rattle.hx_trace.specs.Lists.{entries_in, entry_by, filed_by, whole_by}
+use Rattle.hx_trace.specs.Lists.{AreWhole, IsHeadIn, entries_in, entry_by, filed_by, whole_by}
+use Rattle.hx_trace.specs.Rooms.{HasItsRoom, IsRoomFor}
+use Rattle.hx_trace.specs.declared.heads.Room.{Room}
 use Rattle.hx_trace.specs.Turns.{turned}
 use Rattle.hx_trace.proofs.Numbering.{entry_is, no_entry}
-use Rattle.hx_trace.proofs.Spans.{get_range}
+use Rattle.hx_trace.proofs.Spans.{get_range, get_within_range}
 
 pub some_is : {A : Type 0} (x y : A) → Some x ≡ Some y → x ≡ y
 some_is x y h = ap (λ o. unwrap_or o x) h
@@ -132,3 +134,76 @@ pub post_filed : (posts : List Post) (notes : List Note) (wholes : List Entry) (
     → slice_get posts (head.posts.start + place) ≡ Some p
 post_filed posts notes wholes hs i place p head at is none =
     filed_post posts notes wholes head place p none (same_head posts notes wholes hs i place p head at is)
+
+-- the entry of the head at a place
+head_entry : (l : Lists) (id : PostId) (turns number place : ℕ) (head : Head) → turns ≡ length l.turns.items → (1 ≤ id.entry) × (number ≡ id.entry - 1) → (turns ≤ number) × (place ≡ number - turns)
+    → slice_get l.heads.items place ≡ Some head → slice_get (entries_in l) (id.entry - 1) ≡ Some (entry_by l.posts.items l.notes.items l.wholes.items head)
+head_entry l id turns number place head many from past is =
+    let first : List Entry = map (turned l.parts.items) l.turns.items in
+    let rest : List Entry = map (entry_by l.posts.items l.notes.items l.wholes.items) l.heads.items in
+    let long : length first ≡ length l.turns.items = length-map l.turns.items (turned l.parts.items) in
+    let at : id.entry - 1 - length first ≡ place = omega (arith, long, many, from, past) in
+    get_after first rest (id.entry - 1) (omega (arith, long, many, from, past))
+    ∙ ap (λ k. slice_get rest k) at
+    ∙ get_map (entry_by l.posts.items l.notes.items l.wholes.items) l.heads.items place
+    ∙ ap (λ (o : Option Head). option_map (entry_by l.posts.items l.notes.items l.wholes.items) o) is
+
+-- an entry that isn't kept whole is told by its head
+filed_entry : (posts : List Post) (notes : List Note) (wholes : List Entry) (head : Head) → whole_by wholes head.taken ≡ None → entry_by posts notes wholes head ≡ filed_by posts notes head
+filed_entry posts notes wholes head none = ap (λ (o : Option Entry). when_some o (filed_by posts notes head) (λ whole. whole)) none
+
+-- a post of a name lies where the posts of its head start
+named_post : (l : Lists) (id : PostId) (turns number place : ℕ) (head : Head) → turns ≡ length l.turns.items → (1 ≤ id.entry) × (number ≡ id.entry - 1) → (turns ≤ number) × (place ≡ number - turns)
+    → slice_get l.heads.items place ≡ Some head → whole_by l.wholes.items head.taken ≡ None → id.place < head.posts.count
+    → slice_get l.posts.items (head.posts.start + id.place) ≡ post_named id (reverse (entries_in l))
+named_post l id turns number place head many from past is none few =
+    sym (get_within_range l.posts.items head.posts.start head.posts.count id.place few)
+    ∙ ap (λ (e : Entry). slice_get e.outputs id.place) (sym (filed_entry l.posts.items l.notes.items l.wholes.items head none))
+    ∙ ap (λ (o : Option Entry). when_some o None (λ (x : Entry). slice_get x.outputs id.place)) (sym (head_entry l id turns number place head many from past is))
+    ∙ sym (post_at (entries_in l) id (omega (arith, from)))
+
+-- that place, if it is one of them
+pub record IsPlaced (l : Lists) (id : PostId) (o : Option ℕ) : Type 0 where
+  pub within : IfSome o (λ at. at < length l.posts.items)
+  pub post : IfSome o (λ at. slice_get l.posts.items at ≡ post_named id (reverse (entries_in l)))
+
+pub filed_place : (l : Lists) (id : PostId) (turns number place : ℕ) (head : Head) → AreWhole l → turns ≡ length l.turns.items → (1 ≤ id.entry) × (number ≡ id.entry - 1) → (turns ≤ number) × (place ≡ number - turns)
+    → slice_get l.heads.items place ≡ Some head → whole_by l.wholes.items head.taken ≡ None
+    → (o : Option ℕ) → MatchOption o (head.posts.count ≤ id.place) (λ at. (at ≡ head.posts.start + id.place) × (id.place < head.posts.count)) → IsPlaced l id o
+filed_place l id turns number place head whole many from past is none None h = record { within = tt; post = tt }
+filed_place l id turns number place head whole many from past is none (Some at) h =
+    let lies : IsHeadIn (length l.posts.items) (length l.notes.items) (length l.wholes.items) head =
+    each_at (IsHeadIn (length l.posts.items) (length l.notes.items) (length l.wholes.items)) l.heads.items place head whole.heads is in
+    record {
+      within = omega (arith, h.0, h.1, lies.posts_end);
+      post = ap (λ k. slice_get l.posts.items k) h.0 ∙ named_post l id turns number place head many from past is none h.1;
+    }
+
+-- a post that was sent is one of the entries
+sent_within : (t : List Entry) (id : PostId) (p : Post) → post_named id (reverse t) ≡ Some p → id.entry ≤ length t
+sent_within t id p h =
+    let some = sent_some t id p h in by (slice_get t (id.entry - 1)) refl some (sym (post_at t id some) ∙ h) where
+      by : (o : Option Entry) → slice_get t (id.entry - 1) ≡ o → 0 < id.entry → when_some o None (λ (x : Entry). slice_get x.outputs id.place) ≡ Some p → id.entry ≤ length t
+      by None is some e = let none : None ≡ Some p = e in absurd (cc)
+      by (Some x) is some e = let within = get_within t (id.entry - 1) x is in omega (arith, within, some)
+
+some_at : {A : Type 0} (xs : List A) (i : ℕ) → i < length xs → (x : A) × (slice_get xs i ≡ Some x)
+some_at [] i h = absurd (omega (arith, h))
+some_at (x ∷ xs) zero h = (x, refl)
+some_at (x ∷ xs) (suc i) h = some_at xs i (omega (arith, h))
+
+few_with_room : (l : Lists) (r : Option Room) (p n : ℕ) → HasItsRoom l r → IsRoomFor r p n → length l.turns.items + length l.heads.items + 1 < 4294967296
+few_with_room l None p n has for = absurd for
+few_with_room l (Some r) p n has for = has.few_entries
+
+-- the entry of a post that lies among the others has a small number, where there is room for one more
+pub few_named : (l : Lists) (r : Option Room) (p n : ℕ) (id : PostId) (at : ℕ) → HasItsRoom l r → IsRoomFor r p n → at < length l.posts.items
+    → slice_get l.posts.items at ≡ post_named id (reverse (entries_in l)) → id.entry < 4294967296
+few_named l r p n id at has for within is =
+    let sent = some_at l.posts.items at within in
+    let number = sent_within (entries_in l) id sent.0 (sym is ∙ sent.1) in
+    let few = few_with_room l r p n has for in
+    let long = length-append (map (turned l.parts.items) l.turns.items) (map (entry_by l.posts.items l.notes.items l.wholes.items) l.heads.items) in
+    let turns = length-map l.turns.items (turned l.parts.items) in
+    let heads = length-map l.heads.items (entry_by l.posts.items l.notes.items l.wholes.items) in
+    omega (arith, number, few, long, turns, heads)

@@ -56,6 +56,16 @@ get_drop (suc n) (x ∷ xs) i =
 pub get_range : {A : Type 0} (xs : List A) (start end i : ℕ) (x : A) → slice_get (slice_range xs start end) i ≡ Some x → slice_get xs (start + i) ≡ Some x
 get_range xs start end i x h = sym (get_drop start xs i) ∙ get_take (end - start) (drop start xs) i x h
 
+get_take_before : {A : Type 0} (n : ℕ) (xs : List A) (i : ℕ) → i < n → slice_get (take n xs) i ≡ slice_get xs i
+get_take_before zero xs i h = absurd (omega (arith, h))
+get_take_before (suc n) [] i h = refl
+get_take_before (suc n) (x ∷ xs) zero h = refl
+get_take_before (suc n) (x ∷ xs) (suc i) h = get_take_before n xs i (omega (arith, h))
+
+-- an item within a run is an item of the list
+pub get_within_range : {A : Type 0} (xs : List A) (start count i : ℕ) → i < count → slice_get (slice_range xs start (start + count)) i ≡ slice_get xs (start + i)
+get_within_range xs start count i h = get_take_before (start + count - start) (drop start xs) i (omega (arith, h)) ∙ get_drop start xs i
+
 pub get_before : {A : Type 0} (xs ys : List A) (i : ℕ) → i < length xs → slice_get (xs ++ ys) i ≡ slice_get xs i
 get_before [] ys i h = absurd (omega (arith, h))
 get_before (x ∷ xs) ys zero h = refl

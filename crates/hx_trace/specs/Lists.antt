@@ -1,6 +1,6 @@
 -- How a trace lies in memory: first the entries of adopted parts, a turn for each, which lie in their parts; then a head for
 -- each entry that was put at the end, and the posts and notes of these one after another. Those that are kept whole lie apart.
-use Rattle.std.specs.Prelude.{◌≡◌, ℕ, ◌+◌, ◌<◌, ◌≤◌, ◌^◌, ◌++◌, List, length, map, slice_get, slice_range, Option, None, Some, vec_capacity, ⊤}
+use Rattle.std.specs.Prelude.{◌≡◌, ◌⊎◌, ℕ, ◌+◌, ◌<◌, ◌≤◌, ◌^◌, ◌++◌, List, length, map, slice_get, slice_range, Option, None, Some, vec_capacity, ⊤}
 use Rattle.std.specs.List.{AllByRecursion}
 use Rattle.hx_types.specs.declared.messages.Post.{Post}
 use Rattle.hx_types.specs.declared.messages.PostId.{PostId}
@@ -95,7 +95,12 @@ pub record HasWholeRoom (l : Lists) : Type 0 where
   pub wholes : length l.wholes.items < vec_capacity l.wholes
   pub few_wholes : length l.wholes.items < 2 ^ 32
 
--- there is room for one entry more with p posts and n notes, and for it as a whole
+-- no entry is kept whole, and none was adopted
+pub record AreAllFiled (l : Lists) : Type 0 where
+  pub turns : length l.turns.items ≡ 0
+  pub wholes : length l.wholes.items ≡ 0
+
+-- there is room for one entry more with p posts and n notes, and for it as a whole where some entry isn't filed
 pub record HasRoom (l : Lists) (p n : ℕ) : Type 0 where
   pub heads : length l.heads.items < vec_capacity l.heads
   pub posts : length l.posts.items + p ≤ vec_capacity l.posts
@@ -103,7 +108,7 @@ pub record HasRoom (l : Lists) (p n : ℕ) : Type 0 where
   pub few_entries : length l.turns.items + length l.heads.items + 1 < 2 ^ 32
   pub few_posts : length l.posts.items + p < 2 ^ 32
   pub few_notes : length l.notes.items + n < 2 ^ 32
-  pub whole : HasWholeRoom l
+  pub whole : AreAllFiled l ⊎ HasWholeRoom l
 
 -- the items of the lists are the same
 pub record IsSame (old new : Lists) : Type 0 where

@@ -1,13 +1,17 @@
 -- A trace that grows, and the room that it has.
-use Rattle.std.specs.Prelude.{ℕ, ◌≤◌, List, Option, None, Some, ⊤}
+use Rattle.std.specs.Prelude.{◌≡◌, ℕ, ◌<◌, ◌≤◌, List, Option, None, Some, length, reverse, slice_get, ⊤}
+use Rattle.hx_types.specs.declared.messages.Post.{Post}
+use Rattle.hx_types.specs.declared.messages.PostId.{PostId}
 use Rattle.hx_types.specs.declared.traces.Entry.{Entry}
+use Rattle.hx_model.specs.Runs.{post_named}
 use Rattle.hx_trace.specs.declared.heads.Room.{Room}
 use Rattle.hx_trace.specs.declared.lists.Lists.{Lists}
 use Rattle.hx_trace.specs.Lists.{AreWhole, HasRoom}
 
--- the entries, and how many posts and notes the next entry may have, if there is room for it
+-- the entries, the posts of those that aren't kept whole one after another, and how many posts and notes the next entry may have, if there is room for it
 pub record Growth : Type 0 where
   pub entries : List Entry
+  pub filed : List Post
   pub room : Option Room
 
 -- where there is room the lists have it
@@ -24,3 +28,8 @@ pub record IsGrowing (l : Lists) (r : Option Room) : Type 0 where
 abbrev pub IsRoomFor : Option Room → ℕ → ℕ → Type 0
 IsRoomFor None p n = ⊥
 IsRoomFor (Some r) p n = (p ≤ r.posts) × (n ≤ r.notes)
+
+-- the post of this name lies at this place
+pub record LiesAt (g : Growth) (id : PostId) (at : ℕ) : Type 0 where
+  pub within : at < length g.filed
+  pub post : slice_get g.filed at ≡ post_named id (reverse g.entries)

@@ -4,7 +4,7 @@ ghost use Rattle.hx_trace.specs.Lists.{AreWhole, HasRoom, HasWholeRoom, IsSame, 
 
 use crate::heads::{Head, Span, Taken};
 use crate::lists::{Lists, count};
-use hx_types::{Actor, Entry, Memory, Note, Post};
+use hx_types::{Actor, Entry, Memory, Note, Notes, Post, Posts};
 
 /// Whether a list of so many items with so many more has at most 4,294,967,295: their places are numbers of 32 bits.
 #[inline]
@@ -45,7 +45,8 @@ fn reserve_head(lists: &mut Lists) -> Result<(), Memory>
     Ok(())
 }
 
-/// Makes room for an entry more with so many posts and notes, and for it as a whole.
+/// Makes room for an entry more with so many posts and notes, and for it as a whole where some entry is kept whole
+/// or was adopted: else each post has its place among the others, and no delivery is kept whole.
 #[inline]
 pub fn reserve(lists: &mut Lists, posts: usize, notes: usize) -> Result<(), Memory>
     ensures same { IsSame lists.old lists.new }
@@ -54,6 +55,9 @@ pub fn reserve(lists: &mut Lists, posts: usize, notes: usize) -> Result<(), Memo
     reserve_head(lists)?;
     make_room(&mut lists.posts, posts)?;
     make_room(&mut lists.notes, notes)?;
+    if lists.turns.is_empty() && lists.wholes.is_empty() {
+        return Ok(());
+    }
     make_room(&mut lists.wholes, 1)
 }
 
@@ -109,6 +113,43 @@ pub fn file(lists: &mut Lists, actor: Actor, taken: Taken, outputs: Vec<Post>, n
     };
     append(&mut lists.posts, outputs);
     append(&mut lists.notes, notes);
+    lists.heads.push_reserved(head);
+}
+
+/// Puts an entry at the end, whose posts and notes move out of the lists in which they lie. There is room, so it takes
+/// no memory.
+#[inline(always)]
+pub fn file_from(
+    lists: &mut Lists,
+    actor: Actor,
+    taken: Taken,
+    outputs: &mut Posts,
+    notes: &mut Notes,
+)
+    requires whole { AreWhole lists.old }
+    requires room { HasRoom lists.old (length outputs.old) (length notes.old) }
+    requires taken { IsTakenIn (length lists.old.posts.items) (length lists.old.wholes.items) taken }
+    requires filed { whole_by lists.old.wholes.items taken ≡ None }
+    ensures whole { AreWhole lists.new }
+    ensures entries { entries_in lists.new ≡ entries_in lists.old
+        ++ record { actor = actor; input = input_by lists.old.posts.items taken; outputs = outputs.old; notes = notes.old } ∷ [] }
+    ensures outputs { outputs.new ≡ [] }
+    ensures notes { notes.new ≡ [] }
+{
+    let head = Head {
+        actor,
+        taken,
+        posts: Span {
+            start: lists.posts.len() as u32,
+            count: outputs.len() as u32,
+        },
+        notes: Span {
+            start: lists.notes.len() as u32,
+            count: notes.len() as u32,
+        },
+    };
+    outputs.move_to(&mut lists.posts);
+    notes.move_to(&mut lists.notes);
     lists.heads.push_reserved(head);
 }
 

@@ -1,23 +1,24 @@
-ghost use Rattle.std.specs.Prelude.{◌≡◌, ◌<◌, ◌≤◌, ◌^◌, ◌+◌, ◌++◌, [], ◌∷◌, length, map, reverse, Some, None, IfOk, IfSome, OnErr, OnOk};
+ghost use Rattle.std.specs.Prelude.{◌≡◌, ◌<◌, ◌≤◌, ◌^◌, ◌+◌, ◌++◌, [], ◌∷◌, length, map, reverse, slice_get, Some, None, IfNone, IfOk, IfSome, MatchOption, OnErr, OnOk};
 ghost use Rattle.std.specs.List.{AllByRecursion};
 ghost use Rattle.hx_types.specs.Words.{post};
 ghost use Rattle.hx_types.specs.declared.traces.Input.TheVariants as an_input;
 ghost use Rattle.hx_model.specs.Runs.{MayTake, post_named};
-ghost use Rattle.hx_trace.specs.Lists.{AreWhole, IsFiledAs, entries_in};
-ghost use Rattle.hx_trace.specs.Rooms.{IsRoomFor};
+ghost use Rattle.hx_trace.specs.Lists.{AreAllFiled, AreWhole, IsFiledAs, delivery, entries_in};
+ghost use Rattle.hx_trace.specs.Rooms.{IsRoomFor, LiesAt};
 ghost use Rattle.hx_trace.specs.Turns.{IsTurnOf, turned};
 
-use crate::filing::{file, keep, reserve, reserve_whole};
-use crate::heads::{Room, Taken};
+use crate::filing::{file, file_from, keep, reserve, reserve_whole};
+use crate::heads::{Room, Span, Taken};
 use crate::lists::{Lists, adopted, count, empty, head_at};
 use crate::turns::Turn;
 use hx_clock::Parts;
-use hx_types::{Actor, Entry, Input, Memory, Message, PostId};
+use hx_types::{Actor, Entry, Input, Memory, Message, Notes, Post, PostId, Posts};
 use std::alloc::Global;
 use std::marker::Model;
 
-/// The entries of a trace, which grow at their end. Contracts see them, and how many posts and notes the next
-/// entry may have, if there is room for it. Each entry that is put at the end uses the room up.
+/// The entries of a trace, which grow at their end. Contracts see them, the posts of those that aren't kept whole one
+/// after another, and how many posts and notes the next entry may have, if there is room for it. Each entry that is put
+/// at the end uses the room up.
 pub struct GrowingTrace {
     lists: Lists,
     room: Option<Room>,
@@ -35,7 +36,7 @@ impl Model for GrowingTrace {
 
     ghost Value = { Growth };
 
-    ghost view = { λ g. record { entries = entries_in g.lists; room = g.room } };
+    ghost view = { λ g. record { entries = entries_in g.lists; filed = g.lists.posts.items; room = g.room } };
 
     ghost invariant = { λ g. IsGrowing g.lists g.room };
 }
@@ -47,7 +48,8 @@ fn taken_of(lists: &Lists, actor: Actor, input: &Input) -> Option<Taken>
     requires few_entries { length lists.now.turns.items + length lists.now.heads.items < 2 ^ 32 }
     requires few_posts { length lists.now.posts.items < 2 ^ 32 }
     requires may { MayTake (reverse (entries_in lists.now)) actor input.now }
-    ensures { IfSome result (IsFiledAs lists.now input.now) }
+    ensures filed { IfSome result (IsFiledAs lists.now input.now) }
+    ensures unfiled { IfNone result (AreAllFiled lists.now → ⊥) }
 {
     match input {
         Input::Tick => Some(Taken::Tick),
@@ -62,7 +64,8 @@ fn sent_at(lists: &Lists, to: Actor, id: PostId, from: Actor, message: &Message)
     requires few_entries { length lists.now.turns.items + length lists.now.heads.items < 2 ^ 32 }
     requires few_posts { length lists.now.posts.items < 2 ^ 32 }
     requires sent { post_named id (reverse (entries_in lists.now)) ≡ Some (post from to message.now) }
-    ensures { IfSome result (IsFiledAs lists.now (an_input.Deliver id from message.now)) }
+    ensures filed { IfSome result (IsFiledAs lists.now (an_input.Deliver id from message.now)) }
+    ensures unfiled { IfNone result (AreAllFiled lists.now → ⊥) }
 {
     let place = (id.entry as usize - 1).checked_sub(lists.turns.len())?;
     let Some(head) = head_at(lists, place) else {
@@ -75,6 +78,34 @@ fn sent_at(lists: &Lists, to: Actor, id: PostId, from: Actor, message: &Message)
             place: id.place,
             at: head.posts.start + id.place,
         }),
+    }
+}
+
+/// Where the post of a name lies among the posts of heads.
+#[inline(always)]
+fn place_in(lists: &Lists, id: PostId) -> Option<usize>
+    requires { AreWhole lists.now }
+    ensures within { IfSome result (λ at. at < length lists.now.posts.items) }
+    ensures post { IfSome result (λ at. slice_get lists.now.posts.items at ≡ post_named id (reverse (entries_in lists.now))) }
+{
+    let number = id.entry.checked_sub(1)?;
+    let place = (number as usize).checked_sub(lists.turns.len())?;
+    let head = head_at(lists, place)?;
+    match head.taken {
+        Taken::Whole { .. } => None,
+        _ => place_among(head.posts, id.place),
+    }
+}
+
+/// Where an item of a run lies, by its place from 0 in the run, or `None` past the end.
+#[inline(always)]
+fn place_among(span: Span, place: u32) -> Option<usize>
+    ensures { MatchOption result (span.count ≤ place) (λ at. (at ≡ span.start + place) × (place < span.count)) }
+{
+    if place < span.count {
+        Some(span.start as usize + place as usize)
+    } else {
+        None
     }
 }
 
@@ -130,6 +161,7 @@ impl GrowingTrace {
     /// there is none, the entries stay all the same. A trace of 4,294,967,295 entries, posts or notes has no room for more.
     pub fn reserve(&mut self, posts: usize, notes: usize) -> Result<(), Memory>
         ensures entries { self.new.entries ≡ self.old.entries }
+        ensures filed { self.new.filed ≡ self.old.filed }
         ensures room { OnOk result (self.new.room ≡ Some (record { posts = posts; notes = notes })) }
     {
         self.room = None;
@@ -161,6 +193,67 @@ impl GrowingTrace {
             }
             None => keep(&mut self.lists, entry),
         }
+    }
+
+    /// Where the post of a name lies among the posts of the entries. There is `None` where there is no such post, and
+    /// where it is one of an entry that is kept whole or that was adopted, which lies elsewhere.
+    #[inline(always)]
+    pub fn place_of(&self, id: PostId) -> Option<usize>
+        ensures { IfSome result (LiesAt self.now id) }
+    {
+        place_in(&self.lists, id)
+    }
+
+    /// The post at a place.
+    #[inline(always)]
+    pub fn post(&self, at: usize) -> &Post
+        requires { at < length self.now.filed }
+        ensures { Some result.now ≡ slice_get self.now.filed at }
+    {
+        &self.lists.posts[at]
+    }
+
+    /// Puts the delivery of a post of the trace at the end, by the place where the post lies. The posts and notes of
+    /// the entry move out of the lists in which they lie, which keep their room. It takes no memory.
+    #[inline(always)]
+    pub fn append_delivery(
+        &mut self,
+        actor: Actor,
+        id: PostId,
+        at: usize,
+        outputs: &mut Posts,
+        notes: &mut Notes,
+    )
+        requires room { IsRoomFor self.old.room (length outputs.old) (length notes.old) }
+        requires lies { LiesAt self.old id at }
+        ensures entries { self.new.entries ≡ self.old.entries
+            ++ record { actor = actor; input = delivery id (post_named id (reverse self.old.entries)); outputs = outputs.old; notes = notes.old } ∷ [] }
+        ensures room { self.new.room ≡ None }
+        ensures outputs { outputs.new ≡ [] }
+        ensures notes { notes.new ≡ [] }
+    {
+        self.room = None;
+        let taken = Taken::Sent {
+            entry: id.entry as u32,
+            place: id.place,
+            at: at as u32,
+        };
+        file_from(&mut self.lists, actor, taken, outputs, notes);
+    }
+
+    /// Puts an entry of an actor's own turn at the end. Its posts and notes move out of the lists in which they lie,
+    /// which keep their room. It takes no memory.
+    #[inline(always)]
+    pub fn append_tick(&mut self, actor: Actor, outputs: &mut Posts, notes: &mut Notes)
+        requires room { IsRoomFor self.old.room (length outputs.old) (length notes.old) }
+        ensures entries { self.new.entries ≡ self.old.entries
+            ++ record { actor = actor; input = an_input.Tick; outputs = outputs.old; notes = notes.old } ∷ [] }
+        ensures room { self.new.room ≡ None }
+        ensures outputs { outputs.new ≡ [] }
+        ensures notes { notes.new ≡ [] }
+    {
+        self.room = None;
+        file_from(&mut self.lists, actor, Taken::Tick, outputs, notes);
     }
 
     /// Keeps a whole entry at the end, with its message. Where there is no memory the entries stay.

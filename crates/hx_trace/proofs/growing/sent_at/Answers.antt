@@ -31,4 +31,4 @@ returns-in_default-taken c =
     let is : slice_get l.heads.items c.in_ok-place.place ≡ Some c.in-Some.head.now = sym c.head_at.ensures ∙ ap option_copied c.in-Some.is in
     let none = unkept l.wholes.items c.in-Some.head.now.taken c.in_default-taken.not-Whole in
     let post = post_filed l.posts.items l.notes.items l.wholes.items l.heads.items c.in_ok-place.place c.args.id.place _ c.in-Some.head.now at is none in
-    record { within = get_within l.posts.items _ _ post; filed = refl; input = ap (delivery c.args.id) post }
+    record { filed = record { within = get_within l.posts.items _ _ post; filed = refl; input = ap (delivery c.args.id) post }; unfiled = tt }
