@@ -9,16 +9,16 @@ ghost use Rattle.hx_report.specs.Reporting.{row_line, rows_lines};
 
 use crate::answers::{put_each_row, put_row, put_rows_head};
 use hx_print::put_bytes;
-use hx_types::{Memory, Row, Rows, Same, Shared, Space, Text};
+use hx_types::{Memory, Row, Rows, Same, Shared, Space, Text, prefix_of};
 use std::alloc::Global;
 use std::cmp::Ordering;
 use std::mem;
 
-/// A row that was printed, the front of its key, and where its line lies in the text of lines.
+/// A row that was printed, the prefix of its key, and where its line lies in the text of lines.
 #[derive(Clone, Copy)]
 pub struct PrintedRow<'a> {
     pub row: &'a Row,
-    pub front: u64,
+    pub prefix: u64,
     pub start: usize,
     pub end: usize,
 }
@@ -48,23 +48,6 @@ pub fn no_printed_rows<'a>(alloc: Global) -> PrintedRows<'a>
     }
 }
 
-/// The first eight bytes of a text as a number, the first of them highest, or of a shorter one all.
-fn front_of(text: &Text) -> u64 {
-    let bytes = text.as_bytes();
-    if let [a, b, c, d, e, f, g, h, ..] = bytes {
-        return u64::from_be_bytes([*a, *b, *c, *d, *e, *f, *g, *h]);
-    }
-    let mut front = 0;
-    for place in 0..8 {
-        let byte = match bytes.get(place) {
-            Some(byte) => *byte,
-            None => 0,
-        };
-        front = (front << 8) | u64::from(byte);
-    }
-    front
-}
-
 /// Whether two rows are equal.
 fn is_same(row: &Row, other: &Row) -> bool
     ensures { IsTrue result → row.now ≡ other.now }
@@ -79,13 +62,13 @@ fn make_line<'a>(lines: &mut Vec<u8>, space: &Space, row: &'a Row) -> Result<Pri
     ensures row { IfOk result (λ made. made.row.now ≡ row.now) }
     ensures kept { OnOk result ((p : PrintedRow) → IsLine space.now lines.old.items p → IsLine space.now lines.new.items p) }
 {
-    let front = front_of(&row.key);
+    let prefix = prefix_of(row.key.as_str());
     let start = lines.len();
     put_row(lines, space, row)?;
     let end = lines.len();
     Ok(PrintedRow {
         row,
-        front,
+        prefix,
         start,
         end,
     })
@@ -120,11 +103,11 @@ fn put_next_row<'a>(
     ensures text { OnOk result (out.new.items ≡ out.old.items ++ row_line space.now row.now) }
     ensures printed { OnOk result (IsPrinted space.now printed.new) }
 {
-    let front = front_of(&row.key);
+    let prefix = prefix_of(row.key.as_str());
     let mut place = from;
     'others: while let Some(other) = printed.rows.get(place) {
         let other = *other;
-        if front <= other.front {
+        if prefix <= other.prefix {
             if is_same(other.row, row) {
                 put_bytes(out, &printed.lines[other.start..other.end])?;
                 return Ok(place + 1);

@@ -1,6 +1,5 @@
 pub mod Sent
 pub mod Texts
-pub mod Prefixed
 pub mod Joining
 pub mod Kept
 pub mod Finding

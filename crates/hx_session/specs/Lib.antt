@@ -2,5 +2,4 @@ pub mod Kinds
 pub mod Sessions
 pub mod Changes
 pub mod Joined
-pub mod Prefixes
 pub mod Invariant

@@ -7,7 +7,6 @@
 mod kinds;
 mod merging;
 mod parts;
-mod prefixes;
 mod prepared;
 mod sending;
 mod sessions;

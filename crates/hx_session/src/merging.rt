@@ -9,8 +9,7 @@ ghost use Rattle.hx_session.specs.Changes.{part_seen};
 ghost use Rattle.hx_session.specs.Joined.{row_key, rows_in};
 
 use crate::parts::Part;
-use crate::prefixes::prefix_of;
-use hx_types::{Exact, Memory, RegionId, Row, Rows, Shared};
+use hx_types::{Exact, Memory, RegionId, Row, Rows, Shared, prefix_of};
 use std::alloc::Global;
 use std::cmp::Ordering;
 use std::marker::Model;
@@ -37,7 +36,7 @@ struct Keyed<'a> {
 
 impl<'a> Model for Keyed<'a> {
     ghost use Rattle.hx_types.specs.declared.calls.Row.{Row};
-    ghost use Rattle.hx_session.specs.Prefixes.{IsPrefixOf};
+    ghost use Rattle.hx_types.specs.Prefixes.{IsPrefixOf};
 
     ghost Value = { Row };
 

@@ -3,3 +3,5 @@ pub mod Differing
 pub mod Writing
 pub mod Sums
 pub mod Failing
+pub mod Prefixed
+pub mod Lemmas

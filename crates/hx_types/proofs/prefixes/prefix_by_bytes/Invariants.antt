@@ -1,6 +1,6 @@
 use Rattle.std.proofs.Common.{◌≡◌, ◌<◌, ◌+◌, ◌^◌, ℕ, drop}
-use Rattle.hx_session.specs.Prefixes.{prefix_from, prefix_of}
-use Rattle.hx_session.proofs.prefixes.prefix_by_bytes.Given as goal
+use Rattle.hx_types.specs.Prefixes.{prefix_from, prefix_of}
+use Rattle.hx_types.proofs.prefixes.prefix_by_bytes.Given as goal
 
 -- the bytes so far, with those that are still to come, are the prefix
 abbrev pub invariant-loop-place : goal.invariant-loop-place

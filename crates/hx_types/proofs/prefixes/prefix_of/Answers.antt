@@ -1,8 +1,8 @@
 use Rattle.std.proofs.Common.{ap, ◌∙◌}
 use Rattle.std.proofs.Math.Facts.{Fits-lt-pow}
-use Rattle.hx_session.specs.Prefixes.{prefix_of}
-use Rattle.hx_session.proofs.Prefixed.{all-bytes, first-eight}
-use Rattle.hx_session.proofs.prefixes.prefix_of.Goals as goal
+use Rattle.hx_types.specs.Prefixes.{prefix_of}
+use Rattle.hx_types.proofs.Prefixed.{all-bytes, first-eight}
+use Rattle.hx_types.proofs.prefixes.prefix_of.Goals as goal
 
 pub returns-in-Some : goal.returns-in-Some
 returns-in-Some c = record {

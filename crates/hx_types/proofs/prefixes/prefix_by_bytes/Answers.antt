@@ -1,9 +1,9 @@
 use Rattle.std.proofs.Common.{◌≡◌, suc, ◌<◌, ◌+◌, ◌*◌, add-one, arith, drop, get_or, sym, ◌∙◌}
 use Rattle.std.proofs.Math.Facts.{Fits-lt-pow, Fits-of_lt}
-use Rattle.hx_session.specs.Prefixes.{prefix_from}
-use Rattle.hx_session.proofs.prefixes.prefix_by_bytes.Goals as goal
-use Rattle.hx_session.proofs.prefixes.prefix_by_bytes.Goals.{in-Some, in-None}
-use Rattle.hx_session.proofs.Prefixed.{few-bytes, more-bytes, one-byte}
+use Rattle.hx_types.specs.Prefixes.{prefix_from}
+use Rattle.hx_types.proofs.prefixes.prefix_by_bytes.Goals as goal
+use Rattle.hx_types.proofs.prefixes.prefix_by_bytes.Goals.{in-Some, in-None}
+use Rattle.hx_types.proofs.Prefixed.{few-bytes, more-bytes, one-byte}
 
 pub overflow_mul-prefix : goal.overflow_mul-prefix
 overflow_mul-prefix c = let l = few-bytes c.loop-place.prefix c.loop-place.place c.loop-place.invariant.1 c.loop-place-test.true in Fits-of_lt (omega (arith, l))
