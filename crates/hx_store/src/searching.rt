@@ -1,4 +1,4 @@
-ghost use Rattle.std.specs.Prelude.{◌≡◌, ◌++◌, IfOk, OnOk};
+ghost use Rattle.std.specs.Prelude.{◌≡◌, ◌++◌, ◌+◌, ◌<◌, ◌≤◌, IfOk, OnOk, vec_capacity, vec_len};
 ghost use Rattle.std.specs.List.{flat_map};
 ghost use Rattle.hx_types.specs.Words.{list_of};
 ghost use Rattle.hx_index.specs.Orders.{rows_at};
@@ -6,7 +6,7 @@ ghost use Rattle.hx_index.specs.Orders.{rows_at};
 use hx_types::{Exact, Memory, Row, Rows, Shared};
 use std::alloc::Global;
 
-/// Copies of the rows at these places, one after another.
+/// Further owners of the rows at these places, one after another. Room for all is made once.
 pub fn rows_at(alloc: Global, rows: &[Option<Shared<Row>>], places: &[u32]) -> Result<Rows, Memory>
     ensures { IfOk result (λ found. found ≡ flat_map (λ i. list_of (rows_at rows.now i)) places.now) }
 {
@@ -18,14 +18,18 @@ pub fn rows_at(alloc: Global, rows: &[Option<Shared<Row>>], places: &[u32]) -> R
     Rows::from_vec(alloc, found)
 }
 
-/// Adds a copy of the row at a place, if there is one.
+/// Adds the row at a place, if there is one. There is room, so it takes no memory: there is none
+/// only where a count of owners is full.
 fn add_row_at(
     alloc: Global,
     rows: &[Option<Shared<Row>>],
     place: u32,
     found: &mut Vec<Shared<Row>>,
 ) -> Result<(), Memory>
-    ensures { OnOk result (found.new.items ≡ found.old.items ++ list_of (rows_at rows.now place)) }
+    requires { vec_len found.old < vec_capacity found.old }
+    ensures more { OnOk result (found.new.items ≡ found.old.items ++ list_of (rows_at rows.now place)) }
+    ensures one { vec_len found.new ≤ vec_len found.old + 1 }
+    ensures capacity { vec_capacity found.new ≡ vec_capacity found.old }
 {
     match rows.get(place as usize) {
         Some(row) => add_row(alloc, row, found),
@@ -33,16 +37,19 @@ fn add_row_at(
     }
 }
 
-/// Adds a copy of a row, if it is there.
+/// Adds a row, if it is there. There is room.
 fn add_row(
     alloc: Global,
     row: &Option<Shared<Row>>,
     found: &mut Vec<Shared<Row>>,
 ) -> Result<(), Memory>
-    ensures { OnOk result (found.new.items ≡ found.old.items ++ list_of row.now) }
+    requires { vec_len found.old < vec_capacity found.old }
+    ensures more { OnOk result (found.new.items ≡ found.old.items ++ list_of row.now) }
+    ensures one { vec_len found.new ≤ vec_len found.old + 1 }
+    ensures capacity { vec_capacity found.new ≡ vec_capacity found.old }
 {
     if let Some(row) = row {
-        found.push(row.copy(alloc)?)?;
+        found.push_reserved(row.copy(alloc)?);
     }
     Ok(())
 }
