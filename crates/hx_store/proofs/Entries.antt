@@ -1,5 +1,5 @@
 -- Keys and their slots as entries.
-use Rattle.std.proofs.Common.{◌≡◌, ℕ, zero, suc, ◌+◌, ◌<◌, ◌≤◌, Bool, true, false, List, [], ◌∷◌, ◌++◌, length, is_some, Option, None, Some, refl, ap, sym, ◌∙◌, subst, arith, cond, inl, inr}
+use Rattle.std.proofs.Common.{◌≡◌, ℕ, zero, suc, ◌+◌, ◌<◌, ◌^◌, Bool, true, false, List, [], ◌∷◌, ◌++◌, length, is_some, Option, None, Some, refl, ap, sym, ◌∙◌, subst, arith, cond, inl, inr}
 use Rattle.std.specs.List.{list_any, slice_get, slice_set}
 use Rattle.std.specs.Map.{keys_of, lookup, values_of}
 use Rattle.std.specs.Option.{IsSomeAnd}
@@ -13,7 +13,7 @@ use Rattle.hx_model.specs.Slots.{KeyState, object_of}
 use Rattle.hx_slot.specs.States.{SlotState}
 use Rattle.hx_index.specs.Orders.{rows_at}
 use Rattle.hx_index.proofs.Looping.{set-elsewhere, set-here, set-length}
-use Rattle.hx_store.specs.Indexed.{IndexedState, IsWider, is_marked, kept_at}
+use Rattle.hx_store.specs.Indexed.{IndexedState, is_marked, kept_at}
 use Rattle.hx_store.specs.Invariant.{HasMoved, is_listed, key_in, stored_at}
 use Rattle.hx_store.specs.Prefixes.{IsPrefixOf}
 use Rattle.hx_store.specs.Slots.{AreSlots, Entry, IsStepped, StoreSlot, entries_of, rows_in}
@@ -172,8 +172,9 @@ are-set ks ss x i s w h l at e = record {
   count = h.count ∙ sym (set-length ss i w);
   first = h.first;
   kept = record {
-    count = (let c = h.kept.count in let n = set-length ss i w in omega (arith, c, n));
-    fresh = λ k f. h.kept.fresh k f ∙ same k;
+    few = (let c = h.kept.few in let n = set-length ss i w in omega (arith, c, n));
+    fresh = λ k m f. h.kept.fresh k m f ∙ same k;
+    past = h.kept.past;
   };
 }
   where
@@ -189,24 +190,19 @@ set-stale ks ss x y i w h l rs ms = record {
   count = h.count ∙ sym (set-length ss i w);
   first = h.first;
   kept = record {
-    count = (let c = h.kept.count in let n = set-length ss i w in let q = ap length ms in let m = set-length x.stale i true in omega (arith, c, n, q, m));
-    fresh = λ k f. elim (cases_eq k i) [
-      | inl p ↦ absurd (false≢true (sym f ∙ (λ j. is_marked (ms j) (p j)) ∙ set-marked x.stale i true (let c = h.kept.count in omega (arith, c, l))))
-      | inr n ↦ ap (λ (rows : List (Option Row)). rows_at rows k) rs ∙ h.kept.fresh k (sym (ap (λ (m : List Bool). is_marked m k) ms ∙ set-unmarked x.stale i k true n) ∙ f) ∙ sym (ap row-in (set-elsewhere ss i k w n))
+    few = (let c = h.kept.few in let n = set-length ss i w in omega (arith, c, n));
+    fresh = λ k m f. elim (cases_eq k i) [
+      | inl p ↦ absurd (false≢true (sym f ∙ (λ j. is_marked (ms j) (p j)) ∙ set-marked x.stale i true (let q = same-length in omega (arith, m, q, p))))
+      | inr n ↦ ap (λ (rows : List (Option Row)). rows_at rows k) rs
+          ∙ h.kept.fresh k (let q = same-length in omega (arith, m, q)) (sym (ap (λ (m : List Bool). is_marked m k) ms ∙ set-unmarked x.stale i k true n) ∙ f)
+          ∙ sym (ap row-in (set-elsewhere ss i k w n))
     ];
+    past = λ k m. ap (λ (rows : List (Option Row)). rows_at rows k) rs ∙ h.kept.past k (let q = same-length in omega (arith, m, q));
   };
 }
-
--- the index got places
-pub wider-slots : {ps : List ℕ} (ks : List Key) (ss : List SlotState) (x y : IndexedState) → AreSlots ks ps ss x → IsWider x y → AreSlots ks ps ss y
-wider-slots ks ss x y h more = record {
-  count = h.count;
-  first = h.first;
-  kept = record {
-    count = (let c = h.kept.count in let m = more.count in omega (arith, c, m));
-    fresh = λ i f. more.rows i ∙ h.kept.fresh i (sym (more.stale i) ∙ f);
-  };
-}
+  where
+    same-length : length y.stale ≡ length x.stale
+    same-length = ap length ms ∙ set-length x.stale i true
 
 pub value-there : (ks : List Key) (i : ℕ) → i < length ks → None ≡ slice_get (values_of ks) i → ⊥
 value-there [] i l e = omega arith
@@ -236,13 +232,14 @@ module _ (ss : List SlotState) (s : SlotState) (none : row s ≡ None) where
   length-added [] = refl
   length-added (x ∷ xs) = let more = length-added xs in omega (arith, more)
 
-  pub slots-added : {ps : List ℕ} (ks : List Key) (key : List ℕ) (p : ℕ) (x y : IndexedState) → IsPrefixOf key p → AreSlots ks ps ss x → IsWider x y → length ss + 1 ≤ length y.stale → AreSlots (ks ++ (key, false) ∷ []) (ps ++ p ∷ []) (ss ++ s ∷ []) y
-  slots-added {ps = ps} ks key p x y own h more room = record {
+  pub slots-added : {ps : List ℕ} (ks : List Key) (key : List ℕ) (p : ℕ) (x : IndexedState) → IsPrefixOf key p → AreSlots ks ps ss x → length ss + 1 < 2 ^ 32 → AreSlots (ks ++ (key, false) ∷ []) (ps ++ p ∷ []) (ss ++ s ∷ []) x
+  slots-added {ps = ps} ks key p x own h few = record {
     count = (let a = keys-added ks in let b = length-added ss in let c = h.count in omega (arith, a, b, c));
     first = added-prefix ks ps key p h.first own;
     kept = record {
-      count = (let l = length-added ss in omega (arith, l, room));
-      fresh = λ i f. more.rows i ∙ h.kept.fresh i (sym (more.stale i) ∙ f) ∙ sym (rows-added ss i);
+      few = (let l = length-added ss in omega (arith, l, few));
+      fresh = λ i l f. h.kept.fresh i l f ∙ sym (rows-added ss i);
+      past = h.kept.past;
     };
   }
     where

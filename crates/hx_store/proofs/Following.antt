@@ -2,7 +2,7 @@
 use Rattle.std.proofs.Common.{◌≡◌, ℕ, zero, suc, ◌+◌, ◌^◌, ◌<◌, ◌≤◌, Bool, true, false, cond, List, [], ◌∷◌, ◌++◌, length, take, inl, inr, is_some, Option, None, Some, get_or, refl, ap, sym, ◌∙◌, subst, arith, eqb}
 use Rattle.std.specs.List.{slice_get, slice_set}
 use Rattle.std.specs.Option.{IsSomeAnd}
-use Rattle.std.proofs.lemmas.Bool.{cases_eq, cond-true, eq-eqb, false≢true, ne_eqb}
+use Rattle.std.proofs.lemmas.Bool.{cases_eq, cases_lt, cases_order, cond-true, eq-eqb, false≢true, ne_eqb}
 use Rattle.std.proofs.lemmas.Option.{same_Some, slice_get-get_or}
 use Rattle.hx_types.specs.declared.calls.Row.{Row}
 use Rattle.hx_types.specs.Words.{when_some}
@@ -261,43 +261,116 @@ module _ (index : IndexState) (rows : List (Option Row)) (marks : List Bool) (pl
   -- and then it has one slot more by its object
   pub one-fresh : (slots : List SlotState) (x : IndexedState) (row : Option Row) (new : IndexState) → x.rows ≡ rows → x.stale ≡ marks → IsOf slots x → row ≡ kept_at slots place → IsOf slots (record { index = new; rows = slice_set rows place row; stale = slice_set marks place false })
   one-fresh slots x row new rs ms of e = record {
-    count = (let c = of.count in let q = ap length ms in let l = set-length marks place false in omega (arith, c, q, l));
-    fresh = λ i f. elim (cases_eq i place) [
+    few = of.few;
+    fresh = λ i l f. elim (cases_eq i place) [
       | inl p ↦ ap (rows_at (slice_set rows place row)) p ∙ ap flat (set-here rows place row last-within) ∙ e ∙ ap (kept_at slots) (sym p)
-      | inr n ↦ ap flat (set-elsewhere rows place i row n) ∙ ap (λ (r : List (Option Row)). rows_at r i) (sym rs) ∙ of.fresh i (ap (λ (m : List Bool). is_marked m i) ms ∙ sym (set-unmarked marks place i false n) ∙ f)
+      | inr n ↦ ap flat (set-elsewhere rows place i row n) ∙ ap (λ (r : List (Option Row)). rows_at r i) (sym rs)
+          ∙ of.fresh i (let q = ap length ms in let s = set-length marks place false in omega (arith, l, q, s)) (ap (λ (m : List Bool). is_marked m i) ms ∙ sym (set-unmarked marks place i false n) ∙ f)
     ];
+    past = λ i l.
+        let s = set-length marks place false in
+        let q = ap length ms in
+        let m = marked-within marks place last-marked in
+        ap flat (set-elsewhere rows place i row (λ p. omega (arith, l, s, m, p))) ∙ ap (λ (r : List (Option Row)). rows_at r i) (sym rs) ∙ of.past i (omega (arith, l, s, q));
   }
 
--- where nothing is marked the index has each slot by its object
-pub all-fresh : (slots : List SlotState) (x : IndexedState) → IsOf slots x → marked_count x.stale ≡ 0 → rows_at x.rows ≡ kept_at slots
-all-fresh slots x of e = λ k i. of.fresh i (none-marked x.stale e i) k
+-- beyond the slots is no object
+kept-past : (slots : List SlotState) (i : ℕ) → length slots ≤ i → kept_at slots i ≡ None
+kept-past [] i l = refl
+kept-past (s ∷ slots) zero l = absurd (omega (arith, l))
+kept-past (s ∷ slots) (suc i) l = kept-past slots i (omega (arith, l))
 
--- a place more, at which nothing is yet
+-- where each slot has a place and nothing is marked the index has each slot by its object
+pub all-fresh : (slots : List SlotState) (x : IndexedState) → IsOf slots x → length slots ≤ length x.stale → marked_count x.stale ≡ 0 → rows_at x.rows ≡ kept_at slots
+all-fresh slots x of n e = λ k i. at i k
+  where
+    at : (i : ℕ) → rows_at x.rows i ≡ kept_at slots i
+    at i = elim (cases_lt i (length x.stale)) [
+      | inl l ↦ of.fresh i l (none-marked x.stale e i)
+      | inr l ↦ of.past i l ∙ sym (kept-past slots i (omega (arith, n, l)))
+    ]
+
+-- the mark of a place that has one, or of none, changes nothing
+pub marked-before : (marks : List Bool) (i : ℕ) → is_marked marks i ≡ true → slice_set marks i true ≡ marks
+marked-before [] i e = refl
+marked-before (m ∷ marks) zero e = ap (λ (b : Bool). b ∷ marks) (sym e)
+marked-before (m ∷ marks) (suc i) e = ap (λ (l : List Bool). m ∷ l) (marked-before marks i e)
+
+pub marked-past : (marks : List Bool) (i : ℕ) → length marks ≤ i → slice_set marks i true ≡ marks
+marked-past [] i l = refl
+marked-past (m ∷ marks) zero l = absurd (omega (arith, l))
+marked-past (m ∷ marks) (suc i) l = ap (λ (ms : List Bool). m ∷ ms) (marked-past marks i (omega (arith, l)))
+
+-- a place more, at which nothing is yet, and which is marked
 rows-end : (rows : List (Option Row)) (i : ℕ) → rows_at (rows ++ None ∷ []) i ≡ rows_at rows i
 rows-end [] zero = refl
 rows-end [] (suc i) = refl
 rows-end (r ∷ rows) zero = refl
 rows-end (r ∷ rows) (suc i) = rows-end rows i
 
-marks-end : (marks : List Bool) (i : ℕ) → is_marked (marks ++ false ∷ []) i ≡ is_marked marks i
-marks-end [] zero = refl
-marks-end [] (suc i) = refl
-marks-end (m ∷ marks) zero = refl
-marks-end (m ∷ marks) (suc i) = marks-end marks i
+marks-front : (marks : List Bool) (i : ℕ) → i < length marks → is_marked (marks ++ true ∷ []) i ≡ is_marked marks i
+marks-front [] i l = absurd (omega (arith, l))
+marks-front (m ∷ marks) zero l = refl
+marks-front (m ∷ marks) (suc i) l = marks-front marks i (omega (arith, l))
+
+marks-end : (marks : List Bool) → is_marked (marks ++ true ∷ []) (length marks) ≡ true
+marks-end [] = refl
+marks-end (m ∷ marks) = marks-end marks
+
+marks-past : (marks : List Bool) (i : ℕ) → length marks ≤ i → is_marked marks i ≡ false
+marks-past [] i l = refl
+marks-past (m ∷ marks) zero l = absurd (omega (arith, l))
+marks-past (m ∷ marks) (suc i) l = marks-past marks i (omega (arith, l))
 
 row-count-end : (rows : List (Option Row)) → row_count (rows ++ None ∷ []) ≡ row_count rows
 row-count-end [] = refl
 row-count-end (r ∷ rows) = let more = row-count-end rows in omega (arith, more)
 
-marked-count-end : (marks : List Bool) → marked_count (marks ++ false ∷ []) ≡ marked_count marks
+marked-count-end : (marks : List Bool) → marked_count (marks ++ true ∷ []) ≡ marked_count marks + 1
 marked-count-end [] = refl
 marked-count-end (m ∷ marks) = let more = marked-count-end marks in omega (arith, more)
 
-pub wider : (old new : IndexedState) → new.rows ≡ old.rows ++ None ∷ [] → new.stale ≡ old.stale ++ false ∷ [] → IsWider old new
+pub wider : (old new : IndexedState) → new.rows ≡ old.rows ++ None ∷ [] → new.stale ≡ old.stale ++ true ∷ [] → IsWider old new
 wider old new rs ms = record {
   rows = λ i. ap (λ (r : List (Option Row)). rows_at r i) rs ∙ rows-end old.rows i;
-  stale = λ i. ap (λ (m : List Bool). is_marked m i) ms ∙ marks-end old.stale i;
-  count = (let q = ap length ms in let l = length-end old.stale false in omega (arith, q, l));
+  stale = λ i l. ap (λ (m : List Bool). is_marked m i) ms ∙ marks-front old.stale i l;
+  marked = λ i l m.
+      let q = ap length ms in
+      let n = length-end old.stale true in
+      let here : i ≡ length old.stale = omega (arith, l, m, q, n) in
+      ap (λ (x : List Bool). is_marked x i) ms ∙ ap (is_marked (old.stale ++ true ∷ [])) here ∙ marks-end old.stale;
+  count = (let q = ap length ms in let l = length-end old.stale true in omega (arith, q, l));
+}
+
+-- no place came
+pub no-wider : (x : IndexedState) → IsWider x x
+no-wider x = record {
+  rows = λ i. refl;
+  stale = λ i l. refl;
+  marked = λ i l m. absurd (omega (arith, l, m));
+  count = omega arith;
+}
+
+-- some came, and then more
+pub wider-again : (a b c : IndexedState) → IsWider a b → IsWider b c → IsWider a c
+wider-again a b c one more = record {
+  rows = λ i. more.rows i ∙ one.rows i;
+  stale = λ i l. more.stale i (let n = one.count in omega (arith, l, n)) ∙ one.stale i l;
+  marked = λ i l m. elim (cases_lt i (length b.stale)) [
+    | inl n ↦ more.stale i n ∙ one.marked i l n
+    | inr n ↦ more.marked i n m
+  ];
+  count = (let m = one.count in let n = more.count in omega (arith, m, n));
+}
+
+pub wider-of : (slots : List SlotState) (old new : IndexedState) → IsOf slots old → IsWider old new → IsOf slots new
+wider-of slots old new of more = record {
+  few = of.few;
+  fresh = λ i l f. elim (cases_lt i (length old.stale)) [
+    | inl m ↦ more.rows i ∙ of.fresh i m (sym (more.stale i m) ∙ f)
+    | inr m ↦ absurd (false≢true (sym f ∙ more.marked i m l))
+  ];
+  past = λ i l. more.rows i ∙ of.past i (let n = more.count in omega (arith, l, n));
 }
 
 -- the index got room
@@ -317,11 +390,22 @@ kept-end rows index h room few = record {
   few = (let l = length-end rows None in omega (arith, l, few));
 }
 
-pub indexed-end : (index : IndexState) (rows : List (Option Row)) (marks : List Bool) (places : List ℕ) (cap : ℕ) → AreIndexed index rows marks places cap → (next : IndexState) (most : ℕ) → IsKept rows next → length rows + 1 ≤ next.room → length rows + 1 < 2 ^ 32 → length rows + 1 ≤ most → AreIndexed next (rows ++ None ∷ []) (marks ++ false ∷ []) places most
+pub indexed-end : (index : IndexState) (rows : List (Option Row)) (marks : List Bool) (places : List ℕ) (cap : ℕ) → AreIndexed index rows marks places cap → (next : IndexState) (most : ℕ) → IsKept rows next → length rows + 1 ≤ next.room → length rows + 1 < 2 ^ 32 → length rows + 1 ≤ most → AreIndexed next (rows ++ None ∷ []) (marks ++ true ∷ []) (places ++ length rows ∷ []) most
 indexed-end index rows marks places cap h next most kept room few enough = record {
   kept = kept-end rows next kept room few;
-  each_marked = length-end marks false ∙ ap (λ n. n + 1) h.each_marked ∙ sym (length-end rows None);
-  each = λ i. h.each i ∙ ap one_if (sym (marks-end marks i));
-  all = h.all ∙ sym (marked-count-end marks);
+  each_marked = length-end marks true ∙ ap (λ n. n + 1) h.each_marked ∙ sym (length-end rows None);
+  each = one;
+  all = (let a = h.all in let n = length-end places (length rows) in let m = marked-count-end marks in omega (arith, a, n, m));
   capacity_is = (let l = length-end rows None in omega (arith, l, enough));
 }
+  where
+    new-marks : List Bool
+    new-marks = marks ++ true ∷ []
+
+    one : (i : ℕ) → times i (places ++ length rows ∷ []) ≡ one_if (is_marked new-marks i)
+    one i = elim (cases_order i (length marks)) [
+      | inl p ↦ subst (λ j. times j (places ++ length rows ∷ []) ≡ one_if (is_marked new-marks j)) (sym p)
+          (let t = times-end (length marks) places (length rows) in let s = ap one_if (eq-eqb (length rows) (length marks) (sym h.each_marked)) in let b = h.each (length marks) in let z = ap one_if (marks-past marks (length marks) (omega arith)) in let n = ap one_if (marks-end marks) in omega (arith, t, s, b, z, n))
+      | inr (inl l) ↦ (let q = h.each_marked in let t = times-end i places (length rows) in let s = same-one (length rows) i (λ p. omega (arith, p, q, l)) in let b = h.each i in let n = ap one_if (marks-front marks i l) in omega (arith, t, s, b, n))
+      | inr (inr l) ↦ (let q = h.each_marked in let t = times-end i places (length rows) in let s = same-one (length rows) i (λ p. omega (arith, p, q, l)) in let b = h.each i in let z = ap one_if (marks-past marks i (omega (arith, l))) in let n = ap one_if (marks-past new-marks i (let e = length-end marks true in omega (arith, l, e))) in omega (arith, t, s, b, z, n))
+    ]

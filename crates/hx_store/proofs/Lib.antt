@@ -15,3 +15,4 @@ pub mod ComingBack
 pub mod OwnKeys
 pub mod Installing
 pub mod Prefixes
+pub mod Walking

@@ -20,10 +20,10 @@ use Rattle.hx_index.specs.Looks.{digits_of}
 use Rattle.hx_index.specs.Orders.{IndexState, IsIndexOf, IsOrder, compare_at, count_of, order_of, stands_in}
 use Rattle.hx_index.specs.Searches as index
 use Rattle.hx_index.specs.Sides.{matches_at}
-use Rattle.hx_store.specs.Invariant.{AscendAt, IsStoreSlot, is_listed, state_in, states_in}
+use Rattle.hx_store.specs.Invariant.{AscendAt, HasAll, IsStoreSlot, is_listed, state_in, states_in}
 use Rattle.hx_store.specs.Looks.{indexed_count, is_indexed, least_count, least_looks_at, meeting_count, most_looks_at}
 use Rattle.hx_store.specs.Slots.{Entry, rows_in}
-use Rattle.hx_store.proofs.Lists.{all-at}
+use Rattle.hx_store.proofs.Lists.{all-at, within-at}
 use Rattle.hx_store.proofs.Order.{listed-there}
 use Rattle.hx_store.specs.Indexed.{times}
 use Rattle.hx_store.proofs.Sorting.{ascend-times, distinct-times, filter-ascends, same-list, same-numbers, stands-filter}
@@ -127,6 +127,14 @@ module _ (g : RegionId) (marks : Bool) (es : List Entry) (each : AllByRecursion 
     found-rows terms ids up is =
         ap (λ (l : List ℕ). flat_map row-of l) (same-list es ids (filter (λ j. matches_at (rows_in es) terms j) order) up (filter-ascends es (λ j. matches_at (rows_in es) terms j) order ascend) (λ i. is i ∙ sym (passing-stands (λ (r : Row). matches terms r.key r.object) i)))
         ∙ sym (passing (λ (r : Row). matches terms r.key r.object) order there)
+
+    -- all that keep an object are among them
+    pub has-all : HasAll es (λ i. is_some (rows_in es i)) order
+    has-all = record {
+      ascend = ascend;
+      within = λ i t. (let f = listed-there es i (sym (listed i) ∙ t) in within-at es i f.0 f.1);
+      all = λ i t. listed i ∙ listed-row i t;
+    }
 
     -- in the order of an attribute as many pass
     pub passing-same : (p : Row → Bool) (attribute : ℕ) (numbers : List ℕ) → IsOrder (rows_in es) attribute numbers → length (filter (λ i. test-at p (rows_in es i)) numbers) ≡ length (filter p (rows_of g (states_in es order)))

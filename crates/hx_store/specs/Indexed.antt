@@ -1,6 +1,6 @@
 -- An index of the kept objects of slots that is brought up to date when a search asks: the rows by which it has the slots, and which
 -- slots may have another object since.
-use Rattle.std.specs.Prelude.{◌≡◌, ℕ, ◌+◌, ◌^◌, ◌<◌, ◌≤◌, ◌==◌, Bool, false, List, [], ◌∷◌, length, is_some, if◌then◌else◌, slice_get, Option, None}
+use Rattle.std.specs.Prelude.{◌≡◌, ℕ, ◌+◌, ◌^◌, ◌<◌, ◌≤◌, ◌==◌, Bool, true, false, List, [], ◌∷◌, length, is_some, if◌then◌else◌, slice_get, Option, None}
 use Rattle.hx_types.specs.declared.calls.Row.{Row}
 use Rattle.hx_types.specs.Words.{when_some}
 use Rattle.hx_model.specs.Slots.{object_of}
@@ -66,13 +66,15 @@ pub record AreIndexed (index : IndexState) (rows : List (Option Row)) (marks : L
   pub all : length places ≡ marked_count marks
   pub capacity_is : length rows ≤ capacity
 
--- there is a place for each slot, and at each that isn't marked is the slot's kept object
+-- each slot has a number; at each place that isn't marked is the slot's kept object, and beyond the places is nothing yet
 pub record IsOf (slots : List SlotState) (x : IndexedState) : Type 0 where
-  pub count : length slots ≤ length x.stale
-  pub fresh : (i : ℕ) → is_marked x.stale i ≡ false → rows_at x.rows i ≡ kept_at slots i
+  pub few : length slots < 2 ^ 32
+  pub fresh : (i : ℕ) → i < length x.stale → is_marked x.stale i ≡ false → rows_at x.rows i ≡ kept_at slots i
+  pub past : (i : ℕ) → length x.stale ≤ i → rows_at x.rows i ≡ None
 
--- places may have come, at which nothing is yet
+-- places may have come, at which nothing is yet, and these are marked
 pub record IsWider (old new : IndexedState) : Type 0 where
   pub rows : (i : ℕ) → rows_at new.rows i ≡ rows_at old.rows i
-  pub stale : (i : ℕ) → is_marked new.stale i ≡ is_marked old.stale i
+  pub stale : (i : ℕ) → i < length old.stale → is_marked new.stale i ≡ is_marked old.stale i
+  pub marked : (i : ℕ) → length old.stale ≤ i → i < length new.stale → is_marked new.stale i ≡ true
   pub count : length old.stale ≤ length new.stale

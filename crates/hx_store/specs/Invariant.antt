@@ -1,5 +1,5 @@
 -- What a store keeps: the slot of each key by its place, and the places of the slots that are its own in byte order of keys.
-use Rattle.std.specs.Prelude.{◌≡◌, ℕ, zero, suc, ◌≤◌, ◌+◌, ⊤, Bool, true, false, List, [], ◌∷◌, ◌++◌, map, length, if◌then◌else◌, ◌==◌, Option, Some}
+use Rattle.std.specs.Prelude.{◌≡◌, ℕ, zero, suc, ◌<◌, ◌≤◌, ◌+◌, ⊤, Bool, true, false, List, [], ◌∷◌, ◌++◌, map, length, if◌then◌else◌, ◌==◌, Option, Some}
 use Rattle.std.specs.List.{AllByRecursion, list_any, slice_get}
 use Rattle.std.specs.Option.{option_map}
 use Rattle.indexmap.specs.IndexMap.{set_value_at}
@@ -51,6 +51,12 @@ KeysApart (e ∷ es) = AllByRecursion (λ (f : Entry). same_text e.0 f.0 ≡ fal
 abbrev pub AscendAt : List Entry → List ℕ → Type 0
 AscendAt es [] = ⊤
 AscendAt es (j ∷ rest) = AllByRecursion (λ k. text_below (key_in es j) (key_in es k) ≡ true) rest × AscendAt es rest
+
+-- places of slots in byte order of their keys, among them each that passes a test
+pub record HasAll (es : List Entry) (test : ℕ → Bool) (order : List ℕ) : Type 0 where
+  pub ascend : AscendAt es order
+  pub within : (i : ℕ) → list_any (is_place i) order ≡ true → i < length es
+  pub all : (i : ℕ) → test i ≡ true → list_any (is_place i) order ≡ true
 
 -- the first places, so many, are of lower keys, and the next one isn't
 abbrev pub IsSplit : List Entry → List ℕ → ℕ → List ℕ → Type 0

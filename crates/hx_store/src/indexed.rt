@@ -17,7 +17,8 @@ use std::marker::Model;
 use std::mem;
 
 /// An index of the committed objects of slots, which is brought up to date when a search asks: it
-/// keeps the row by which it has each slot, and which slots may have another object since.
+/// keeps the row by which it has each slot, and which slots may have another object since. Slots
+/// that came since the last search have no place in it yet, so that a new slot costs it nothing.
 pub struct Indexed {
     index: Index,
     /// The row by which the index has the slot at each place.
@@ -66,50 +67,66 @@ impl Indexed {
         })
     }
 
-    /// Makes a place for one slot more, so that there are n. What is there stays, whatever comes.
-    pub fn widen(&mut self, alloc: Global, n: u32) -> Result<(), Memory>
-        requires { n ≤ length self.old.stale + 1 }
-        ensures wider { IsWider self.old self.new }
-        ensures places { OnOk result (n ≤ length self.new.stale) }
-        ensures attributes { length self.new.index.orders ≡ length self.old.index.orders }
-    {
-        if n as usize <= self.rows.len() {
-            return Ok(());
-        }
-        self.index.reserve(alloc, n)?;
-        self.rows.reserve(1)?;
-        self.is_stale.reserve(1)?;
-        self.stale.reserve(n as usize - self.stale.len())?;
-        self.rows.push_reserved(None);
-        self.is_stale.push_reserved(false);
-        Ok(())
-    }
-
-    /// The slot at a place may have another object from now on. It takes no memory.
+    /// The slot at a place may have another object from now on. Where the slot has no place yet, it
+    /// is taken in when it gets one. It takes no memory.
     pub fn mark(&mut self, place: usize)
-        requires { place < length self.old.stale }
         ensures stale { self.new.stale ≡ slice_set self.old.stale place true }
         ensures rows { self.new.rows ≡ self.old.rows }
         ensures index { self.new.index ≡ self.old.index }
     {
-        if self.is_stale[place] {
-            return;
+        match self.is_stale.get(place) {
+            Some(false) => {}
+            _ => return,
         }
         self.is_stale[place] = true;
         self.stale.push_reserved(place as u32);
     }
 
-    /// Brings the index up to date: it has each slot by its committed object. After an error it has
-    /// some of them so, and the others are still marked.
+    /// Brings the index up to date: each slot has a place, and the index has it by its committed
+    /// object. After an error it has some of them so, and the others are still marked or have no
+    /// place.
     pub fn refresh(&mut self, alloc: Global, slots: &[Slot]) -> Result<(), Memory>
         requires { IsOf slots.now self.old }
         ensures kept { IsOf slots.now self.new }
         ensures fresh { OnOk result (rows_at self.new.rows ≡ kept_at slots.now) }
         ensures attributes { length self.new.index.orders ≡ length self.old.index.orders }
     {
+        self.widen(alloc, slots.len() as u32)?;
         for _ in 0..self.stale_count() {
             self.refresh_last(alloc, slots)?;
         }
+        Ok(())
+    }
+
+    /// Makes places for n slots in all. What is there stays, whatever comes.
+    fn widen(&mut self, alloc: Global, n: u32) -> Result<(), Memory>
+        ensures wider { IsWider self.old self.new }
+        ensures places { OnOk result (n ≤ length self.new.stale) }
+        ensures attributes { length self.new.index.orders ≡ length self.old.index.orders }
+    {
+        for _ in self.rows.len()..n as usize {
+            self.add_place(alloc, n)?;
+        }
+        Ok(())
+    }
+
+    /// Makes a place for one slot more, which is marked, and room for n places in all. What is there
+    /// stays, whatever comes.
+    fn add_place(&mut self, alloc: Global, n: u32) -> Result<(), Memory>
+        requires { length self.old.stale < n }
+        ensures wider { IsWider self.old self.new }
+        ensures one { OnOk result (length self.new.stale ≡ length self.old.stale + 1) }
+        ensures attributes { length self.new.index.orders ≡ length self.old.index.orders }
+    {
+        let place = self.rows.len();
+        let most = n as usize;
+        self.index.reserve(alloc, n)?;
+        self.rows.reserve(most - place)?;
+        self.is_stale.reserve(most - place)?;
+        self.stale.reserve(most - self.stale.len())?;
+        self.rows.push_reserved(None);
+        self.is_stale.push_reserved(true);
+        self.stale.push_reserved(place as u32);
         Ok(())
     }
 
@@ -126,6 +143,7 @@ impl Indexed {
         requires of { IsOf slots.now self.old }
         requires some { 0 < marked_count self.old.stale }
         ensures kept { IsOf slots.now self.new }
+        ensures places { length self.new.stale ≡ length self.old.stale }
         ensures count { OnOk result (marked_count self.new.stale + 1 ≡ marked_count self.old.stale) }
         ensures attributes { length self.new.index.orders ≡ length self.old.index.orders }
     {

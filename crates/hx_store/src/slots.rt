@@ -1,6 +1,6 @@
-ghost use Rattle.std.specs.Prelude.{◌≡◌, ℕ, ◌<◌, ◌≤◌, ◌+◌, [], IfNone, IfOk, IfSome, IsSomeAnd, OnErr, OnOk, Some, false, insert, length, nat_eq, true, vec_capacity, vec_len};
+ghost use Rattle.std.specs.Prelude.{◌≡◌, ℕ, ◌<◌, ◌≤◌, ◌+◌, ◌^◌, [], IfNone, IfOk, IfSome, IsSomeAnd, OnErr, OnOk, Some, false, insert, is_some, length, nat_eq, true, vec_capacity, vec_len};
 ghost use Rattle.std.specs.Cmp.Lexicographic.{slice_cmp};
-ghost use Rattle.std.specs.List.{IsDistinct, flat_map, list_any};
+ghost use Rattle.std.specs.List.{All, IsDistinct, filter, flat_map, list_any};
 ghost use Rattle.std.specs.Ordering.{nat_cmp};
 ghost use Rattle.hx_model.specs.Slots.{is_pending, moved_all, offered};
 ghost use Rattle.hx_types.specs.Words.{list_of, same_text, text_below};
@@ -8,7 +8,8 @@ ghost use Rattle.hx_index.specs.Looks.{HaveCounted};
 ghost use Rattle.hx_index.specs.Orders.{IsIndexOf, count_of, stands_in};
 ghost use Rattle.hx_index.specs.Searches.{least_run, most_looks};
 ghost use Rattle.hx_index.specs.Sides.{matches_at};
-ghost use Rattle.hx_store.specs.Invariant.{AscendAt, HasMoved, IsAdded, IsListedAt, IsReplacedAt, IsSplit, KeysApart, is_listed, key_in, stored_at};
+ghost use Rattle.hx_store.specs.Indexed.{is_marked};
+ghost use Rattle.hx_store.specs.Invariant.{AscendAt, HasAll, HasMoved, IsAdded, IsListedAt, IsReplacedAt, IsSplit, KeysApart, is_listed, key_in, stored_at};
 ghost use Rattle.hx_store.specs.Prefixes.{IsPrefixOf};
 ghost use Rattle.hx_store.specs.Slots.{Entry, IsFresh, StoreSlot, rows_in};
 ghost use Rattle.hx_store.specs.Stores.{ArePending, CanBeOffered, accepted_at, acknowledged_at, forgotten_at, marked_at, no_moves, settled_at};
@@ -22,6 +23,10 @@ use indexmap::IndexMap;
 use std::alloc::Global;
 use std::cmp::Ordering;
 use std::marker::Model;
+
+/// A search that finds fewer places than this, or fewer than one in so many of the slots, sorts
+/// them: a walk over all slots would cost it more. It is this project's choice.
+const FEWEST_TO_WALK: usize = 16;
 
 /// The slot of each key, by its place: the number of the key in the order of coming. An index of
 /// the kept objects is brought up to date when a search asks.
@@ -145,8 +150,9 @@ impl Slots {
         order.partition_point(|place| self.is_below(*place, prefix, key))
     }
 
-    /// The key of a place goes last, with an empty slot that isn't listed. The index has a place for
-    /// it. Of more than 4,294,967,295 slots there is no index, and that is [`Memory`] too.
+    /// The key of a place goes last, with an empty slot that isn't listed. The index gets a place for
+    /// it when a search asks. Of more than 4,294,967,295 slots there is no index, and that is
+    /// [`Memory`] too.
     pub fn add(
         &mut self,
         alloc: Global,
@@ -163,7 +169,6 @@ impl Slots {
         if count >= u32::MAX as usize {
             return Err(Memory);
         }
-        self.indexed.widen(alloc, count as u32 + 1)?;
         self.slots.reserve(1)?;
         self.prefixes.reserve(1)?;
         let held = key.copy(alloc)?;
@@ -268,10 +273,18 @@ impl Slots {
     }
 
     /// The places of the slots at whose objects every term holds, in byte order of their keys. The
-    /// index is up to date.
-    pub fn find(&self, alloc: Global, terms: &Terms, looks: &mut u64) -> Result<Ids, Memory>
+    /// index is up to date, and the order has the places of all slots that keep an object. Where
+    /// many match they are put in order by one walk over that order, and else by sorting.
+    pub fn find(
+        &self,
+        alloc: Global,
+        terms: &Terms,
+        looks: &mut u64,
+        order: &[usize],
+    ) -> Result<Ids, Memory>
         requires apart { KeysApart self.now.entries }
         requires fresh { IsFresh self.now }
+        requires order { HasAll self.now.entries (λ i. is_some (rows_in self.now.entries i)) order.now }
         ensures matching { IfOk result (λ ids. (i : ℕ) → stands_in ids.items i ≡ matches_at (rows_in self.now.entries) terms.now i) }
         ensures ascend { IfOk result (λ ids. AscendAt self.now.entries ids.items) }
         ensures index { IsIndexOf (rows_in self.now.entries) self.now.index }
@@ -280,8 +293,37 @@ impl Slots {
         ensures each { IfOk result (λ ids. HaveCounted (least_run self.now.index (rows_in self.now.entries) (count_of self.now.index) terms.now) looks.old looks.new) }
     {
         let mut ids = self.indexed.find(alloc, terms, looks)?;
-        self.sort_by_keys(&mut ids);
+        self.put_in_order(alloc, &mut ids, order)?;
         Ok(ids)
+    }
+
+    /// Puts places of slots into byte order of their keys. Each stands there once, and all stand in
+    /// the order.
+    fn put_in_order(&self, alloc: Global, ids: &mut Ids, order: &[usize]) -> Result<(), Memory>
+        requires apart { KeysApart self.now.entries }
+        requires order { HasAll self.now.entries (stands_in ids.old.items) order.now }
+        requires once { IsDistinct nat_eq ids.old.items }
+        ensures same { OnOk result ((i : ℕ) → stands_in ids.new.items i ≡ stands_in ids.old.items i) }
+        ensures ascend { OnOk result (AscendAt self.now.entries ids.new.items) }
+    {
+        if ids.len() < FEWEST_TO_WALK || ids.len() < order.len() / FEWEST_TO_WALK {
+            self.sort_by_keys(ids);
+            return Ok(());
+        }
+        self.walk_by_keys(alloc, ids, order)
+    }
+
+    /// Puts places of slots into byte order of their keys, by a walk over the order: it marks them,
+    /// which takes a byte a slot, and takes the marked ones as they come.
+    fn walk_by_keys(&self, alloc: Global, ids: &mut Ids, order: &[usize]) -> Result<(), Memory>
+        requires order { HasAll self.now.entries (stands_in ids.old.items) order.now }
+        requires once { IsDistinct nat_eq ids.old.items }
+        ensures same { OnOk result ((i : ℕ) → stands_in ids.new.items i ≡ stands_in ids.old.items i) }
+        ensures ascend { OnOk result (AscendAt self.now.entries ids.new.items) }
+    {
+        let marks = marks_of(alloc, ids.as_slice(), self.slots.len())?;
+        take_marked(ids, order, marks.as_slice());
+        Ok(())
     }
 
     /// Copies of the committed objects of the slots at these places, one after another. The index is
@@ -314,6 +356,36 @@ impl Slots {
             return first.cmp(&second);
         }
         self.key_at(one as usize).cmp(self.key_at(other as usize))
+    }
+}
+
+/// Whether each of so many places stands in a list.
+fn marks_of(alloc: Global, places: &[u32], count: usize) -> Result<Vec<bool>, Memory>
+    requires { All (λ i. i < count) places.now }
+    ensures count { IfOk result (λ marks. length marks.items ≡ count) }
+    ensures marks { IfOk result (λ marks. is_marked marks.items ≡ stands_in places.now) }
+{
+    let mut marks = Vec::new(alloc);
+    marks.resize(count, false)?;
+    for place in places {
+        marks[*place as usize] = true;
+    }
+    Ok(marks)
+}
+
+/// A list becomes that of the marked places of an order, in this order. It has room for them, so
+/// that takes no memory.
+fn take_marked(ids: &mut Ids, order: &[usize], marks: &[bool])
+    requires within { All (λ i. i < length marks.now) order.now }
+    requires few { length marks.now < 2 ^ 32 }
+    requires room { length (filter (is_marked marks.now) order.now) ≤ vec_capacity ids.old }
+    ensures { ids.new.items ≡ filter (is_marked marks.now) order.now }
+{
+    ids.clear();
+    for place in order {
+        if marks[*place] {
+            ids.push_reserved(*place as u32);
+        }
     }
 }
 

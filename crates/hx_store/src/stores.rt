@@ -135,8 +135,10 @@ impl Store {
     /// term which fewest meet, looks at each once, and counts each look at an object. The store stays,
     /// whatever comes.
     ///
-    /// Its index is brought up to date first, which is not counted: for each slot that was changed
-    /// since the last search two binary searches in each order whose value is another one.
+    /// Its index is brought up to date first, which is not counted: for each slot that came or was
+    /// changed since the last search two binary searches in each order whose value is another one.
+    /// What many slots match is put in order by a walk over the slots' order, which is not counted
+    /// either.
     pub fn find(&mut self, alloc: Global, terms: &Terms, looks: &mut u64) -> Result<Rows, Memory>
         ensures rows { IfOk result (λ rows. rows ≡ found_in self.old.region terms.now self.old.states) }
         ensures ascend { KeysAscend self.old.states }
@@ -147,7 +149,7 @@ impl Store {
         ensures stays { self.new ≡ self.old }
     {
         self.slots.refresh(alloc)?;
-        let places = self.slots.find(alloc, terms, looks)?;
+        let places = self.slots.find(alloc, terms, looks, self.order.as_slice())?;
         self.slots.rows(alloc, places.as_slice())
     }
 

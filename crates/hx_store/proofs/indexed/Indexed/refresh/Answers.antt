@@ -6,4 +6,4 @@ pub returns-clause-fresh : goal.returns-clause-fresh
 returns-clause-fresh c =
     let count = c.loop.invariant.1 in
     let test = c.loop-test.false in
-    all-fresh c.args.slots.now c.loop.self c.loop.invariant.0 (omega (arith, count, test))
+    all-fresh c.args.slots.now c.loop.self c.loop.invariant.0 c.loop.invariant.2 (omega (arith, count, test))

@@ -96,3 +96,6 @@ returns-clause-count c =
     let short : vec_len c.self.inside.stale - 1 ≡ length xs - 1 = omega (arith, ok) in
     let last : xs ≡ c.pop.new.self.items ++ c.in-Some.place.now ∷ [] = split ∙ ap (λ (ys : List ℕ). ys ++ c.in-Some.place.now ∷ []) (sym (c.pop.ensures.rest ∙ ap (λ n. take n xs) short)) in
     less-marked c.self.inside.index c.self.inside.rows.items c.self.inside.is_stale.items xs c.pop.new.self.items (vec_capacity c.self.inside.stale) c.in-Some.place.now c.self.invariant last ∙ view
+
+pub returns-clause-places : goal.returns-clause-places
+returns-clause-places c = set-length c.self.inside.is_stale.items c.in-Some.place.now false ∙ ap (λ (x : IndexedState). length x.stale) c.self.view_is

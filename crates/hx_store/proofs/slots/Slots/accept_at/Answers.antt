@@ -9,9 +9,6 @@ use Rattle.hx_store.proofs.Entries.{moved-seen, set-stale, some-seen}
 use Rattle.hx_store.proofs.Following.{at-item, some-at, some-within}
 use Rattle.hx_store.proofs.slots.Slots.accept_at.Goals as goal
 
-pub mark-requires : goal.mark-requires
-mark-requires c = let l = (some-within (λ (s : SlotState). 0 < s.spare) c.self.inside.slots.items c.args.place (some-seen c.self.inside.keys.entries c.self.inside.slots.items c.args.self.now.entries c.self.invariant.count (ap (λ (s : SlotsState). s.entries) c.self.view_is) (λ (s : SlotState). 0 < s.spare) c.args.place c.requires.room)) in let n = c.self.invariant.kept.count in omega (arith, l, n)
-
 pub index_mut-requires : goal.index_mut-requires
 index_mut-requires c = let l = (some-within (λ (s : SlotState). 0 < s.spare) c.self.inside.slots.items c.args.place (some-seen c.self.inside.keys.entries c.self.inside.slots.items c.args.self.now.entries c.self.invariant.count (ap (λ (s : SlotsState). s.entries) c.self.view_is) (λ (s : SlotState). 0 < s.spare) c.args.place c.requires.room)) in let ok = c.self.inside.slots.ok.0 in omega (arith, l, ok)
 

@@ -7,9 +7,6 @@ use Rattle.hx_store.proofs.Entries.{moved-seen, set-stale, within-slots}
 use Rattle.hx_store.proofs.Following.{at-item}
 use Rattle.hx_store.proofs.slots.Slots.acknowledge_at.Goals as goal
 
-pub mark-requires : goal.mark-requires
-mark-requires c = let l = (within-slots c.self.inside.keys.entries c.self.inside.slots.items c.args.self.now.entries c.self.invariant.count (ap (λ (s : SlotsState). s.entries) c.self.view_is) c.args.place c.requires) in let n = c.self.invariant.kept.count in omega (arith, l, n)
-
 pub index_mut-requires : goal.index_mut-requires
 index_mut-requires c = let l = (within-slots c.self.inside.keys.entries c.self.inside.slots.items c.args.self.now.entries c.self.invariant.count (ap (λ (s : SlotsState). s.entries) c.self.view_is) c.args.place c.requires) in let ok = c.self.inside.slots.ok.0 in omega (arith, l, ok)
 

@@ -15,15 +15,15 @@ invariant_of-self-2 c =
     let items = (c.push_reserved.ensures.items ∙ ap (λ (xs : List SlotState). xs ++ c.new-slot.result ∷ []) c.in_ok-reserve.ensures.items) in
     let n = c.len-count.ensures in
     let ok = c.self.inside.slots.ok.0 in
-    let room = c.in_ok-widen.ensures.places in
+    let test = c.if-count.false in
     let prefixes = (c.push_reserved-2.ensures.items ∙ ap (λ (ps : List ℕ). ps ++ c.prefix_of.result ∷ []) c.in_ok-reserve-2.ensures.items) in
     let own = subst (λ (k : List ℕ). IsPrefixOf k c.prefix_of.result) c.as_str.ensures c.prefix_of.ensures in
-    subst (λ (ks : List (List ℕ × Bool)). AreSlots ks c.push_reserved-2.new.self.items c.push_reserved.new.self.items c.widen.new.self) (sym keys)
+    subst (λ (ks : List (List ℕ × Bool)). AreSlots ks c.push_reserved-2.new.self.items c.push_reserved.new.self.items c.self.inside.indexed) (sym keys)
     (
-    subst (λ (ps : List ℕ). AreSlots (c.self.inside.keys.entries ++ (c.args.key.now, false) ∷ []) ps c.push_reserved.new.self.items c.widen.new.self) (sym prefixes)
+    subst (λ (ps : List ℕ). AreSlots (c.self.inside.keys.entries ++ (c.args.key.now, false) ∷ []) ps c.push_reserved.new.self.items c.self.inside.indexed) (sym prefixes)
     (
-    subst (λ (xs : List SlotState). AreSlots (c.self.inside.keys.entries ++ (c.args.key.now, false) ∷ []) (c.self.inside.prefixes.items ++ c.prefix_of.result ∷ []) xs c.widen.new.self) (sym items)
-    (slots-added c.self.inside.slots.items c.new-slot.result (λ k. object_of (c.new-slot.ensures.region k) (c.new-slot.ensures.state k)) c.self.inside.keys.entries c.args.key.now c.prefix_of.result c.self.inside.indexed c.widen.new.self own c.self.invariant c.widen.ensures.wider (omega (arith, n, ok, room)))
+    subst (λ (xs : List SlotState). AreSlots (c.self.inside.keys.entries ++ (c.args.key.now, false) ∷ []) (c.self.inside.prefixes.items ++ c.prefix_of.result ∷ []) xs c.self.inside.indexed) (sym items)
+    (slots-added c.self.inside.slots.items c.new-slot.result (λ k. object_of (c.new-slot.ensures.region k) (c.new-slot.ensures.state k)) c.self.inside.keys.entries c.args.key.now c.prefix_of.result c.self.inside.indexed own c.self.invariant (omega (arith, n, ok, test)))
     )
     )
 

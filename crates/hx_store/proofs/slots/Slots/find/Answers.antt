@@ -1,16 +1,18 @@
-use Rattle.std.proofs.Common.{◌≡◌, ℕ, Option, ap, arith, subst, sym, ◌∙◌}
+use Rattle.std.proofs.Common.{◌≡◌, ℕ, Option, ap, arith, is_some, subst, sym, ◌∙◌}
 use Rattle.hx_types.specs.declared.calls.Row.{Row}
-use Rattle.hx_index.specs.Orders.{IndexState, IsIndexOf, count_of, rows_at}
+use Rattle.hx_index.specs.Orders.{IndexState, IsIndexOf, count_of, rows_at, stands_in}
 use Rattle.hx_index.specs.Searches.{least_run, most_looks}
 use Rattle.hx_index.specs.Sides.{matches_at}
 use Rattle.hx_store.specs.Slots.{SlotsState, rows_in}
-use Rattle.hx_store.proofs.Matching.{match-within}
+use Rattle.hx_store.proofs.Walking.{match-some, narrower}
 use Rattle.hx_store.proofs.slots.Slots.find.Goals as goal
 
-pub sort_by_keys-requires-clause-within : goal.sort_by_keys-requires-clause-within
-sort_by_keys-requires-clause-within c =
+pub put_in_order-requires-clause-order : goal.put_in_order-requires-clause-order
+put_in_order-requires-clause-order c =
     let seen : rows_at c.self.inside.indexed.rows ≡ rows_in c.args.self.now.entries = ap (λ (s : SlotsState). rows_at s.rows) c.self.view_is ∙ c.requires.fresh in
-    λ i t. match-within c.args.self.now.entries c.args.terms.now i (sym (c.in_ok-ids.ensures.matching i ∙ (λ k. matches_at (seen k) c.args.terms.now i)) ∙ t)
+    let es = c.args.self.now.entries in
+    narrower es (λ i. is_some (rows_in es i)) (stands_in c.in_ok-ids.ids.items) c.args.order.now c.requires.order
+    (λ i t. match-some (rows_in es) c.args.terms.now i (sym (c.in_ok-ids.ensures.matching i ∙ (λ k. matches_at (seen k) c.args.terms.now i)) ∙ t))
 
 pub returns-in_err-ids-clause-index : goal.returns-in_err-ids-clause-index
 returns-in_err-ids-clause-index c =
@@ -28,7 +30,7 @@ returns-in_err-ids-clause-looks c =
 pub returns-clause-matching : goal.returns-clause-matching
 returns-clause-matching c =
     let seen : rows_at c.self.inside.indexed.rows ≡ rows_in c.args.self.now.entries = ap (λ (s : SlotsState). rows_at s.rows) c.self.view_is ∙ c.requires.fresh in
-    λ i. c.sort_by_keys.ensures.same i ∙ c.in_ok-ids.ensures.matching i ∙ (λ k. matches_at (seen k) c.args.terms.now i)
+    λ i. c.in_ok-put_in_order.ensures.same i ∙ c.in_ok-ids.ensures.matching i ∙ (λ k. matches_at (seen k) c.args.terms.now i)
 
 pub returns-clause-index : goal.returns-clause-index
 returns-clause-index c =

@@ -6,9 +6,6 @@ use Rattle.hx_store.proofs.Entries.{set-seen, set-stale, stored-seen, within-slo
 use Rattle.hx_store.proofs.Lists.{at-within}
 use Rattle.hx_store.proofs.slots.Slots.replace_at.Goals as goal
 
-pub mark-requires : goal.mark-requires
-mark-requires c = let l = (within-slots c.self.inside.keys.entries c.self.inside.slots.items c.args.self.now.entries c.self.invariant.count (ap (λ (s : SlotsState). s.entries) c.self.view_is) c.args.place c.requires) in let n = c.self.invariant.kept.count in omega (arith, l, n)
-
 pub index_mut-requires : goal.index_mut-requires
 index_mut-requires c = let l = (within-slots c.self.inside.keys.entries c.self.inside.slots.items c.args.self.now.entries c.self.invariant.count (ap (λ (s : SlotsState). s.entries) c.self.view_is) c.args.place c.requires) in let ok = c.self.inside.slots.ok.0 in omega (arith, l, ok)
 

@@ -1,19 +1,29 @@
-use Rattle.std.proofs.Common.{◌≡◌, ◌<◌, ℕ, List, ap, arith, length, subst, sym, ◌∙◌, vec_capacity}
+use Rattle.std.proofs.Common.{◌≡◌, ℕ, List, ap, arith, is_some, length, subst, sym, ◌∙◌, vec_capacity}
 use Rattle.std.specs.List.{flat_map}
 use Rattle.hx_types.specs.Words.{list_of}
 use Rattle.hx_law_folds.specs.Folding.{KeysAscend}
 use Rattle.hx_model.specs.Slots.{found_in, rows_of}
 use Rattle.hx_index.proofs.Matched.{if-ok}
-use Rattle.hx_store.specs.Invariant.{IsStore, rooms_in, states_in}
+use Rattle.hx_store.specs.Invariant.{HasAll, IsStore, rooms_in, states_in}
 use Rattle.hx_store.specs.Reading.{RowsAscend}
 use Rattle.hx_store.specs.Looks.{least_looks_at, most_looks_at}
 use Rattle.hx_store.specs.Slots.{Entry, rows_in}
 use Rattle.hx_store.specs.Stores.{StoreState}
-use Rattle.hx_store.proofs.Matching.{found-rows, looks-least, looks-most}
+use Rattle.hx_store.proofs.Matching.{found-rows, has-all, looks-least, looks-most}
 use Rattle.hx_store.proofs.OwnKeys.{found-ascend, if-any}
 use Rattle.hx_store.proofs.Setting.{are-there}
 use Rattle.hx_store.proofs.Showing.{order-ascends}
 use Rattle.hx_store.proofs.stores.Store.find.Goals as goal
+
+pub find-requires-clause-order : goal.find-requires-clause-order
+find-requires-clause-order c =
+    let same = c.refresh.ensures.entries in
+    let order = c.self.inside.order.items in
+    let store = subst (λ (es : List Entry). IsStore c.self.inside.region c.self.inside.marks es order (vec_capacity c.self.inside.order)) (sym same) c.self.invariant in
+    let view : record { region = c.self.inside.region; marks = c.self.inside.marks; attributes = length c.refresh.new.self.index.orders; states = states_in c.refresh.new.self.entries order; rooms = rooms_in c.refresh.new.self.entries } ≡ c.args.self.now =
+    (λ k. record { region = c.self.inside.region; marks = c.self.inside.marks; attributes = c.refresh.ensures.attributes k; states = states_in (same k) order; rooms = rooms_in (same k) }) ∙ c.self.view_is in
+    subst (HasAll c.refresh.new.self.entries (λ i. is_some (rows_in c.refresh.new.self.entries i))) (sym c.as_slice.ensures.value)
+    (has-all c.self.inside.region c.self.inside.marks c.refresh.new.self.entries store.each order store.listed (are-there store) (order-ascends c.self.inside.region c.self.inside.marks c.refresh.new.self.entries order (vec_capacity c.self.inside.order) c.args.self.now view store))
 
 pub returns-clause-rows : goal.returns-clause-rows
 returns-clause-rows c =
@@ -23,7 +33,7 @@ returns-clause-rows c =
     let view : record { region = c.self.inside.region; marks = c.self.inside.marks; attributes = length c.refresh.new.self.index.orders; states = states_in c.refresh.new.self.entries order; rooms = rooms_in c.refresh.new.self.entries } ≡ c.args.self.now =
     (λ k. record { region = c.self.inside.region; marks = c.self.inside.marks; attributes = c.refresh.ensures.attributes k; states = states_in (same k) order; rooms = rooms_in (same k) }) ∙ c.self.view_is in
     if-ok c.rows.result
-    (λ rows h. h ∙ ap (λ (xs : List ℕ). flat_map (λ i. list_of (rows_in c.refresh.new.self.entries i)) xs) c.as_slice.ensures.value ∙ found-rows c.self.inside.region c.self.inside.marks c.refresh.new.self.entries store.each order store.listed (are-there store) (order-ascends c.self.inside.region c.self.inside.marks c.refresh.new.self.entries order (vec_capacity c.self.inside.order) c.args.self.now view store) c.args.terms.now c.in_ok-places.places.items c.in_ok-places.ensures.ascend c.in_ok-places.ensures.matching ∙ ap (λ (s : StoreState). found_in s.region c.args.terms.now s.states) view)
+    (λ rows h. h ∙ ap (λ (xs : List ℕ). flat_map (λ i. list_of (rows_in c.refresh.new.self.entries i)) xs) c.as_slice-2.ensures.value ∙ found-rows c.self.inside.region c.self.inside.marks c.refresh.new.self.entries store.each order store.listed (are-there store) (order-ascends c.self.inside.region c.self.inside.marks c.refresh.new.self.entries order (vec_capacity c.self.inside.order) c.args.self.now view store) c.args.terms.now c.in_ok-places.places.items c.in_ok-places.ensures.ascend c.in_ok-places.ensures.matching ∙ ap (λ (s : StoreState). found_in s.region c.args.terms.now s.states) view)
     c.rows.ensures
 
 pub returns-clause-looks : goal.returns-clause-looks

@@ -1,5 +1,4 @@
-use Rattle.std.proofs.Common.{Bool, ℕ, List, sym, subst, ◌∙◌}
-use Rattle.hx_model.specs.Slots.{KeyState}
+use Rattle.std.proofs.Common.{Bool, ℕ, List, sym, subst}
 use Rattle.hx_law_folds.specs.Folding.{KeysAscend}
 use Rattle.hx_store.specs.Stores.{KeepsRoomsBut, has_kept}
 use Rattle.hx_store.proofs.Installing.{but-kept, kept-but, keys-kept, made-ascend}

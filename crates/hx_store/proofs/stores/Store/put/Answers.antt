@@ -1,4 +1,4 @@
-use Rattle.std.proofs.Common.{ℕ, List, ap, sym, subst, ◌∙◌}
+use Rattle.std.proofs.Common.{sym, subst, ◌∙◌}
 use Rattle.hx_store.specs.Stores.{IsPlace}
 use Rattle.hx_store.proofs.Installing.{place-has}
 use Rattle.hx_store.proofs.Showing.{kept-others, others-kept}

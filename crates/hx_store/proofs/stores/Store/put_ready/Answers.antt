@@ -3,7 +3,7 @@ use Rattle.std.proofs.lemmas.Bool.{false≢true}
 use Rattle.hx_store.specs.Invariant.{rooms_in}
 use Rattle.hx_store.specs.Stores.{after_step, has_room, has_slot, no_moves}
 use Rattle.hx_store.proofs.Installing.{opened-key}
-use Rattle.hx_store.proofs.Showing.{kept-others, keeps-same, opened-put, opened-there, others-kept, put-others, set-there}
+use Rattle.hx_store.proofs.Showing.{keeps-same, opened-put, opened-there, others-kept, put-others, set-there}
 use Rattle.hx_store.proofs.stores.Store.put_ready.Goals as goal
 
 pub unreachable-requires : goal.unreachable-requires

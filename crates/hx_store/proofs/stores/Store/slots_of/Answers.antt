@@ -1,9 +1,8 @@
-use Rattle.std.proofs.Common.{◌≡◌, ℕ, List, ◌∷◌, [], Some, ap, refl, slice_get, subst, sym, ◌∙◌}
+use Rattle.std.proofs.Common.{◌≡◌, List, Some, ap, refl, slice_get, subst, sym, ◌∙◌}
 use Rattle.std.specs.List.{AllByRecursion}
 use Rattle.std.proofs.lemmas.Option.{slice_get-get_or}
 use Rattle.hx_types.specs.declared.snapshots.Kept.{Kept}
 use Rattle.hx_model.specs.ServerSteps.{state_from}
-use Rattle.hx_slot.specs.States.{SlotState}
 use Rattle.hx_store.specs.Stores.{IsReady, StoreState, states_of}
 use Rattle.hx_store.proofs.Installing.{kept-ready, made-next, ready-kept, ready-push}
 use Rattle.hx_store.proofs.Showing.{keeps-same, keeps-trans}
