@@ -10,11 +10,12 @@ use Rattle.hx_model.specs.ServerSteps.{SlotContext as ModelContext, ack_step, ac
 use Rattle.hx_model.specs.Slots.{Acknowledge, Commit, KeyState, Move, ack_answer, commits, is_pending, moved, offered, pending_of, settled, waits_below}
 use Rattle.hx_slot.specs.States.{committed_count}
 use Rattle.hx_store.specs.Stores.{accepted}
-use Rattle.hx_replica.specs.Outputs.{IsAccepted, told_of}
+use Rattle.hx_replica.specs.Outputs.{AreEnds, told_of}
 
 -- the moves of an accepted update are the step's
-pub accepted_moves : (context : ModelContext) (s : KeyState) (u : Update) (posts : List Post) (tail_versions : List Version) → IsAccepted context s u posts tail_versions → accepted context.region s u tail_versions ≡ accepting context s (offered context.region s u)
-accepted_moves context s u posts tail_versions a = ap (λ (ms : List Move). with_commits s (offered context.region s u ++ ms)) a.ends_are
+pub accepted_moves : (context : ModelContext) (s : KeyState) (u : Update) (tail_versions : List Version) → AreEnds context s u tail_versions
+    → accepted context.region s u tail_versions ≡ accepting context s (offered context.region s u)
+accepted_moves context s u tail_versions a = ap (λ (ms : List Move). with_commits s (offered context.region s u ++ ms)) a.ends_are
 
 -- commits take the lowest pending updates, as many as they are
 pub told_first : (context : ModelContext) (acked : List ℕ) (us : List Update) → flat_map (told_of context) (take (length (commits acked us)) us) ≡ flat_map (move_posts context) (commits acked us)

@@ -7,7 +7,6 @@ use Rattle.hx_types.specs.declared.configs.Config.{Config}
 use Rattle.hx_types.specs.declared.messages.Post.{Post}
 use Rattle.hx_types.specs.declared.ids.RegionId.{RegionId}
 use Rattle.hx_types.specs.declared.spaces.Space.{Space}
-use Rattle.hx_types.specs.declared.traces.Input.{Input}
 use Rattle.hx_types.specs.Configs.{joiner_for}
 use Rattle.hx_types.specs.Words.{provided}
 use Rattle.hx_model.specs.ServerSteps.{Replica as ReplicaState, ServerState, ServerStep, SlotContext, adopted, adopted_posts, adopted_replica, adopted_state, install_at, is_active, listed_regions, ready_post, replica_or_new, resumed_posts, context_of, unmoved, with_config}
@@ -16,15 +15,13 @@ use Rattle.hx_law_folds.specs.Folding.{folded, folded_replica, folded_server}
 use Rattle.hx_law_folds.proofs.Folds.{folded-twice}
 use Rattle.hx_law_folds.proofs.Servers.{new-folded}
 use Rattle.hx_replica.specs.declared.prepared.Change.{Change}
-use Rattle.hx_replica.specs.declared.prepared.ServerOutput.{ServerOutput}
 use Rattle.hx_replica.specs.declared.prepared.Change.TheVariants as a_change
 use Rattle.hx_replica.specs.declared.replicas.Replica.{Replica}
 use Rattle.hx_replica.specs.Adopting.{lean_adopted, lean_replica}
 use Rattle.hx_replica.specs.Replicas.{new_replica}
-use Rattle.hx_replica.specs.Plans.{IsAdoptionOn, IsChange, IsStepOutput}
+use Rattle.hx_replica.specs.Plans.{IsAdoptionOn, IsChange}
 use Rattle.hx_replica.specs.Servers.{ServerValue}
 use Rattle.hx_replica.specs.Ticking.{standing}
-use Rattle.hx_replica.proofs.Planning.{step_made}
 use Rattle.hx_replica.proofs.Sending.{snap_same}
 
 posts_same : (space : Space) (s : ServerState) (r : ReplicaState) → adopted_posts space (standing s.config s.id) r ≡ adopted_posts space s r
@@ -61,29 +58,41 @@ views_of_all : (space : Space) (s : ServerState) (old : List ReplicaState) (gs :
 views_of_all space s old [] bare = refl
 views_of_all space s old (g ∷ gs) bare = let e = lean_one space s (replica_or_new old g) (bare g) in let rest = views_of_all space s old gs bare in λ j. e j ∷ rest j
 
-abbrev pub adopting : List Post → Config → Vec Replica Global → ServerOutput
-adopting posts config replicas = record { posts = posts; notes = []; change = a_change.Adopt config replicas }
-
 -- a newer configuration is adopted
-pub adoption_made : (v : ServerValue) (config copy : Config) (replicas : Vec Replica Global) (posts : List Post) (made : ServerOutput) → v.state.config.epoch.0 < config.epoch.0 → folded_server v.state ≡ v.state
-    → posts ≡ flat_map (λ (g : RegionId). adopted_posts v.space (standing config v.state.id) (replica_or_new v.state.replicas g)) (listed_regions config v.state.id)
-    → replicas.items ≡ map (new_replica v.space) (listed_regions config v.state.id)
-    → copy ≡ config → made ≡ adopting posts copy replicas → IsStepOutput v (install_at v.space v.state config) made
-adoption_made v config copy replicas posts made newer bare p new same e =
-    let s : ServerState = v.state in
-    let next : ServerState = with_config s config in
-    let step : install_at v.space s config ≡ adopted v.space next = cond-true _ (adopted v.space next) (unmoved s) (lt-ltb s.config.epoch.0 config.epoch.0 newer) in
-    let gs = listed_regions config s.id in
-    let views = views_of_all v.space next s.replicas gs (λ g. sym (new-folded s.replicas g) ∙ ap (λ (x : ServerState). replica_or_new x.replicas g) bare) in
-    step_made v (install_at v.space s config) posts [] (a_change.Adopt config replicas) made (p ∙ posts_of v.space next s.replicas gs ∙ ap (λ (t : ServerStep). t.posts) (sym step)) (ap (λ (t : ServerStep). t.notes) (sym step))
-    (
-    λ input is. record {
-      new = new;
-      state = ap (λ (t : ServerStep). folded_server t.state) (is ∙ step) ∙ ap (λ (l : List ReplicaState). record { id = s.id; config = config; sealed = next.sealed; halted = s.halted; replicas = l }) (sym views);
-    }
-    )
-    (e ∙ ap (λ (c : Config). adopting posts c replicas) same)
+module _ (v : ServerValue) (config : Config) (newer : v.state.config.epoch.0 < config.epoch.0) where
+  abbrev s : ServerState
+  s = v.state
 
--- the change of a plan that adopts a configuration
-pub adoption : (v : ServerValue) (input : Input) (change : Change) (config : Config) (replicas : Vec Replica Global) → change ≡ a_change.Adopt config replicas → IsChange v input change → IsAdoptionOn v input config replicas.items
-adoption v input change config replicas e h = subst (IsChange v input) e h
+  abbrev next : ServerState
+  next = with_config s config
+
+  step_is : install_at v.space s config ≡ adopted v.space next
+  step_is = cond-true _ (adopted v.space next) (unmoved s) (lt-ltb s.config.epoch.0 config.epoch.0 newer)
+
+  pub adoption_posts : (old new : List Post)
+      → new ≡ old ++ flat_map (λ (g : RegionId). adopted_posts v.space (standing config s.id) (replica_or_new s.replicas g)) (listed_regions config s.id)
+      → new ≡ old ++ (install_at v.space s config).posts
+  adoption_posts old new p =
+      p ∙ ap (λ (ps : List Post). old ++ ps) (posts_of v.space next s.replicas (listed_regions config s.id))
+      ∙ ap (λ (t : ServerStep). old ++ t.posts) (sym step_is)
+
+  pub adoption_change : (copy : Config) (replicas : Vec Replica Global) → folded_server s ≡ s
+      → replicas.items ≡ map (new_replica v.space) (listed_regions config s.id) → copy ≡ config
+      → IsChange v (install_at v.space s config).state (a_change.Adopt copy replicas)
+  adoption_change copy replicas bare new same =
+      subst (λ (c : Config). IsChange v (install_at v.space s config).state (a_change.Adopt c replicas)) (sym same)
+      (
+      let views =
+      views_of_all v.space next s.replicas (listed_regions config s.id)
+      (λ g. sym (new-folded s.replicas g) ∙ ap (λ (x : ServerState). replica_or_new x.replicas g) bare) in
+      record {
+        new = new;
+        state = ap (λ (t : ServerStep). folded_server t.state) step_is
+            ∙ ap (λ (l : List ReplicaState). record { id = s.id; config = config; sealed = next.sealed; halted = s.halted; replicas = l }) (sym views);
+      }
+      )
+
+-- the change that adopts a configuration
+pub adoption : (v : ServerValue) (after : ServerState) (change : Change) (config : Config) (replicas : Vec Replica Global)
+    → change ≡ a_change.Adopt config replicas → IsChange v after change → IsAdoptionOn v after config replicas.items
+adoption v after change config replicas e h = subst (IsChange v after) e h

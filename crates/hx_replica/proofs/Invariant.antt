@@ -10,22 +10,20 @@ use Rattle.hx_types.specs.declared.messages.Message.{Message}
 use Rattle.hx_types.specs.declared.ids.Actor.{Actor}
 use Rattle.hx_types.specs.declared.ids.RegionId.{RegionId}
 use Rattle.hx_types.specs.declared.spaces.Space.{Space}
-use Rattle.hx_types.specs.declared.traces.Input.{Input}
 use Rattle.hx_types.specs.Subspaces.{is_key_region}
 use Rattle.hx_types.specs.Words.{same_text, when_some}
-use Rattle.hx_model.specs.ServerSteps.{Replica as ReplicaState, ServerState, replica_of, server_step, context_of, state_in, with_replica, with_slot}
+use Rattle.hx_model.specs.ServerSteps.{Replica as ReplicaState, ServerState, SlotStep, replica_of, context_of, state_in, with_replica, with_slot}
 use Rattle.hx_model.specs.Slots.{KeyState, new_state, state_among}
 use Rattle.hx_store.specs.Stores.{IsPlace, Room, has_slot, StoreState, after_step, key_at, spare_at, state_at}
 use Rattle.hx_law_folds.specs.Folding.{folded_server}
 use Rattle.hx_replica.specs.declared.outputs.SlotChange.{SlotChange}
-use Rattle.hx_replica.specs.declared.outputs.SlotOutput.{SlotOutput}
 use Rattle.hx_replica.specs.declared.prepared.Change.{Change}
 use Rattle.hx_replica.specs.declared.prepared.Change.TheVariants as a_change
 use Rattle.hx_replica.specs.declared.replicas.Replica.{Replica}
 use Rattle.hx_replica.specs.declared.servers.Server.TheInside.{Inside}
 use Rattle.hx_replica.specs.Invariant.{IsServer, value_of}
-use Rattle.hx_replica.specs.Outputs.{ChangeFits, HasRoomFor, IsOutputOf, IsSlotInput, key_in, room_of, stepped, slot_step_of}
-use Rattle.hx_replica.specs.Plans.{CanStep, HasRoomAt, IsChange, IsChangeOn, IsJoinOn, IsOutputAt}
+use Rattle.hx_replica.specs.Outputs.{ChangeFits, HasRoomFor, IsSlotInput, key_in, room_of, stepped, slot_step_of}
+use Rattle.hx_replica.specs.Plans.{AtReplica, CanStep, HasRoomAt, IsChange, IsChangeOn, IsJoinOn, step_at}
 use Rattle.hx_replica.specs.Replicas.{AreReplicas, IsReplicaIn, rooms_of, view_of, views_of}
 use Rattle.hx_replica.specs.Servers.{ServerValue}
 use Rattle.hx_replica.proofs.Asking.{AreMarked}
@@ -112,12 +110,14 @@ placed_at i v number key n place y seen l is room =
     is_room_for y.store key n place (subst (λ (o : Option (List Room)). IsSomeAnd o (HasRoomFor key n place)) at room)
 
 -- what its slot made
-pub made_at : (i : Inside) (v : ServerValue) (number : ℕ) (key : List ℕ) (from : Actor) (m : Message) (y : Replica) (state : KeyState) (made : SlotOutput) → value_of i ≡ v → number < length i.replicas.items → y ≡ get_or i.replicas.items number y
-    → state ≡ state_in i.space (view_of y) key → key ≡ key_in m
-    → IsOutputOf y.region state (key_in m) (slot_step_of (record { space = i.space; config = i.config; server = i.id; region = y.region }) state from m) made
-    → IsOutputAt v number from m made
-made_at i v number key from m y state made seen l at is k h r e =
-    let So : ServerValue → ReplicaState → KeyState → Type 0 = λ x z s. IsOutputOf z.region s (key_in m) (slot_step_of (context_of x.space x.state z.region) s from m) made in
+pub made_at : (IsMade : RegionId → KeyState → SlotStep → Type 0) (i : Inside) (v : ServerValue) (number : ℕ) (key : List ℕ) (from : Actor) (m : Message)
+    (y : Replica) (state : KeyState)
+    → value_of i ≡ v → number < length i.replicas.items
+    → y ≡ get_or i.replicas.items number y → state ≡ state_in i.space (view_of y) key → key ≡ key_in m
+    → IsMade y.region state (slot_step_of (record { space = i.space; config = i.config; server = i.id; region = y.region }) state from m)
+    → AtReplica v number (λ (r : ReplicaState). IsMade r.region (state_in v.space r (key_in m)) (step_at v r from m))
+made_at IsMade i v number key from m y state seen l at is k h r e =
+    let So : ServerValue → ReplicaState → KeyState → Type 0 = λ x z s. IsMade z.region s (slot_step_of (context_of x.space x.state z.region) s from m) in
     let same : view_of y ≡ r = same_Some (view_of y) r (sym (view_there i v number y seen l at) ∙ e) in
     subst (λ (x : ServerValue). So x r (state_in x.space r (key_in m))) seen
     (subst (λ (z : ReplicaState). So (value_of i) z (state_in i.space z (key_in m))) same
@@ -130,22 +130,25 @@ room_there i number key n place y store is l at here enough =
     at_some (HasRoomFor key n place) _ store.rooms (put_there i.space i.replicas.items number y store is.replicas_are l at (λ (r : Replica). r.store.rooms)) (room_for store key n place here enough)
 
 -- the change of a plan that changes a slot
-pub planned : (v : ServerValue) (input : Input) (change : Change) (number place : ℕ) (slot : SlotChange) → change ≡ a_change.Slot number place slot → IsChange v input change → IsChangeOn v input number place slot
-planned v input change number place slot e h = subst (IsChange v input) e h
+pub planned : (v : ServerValue) (after : ServerState) (change : Change) (number place : ℕ) (slot : SlotChange) → change ≡ a_change.Slot number place slot
+    → IsChange v after change → IsChangeOn v after number place slot
+planned v after change number place slot e h = subst (IsChange v after) e h
 
 -- the state after it
-pub changed_state : (i : Inside) (v : ServerValue) (input : Input) (number place : ℕ) (slot : SlotChange) (y : Replica) (store : StoreState) → value_of i ≡ v → (is : IsServer i) → (h : IsChangeOn v input number place slot)
+pub changed_state : (i : Inside) (v : ServerValue) (after : ServerState) (number place : ℕ) (slot : SlotChange) (y : Replica) (store : StoreState)
+    → value_of i ≡ v → (is : IsServer i) → (h : IsChangeOn v after number place slot)
     → (l : number < length i.replicas.items) (at : y ≡ get_or i.replicas.items number y)
     → store.states ≡ after_step y.store h.key (stepped slot)
-    → with_views i (views_of (set i.replicas.items number (put i.space i.replicas.items number y store is.replicas_are l at))) ≡ folded_server (server_step v.space v.state input).state
-changed_state i v input number place slot y store seen is h l at states =
+    → with_views i (views_of (set i.replicas.items number (put i.space i.replicas.items number y store is.replicas_are l at))) ≡ folded_server after
+changed_state i v after number place slot y store seen is h l at states =
     ap (with_views i) (changed_views i.space i.replicas.items number y store is.replicas_are l at h.key slot h.replica (ap (λ (x : ServerValue). slice_get x.state.replicas number) seen ∙ h.found) states)
     ∙ ap (λ (x : ServerValue). with_slot x.state h.replica (stepped slot h.replica.region (state_in x.space h.replica h.key))) seen
     ∙ sym h.state
 
 -- the number is that of a replica
-pub change_within : (i : Inside) (v : ServerValue) (input : Input) (number place : ℕ) (slot : SlotChange) → value_of i ≡ v → IsChangeOn v input number place slot → number < length i.replicas.items
-change_within i v input number place slot seen h = within i v number seen (slice_get_within v.state.replicas number h.replica h.found)
+pub change_within : (i : Inside) (v : ServerValue) (after : ServerState) (number place : ℕ) (slot : SlotChange) → value_of i ≡ v
+    → IsChangeOn v after number place slot → number < length i.replicas.items
+change_within i v after number place slot seen h = within i v number seen (slice_get_within v.state.replicas number h.replica h.found)
 
 -- its store has room for the change, and the slot can make it
 pub record CanChange (y : Replica) (key : List ℕ) (place : ℕ) (slot : SlotChange) : Type 0 where
@@ -153,9 +156,10 @@ pub record CanChange (y : Replica) (key : List ℕ) (place : ℕ) (slot : SlotCh
   pub room : HasRoomFor (key_at y.store place) (room_of slot) place y.store.rooms
   pub fits : ChangeFits y.store.region (state_at y.store (key_at y.store place)) (key_at y.store place) slot
 
-pub can_change : (i : Inside) (v : ServerValue) (input : Input) (number place : ℕ) (slot : SlotChange) (y : Replica) → value_of i ≡ v → (is : IsServer i) → (h : IsChangeOn v input number place slot) → y ≡ get_or i.replicas.items number y → CanChange y h.key place slot
-can_change i v input number place slot y seen is h at =
-    let l = change_within i v input number place slot seen h in
+pub can_change : (i : Inside) (v : ServerValue) (after : ServerState) (number place : ℕ) (slot : SlotChange) (y : Replica) → value_of i ≡ v
+    → (is : IsServer i) → (h : IsChangeOn v after number place slot) → y ≡ get_or i.replicas.items number y → CanChange y h.key place slot
+can_change i v after number place slot y seen is h at =
+    let l = change_within i v after number place slot seen h in
     let room = placed_at i v number h.key (room_of slot) place y seen l at h.room in
     let holds : IsReplicaIn i.space y = subst (IsReplicaIn i.space) (sym at) (replica_at i.space i.replicas.items number y is.replicas_are.each l) in
     let same : view_of y ≡ h.replica = same_Some (view_of y) h.replica (sym (view_there i v number y seen l at) ∙ h.found) in
@@ -170,10 +174,12 @@ can_change i v input number place slot y seen is h at =
     }
 
 -- a replica that was installed takes the place of the one before
-pub join_of : (v : ServerValue) (input : Input) (change : Change) (number : ℕ) (replica : Box Replica Global) → change ≡ a_change.Join number replica → IsChange v input change → IsJoinOn v input number replica.value
-join_of v input change number replica e h = subst (IsChange v input) e h
+pub join_of : (v : ServerValue) (after : ServerState) (change : Change) (number : ℕ) (replica : Box Replica Global) → change ≡ a_change.Join number replica
+    → IsChange v after change → IsJoinOn v after number replica.value
+join_of v after change number replica e h = subst (IsChange v after) e h
 
-module _ (i : Inside) (v : ServerValue) (input : Input) (number : ℕ) (replica : Replica) (seen : value_of i ≡ v) (is : IsServer i) (h : IsJoinOn v input number replica) where
+module _ (i : Inside) (v : ServerValue) (after : ServerState) (number : ℕ) (replica : Replica) (seen : value_of i ≡ v) (is : IsServer i)
+    (h : IsJoinOn v after number replica) where
   abbrev rs : List Replica
   rs = i.replicas.items
 
@@ -185,7 +191,7 @@ module _ (i : Inside) (v : ServerValue) (input : Input) (number : ℕ) (replica 
       set_replicas i.space rs number replica is.replicas_are (subst (λ (x : Space). IsReplicaIn x replica) (sym (ap (λ (x : ServerValue). x.space) seen)) h.is)
       (h.region ∙ ap (λ (r : ReplicaState). r.region) (sym (view_at rs number replica h.before at_number)))
 
-  pub joined_server : with_views i (views_of (set rs number replica)) ≡ folded_server (server_step v.space v.state input).state
+  pub joined_server : with_views i (views_of (set rs number replica)) ≡ folded_server after
   joined_server =
       ap (with_views i) (map-set view_of rs number replica ∙ set_is_with rs number (view_of replica) h.before is.replicas_are.ascend at_number h.region)
       ∙ ap (λ (x : ServerValue). record x.state { replicas = with_replica (view_of replica) x.state.replicas }) seen

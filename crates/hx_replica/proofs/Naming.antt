@@ -3,7 +3,9 @@ use Rattle.std.proofs.Common.{◌≡◌, inl, inr, List, ◌∷◌, ◌++◌, ma
 use Rattle.std.specs.List.{flat_map}
 use Rattle.hx_types.specs.declared.ids.Actor.{Actor}
 use Rattle.hx_types.specs.declared.ids.Actor.TheVariants.{Server, Session}
+use Rattle.hx_types.specs.declared.messages.Message.{Message}
 use Rattle.hx_types.specs.declared.messages.Post.{Post}
+use Rattle.hx_types.specs.declared.messages.PostId.{PostId}
 use Rattle.hx_types.specs.declared.snapshots.Mark.{Mark}
 use Rattle.hx_types.specs.declared.spaces.Space.{Space}
 use Rattle.hx_types.specs.declared.traces.Entry.{Entry}
@@ -11,13 +13,15 @@ use Rattle.hx_types.specs.declared.traces.Input.{Input}
 use Rattle.hx_types.specs.declared.traces.Input.TheVariants.{Tick, Halt, Deliver}
 use Rattle.hx_types.specs.Posted.{NameOnly, NamesOnly, actors_of_config, actors_of_input, actors_of_message, sessions_marked}
 use Rattle.hx_types.specs.Words.{IsIn}
-use Rattle.hx_model.specs.ServerSteps.{Replica, ServerState, server_step}
+use Rattle.hx_model.specs.ServerSteps.{Replica, ServerState, ServerStep, message_step, server_step}
 use Rattle.hx_model.specs.Slots.{KeyState}
 use Rattle.hx_law_lemmas.proofs.Lists.{all-of, in-flat, in_left, in_right, map-in}
+use Rattle.hx_replica.specs.Plans.{CanHear}
 use Rattle.hx_replica.specs.Servers.{ServerValue, server_entry}
 use Rattle.hx_replica.specs.Named.{known_to, session_of, sessions_of_replica, sessions_of_slot}
 use Rattle.hx_replica.proofs.NamedReplicas.{Knows}
 use Rattle.hx_replica.proofs.NamedSlots.{IsGood, KnowsSlot}
+use Rattle.hx_replica.proofs.Planning.{running_step}
 use Rattle.hx_replica.proofs.NamedRows.{KnowsInput, member-named, server-good}
 
 module _ (s : ServerState) (input : Input) where
@@ -83,3 +87,10 @@ pub entry_named : (v : ServerValue) (input : Input) (entry : Entry) → entry �
 entry_named v input entry e same =
     subst (NameOnly (known_to v.state input)) (sym (ap (λ (x : Entry). x.outputs) e ∙ ap (λ (i : Input). (server_step v.space v.state i).posts) same))
     (posts_named v.state input v.space)
+
+-- what is posted on a message
+pub message_named : (v : ServerValue) (from : Actor) (m : Message) → CanHear v.space v.state from m → (id : PostId)
+    → NameOnly (known_to v.state (Deliver id from m)) (message_step v.space v.state from m).posts
+message_named v from m hears id =
+    subst (λ (t : ServerStep). NameOnly (known_to v.state (Deliver id from m)) t.posts) (running_step v (Deliver id from m) hears.can.running)
+    (posts_named v.state (Deliver id from m) v.space)

@@ -21,7 +21,7 @@ use Rattle.hx_model.specs.ServerSteps.{SlotContext as ModelContext, tail_acks, m
 use Rattle.hx_model.specs.Slots.{Acknowledge, Commit, Hold, KeyState, Move, Take, commits, follows, moved, moved_all, offered, pending_above, pending_of, place_in, settled, taken, top_of, turns}
 use Rattle.hx_store.specs.Stores.{ArePending, acknowledging}
 use Rattle.hx_store.proofs.Moves.{moved_all_append}
-use Rattle.hx_replica.specs.Outputs.{IsAccepted, IsNew, tail_version, seen, settled_among, settles, told_of}
+use Rattle.hx_replica.specs.Outputs.{AreEnds, IsNew, accepting_posts, tail_version, seen, settled_among, settles, told_of}
 
 -- the place in a region is that of its number
 pub place_there : (g : RegionId) (places : List Place) → slice_get places (place_number g places) ≡ place_in g places
@@ -232,6 +232,11 @@ no_end_posts context (x ∷ xs) = by (is_end (next_at context x)) (no_end_posts 
     by true more = more
     by false more = more
 
+-- what is posted of accepting an update, and the versions whose chain ends here
+pub record IsAccepted (context : ModelContext) (s : KeyState) (u : Update) (posts : List Post) (tail_versions : List Version) : Type 0 where
+  pub posts_are : posts ≡ accepting_posts context s u
+  pub ends : AreEnds context s u tail_versions
+
 -- all together
 pub acceptance : (context : ModelContext) (s : KeyState) (u : Update) (bs line : List (Bor Update)) (tail_versions : List Version) (posts : List Post)
     → top_of s < u.version.0 → seen bs ≡ taken (offered context.region s u) → All (IsNew context.region s.floor) bs
@@ -257,8 +262,12 @@ acceptance context s u bs line tail_versions posts top took new ended lined post
           ∙ ap (λ (ps : List Post). ps ++ flat_map (λ (b : Bor Update). told_of context b.now) (settled_among s.acked tail_versions line)) (passed_seen bs ∙ ap (flat_map (passed_on context)) took ∙ sym offer.posts)
           ∙ ap (λ (ps : List Post). flat_map (move_posts context) moves ++ ps) (told ∙ ap (flat_map (move_posts context)) (sym settle ∙ ap settled (sym now)))
           ∙ sym (whole (settled (moved_all (moves ++ tail_acks context (taken moves)) s)));
-      ends_are = marked;
-      pending = subst (λ (vs : List Version). ArePending after vs) (sym ended) (subst (λ (us : List Update). All (Stands us) (flat_map (λ (b : Bor Update). tail_version context b.now) bs)) (sym pending) (ends_stand context (pending_of s ++ seen bs) bs (seen_stand (pending_of s) bs)));
+      ends = record {
+        ends_are = marked;
+        pending = subst (λ (vs : List Version). ArePending after vs) (sym ended)
+            (subst (λ (us : List Update). All (Stands us) (flat_map (λ (b : Bor Update). tail_version context b.now) bs)) (sym pending)
+            (ends_stand context (pending_of s ++ seen bs) bs (seen_stand (pending_of s) bs)));
+      };
     }
   where
     passed_seen : (xs : List (Bor Update)) → flat_map (λ (b : Bor Update). passed_on context b.now) xs ≡ flat_map (passed_on context) (seen xs)
@@ -270,3 +279,34 @@ acceptance context s u bs line tail_versions posts top took new ended lined post
         flat_map-append (move_posts context) (offered context.region s u ++ tail_acks context (taken (offered context.region s u))) rest
         ∙ ap (λ (ps : List Post). ps ++ flat_map (move_posts context) rest)
         (flat_map-append (move_posts context) (offered context.region s u) (tail_acks context (taken (offered context.region s u))) ∙ ap (λ (ps : List Post). flat_map (move_posts context) (offered context.region s u) ++ ps) (no_end_posts context (taken (offered context.region s u))) ∙ append-nil _)
+
+-- a slot that holds no other update, and one whose turn hasn't come
+pub held_alone : (context : ModelContext) (s : KeyState) (u : Update) → top_of s < u.version.0 → pending_of s ≡ []
+    → follows context.region (top_of s) u ≡ false → IsAccepted context s u [] []
+held_alone context s u top pending out =
+    acceptance context s u [] [] [] [] top
+    (sym (ap taken (offered_is context context.region s u top ∙ ap (offer_by context.region s u) out)))
+    (All-nil (IsNew context.region s.floor)) refl (sym (ap (λ (us : List Update). us ++ []) pending)) refl
+
+-- and one whose turn has come
+pub taken_alone : (context : ModelContext) (s : KeyState) (b : Bor Update) (tail_versions : List Version) → top_of s < b.now.version.0 → pending_of s ≡ []
+    → s.early ≡ [] → IsNew context.region s.floor b
+    → follows context.region (top_of s) b.now ≡ true → tail_versions ≡ tail_version context b.now
+    → IsAccepted context s b.now (passed_on context b.now ++ provided (settles s.acked tail_versions b.now.version) (told_of context b.now)) tail_versions
+taken_alone context s b tail_versions top pending early new in_turn ended =
+    let offer : offered context.region s b.now ≡ Take b.now ∷ [] =
+    offered_is context context.region s b.now top ∙ ap (offer_by context.region s b.now) in_turn
+    ∙ ap (λ (us : List Update). Take b.now ∷ turns context.region (length us) b.now.version.0 us) early in
+    acceptance context s b.now (b ∷ []) (b ∷ []) tail_versions _ top (sym (ap taken offer))
+    (All-cons (IsNew context.region s.floor) b [] new (All-nil (IsNew context.region s.floor)))
+    (ended ∙ sym (append-nil (tail_version context b.now)))
+    (sym (ap (λ (us : List Update). us ++ b.now ∷ []) pending))
+    (posted (settles s.acked tail_versions b.now.version))
+  where
+    posted : (t : Bool)
+        → passed_on context b.now ++ provided t (told_of context b.now) ≡ (passed_on context b.now ++ []) ++ flat_map
+        (λ (x : Bor Update). told_of context x.now) (take (cond t (1 + 0) 0) (b ∷ []))
+    posted true =
+        ap (λ (ps : List Post). passed_on context b.now ++ ps) (sym (append-nil (told_of context b.now)))
+        ∙ ap (λ (ps : List Post). ps ++ (told_of context b.now ++ [])) (sym (append-nil (passed_on context b.now)))
+    posted false = sym (append-nil (passed_on context b.now ++ []))

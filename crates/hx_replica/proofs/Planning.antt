@@ -1,10 +1,12 @@
 -- What a step makes, and what the step on a delivery makes.
-use Rattle.std.proofs.Common.{◌≡◌, ◌≤◌, ℕ, List, [], Result, IfOk, Option, None, Some, false, IsSomeAnd, arith, refl, ap, sym, ◌∙◌, subst}
+use Rattle.std.proofs.Common.{◌≡◌, ◌≤◌, ◌==◌, ℕ, Bool, true, false, cond, nat_lt, List, [], ◌++◌, append-nil, Option, None, Some, Result, Ok, Err, IfOk, IsSomeAnd, arith, refl, ap, sym, ◌∙◌, subst}
+use Rattle.std.specs.Prelude.{OnOk}
 use Rattle.std.specs.List.{slice_get}
 use Rattle.std.specs.Option.{option_map}
 use Rattle.std.proofs.lemmas.Bool.{cond-false}
 use Rattle.hx_types.specs.declared.ids.RegionId.{RegionId}
 use Rattle.hx_types.specs.declared.messages.Message.{Message}
+use Rattle.hx_types.specs.declared.messages.Message.TheVariants as a_message
 use Rattle.hx_types.specs.declared.messages.Post.{Post}
 use Rattle.hx_types.specs.declared.messages.PostId.{PostId}
 use Rattle.hx_types.specs.declared.ids.Epoch.{Epoch}
@@ -16,21 +18,19 @@ use Rattle.hx_types.specs.declared.traces.Input.{Input}
 use Rattle.hx_types.specs.declared.traces.Note.{Note}
 use Rattle.hx_types.specs.declared.traces.Input.TheVariants.{Deliver}
 use Rattle.hx_types.specs.declared.ids.Actor.TheVariants.{Server}
-use Rattle.hx_model.specs.ServerSteps.{Replica, ServerState, ServerStep, asked, at_slot, input_step, message_step, server_step, context_of, state_in, unmoved, with_slot}
+use Rattle.hx_model.specs.ServerSteps.{Replica, ServerState, ServerStep, asked, at_slot, if_installed, input_step, message_step, replica_in_epoch, server_step, snapped, state_in, unmoved, with_slot}
 use Rattle.hx_model.specs.Slots.{KeyState, Move, moved_all}
 use Rattle.hx_store.specs.Stores.{Room}
 use Rattle.hx_law_folds.specs.Folding.{folded, folded_server}
 use Rattle.hx_law_folds.proofs.Servers.{found-lean, state-lean, with-slot-lean}
 use Rattle.hx_replica.specs.declared.outputs.SlotChange.TheVariants.{Open, Accept, Acknowledge}
 use Rattle.hx_replica.specs.declared.outputs.SlotChange.{SlotChange}
-use Rattle.hx_replica.specs.declared.outputs.SlotOutput.{SlotOutput}
 use Rattle.hx_replica.specs.declared.prepared.Change.{Change}
-use Rattle.hx_replica.specs.declared.prepared.ServerOutput.{ServerOutput}
 use Rattle.hx_replica.specs.declared.prepared.Plan.{Plan}
 use Rattle.hx_replica.specs.declared.prepared.Change.TheVariants as a_change
 use Rattle.hx_replica.specs.Hearing.{IsOfOneSlot, heard}
-use Rattle.hx_replica.specs.Outputs.{HasRoomFor, IsOutputOf, key_in, moves_by, room_of, slot_step_of, stepped}
-use Rattle.hx_replica.specs.Plans.{CanHear, CanStep, HasRoomAt, IsChange, IsOutputAt, IsPlanOn, IsServerOutput, IsStepOutput}
+use Rattle.hx_replica.specs.Outputs.{HasRoomFor, IsChangeOf, key_in, moves_by, room_of, stepped}
+use Rattle.hx_replica.specs.Plans.{AtReplica, CanHear, CanStep, HasRoomAt, IsChange, IsChangeAt, IsPlanOn, step_at}
 use Rattle.hx_replica.specs.Servers.{CanTake, ServerValue}
 use Rattle.hx_replica.proofs.Hearing.{message_heard, message_unheard}
 
@@ -52,34 +52,14 @@ found_nowhere (Some r) e = absurd cc
 pub running_step : (v : ServerValue) (input : Input) → v.state.halted ≡ false → server_step v.space v.state input ≡ input_step v.space v.state input
 running_step v input running = cond-false v.state.halted (unmoved v.state) (input_step v.space v.state input) running
 
--- what a step makes that moves nothing, and what one of a slot makes
-abbrev pub unmoved_made : ServerOutput
-unmoved_made = record { posts = []; notes = []; change = a_change.Nothing }
+-- and gets a message
+pub message_taken : (v : ServerValue) (id : PostId) (from : Actor) (m : Message) → CanTake v.space v.state (Deliver id from m)
+    → server_step v.space v.state (Deliver id from m) ≡ message_step v.space v.state from m
+message_taken v id from m can = running_step v (Deliver id from m) can.running
 
-abbrev pub moved_made : ℕ → ℕ → SlotOutput → ServerOutput
-moved_made number place slot = record { posts = slot.posts; notes = slot.notes; change = a_change.Slot number place slot.change }
-
--- what a step makes, by its parts
-pub step_made : (v : ServerValue) (step : ServerStep) (posts : List Post) (notes : List Note) (change : Change) (made : ServerOutput) → posts ≡ step.posts → notes ≡ step.notes
-    → ((input : Input) → server_step v.space v.state input ≡ step → IsChange v input change) → made ≡ record { posts = posts; notes = notes; change = change } → IsStepOutput v step made
-step_made v step posts notes change made p n changes e input is =
-    subst (IsServerOutput v input) (sym e)
-    (record {
-      posts = p ∙ ap (λ (t : ServerStep). t.posts) (sym is);
-      notes = n ∙ ap (λ (t : ServerStep). t.notes) (sym is);
-      change = changes input is;
-    })
-
--- a step after which the server is as it was
-pub staying_made : (v : ServerValue) (step : ServerStep) (posts : List Post) (made : ServerOutput) → folded_server v.state ≡ v.state → step.state ≡ v.state → posts ≡ step.posts → [] ≡ step.notes
-    → made ≡ record { posts = posts; notes = []; change = a_change.Nothing } → IsStepOutput v step made
-staying_made v step posts made bare stays p n e =
-    step_made v step posts [] a_change.Nothing made p n (λ input is. ap (λ (t : ServerStep). folded_server t.state) is ∙ ap folded_server stays ∙ bare) e
-
--- a step that makes nothing
-pub nothing_made : (v : ServerValue) (step : ServerStep) (made : ServerOutput) → folded_server v.state ≡ v.state → step ≡ unmoved v.state → made ≡ unmoved_made → IsStepOutput v step made
-nothing_made v step made bare is e =
-    staying_made v step [] made bare (ap (λ (t : ServerStep). t.state) is) (ap (λ (t : ServerStep). t.posts) (sym is)) (ap (λ (t : ServerStep). t.notes) (sym is)) e
+-- after a step that leaves a server without a past as it was
+pub stays : (v : ServerValue) (step : ServerStep) → folded_server v.state ≡ v.state → step.state ≡ v.state → folded_server step.state ≡ v.state
+stays v step bare e = ap folded_server e ∙ bare
 
 -- a change of a slot without a past, without its past
 stepped_lean : (change : SlotChange) (g : RegionId) (s : KeyState) → folded g s ≡ s → folded g (moved_all (moves_by g s change) s) ≡ stepped change g s
@@ -103,46 +83,80 @@ less_room number key n k v place l = at (slice_get v.rooms number)
     at (Some rooms) h = less_in key n k place rooms l h
 
 -- the replica with this number hears it, and its slot makes this
-moved_planned : (v : ServerValue) (from : Actor) (m : Message) (number n place : ℕ) (key : List ℕ) (slot : SlotOutput) (made : ServerOutput) → CanHear v.space v.state from m
-    → IsFound v.state.replicas number (heard v.space v.state m) → IsOutputAt v number from m slot → room_of slot.change ≤ n → HasRoomAt number key n v place → key ≡ key_in m
-    → made ≡ moved_made number place slot → IsStepOutput v (message_step v.space v.state from m) made
-moved_planned v from m number n place key slot made hears at is few room k e =
-    let can = hears.can in
-    let r : Replica = at.replica in
-    let s : KeyState = state_in v.space r (key_in m) in
-    let by = slot_step_of (context_of v.space v.state r.region) s from m in
-    let so : IsOutputOf r.region s (key_in m) by slot = is r at.at_place in
-    let step : message_step v.space v.state from m ≡ at_slot v.state r s by = message_heard v.space v.state from (Server v.state.id) m r can.input_to.sound.between at.is in
-    step_made v (message_step v.space v.state from m) slot.posts slot.notes (a_change.Slot number place slot.change) made (so.posts ∙ ap (λ (t : ServerStep). t.posts) (sym step)) (so.notes ∙ ap (λ (t : ServerStep). t.notes) (sym step))
-    (
-    λ input was. record {
-      key = key_in m;
-      replica = r;
-      found = at.at_place;
-      room = less_room number (key_in m) n (room_of slot.change) v place few (subst (λ (x : List ℕ). HasRoomAt number x n v place) k room);
-      fits = so.fits;
-      state = ap (λ (t : ServerStep). folded_server t.state) (was ∙ step) ∙ ap (λ (moves : List Move). folded_server (with_slot v.state r (moved_all moves s))) (sym so.moves) ∙ (let here = found-lean v.state number r hears.bare at.at_place in with-slot-lean v.state r (moved_all (moves_by r.region s slot.change) s) (stepped slot.change r.region s) hears.bare here (stepped_lean slot.change r.region s (state-lean v.space r (key_in m) here)));
-    }
-    )
-    e
+module _ (v : ServerValue) (from : Actor) (m : Message) (number : ℕ) (hears : CanHear v.space v.state from m)
+    (at : IsFound v.state.replicas number (heard v.space v.state m)) where
+  abbrev r : Replica
+  r = at.replica
+
+  abbrev s : KeyState
+  s = state_in v.space r (key_in m)
+
+  step_is : message_step v.space v.state from m ≡ at_slot v.state r s (step_at v r from m)
+  step_is = message_heard v.space v.state from (Server v.state.id) m r hears.can.input_to.sound.between at.is
+
+  moved_posts : (old new : List Post) → AtReplica v number (λ (x : Replica). new ≡ old ++ (step_at v x from m).posts)
+      → new ≡ old ++ (message_step v.space v.state from m).posts
+  moved_posts old new is = is r at.at_place ∙ ap (λ (t : ServerStep). old ++ t.posts) (sym step_is)
+
+  moved_notes : (old new : List Note) → AtReplica v number (λ (x : Replica). new ≡ old ++ (step_at v x from m).notes)
+      → new ≡ old ++ (message_step v.space v.state from m).notes
+  moved_notes old new is = is r at.at_place ∙ ap (λ (t : ServerStep). old ++ t.notes) (sym step_is)
+
+  moved_change : (n place : ℕ) (key : List ℕ) (change : SlotChange) → folded_server v.state ≡ v.state → IsChangeAt v number from m change
+      → room_of change ≤ n → HasRoomAt number key n v place → key ≡ key_in m
+      → IsChange v (message_step v.space v.state from m).state (a_change.Slot number place change)
+  moved_change n place key change bare is few room k =
+      let so : IsChangeOf r.region s (key_in m) (step_at v r from m) change = is r at.at_place in
+      record {
+        key = key_in m;
+        replica = r;
+        found = at.at_place;
+        room = less_room number (key_in m) n (room_of change) v place few (subst (λ (x : List ℕ). HasRoomAt number x n v place) k room);
+        fits = so.fits;
+        state = ap (λ (t : ServerStep). folded_server t.state) step_is
+        ∙ ap (λ (moves : List Move). folded_server (with_slot v.state r (moved_all moves s))) (sym so.moves)
+        ∙ (let here = found-lean v.state number r bare at.at_place in with-slot-lean v.state r (moved_all (moves_by r.region s change) s)
+        (stepped change r.region s) bare here (stepped_lean change r.region s (state-lean v.space r (key_in m) here)));
+      }
 
 -- no replica hears it
-pub nothing_prepared : (v : ServerValue) (from : Actor) (m : Message) (made : ServerOutput) → CanHear v.space v.state from m → IsOfOneSlot m → None ≡ option_map (λ (r : Replica). Some r) (heard v.space v.state m) → made ≡ unmoved_made
-    → IsStepOutput v (message_step v.space v.state from m) made
-nothing_prepared v from m made hears one none e =
-    nothing_made v (message_step v.space v.state from m) made hears.bare (message_unheard v.space v.state from m one (found_nowhere (heard v.space v.state m) none)) e
+pub nothing_heard : (v : ServerValue) (from : Actor) (m : Message) → IsOfOneSlot m → None ≡ option_map (λ (r : Replica). Some r) (heard v.space v.state m)
+    → message_step v.space v.state from m ≡ unmoved v.state
+nothing_heard v from m one none = message_unheard v.space v.state from m one (found_nowhere (heard v.space v.state m) none)
 
 -- room was made since the message came
 module _ (old new : ServerValue) (from : Actor) (m : Message) (space : new.space ≡ old.space) (state : new.state ≡ old.state) where
   heard_still : heard old.space old.state m ≡ heard new.space new.state m
   heard_still = ap (λ (x : Space). heard x old.state m) (sym space) ∙ ap (λ (x : ServerState). heard new.space x m) (sym state)
 
-  pub move_prepared : (number n place : ℕ) (key : List ℕ) (slot : SlotOutput) (made : ServerOutput) → CanHear old.space old.state from m → Some (slice_get old.state.replicas number) ≡ option_map (λ (r : Replica). Some r) (heard old.space old.state m)
-      → key ≡ key_in m → IsOutputAt new number from m slot → room_of slot.change ≤ n → HasRoomAt number key n new place → made ≡ moved_made number place slot → IsStepOutput new (message_step new.space new.state from m) made
-  move_prepared number n place key slot made hears at k so few room e =
-      moved_planned new from m number n place key slot made
-      (subst (λ (x : ServerState). CanHear new.space x from m) (sym state) (subst (λ (x : Space). CanHear x old.state from m) (sym space) hears))
-      (found_there new.state.replicas number (heard new.space new.state m) (ap (λ (x : ServerState). Some (slice_get x.replicas number)) state ∙ at ∙ ap (option_map (λ (r : Replica). Some r)) heard_still)) so few room k e
+  -- the replica that hears it
+  module _ (number : ℕ) (hears : CanHear old.space old.state from m)
+      (at : Some (slice_get old.state.replicas number) ≡ option_map (λ (r : Replica). Some r) (heard old.space old.state m)) where
+    hears_still : CanHear new.space new.state from m
+    hears_still = subst (λ (x : ServerState). CanHear new.space x from m) (sym state) (subst (λ (x : Space). CanHear x old.state from m) (sym space) hears)
+
+    found_still : IsFound new.state.replicas number (heard new.space new.state m)
+    found_still = found_there new.state.replicas number (heard new.space new.state m)
+    (ap (λ (x : ServerState). Some (slice_get x.replicas number)) state ∙ at ∙ ap (option_map (λ (r : Replica). Some r)) heard_still)
+
+    step_still : message_step new.space new.state from m ≡ message_step old.space old.state from m
+    step_still = ap (λ (x : Space). message_step x new.state from m) space ∙ ap (λ (x : ServerState). message_step old.space x from m) state
+
+    pub posts_moved : (before after : List Post) → AtReplica new number (λ (r : Replica). after ≡ before ++ (step_at new r from m).posts)
+        → after ≡ before ++ (message_step old.space old.state from m).posts
+    posts_moved before after is = moved_posts new from m number hears_still found_still before after is ∙ ap (λ (t : ServerStep). before ++ t.posts) step_still
+
+    pub notes_moved : (before after : List Note) → AtReplica new number (λ (r : Replica). after ≡ before ++ (step_at new r from m).notes)
+        → after ≡ before ++ (message_step old.space old.state from m).notes
+    notes_moved before after is = moved_notes new from m number hears_still found_still before after is ∙ ap (λ (t : ServerStep). before ++ t.notes) step_still
+
+    pub change_moved : (n place : ℕ) (key : List ℕ) (change : SlotChange) → folded_server old.state ≡ old.state → IsChangeAt new number from m change
+        → room_of change ≤ n → HasRoomAt number key n new place → key ≡ key_in m
+        → IsChange new (message_step old.space old.state from m).state (a_change.Slot number place change)
+    change_moved n place key change bare is few room k =
+        subst (λ (t : ServerStep). IsChange new t.state (a_change.Slot number place change)) step_still
+        (moved_change new from m number hears_still found_still n place key change (subst (λ (x : ServerState). folded_server x ≡ x) (sym state) bare) is few
+        room k)
 
   -- what can be asked before can be asked now
   pub can_step_still : (number : ℕ) (key : List ℕ) → CanStep old.space old.state number key from m → CanStep new.space new.state number key from m
@@ -150,31 +164,78 @@ module _ (old new : ServerValue) (from : Actor) (m : Message) (space : new.space
       subst (λ (x : ServerState). CanStep new.space x number key from m) (sym state) (subst (λ (x : Space). CanStep x old.state number key from m) (sym space) h)
 
 -- the plan of an input, and what its step makes
-pub made_planned : (v : ServerValue) (input : Input) (server : ServerId) (made : ServerOutput) (plan : Plan) → server ≡ v.state.id → IsServerOutput v input made
-    → plan ≡ record { entry = record { actor = Server server; input = input; outputs = made.posts; notes = made.notes }; change = made.change } → IsPlanOn v plan
-made_planned v input server made plan me is e =
+pub made_planned : (v : ServerValue) (input : Input) (server : ServerId) (posts : List Post) (notes : List Note) (change : Change) (plan : Plan)
+    → server ≡ v.state.id
+    → posts ≡ (server_step v.space v.state input).posts → notes ≡ (server_step v.space v.state input).notes → IsChange v
+    (server_step v.space v.state input).state change
+    → plan ≡ record { entry = record { actor = Server server; input = input; outputs = posts; notes = notes }; change = change } → IsPlanOn v plan
+made_planned v input server posts notes change plan me p n is e =
     subst (IsPlanOn v) (sym e)
     (record {
-      entry = ap (λ (s : ServerId). record { actor = Server s; input = input; outputs = made.posts; notes = made.notes }) me
-          ∙ ap (λ (posts : List Post). record { actor = Server v.state.id; input = input; outputs = posts; notes = made.notes }) is.posts
-          ∙ ap (λ (notes : List Note). record { actor = Server v.state.id; input = input; outputs = (server_step v.space v.state input).posts; notes = notes }) is.notes;
-      change = is.change;
+      entry = ap (λ (s : ServerId). record { actor = Server s; input = input; outputs = posts; notes = notes }) me
+          ∙ ap (λ (ps : List Post). record { actor = Server v.state.id; input = input; outputs = ps; notes = notes }) p
+          ∙ ap (λ (ns : List Note). record { actor = Server v.state.id; input = input; outputs = (server_step v.space v.state input).posts; notes = ns }) n;
+      change = is;
     })
 
--- an input, and the step of which something was made
-pub on_input : (old v : ServerValue) (input : Input) (step : ServerStep) (made : ServerOutput) → v.state ≡ old.state → CanTake old.space old.state input → input_step v.space v.state input ≡ step → IsStepOutput v step made → IsServerOutput v input made
-on_input old v input step made state can e h = h input (running_step v input (ap (λ (s : ServerState). s.halted) state ∙ can.running) ∙ e)
+-- a search changes nothing
+pub asked_state : (s : ServerState) (from : Actor) (epoch : Epoch) (number : ℕ) (terms : List Term) (o : Option Replica)
+    → (asked s from epoch number terms o).state ≡ s
+asked_state s from epoch number terms None = refl
+asked_state s from epoch number terms (Some r) = refl
+
+-- a message that goes to no slot is not noted
+quiet : (t : Bool) (a b : ServerStep) → a.notes ≡ [] → b.notes ≡ [] → (cond t a b).notes ≡ []
+quiet true a b p q = p
+quiet false a b p q = q
+
+other_notes : (space : Space) (s : ServerState) (from : Actor) (m : Message) → (IsOfOneSlot m → ⊥) → (message_step space s from m).notes ≡ []
+other_notes space s from (a_message.Ask epoch number g terms) h = by (if_installed (replica_in_epoch s epoch g))
+  where
+    by : (o : Option Replica) → (asked s from epoch number terms o).notes ≡ []
+    by None = refl
+    by (Some r) = refl
+other_notes space s from (a_message.Seal epoch) h = quiet (epoch.0 == s.config.epoch.0) _ (unmoved s) refl refl
+other_notes space s from (a_message.Install config) h = quiet (nat_lt s.config.epoch.0 config.epoch.0) _ (unmoved s) refl refl
+other_notes space s from a_message.Die h = refl
+other_notes space s from (a_message.Snap epoch g snapshot pending) h = by (replica_in_epoch s epoch g)
+  where
+    by : (o : Option Replica) → (snapped space s snapshot pending o).notes ≡ []
+    by None = refl
+    by (Some r) = quiet r.installed _ _ refl refl
+other_notes space s from other h = absurd (h tt)
+
+pub always : {T E Q : Type 0} (r : Result T E) → Q → OnOk r Q
+always (Ok x) q = q
+always (Err e) q = tt
+
+-- nothing comes behind a list
+pub nothing_more : {A : Type 0} (xs more : List A) → more ≡ [] → xs ≡ xs ++ more
+nothing_more xs more e = sym (append-nil xs) ∙ ap (λ (ys : List _). xs ++ ys) (sym e)
+
+-- what a step posts, notes and changes on a message, by what the message is
+module _ (space : Space) (s : ServerState) (from : Actor) (m n : Message) where
+  pub message_notes : m ≡ n → (IsOfOneSlot n → ⊥) → (message_step space s from m).notes ≡ []
+  message_notes is other = ap (λ (x : Message). (message_step space s from x).notes) is ∙ other_notes space s from n other
+
+  pub posts_on : {T E : Type 0} (r : Result T E) → m ≡ n → (old new : List Post) → OnOk r (new ≡ old ++ (message_step space s from n).posts)
+      → OnOk r (new ≡ old ++ (message_step space s from m).posts)
+  posts_on r is old new = subst (λ (x : Message). OnOk r (new ≡ old ++ (message_step space s from x).posts)) (sym is)
+
+  pub notes_on : {T E : Type 0} (r : Result T E) → m ≡ n → (notes : List Note) → (IsOfOneSlot n → ⊥)
+      → OnOk r (notes ≡ notes ++ (message_step space s from m).notes)
+  notes_on r is notes other = always r (nothing_more notes _ (message_notes is other))
+
+pub change_on : {E : Type 0} (v : ServerValue) (from : Actor) (m n : Message) (r : Result Change E) → m ≡ n
+    → IfOk r (IsChange v (message_step v.space v.state from n).state) → IfOk r (IsChange v (message_step v.space v.state from m).state)
+change_on v from m n r is = subst (λ (x : Message). IfOk r (IsChange v (message_step v.space v.state from x).state)) (sym is)
 
 -- a post of a message that can be taken
-pub can_hear : (space : Space) (s : ServerState) (input : Input) (id : PostId) (from : Actor) (m : Message) → CanTake space s input → folded_server s ≡ s → input ≡ Deliver id from m → CanHear space s from m
-can_hear space s input id from m can bare is = record { id = id; can = subst (CanTake space s) is can; bare = bare }
+pub can_hear : (space : Space) (s : ServerState) (input : Input) (id : PostId) (from : Actor) (m : Message) → CanTake space s input
+    → input ≡ Deliver id from m → CanHear space s from m
+can_hear space s input id from m can is = record { id = id; can = subst (CanTake space s) is can }
 
--- a search changes nothing
-pub asked_made : (v : ServerValue) (from : Actor) (epoch : Epoch) (number : ℕ) (terms : List Term) (o : Option Replica) (posts : List Post) (made : ServerOutput) → folded_server v.state ≡ v.state → posts ≡ (asked v.state from epoch number terms o).posts
-    → made ≡ record { posts = posts; notes = []; change = a_change.Nothing } → IsStepOutput v (asked v.state from epoch number terms o) made
-asked_made v from epoch number terms None posts made bare p e = staying_made v (asked v.state from epoch number terms None) posts made bare refl p refl e
-asked_made v from epoch number terms (Some r) posts made bare p e = staying_made v (asked v.state from epoch number terms (Some r)) posts made bare refl p refl e
-
--- what the step on a message makes, by what the message is
-pub on_message : {E : Type 0} (v : ServerValue) (from : Actor) (m n : Message) (r : Result ServerOutput E) → m ≡ n → IfOk r (IsStepOutput v (message_step v.space v.state from n)) → IfOk r (IsStepOutput v (message_step v.space v.state from m))
-on_message v from m n r e = subst (λ (x : Message). IfOk r (IsStepOutput v (message_step v.space v.state from x))) (sym e)
+-- the step on an input, by what the input is
+pub step_on : (v : ServerValue) (input other : Input) → CanTake v.space v.state input → input ≡ other
+    → server_step v.space v.state input ≡ input_step v.space v.state other
+step_on v input other can is = running_step v input can.running ∙ ap (input_step v.space v.state) is

@@ -1,5 +1,5 @@
 -- What a server makes that gets a snapshot.
-use Rattle.std.proofs.Common.{◌≡◌, ℕ, ◌+◌, ◌≤◌, Bool, Box, Global, true, false, List, [], ◌∷◌, ◌++◌, map, get_or, Option, None, Some, ap, sym, ◌∙◌, subst}
+use Rattle.std.proofs.Common.{◌≡◌, ℕ, ◌+◌, ◌≤◌, Bool, Box, Global, true, false, List, [], ◌∷◌, ◌++◌, map, get_or, Option, None, Some, ap, append_assoc, sym, ◌∙◌, subst}
 use Rattle.std.specs.Prelude.{IsTrue}
 use Rattle.std.specs.List.{AllByRecursion, list_all, slice_get}
 use Rattle.std.specs.Option.{option_map}
@@ -22,19 +22,18 @@ use Rattle.hx_types.specs.Posts.{Bounds, IsSoundKept, IsSoundMessage, IsSoundUpd
 use Rattle.hx_types.specs.Spaces.{IsAnswerOf, IsMaybeRowUpTo, IsRegionOf, IsConfigOf}
 use Rattle.hx_types.specs.Subspaces.{is_key_region}
 use Rattle.hx_types.specs.Words.{text_below}
-use Rattle.hx_model.specs.ServerSteps.{Replica as ReplicaState, ServerState, ServerStep, replica_in_epoch, installed_slots, keys_of, ready_post, saying, snapped, context_of, state_from, with_replica}
+use Rattle.hx_model.specs.ServerSteps.{Replica as ReplicaState, ServerState, ServerStep, Slots, replica_in_epoch, installed_slots, keys_of, ready_post, saying, snapped, context_of, state_from, with_replica, with_slots}
 use Rattle.hx_model.specs.Slots.{KeyState}
 use Rattle.hx_law_folds.specs.Folding.{KeptsAscend, folded, folded_replica, folded_server}
 use Rattle.hx_law_folds.proofs.Servers.{with-replica-folded}
 use Rattle.hx_slot.specs.States.{IsOrderly, IsRowUpTo}
 use Rattle.hx_store.specs.Stores.{StoreState}
 use Rattle.hx_replica.specs.declared.prepared.Change.TheVariants as a_change
-use Rattle.hx_replica.specs.declared.prepared.ServerOutput.{ServerOutput}
 use Rattle.hx_replica.specs.declared.replicas.Replica.{Replica}
 use Rattle.hx_replica.specs.declared.servers.Server.TheInside.{Inside}
 use Rattle.hx_replica.specs.Invariant.{value_of}
 use Rattle.hx_replica.specs.Installing.{CanCome, IsSnapshot}
-use Rattle.hx_replica.specs.Plans.{CanHear, IsJoinOn, IsStepOutput}
+use Rattle.hx_replica.specs.Plans.{CanHear, IsChange, IsJoinOn}
 use Rattle.hx_replica.specs.Replicas.{view_of}
 use Rattle.hx_replica.specs.Servers.{ServerValue}
 use Rattle.hx_replica.specs.Ticking.{standing}
@@ -42,7 +41,7 @@ use Rattle.hx_replica.proofs.Asking.{placed}
 use Rattle.hx_replica.proofs.Changing.{view_at}
 use Rattle.hx_replica.proofs.Hearing.{found_region, replica_in_epoch_found}
 use Rattle.hx_replica.proofs.Joined.{from_marked, joined_marked}
-use Rattle.hx_replica.proofs.Planning.{found_there, staying_made, step_made}
+use Rattle.hx_replica.proofs.Planning.{found_there}
 
 all_pass : (test : List ℕ → Bool) (ks : List Kept) → list_all test (map (λ (k : Kept). k.key) ks) ≡ true → AllByRecursion (λ (k : Kept). test k.key ≡ true) ks
 all_pass test [] e = tt
@@ -111,42 +110,40 @@ folded_marked : (g : RegionId) (b : Bool) (states : List KeyState) → AllByRecu
 folded_marked g b [] h = tt
 folded_marked g b (s ∷ rest) h = (h.0, folded_marked g b rest h.1)
 
-module _ (v : ServerValue) (epoch : Epoch) (g : RegionId) (snapshot : List Kept) (pending : List Update) (bare : folded_server v.state ≡ v.state) where
+module _ (v : ServerValue) (epoch : Epoch) (g : RegionId) (snapshot : List Kept) (pending : List Update) where
   abbrev s : ServerState
   s = v.state
 
+  abbrev step : ServerStep
+  step = snapped v.space s snapshot pending (replica_in_epoch s epoch g)
+
   module _ (number : ℕ) (y : Replica) (heard : IsHeardBy v epoch g number y) where
     -- it was installed before
-    pub ready_made : (before posts : List Post) (made : ServerOutput) → y.installed ≡ true → before ≡ [] → posts ≡ before ++ ready_post (standing s.config s.id) g → made ≡ record { posts = posts; notes = []; change = a_change.Nothing }
-        → IsStepOutput v (snapped v.space s snapshot pending (replica_in_epoch s epoch g)) made
-    ready_made before posts made installed none p e =
-        let step : snapped v.space s snapshot pending (replica_in_epoch s epoch g) ≡ saying s (ready_post s g) =
-        ap (snapped v.space s snapshot pending) heard.hears ∙ cond-true y.installed (saying s (ready_post s y.region)) _ installed ∙ ap (λ (h : RegionId). saying s (ready_post s h)) heard.region in
-        staying_made v (snapped v.space s snapshot pending (replica_in_epoch s epoch g)) posts made bare (ap (λ (t : ServerStep). t.state) step)
-        (p ∙ ap (λ (l : List Post). l ++ ready_post s g) none ∙ ap (λ (t : ServerStep). t.posts) (sym step))
-        (ap (λ (t : ServerStep). t.notes) (sym step)) e
+    pub ready_step : y.installed ≡ true → step ≡ saying s (ready_post s g)
+    ready_step installed =
+        ap (snapped v.space s snapshot pending) heard.hears ∙ cond-true y.installed (saying s (ready_post s y.region)) _ installed
+        ∙ ap (λ (h : RegionId). saying s (ready_post s h)) heard.region
 
     -- it is installed now
-    pub join_made : (store : StoreState) (boxed : Box Replica Global) (before joined posts : List Post) (made : ServerOutput) → y.installed ≡ false → before ≡ [] → joined ≡ before ++ (installed_slots (context_of v.space s g) snapshot pending).posts
-        → posts ≡ joined ++ ready_post (standing s.config s.id) g → store.region ≡ g → store.marks ≡ is_key_region v.space g → store.states ≡ map (folded g) (installed_slots (context_of v.space s g) snapshot pending).states
-        → boxed.value ≡ record { region = g; installed = true; store = store } → made ≡ record { posts = posts; notes = []; change = a_change.Join number boxed } → IsStepOutput v (snapped v.space s snapshot pending (replica_in_epoch s epoch g)) made
-    join_made store boxed before joined posts made out none j p region marks states held e =
-        let slots = installed_slots (context_of v.space s g) snapshot pending in
+    abbrev slots : Slots
+    slots = installed_slots (context_of v.space s g) snapshot pending
+
+    pub join_step : y.installed ≡ false → step ≡ with_slots s (record { region = g; installed = false; states = [] }) slots
+    join_step out =
+        let at : RegionId → ServerStep =
+        λ h. with_slots s (record { region = h; installed = false; states = [] }) (installed_slots (context_of v.space s h) snapshot pending) in
+        ap (snapped v.space s snapshot pending) heard.hears ∙ cond-false y.installed (saying s (ready_post s y.region)) _ out ∙ ap at heard.region
+
+    pub join_posts : (old new : List Post) → y.installed ≡ false → new ≡ (old ++ slots.posts) ++ ready_post s g → new ≡ old ++ step.posts
+    join_posts old new out p = p ∙ append_assoc old slots.posts (ready_post s g) ∙ ap (λ (t : ServerStep). old ++ t.posts) (sym (join_step out))
+
+    pub join_change : (store : StoreState) (boxed : Box Replica Global) → folded_server v.state ≡ v.state → y.installed ≡ false → store.region ≡ g
+        → store.marks ≡ is_key_region v.space g → store.states ≡ map (folded g) slots.states
+        → boxed.value ≡ record { region = g; installed = true; store = store } → IsChange v step.state (a_change.Join number boxed)
+    join_change store boxed bare out region marks states held =
         let new : ReplicaState = record { region = g; installed = true; states = slots.states } in
-        let at : RegionId → ServerStep = λ h. let each = installed_slots (context_of v.space s h) snapshot pending in
-        record {
-          state = record s { replicas = with_replica (record { region = h; installed = true; states = each.states }) s.replicas };
-          posts = each.posts ++ ready_post s h;
-          notes = [];
-        } in
-        let step : snapped v.space s snapshot pending (replica_in_epoch s epoch g) ≡ at g =
-        ap (snapped v.space s snapshot pending) heard.hears ∙ cond-false y.installed (saying s (ready_post s y.region)) _ out ∙ ap at heard.region in
         let view : folded_replica new ≡ record { region = g; installed = true; states = store.states } = ap (λ (l : List KeyState). record { region = g; installed = true; states = l }) (sym states) in
-        step_made v (snapped v.space s snapshot pending (replica_in_epoch s epoch g)) posts [] (a_change.Join number boxed) made
-        (p ∙ ap (λ (l : List Post). l ++ ready_post s g) (j ∙ ap (λ (l : List Post). l ++ slots.posts) none) ∙ ap (λ (t : ServerStep). t.posts) (sym step))
-        (ap (λ (t : ServerStep). t.notes) (sym step))
-        (
-        λ input is. subst (λ (r : Replica). IsJoinOn v input number r) (sym held)
+        subst (λ (r : Replica). IsJoinOn v step.state number r) (sym held)
         (record {
           before = view_of y;
           found = heard.found;
@@ -157,9 +154,7 @@ module _ (v : ServerValue) (epoch : Epoch) (g : RegionId) (snapshot : List Kept)
             marked = subst (AllByRecursion (λ (t : KeyState). t.marks ≡ is_key_region v.space g)) (sym states)
                 (folded_marked g (is_key_region v.space g) slots.states (joined_marked (context_of v.space s g) pending (keys_of pending) (record { states = map (state_from (is_key_region v.space g)) snapshot; posts = [] }) (from_marked (is_key_region v.space g) snapshot)));
           };
-          state = ap (λ (t : ServerStep). folded_server t.state) (is ∙ step)
+          state = ap (λ (t : ServerStep). folded_server t.state) (join_step out)
               ∙ ap (λ (l : List ReplicaState). record s { replicas = l })
               (with-replica-folded new s.replicas ∙ ap (with_replica (folded_replica new)) (ap (λ (x : ServerState). x.replicas) bare) ∙ ap (λ (r : ReplicaState). with_replica r s.replicas) view);
         })
-        )
-        e

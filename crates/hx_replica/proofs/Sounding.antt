@@ -13,7 +13,7 @@ use Rattle.hx_types.specs.declared.ids.Actor.TheVariants.{Server}
 use Rattle.hx_types.specs.declared.traces.Input.TheVariants.{Deliver}
 use Rattle.hx_types.specs.Posts.{IsSoundPost}
 use Rattle.hx_types.specs.Words.{IsIn, post, text_below}
-use Rattle.hx_model.specs.ServerSteps.{Replica, ServerState, server_step}
+use Rattle.hx_model.specs.ServerSteps.{Replica, ServerState, ServerStep, message_step, server_step}
 use Rattle.hx_model.specs.Slots.{KeyState}
 use Rattle.hx_law_folds.specs.Folding.{Descends, KeysAscend}
 use Rattle.hx_law_lemmas.proofs.Lists.{all-of}
@@ -23,8 +23,10 @@ use Rattle.hx_law_posts.proofs.Servers as a_server
 use Rattle.hx_law_posts.proofs.Slots as a_slot
 use Rattle.hx_law_lemmas.proofs.Texts as a_text
 use Rattle.hx_law_posts.proofs.ServerSteps.{server-good}
+use Rattle.hx_replica.specs.Plans.{CanHear}
 use Rattle.hx_replica.specs.Servers.{ServerValue, server_entry}
 use Rattle.hx_replica.specs.Sound.{IsSoundAt, IsSoundInput, IsSoundReplica, IsSoundServer, IsSoundSlot}
+use Rattle.hx_replica.proofs.Planning.{running_step}
 
 module _ (space : Space) (sessions n : ℕ) where
   descends : (b : ℕ) (us : List Update) → Descends b us → a_move.Descends b us
@@ -75,3 +77,11 @@ pub entry_sound : (v : ServerValue) (input : Input) (entry : Entry) → entry �
 entry_sound v input entry e same sessions n h k =
     subst (All (IsSoundPost v.space sessions (n + 1))) (sym (ap (λ (x : Entry). x.outputs) e ∙ ap (λ (i : Input). (server_step v.space v.state i).posts) same))
     (posts_sound v.space sessions n v.state input h k)
+
+-- what is posted on a message
+pub message_sound : (v : ServerValue) (from : Actor) (m : Message) → CanHear v.space v.state from m → (id : PostId) (sessions n : ℕ)
+    → IsSoundServer v.space sessions n v.state → IsSoundInput v.space sessions n v.state.id (Deliver id from m)
+    → All (IsSoundPost v.space sessions (n + 1)) (message_step v.space v.state from m).posts
+message_sound v from m hears id sessions n h k =
+    subst (λ (t : ServerStep). All (IsSoundPost v.space sessions (n + 1)) t.posts) (running_step v (Deliver id from m) hears.can.running)
+    (posts_sound v.space sessions n v.state (Deliver id from m) h k)

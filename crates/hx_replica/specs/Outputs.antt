@@ -1,4 +1,4 @@
--- What a step makes of one slot: its posts and notes, and the change by which the slot makes the step's moves.
+-- What a step makes of one slot: its posts, and the change by which the slot makes the step's moves.
 use Rattle.std.specs.Prelude.{◌≡◌, ℕ, ◌<◌, ◌≤◌, ◌==◌, ◌||◌, Bool, true, ⊤, ◌^◌, IsSome, IsSomeAnd, List, [], ◌∷◌, length, slice_get, take}
 use Rattle.std.specs.Borrow.{Bor}
 use Rattle.std.specs.List.{All, flat_map, list_any, prefix_len}
@@ -23,7 +23,6 @@ use Rattle.hx_slot.specs.States.{IsPlacedIn}
 use Rattle.hx_store.specs.Stores.{ArePending, CanBeOffered, Room, accepted, accepted_at, acknowledged_at, acknowledging}
 use Rattle.hx_replica.specs.declared.outputs.SlotChange.{SlotChange}
 use Rattle.hx_replica.specs.declared.outputs.SlotChange.TheVariants.{Open, Accept, Acknowledge}
-use Rattle.hx_replica.specs.declared.outputs.SlotOutput.{SlotOutput}
 use Rattle.hx_replica.specs.declared.contexts.SlotContext.{SlotContext}
 
 -- where a slot stands, as the definitions say it
@@ -79,12 +78,10 @@ ChangeFits g s key Open = ⊤
 ChangeFits g s key (Accept u place tail_versions) = (u.key ≡ key) × CanBeOffered g u place × ArePending (moved_all (offered g s u) s) tail_versions.items
 ChangeFits g s key (Acknowledge v) = ⊤
 
--- what was made is the step of the slot
-pub record IsOutputOf (g : RegionId) (s : KeyState) (key : List ℕ) (step : SlotStep) (made : SlotOutput) : Type 0 where
-  pub posts : made.posts ≡ step.posts
-  pub notes : made.notes ≡ step.notes
-  pub moves : moves_by g s made.change ≡ step.moves
-  pub fits : ChangeFits g s key made.change
+-- the slot's change makes the moves of the step, and the slot can make it
+pub record IsChangeOf (g : RegionId) (s : KeyState) (key : List ℕ) (step : SlotStep) (change : SlotChange) : Type 0 where
+  pub moves : moves_by g s change ≡ step.moves
+  pub fits : ChangeFits g s key change
 
 abbrev pub session_in : Actor → SessionId
 session_in Coordinator = record { 0 = 0 }
@@ -132,9 +129,12 @@ pub record IsComing (g : RegionId) (s : KeyState) (u : Update) : Type 0 where
   pub above : top_of s < u.version.0
   pub floor : s.floor ≤ top_of s
 
--- what is posted of accepting an update, and the versions whose chain ends here
-pub record IsAccepted (context : ModelContext) (s : KeyState) (u : Update) (posts : List Post) (tail_versions : List Version) : Type 0 where
-  pub posts_are : posts ≡ flat_map (move_posts context) (accepting context s (offered context.region s u))
+-- what is posted where a slot is offered an update
+abbrev pub accepting_posts : ModelContext → KeyState → Update → List Post
+accepting_posts context s u = flat_map (move_posts context) (accepting context s (offered context.region s u))
+
+-- the versions of the updates that are then taken and whose chain ends here
+pub record AreEnds (context : ModelContext) (s : KeyState) (u : Update) (tail_versions : List Version) : Type 0 where
   pub ends_are : acknowledging tail_versions ≡ tail_acks context (taken (offered context.region s u))
   pub pending : ArePending (moved_all (offered context.region s u) s) tail_versions
 

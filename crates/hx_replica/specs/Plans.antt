@@ -7,15 +7,13 @@ use Rattle.hx_types.specs.declared.ids.Actor.{Actor}
 use Rattle.hx_types.specs.declared.spaces.Space.{Space}
 use Rattle.hx_types.specs.declared.traces.Input.{Input}
 use Rattle.hx_types.specs.declared.traces.Input.TheVariants.{Deliver}
-use Rattle.hx_model.specs.ServerSteps.{Replica as ReplicaState, ServerState, ServerStep, listed_regions, server_step, context_of, state_in, with_replica, with_slot}
+use Rattle.hx_model.specs.ServerSteps.{Replica as ReplicaState, ServerState, SlotStep, listed_regions, server_step, context_of, state_in, with_replica, with_slot}
 use Rattle.hx_law_folds.specs.Folding.{folded_server}
 use Rattle.hx_replica.specs.declared.outputs.SlotChange.{SlotChange}
-use Rattle.hx_replica.specs.declared.outputs.SlotOutput.{SlotOutput}
 use Rattle.hx_replica.specs.declared.prepared.Change.{Change}
 use Rattle.hx_replica.specs.declared.prepared.Change.TheVariants.{Nothing, Seal, Halt, Adopt, Join, Slot}
 use Rattle.hx_replica.specs.declared.prepared.Plan.{Plan}
-use Rattle.hx_replica.specs.declared.prepared.ServerOutput.{ServerOutput}
-use Rattle.hx_replica.specs.Outputs.{ChangeFits, HasRoomFor, IsOutputOf, IsSlotInput, key_in, room_of, slot_step_of, stepped}
+use Rattle.hx_replica.specs.Outputs.{ChangeFits, HasRoomFor, IsChangeOf, IsSlotInput, key_in, room_of, slot_step_of, stepped}
 use Rattle.hx_replica.specs.declared.replicas.Replica.{Replica}
 use Rattle.hx_replica.specs.Adopting.{lean_with_config}
 use Rattle.hx_store.specs.Stores.{KeepsRooms, Room, UsesRoom}
@@ -26,11 +24,10 @@ use Rattle.hx_replica.specs.Servers.{CanTake, ServerValue, server_entry}
 abbrev pub HasRoomAt : ℕ → List ℕ → ℕ → ServerValue → ℕ → Type 0
 HasRoomAt number key n s place = IsSomeAnd (slice_get s.rooms number) (HasRoomFor key n place)
 
--- the server can take a post of the message, and its slots have no past
+-- the server can take a post of the message
 pub record CanHear (space : Space) (s : ServerState) (from : Actor) (m : Message) : Type 0 where
   pub id : PostId
   pub can : CanTake space s (Deliver id from m)
-  pub bare : folded_server s ≡ s
 
 -- the replica at the place hears the message, and its slot can be asked
 pub record CanStep (space : Space) (s : ServerState) (place : ℕ) (key : List ℕ) (from : Actor) (m : Message) : Type 0 where
@@ -38,51 +35,54 @@ pub record CanStep (space : Space) (s : ServerState) (place : ℕ) (key : List �
   pub asked : (r : ReplicaState) → slice_get s.replicas place ≡ Some r → IsSlotInput space r.region (state_in space r key) from m
   pub within : place < length s.replicas
 
--- what was made is the step of the slot at the replica of the place
-abbrev pub IsOutputAt : ServerValue → ℕ → Actor → Message → SlotOutput → Type 0
-IsOutputAt s place from m made =
-    (r : ReplicaState) → slice_get s.state.replicas place ≡ Some r
-    → IsOutputOf r.region (state_in s.space r (key_in m)) (key_in m) (slot_step_of (context_of s.space s.state r.region) (state_in s.space r (key_in m)) from m) made
+-- the step of the slot to which a message goes, at a replica
+abbrev pub step_at : ServerValue → ReplicaState → Actor → Message → SlotStep
+step_at s r from m = slot_step_of (context_of s.space s.state r.region) (state_in s.space r (key_in m)) from m
 
--- the slot at the place of the replica with this number can make the change, and that is the server's step without its past
-pub record IsChangeOn (s : ServerValue) (input : Input) (number place : ℕ) (change : SlotChange) : Type 0 where
+-- what is so of the replica at the place
+abbrev pub AtReplica : ServerValue → ℕ → (ReplicaState → Type 0) → Type 0
+AtReplica s place IsSo = (r : ReplicaState) → slice_get s.state.replicas place ≡ Some r → IsSo r
+
+-- the change is that of the slot's step at the replica of the place
+abbrev pub IsChangeAt : ServerValue → ℕ → Actor → Message → SlotChange → Type 0
+IsChangeAt s place from m change =
+    AtReplica s place (λ (r : ReplicaState). IsChangeOf r.region (state_in s.space r (key_in m)) (key_in m) (step_at s r from m) change)
+
+-- the slot at the place of the replica with this number can make the change, and the server is then as after the step, without its past
+pub record IsChangeOn (s : ServerValue) (after : ServerState) (number place : ℕ) (change : SlotChange) : Type 0 where
   pub key : List ℕ
   pub replica : ReplicaState
   pub found : slice_get s.state.replicas number ≡ Some replica
   pub room : HasRoomAt number key (room_of change) s place
   pub fits : ChangeFits replica.region (state_in s.space replica key) key change
-  pub state : folded_server (server_step s.space s.state input).state ≡ with_slot s.state replica (stepped change replica.region (state_in s.space replica key))
+  pub state : folded_server after ≡ with_slot s.state replica (stepped change replica.region (state_in s.space replica key))
 
--- these are new replicas of the regions in which the configuration lists the server, and to adopt it is the server's step
-pub record IsAdoptionOn (s : ServerValue) (input : Input) (config : Config) (replicas : List Replica) : Type 0 where
+-- these are new replicas of the regions in which the configuration lists the server, and to adopt it is the step
+pub record IsAdoptionOn (s : ServerValue) (after : ServerState) (config : Config) (replicas : List Replica) : Type 0 where
   pub new : replicas ≡ map (new_replica s.space) (listed_regions config s.state.id)
-  pub state : folded_server (server_step s.space s.state input).state ≡ lean_with_config s.space s.state config
+  pub state : folded_server after ≡ lean_with_config s.space s.state config
 
--- the replica is one of the region of that with this number, and that is the server's step
-pub record IsJoinOn (s : ServerValue) (input : Input) (number : ℕ) (replica : Replica) : Type 0 where
+-- the replica is one of the region of that with this number, and to put it there is the step
+pub record IsJoinOn (s : ServerValue) (after : ServerState) (number : ℕ) (replica : Replica) : Type 0 where
   pub before : ReplicaState
   pub found : slice_get s.state.replicas number ≡ Some before
   pub region : replica.region ≡ before.region
   pub is : IsReplicaIn s.space replica
-  pub state : folded_server (server_step s.space s.state input).state ≡ record s.state { replicas = with_replica (view_of replica) s.state.replicas }
+  pub state : folded_server after ≡ record s.state { replicas = with_replica (view_of replica) s.state.replicas }
 
-abbrev pub IsChange : ServerValue → Input → Change → Type 0
-IsChange s input Nothing = folded_server (server_step s.space s.state input).state ≡ s.state
-IsChange s input Seal = folded_server (server_step s.space s.state input).state ≡ record s.state { sealed = true }
-IsChange s input Halt = folded_server (server_step s.space s.state input).state ≡ record s.state { halted = true }
-IsChange s input (Adopt config replicas) = IsAdoptionOn s input config replicas.items
-IsChange s input (Join number replica) = IsJoinOn s input number replica.value
-IsChange s input (Slot number place change) = IsChangeOn s input number place change
+-- the server can make the change, and has then this state, without its past
+abbrev pub IsChange : ServerValue → ServerState → Change → Type 0
+IsChange s after Nothing = folded_server after ≡ s.state
+IsChange s after Seal = folded_server after ≡ record s.state { sealed = true }
+IsChange s after Halt = folded_server after ≡ record s.state { halted = true }
+IsChange s after (Adopt config replicas) = IsAdoptionOn s after config replicas.items
+IsChange s after (Join number replica) = IsJoinOn s after number replica.value
+IsChange s after (Slot number place change) = IsChangeOn s after number place change
 
--- what was made is the server's step on the input, and there is room for its change
-pub record IsServerOutput (s : ServerValue) (input : Input) (made : ServerOutput) : Type 0 where
-  pub posts : made.posts ≡ (server_step s.space s.state input).posts
-  pub notes : made.notes ≡ (server_step s.space s.state input).notes
-  pub change : IsChange s input made.change
-
--- that is so on each input of which the server's step is this one
-abbrev pub IsStepOutput : ServerValue → ServerStep → ServerOutput → Type 0
-IsStepOutput s step made = (input : Input) → server_step s.space s.state input ≡ step → IsServerOutput s input made
+-- the server can make the change
+pub record CanMake (s : ServerValue) (change : Change) : Type 0 where
+  pub after : ServerState
+  pub is : IsChange s after change
 
 -- the replica with a number uses the room at a place for one update, and no other room falls
 abbrev pub UseRoomAt : ℕ → ℕ → List (List Room) → List (List Room) → Type 0
@@ -110,4 +110,4 @@ AreRoomsAfter (Slot number place change) old new = UseRoomAt number place old.ro
 -- the plan is that of the server's step, and there is room for its change
 pub record IsPlanOn (s : ServerValue) (plan : Plan) : Type 0 where
   pub entry : plan.entry ≡ server_entry s.space s.state plan.entry.input
-  pub change : IsChange s plan.entry.input plan.change
+  pub change : IsChange s (server_step s.space s.state plan.entry.input).state plan.change

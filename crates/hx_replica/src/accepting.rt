@@ -5,35 +5,31 @@ ghost use Rattle.hx_types.specs.declared.updates.Update.{Update as Updated};
 ghost use Rattle.hx_model.specs.Neighbours.{place_number};
 ghost use Rattle.hx_model.specs.ServerSteps.{passed_on};
 ghost use Rattle.hx_model.specs.Slots.{follows, offered, pending_of, taken, top_of, turns};
-ghost use Rattle.hx_replica.specs.Outputs.{IsAccepted, IsComing, IsHere, IsNew, tail_version, seen, context_seen};
+ghost use Rattle.hx_replica.specs.Outputs.{AreEnds, IsComing, IsHere, IsNew, accepting_posts, tail_version, seen, context_seen};
 
-use crate::contexts::{SlotContext, place_at, post_update};
-use crate::settling::{line_of, post_commits};
+use crate::contexts::{SlotContext, place_at, post_commit, post_update};
+use crate::settling::{is_settled, line_of, post_commits};
 use hx_slot::Slot;
 use hx_types::{Memory, Posts, Shared, Update, Version};
 use std::alloc::Global;
 
-/// What is posted where a slot accepts an update, and the versions whose chain ends here.
-#[derive(Drop)]
-pub struct Acceptance {
-    pub posts: Posts,
-    pub tail_versions: Vec<Version>,
-}
-
 /// A slot is offered an update above its top: the update and each early one whose turn then comes
-/// go to the next replica or end here, and what can be committed is told of.
+/// go to the next replica or end here, and what can be committed is told of. The versions whose
+/// chain ends here are the result.
 pub fn accepted(
     alloc: Global,
     context: &SlotContext,
     slot: &Slot,
     update: &Shared<Update>,
-) -> Result<Acceptance, Memory>
+    posts: &mut Posts,
+) -> Result<Vec<Version>, Memory>
     requires coming { IsComing context.now.region slot.now.state update.now }
     requires region { slot.now.region ≡ context.now.region }
-    ensures { IfOk result (λ made. IsAccepted (context_seen context.now) slot.now.state update.now made.posts made.tail_versions.items) }
+    ensures posts { OnOk result (posts.new ≡ posts.old ++ accepting_posts (context_seen context.now) slot.now.state update.now) }
+    ensures ends { IfOk result (λ ends. AreEnds (context_seen context.now) slot.now.state update.now ends.items) }
 {
     if slot.early_count() == 0 && slot.pending_count() == 0 {
-        return accepted_alone(alloc, context, slot, update);
+        return accepted_alone(alloc, context, slot, update, posts);
     }
     let taken = taken_by(alloc, context, slot, update)?;
     let line = line_of(alloc, slot, taken.as_slice())?;
@@ -44,28 +40,36 @@ pub fn accepted(
         update,
         taken.as_slice(),
         line.as_slice(),
+        posts,
     )
 }
 
-/// The same of a slot that holds no other update: no list of updates is made for it.
+/// The same of a slot that holds no other update: its chain is looked at once, and no list of
+/// updates is made for it.
+#[inline]
 fn accepted_alone(
     alloc: Global,
     context: &SlotContext,
     slot: &Slot,
     update: &Shared<Update>,
-) -> Result<Acceptance, Memory>
+    posts: &mut Posts,
+) -> Result<Vec<Version>, Memory>
     requires coming { IsComing context.now.region slot.now.state update.now }
     requires region { slot.now.region ≡ context.now.region }
     requires early { slot.now.state.early ≡ [] }
     requires pending { pending_of slot.now.state ≡ [] }
-    ensures { IfOk result (λ made. IsAccepted (context_seen context.now) slot.now.state update.now made.posts made.tail_versions.items) }
+    ensures posts { OnOk result (posts.new ≡ posts.old ++ accepting_posts (context_seen context.now) slot.now.state update.now) }
+    ensures ends { IfOk result (λ ends. AreEnds (context_seen context.now) slot.now.state update.now ends.items) }
 {
-    if is_in_turn(context, slot, update) {
-        let only = [update];
-        take_all(alloc, context, slot, update, &only, &only)
-    } else {
-        take_all(alloc, context, slot, update, &[], &[])
+    let mut tail_versions = Vec::new(alloc);
+    if !is_in_turn(context, slot, update) {
+        return Ok(tail_versions);
     }
+    post_update(alloc, context, update, posts, &mut tail_versions)?;
+    if is_settled(slot, tail_versions.as_slice(), update.version) {
+        post_commit(alloc, context, update, posts)?;
+    }
+    Ok(tail_versions)
 }
 
 /// What is posted where a slot takes these updates, behind which stands its line, and the versions
@@ -77,32 +81,23 @@ fn take_all(
     update: &Shared<Update>,
     updates: &[&Shared<Update>],
     line: &[&Shared<Update>],
-) -> Result<Acceptance, Memory>
+    posts: &mut Posts,
+) -> Result<Vec<Version>, Memory>
     requires coming { IsComing context.now.region slot.now.state update.now }
     requires region { slot.now.region ≡ context.now.region }
     requires taken { seen updates.now ≡ taken (offered context.now.region slot.now.state update.now) }
     requires new { All (IsNew context.now.region slot.now.state.floor) updates.now }
     requires line { seen line.now ≡ pending_of slot.now.state ++ seen updates.now }
     requires here { All (IsHere context.now.region) line.now }
-    ensures { IfOk result (λ made. IsAccepted (context_seen context.now) slot.now.state update.now made.posts made.tail_versions.items) }
+    ensures posts { OnOk result (posts.new ≡ posts.old ++ accepting_posts (context_seen context.now) slot.now.state update.now) }
+    ensures ends { IfOk result (λ ends. AreEnds (context_seen context.now) slot.now.state update.now ends.items) }
 {
     // The contract alone speaks of the update that is offered.
     let _ = update;
-    let mut posts = Posts::new(alloc);
     let mut tail_versions = Vec::new(alloc);
-    post_updates(alloc, context, updates, &mut posts, &mut tail_versions)?;
-    post_commits(
-        alloc,
-        context,
-        slot,
-        line,
-        tail_versions.as_slice(),
-        &mut posts,
-    )?;
-    Ok(Acceptance {
-        posts,
-        tail_versions,
-    })
+    post_updates(alloc, context, updates, posts, &mut tail_versions)?;
+    post_commits(alloc, context, slot, line, tail_versions.as_slice(), posts)?;
+    Ok(tail_versions)
 }
 
 /// The updates that the slot takes with this one, in order; none where its turn hasn't come.

@@ -18,5 +18,5 @@ mod settling;
 mod slot_steps;
 mod ticking;
 
-pub use prepared::Plan;
+pub use prepared::{Change, Plan};
 pub use servers::Server;

@@ -1,9 +1,8 @@
-ghost use Rattle.std.specs.Prelude.{◌≡◌, [], ◌∷◌, IfOk};
+ghost use Rattle.std.specs.Prelude.{◌≡◌, ◌++◌, [], ◌∷◌, IfOk, OnOk};
 ghost use Rattle.hx_replica.specs.Outputs.{room_by};
 ghost use Rattle.hx_replica.specs.declared.outputs.SlotChange.TheVariants.{Open};
 
-use hx_types::{Memory, Message, Notes, Post, Posts, Shared, Update, Version};
-use std::alloc::Global;
+use hx_types::{Memory, Message, Post, Posts, Shared, Update, Version};
 
 /// How a slot makes its part of a step.
 #[derive(Drop)]
@@ -22,14 +21,6 @@ pub enum SlotChange {
     },
 }
 
-/// What a step posts and notes of a slot, and how it changes it.
-#[derive(Drop)]
-pub struct SlotOutput {
-    pub posts: Posts,
-    pub notes: Notes,
-    pub change: SlotChange,
-}
-
 /// For how many updates a slot needs room where a message comes: an acknowledgement brings none.
 #[inline]
 pub fn room_by(message: &Message) -> u32
@@ -41,27 +32,12 @@ pub fn room_by(message: &Message) -> u32
     }
 }
 
-/// The slot stays, and these are the posts.
+/// The slot stays, and this is its only post.
 #[inline]
-pub fn slot_unchanged(alloc: Global, posts: Posts) -> SlotOutput
-    ensures posts { result.posts ≡ posts }
-    ensures notes { result.notes ≡ [] }
-    ensures change { result.change ≡ Open }
+pub fn slot_replies(post: Post, posts: &mut Posts) -> Result<SlotChange, Memory>
+    ensures posts { OnOk result (posts.new ≡ posts.old ++ post ∷ []) }
+    ensures change { IfOk result (λ change. change ≡ Open) }
 {
-    SlotOutput {
-        posts,
-        notes: Notes::new(alloc),
-        change: SlotChange::Open,
-    }
-}
-
-/// The slot stays, and this is the only post.
-pub fn slot_replies(alloc: Global, post: Post) -> Result<SlotOutput, Memory>
-    ensures posts { IfOk result (λ made. made.posts ≡ post ∷ []) }
-    ensures notes { IfOk result (λ made. made.notes ≡ []) }
-    ensures change { IfOk result (λ made. made.change ≡ Open) }
-{
-    let mut posts = Posts::new(alloc);
     posts.push(post)?;
-    Ok(slot_unchanged(alloc, posts))
+    Ok(SlotChange::Open)
 }

@@ -1,6 +1,9 @@
-ghost use Rattle.std.specs.Prelude.{◌≡◌, ◌<◌, ◌≤◌, IfOk, IfNone, IfSome, IsSomeAnd, Some, None, false, is_some, length, map, slice_get, ℕ, ◌+◌};
+ghost use Rattle.std.specs.Prelude.{◌≡◌, ◌<◌, ◌≤◌, IfOk, IfNone, IfSome, IsSomeAnd, OnOk, Some, None, false, is_some, length, map, slice_get, ℕ, ◌+◌, ◌++◌};
 ghost use Rattle.std.specs.List.{All};
 ghost use Rattle.std.specs.Option.{option_map};
+ghost use Rattle.hx_types.specs.declared.messages.PostId.{PostId};
+ghost use Rattle.hx_types.specs.declared.traces.Input.{Input as Taken};
+ghost use Rattle.hx_types.specs.declared.traces.Input.TheVariants.{Deliver};
 ghost use Rattle.hx_types.specs.Configs.{first_config};
 ghost use Rattle.hx_types.specs.Effects.{key_of};
 ghost use Rattle.hx_types.specs.Posted.{NameOnly};
@@ -19,17 +22,15 @@ ghost use Rattle.hx_replica.specs.Named.{known_to};
 ghost use Rattle.hx_replica.specs.Replicas.{KeepAllRooms, KeepRegionRooms, first_replica, new_replica};
 ghost use Rattle.hx_replica.specs.Sound.{IsSoundInput, IsSoundServer};
 ghost use Rattle.hx_store.specs.Stores.{has_slot};
-ghost use Rattle.hx_replica.specs.Plans.{AreRoomsAfter, CanHear, CanStep, HasRoomAt, IsOutputAt, IsPlanOn, IsServerOutput, IsStepOutput};
+ghost use Rattle.hx_replica.specs.Plans.{AreRoomsAfter, AtReplica, CanHear, CanMake, CanStep, HasRoomAt, IsChange, IsChangeAt, IsPlanOn, step_at};
 ghost use Rattle.hx_replica.specs.Servers.{CanTake};
 
 use crate::adopting::post_adoption;
 use crate::contexts::SlotContext;
 use crate::installing::installed;
 use crate::keeping::keep_all;
-use crate::outputs::{SlotOutput, room_by};
-use crate::prepared::{
-    Change, Plan, ServerOutput, plan_nothing, plan_posting, plan_slot, to_coordinator,
-};
+use crate::outputs::{SlotChange, room_by};
+use crate::prepared::{Change, Plan, post_to_coordinator};
 use crate::replicas::{
     Replica, change_slot, first_replicas, joined_replica, new_replicas, place_of, put_replica,
 };
@@ -38,8 +39,8 @@ use crate::ticking::{post_ready, tick_all};
 use hx_region::RegionMap;
 use hx_slot::Slot;
 use hx_types::{
-    Actor, Config, Entry, Epoch, Exact, Input, Memory, Message, Op, Post, Posts, RegionId, Rows,
-    ServerId, Shared, Snapshot, Space, Terms, Text, Updates, first_shared_config,
+    Actor, Config, Entry, Epoch, Exact, Input, Memory, Message, Notes, Op, Post, Posts, RegionId,
+    Rows, ServerId, Shared, Snapshot, Space, Terms, Text, Updates, first_shared_config,
 };
 use std::alloc::Global;
 use std::marker::Model;
@@ -158,35 +159,94 @@ impl Server {
         ensures state { self.new.state ≡ self.old.state }
     {
         let actor = Actor::Server(self.id);
-        let Ok(made) = self.made_on(alloc, &input) else {
+        let mut posts = Posts::new(alloc);
+        let mut notes = Notes::new(alloc);
+        let Ok(change) = self.change_on(alloc, &input, &mut posts, &mut notes) else {
             return Err(Memory);
         };
         let entry = Entry {
             actor,
             input,
-            outputs: made.posts,
-            notes: made.notes,
+            outputs: posts,
+            notes,
         };
-        Ok(Plan {
-            entry,
-            change: made.change,
-        })
+        Ok(Plan { entry, change })
     }
 
-    /// What the step on an input makes.
+    /// Posts and notes what the step on an input makes, and gives what it changes.
+    #[inline]
     #[tactic(auto, using(crate::proofs::Roomy::all_same))]
-    fn made_on(&mut self, alloc: Global, input: &Input) -> Result<ServerOutput, Memory>
+    fn change_on(
+        &mut self,
+        alloc: Global,
+        input: &Input,
+        posts: &mut Posts,
+        notes: &mut Notes,
+    ) -> Result<Change, Memory>
         requires { CanTake self.old.space self.old.state input.now }
-        ensures made { IfOk result (IsServerOutput self.new input.now) }
+        ensures posts { OnOk result (posts.new ≡ posts.old ++ (server_step self.old.space self.old.state input.now).posts) }
+        ensures notes { OnOk result (notes.new ≡ notes.old ++ (server_step self.old.space self.old.state input.now).notes) }
+        ensures change { IfOk result (IsChange self.new (server_step self.old.space self.old.state input.now).state) }
         ensures rooms { KeepAllRooms self.old.rooms self.new.rooms }
         ensures space { self.new.space ≡ self.old.space }
         ensures state { self.new.state ≡ self.old.state }
     {
         let _ = &self.id;
         match input {
-            Input::Tick => self.tick(alloc),
-            Input::Halt => self.halt(alloc),
-            Input::Deliver { from, message, .. } => self.deliver(alloc, *from, message),
+            Input::Tick => self.tick(alloc, posts),
+            Input::Halt => self.halt(posts),
+            Input::Deliver { from, message, .. } => self.hear(alloc, *from, message, posts, notes),
+        }
+    }
+
+    /// Computes the step that a message makes which the server gets, and takes all memory that it
+    /// needs: what the step posts and notes goes behind what the lists hold, and the result is what
+    /// it changes. Nothing but the room for further updates changes, and none falls. What is posted
+    /// names only the coordinator and actors that the server's configuration, its slots, the sender
+    /// or the message name. Where all that the server holds and the post that it gets are of the
+    /// space, exist and have no epoch and no version above a bound, that is so of what it posts, and
+    /// no epoch and no version of it is above the bound by more than 1. On an error the lists may
+    /// hold anything.
+    #[tactic(auto, using(crate::proofs::Roomy::all_same))]
+    pub fn hear(
+        &mut self,
+        alloc: Global,
+        from: Actor,
+        message: &Message,
+        posts: &mut Posts,
+        notes: &mut Notes,
+    ) -> Result<Change, Memory>
+        requires { CanHear self.old.space self.old.state from message.now }
+        ensures posts { OnOk result (posts.new ≡ posts.old ++ (message_step self.old.space self.old.state from message.now).posts) }
+        ensures notes { OnOk result (notes.new ≡ notes.old ++ (message_step self.old.space self.old.state from message.now).notes) }
+        ensures change { IfOk result (IsChange self.new (message_step self.old.space self.old.state from message.now).state) }
+        ensures named { (id : PostId) → NameOnly (known_to self.old.state (Deliver id from message.now)) (message_step self.old.space self.old.state from message.now).posts }
+        ensures sound { (id : PostId) (sessions n : ℕ) → IsSoundServer self.old.space sessions n self.old.state → IsSoundInput self.old.space sessions n self.old.state.id (Deliver id from message.now) → All (IsSoundPost self.old.space sessions (n + 1)) (message_step self.old.space self.old.state from message.now).posts }
+        ensures rooms { KeepAllRooms self.old.rooms self.new.rooms }
+        ensures space { self.new.space ≡ self.old.space }
+        ensures state { self.new.state ≡ self.old.state }
+    {
+        let _ = &self.id;
+        match message {
+            Message::Ask {
+                epoch,
+                number,
+                region,
+                terms,
+            } => {
+                self.post_found(alloc, from, *epoch, *number, *region, terms, posts)?;
+                Ok(Change::Nothing)
+            }
+            Message::Seal { epoch } => self.seal(*epoch, posts),
+            Message::Install { config } => self.install(alloc, config, posts),
+            Message::Die => self.halt(posts),
+            Message::Snap {
+                epoch,
+                region,
+                snapshot,
+                pending,
+            } => self.join(alloc, *epoch, *region, snapshot, pending, posts),
+            _ => self.take(alloc, from, message, posts, notes),
         }
     }
 
@@ -202,19 +262,35 @@ impl Server {
         ensures sound { (sessions n : ℕ) → IsSoundServer self.old.space sessions n self.old.state → IsSoundInput self.old.space sessions n self.old.state.id plan.entry.input → IsSoundServer self.new.space sessions (n + 1) self.new.state }
         ensures rooms { AreRoomsAfter plan.change self.old self.new }
     {
-        self.make(plan)
+        let Plan { entry, change } = plan;
+        self.make(change);
+        entry
     }
 
-    /// Makes a prepared step.
+    /// Makes what a step changes, as it was computed of this server. It takes no memory. The server
+    /// then is as each step leaves it that changes this. Where all that the server holds and the
+    /// post that it got are of the space, exist and have no epoch and no version above a bound, that
+    /// is so of what it then holds, with a bound higher by 1. Room is used by the slot that accepts
+    /// an update, and given up by a replica that joins or that the server has no more.
     #[inline]
-    fn make(&mut self, plan: Plan) -> Entry
-        requires { IsPlanOn self.old plan }
-        ensures entry { result ≡ plan.entry }
+    pub fn make(&mut self, change: Change)
+        requires { CanMake self.old change }
         ensures space { self.new.space ≡ self.old.space }
-        ensures state { self.new.state ≡ folded_server (server_step self.old.space self.old.state plan.entry.input).state }
-        ensures rooms { AreRoomsAfter plan.change self.old self.new }
+        ensures state { (after : ServerState) → IsChange self.old after change → self.new.state ≡ folded_server after }
+        ensures sound { (input : Taken) (sessions n : ℕ) → IsChange self.old (server_step self.old.space self.old.state input).state change → IsSoundServer self.old.space sessions n self.old.state → IsSoundInput self.old.space sessions n self.old.state.id input → IsSoundServer self.new.space sessions (n + 1) self.new.state }
+        ensures rooms { AreRoomsAfter change self.old self.new }
     {
-        let Plan { entry, change } = plan;
+        self.carry_out(change);
+    }
+
+    /// Makes what a step changes.
+    #[inline]
+    fn carry_out(&mut self, change: Change)
+        requires { CanMake self.old change }
+        ensures space { self.new.space ≡ self.old.space }
+        ensures state { (after : ServerState) → IsChange self.old after change → self.new.state ≡ folded_server after }
+        ensures rooms { AreRoomsAfter change self.old self.new }
+    {
         match change {
             Change::Nothing => {}
             Change::Seal => self.sealed = true,
@@ -230,7 +306,6 @@ impl Server {
                 change_slot(&mut replica.store, place, change);
             }
         }
-        entry
     }
 
     /// The server adopts a configuration, in which these are new replicas of its regions.
@@ -275,22 +350,22 @@ impl Server {
 
     /// What is pending is sent again; where the server is sealed, it says that instead.
     #[inline(never)]
-    fn tick(&self, alloc: Global) -> Result<ServerOutput, Memory>
+    fn tick(&self, alloc: Global, posts: &mut Posts) -> Result<Change, Memory>
         requires { folded_server self.now.state ≡ self.now.state }
-        ensures { IfOk result (IsStepOutput self.now (tick_step self.now.space self.now.state)) }
+        ensures posts { OnOk result (posts.new ≡ posts.old ++ (tick_step self.now.space self.now.state).posts) }
+        ensures change { IfOk result (IsChange self.now (tick_step self.now.space self.now.state).state) }
     {
-        let posts = self.sent_again(alloc)?;
-        Ok(plan_posting(alloc, posts, Change::Nothing))
+        self.send_again(alloc, posts)?;
+        Ok(Change::Nothing)
     }
 
-    /// The posts of a tick.
-    #[inline(never)]
-    fn sent_again(&self, alloc: Global) -> Result<Posts, Memory>
-        ensures { IfOk result (λ posts. posts ≡ (tick_step self.now.space self.now.state).posts) }
+    /// Posts what a tick posts.
+    fn send_again(&self, alloc: Global, posts: &mut Posts) -> Result<(), Memory>
+        ensures { OnOk result (posts.new ≡ posts.old ++ (tick_step self.now.space self.now.state).posts) }
     {
         if self.sealed {
             let epoch = self.config.epoch;
-            return to_coordinator(alloc, self.id, Message::Sealed { epoch });
+            return post_to_coordinator(self.id, Message::Sealed { epoch }, posts);
         }
         tick_all(
             alloc,
@@ -299,48 +374,56 @@ impl Server {
             &self.config,
             self.id,
             self.replicas.as_slice(),
+            posts,
         )
     }
 
     /// The server stops for good, and says so.
     #[cold]
     #[inline(never)]
-    fn halt(&self, alloc: Global) -> Result<ServerOutput, Memory>
+    fn halt(&self, posts: &mut Posts) -> Result<Change, Memory>
         requires { folded_server self.now.state ≡ self.now.state }
-        ensures { IfOk result (IsStepOutput self.now (halting self.now.state)) }
+        ensures posts { OnOk result (posts.new ≡ posts.old ++ (halting self.now.state).posts) }
+        ensures change { IfOk result (IsChange self.now (halting self.now.state).state) }
     {
-        let posts = to_coordinator(alloc, self.id, Message::Gone)?;
-        Ok(plan_posting(alloc, posts, Change::Halt))
+        post_to_coordinator(self.id, Message::Gone, posts)?;
+        Ok(Change::Halt)
     }
 
     /// The server takes part in its epoch no longer, and says so. Another epoch's seal is nothing
     /// to it.
     #[cold]
     #[inline(never)]
-    fn seal(&self, alloc: Global, epoch: Epoch) -> Result<ServerOutput, Memory>
+    fn seal(&self, epoch: Epoch, posts: &mut Posts) -> Result<Change, Memory>
         requires { folded_server self.now.state ≡ self.now.state }
-        ensures { IfOk result (IsStepOutput self.now (seal_at self.now.state epoch)) }
+        ensures posts { OnOk result (posts.new ≡ posts.old ++ (seal_at self.now.state epoch).posts) }
+        ensures change { IfOk result (IsChange self.now (seal_at self.now.state epoch).state) }
     {
         if epoch.0 != self.config.epoch.0 {
-            return Ok(plan_nothing(alloc));
+            return Ok(Change::Nothing);
         }
-        let posts = to_coordinator(alloc, self.id, Message::Sealed { epoch })?;
-        Ok(plan_posting(alloc, posts, Change::Seal))
+        post_to_coordinator(self.id, Message::Sealed { epoch }, posts)?;
+        Ok(Change::Seal)
     }
 
     /// The server adopts a configuration of a higher epoch than its own. An older one, or the same,
     /// is nothing to it.
     #[cold]
     #[inline(never)]
-    fn install(&self, alloc: Global, config: &Shared<Config>) -> Result<ServerOutput, Memory>
+    fn install(
+        &self,
+        alloc: Global,
+        config: &Shared<Config>,
+        posts: &mut Posts,
+    ) -> Result<Change, Memory>
         requires config { IsConfigOf self.now.space config.now }
         requires bare { folded_server self.now.state ≡ self.now.state }
-        ensures { IfOk result (IsStepOutput self.now (install_at self.now.space self.now.state config.now)) }
+        ensures posts { OnOk result (posts.new ≡ posts.old ++ (install_at self.now.space self.now.state config.now).posts) }
+        ensures change { IfOk result (IsChange self.now (install_at self.now.space self.now.state config.now).state) }
     {
         if config.epoch.0 <= self.config.epoch.0 {
-            return Ok(plan_nothing(alloc));
+            return Ok(Change::Nothing);
         }
-        let mut posts = Posts::new(alloc);
         post_adoption(
             alloc,
             &self.space,
@@ -348,11 +431,11 @@ impl Server {
             config,
             self.id,
             self.replicas.as_slice(),
-            &mut posts,
+            posts,
         )?;
         let replicas = new_replicas(alloc, &self.space, config, self.map.regions(), self.id)?;
         let config = config.copy(alloc)?;
-        Ok(plan_posting(alloc, posts, Change::Adopt { config, replicas }))
+        Ok(Change::Adopt { config, replicas })
     }
 
     /// A replica that isn't installed installs a snapshot with its pending updates. The coordinator
@@ -366,13 +449,15 @@ impl Server {
         region: RegionId,
         snapshot: &Snapshot,
         pending: &Updates,
-    ) -> Result<ServerOutput, Memory>
+        posts: &mut Posts,
+    ) -> Result<Change, Memory>
         requires bare { folded_server self.now.state ≡ self.now.state }
         requires snapshot { IsSnapshot region snapshot.now pending.now }
-        ensures { IfOk result (IsStepOutput self.now (snapped self.now.space self.now.state snapshot.now pending.now (replica_in_epoch self.now.state epoch region))) }
+        ensures posts { OnOk result (posts.new ≡ posts.old ++ (snapped self.now.space self.now.state snapshot.now pending.now (replica_in_epoch self.now.state epoch region)).posts) }
+        ensures change { IfOk result (IsChange self.now (snapped self.now.space self.now.state snapshot.now pending.now (replica_in_epoch self.now.state epoch region)).state) }
     {
         let Some(number) = self.replica_in_epoch(epoch, region) else {
-            return Ok(plan_nothing(alloc));
+            return Ok(Change::Nothing);
         };
         let context = SlotContext {
             space: &self.space,
@@ -381,61 +466,23 @@ impl Server {
             server: self.id,
             region,
         };
-        let mut posts = Posts::new(alloc);
         if self.replicas[number].installed {
-            post_ready(&context, &mut posts)?;
-            return Ok(plan_posting(alloc, posts, Change::Nothing));
+            post_ready(&context, posts)?;
+            return Ok(Change::Nothing);
         }
-        let Ok(store) = installed(alloc, &context, snapshot, pending, &mut posts) else {
+        let Ok(store) = installed(alloc, &context, snapshot, pending, posts) else {
             return Err(Memory);
         };
         let Ok(replica) = joined_replica(alloc, region, store) else {
             return Err(Memory);
         };
-        Ok(plan_posting(alloc, posts, Change::Join { number, replica }))
+        Ok(Change::Join { number, replica })
     }
 
-    /// What the step on a message makes.
-    #[tactic(auto, using(crate::proofs::Roomy::all_same))]
-    fn deliver(
-        &mut self,
-        alloc: Global,
-        from: Actor,
-        message: &Message,
-    ) -> Result<ServerOutput, Memory>
-        requires { CanHear self.old.space self.old.state from message.now }
-        ensures made { IfOk result (IsStepOutput self.new (message_step self.new.space self.new.state from message.now)) }
-        ensures rooms { KeepAllRooms self.old.rooms self.new.rooms }
-        ensures space { self.new.space ≡ self.old.space }
-        ensures state { self.new.state ≡ self.old.state }
-    {
-        match message {
-            Message::Ask {
-                epoch,
-                number,
-                region,
-                terms,
-            } => {
-                let posts = self.found(alloc, from, *epoch, *number, *region, terms)?;
-                Ok(plan_posting(alloc, posts, Change::Nothing))
-            }
-            Message::Seal { epoch } => self.seal(alloc, *epoch),
-            Message::Install { config } => self.install(alloc, config),
-            Message::Die => self.halt(alloc),
-            Message::Snap {
-                epoch,
-                region,
-                snapshot,
-                pending,
-            } => self.join(alloc, *epoch, *region, snapshot, pending),
-            _ => self.take(alloc, from, message),
-        }
-    }
-
-    /// What a search finds in a region, where this server is a ready member of it. All of the server
+    /// Posts what a search finds in a region, where this server is a ready member of it. All of the server
     /// stays, whatever comes: only the index of the region's store is brought up to date.
     #[inline(never)]
-    fn found(
+    fn post_found(
         &mut self,
         alloc: Global,
         from: Actor,
@@ -443,16 +490,16 @@ impl Server {
         number: u32,
         region: RegionId,
         terms: &Terms,
-    ) -> Result<Posts, Memory>
-        ensures posts { IfOk result (λ posts. posts ≡ (asked self.old.state from epoch number terms.now (if_installed (replica_in_epoch self.old.state epoch region))).posts) }
+        posts: &mut Posts,
+    ) -> Result<(), Memory>
+        ensures posts { OnOk result (posts.new ≡ posts.old ++ (asked self.old.state from epoch number terms.now (if_installed (replica_in_epoch self.old.state epoch region))).posts) }
         ensures stays { self.new ≡ self.old }
     {
-        let mut posts = Posts::new(alloc);
         let Some(place) = self.installed_at(epoch, region) else {
-            return Ok(posts);
+            return Ok(());
         };
         if !self.config.lists_ready(region, self.id) {
-            return Ok(posts);
+            return Ok(());
         }
         let from_here = Actor::Server(self.id);
         let rows = self.rows_of(alloc, place, terms)?;
@@ -465,8 +512,7 @@ impl Server {
                 region,
                 rows,
             },
-        })?;
-        Ok(posts)
+        })
     }
 
     /// What a search finds in the replica at a place.
@@ -487,10 +533,15 @@ impl Server {
         alloc: Global,
         from: Actor,
         message: &Message,
-    ) -> Result<ServerOutput, Memory>
+        posts: &mut Posts,
+        notes: &mut Notes,
+    ) -> Result<Change, Memory>
         requires can { CanHear self.old.space self.old.state from message.now }
+        requires bare { folded_server self.old.state ≡ self.old.state }
         requires slot { IsOfOneSlot message.now }
-        ensures made { IfOk result (IsStepOutput self.new (message_step self.new.space self.new.state from message.now)) }
+        ensures posts { OnOk result (posts.new ≡ posts.old ++ (message_step self.old.space self.old.state from message.now).posts) }
+        ensures notes { OnOk result (notes.new ≡ notes.old ++ (message_step self.old.space self.old.state from message.now).notes) }
+        ensures change { IfOk result (IsChange self.new (message_step self.old.space self.old.state from message.now).state) }
         ensures rooms { KeepAllRooms self.old.rooms self.new.rooms }
         ensures space { self.new.space ≡ self.old.space }
         ensures state { self.new.state ≡ self.old.state }
@@ -498,13 +549,17 @@ impl Server {
         // What the invariant says of the slots is known from here on.
         let _ = &self.id;
         let Some(addressee) = self.addressee_of(message) else {
-            return Ok(plan_nothing(alloc));
+            return Ok(Change::Nothing);
         };
         let place = self.reserve(alloc, &addressee, room_by(message))?;
-        let Ok(made) = self.step(alloc, &addressee, place, from, message) else {
+        let Ok(change) = self.step(alloc, &addressee, place, from, message, posts, notes) else {
             return Err(Memory);
         };
-        Ok(plan_slot(addressee.replica, place, made))
+        Ok(Change::Slot {
+            replica: addressee.replica,
+            place,
+            change,
+        })
     }
 
     /// The replica that hears a message on a key, if one does.
@@ -600,11 +655,15 @@ impl Server {
         place: usize,
         from: Actor,
         message: &Message,
-    ) -> Result<SlotOutput, Memory>
+        posts: &mut Posts,
+        notes: &mut Notes,
+    ) -> Result<SlotChange, Memory>
         requires can { CanStep self.now.space self.now.state addressee.now.replica addressee.now.key.now from message.now }
         requires room { HasRoomAt addressee.now.replica addressee.now.key.now (room_by message.now) self.now place }
-        ensures made { IfOk result (IsOutputAt self.now addressee.now.replica from message.now) }
-        ensures room { IfOk result (λ made. room_of made.change ≤ room_by message.now) }
+        ensures posts { OnOk result (AtReplica self.now addressee.now.replica (λ (r : ReplicaState). posts.new ≡ posts.old ++ (step_at self.now r from message.now).posts)) }
+        ensures notes { OnOk result (AtReplica self.now addressee.now.replica (λ (r : ReplicaState). notes.new ≡ notes.old ++ (step_at self.now r from message.now).notes)) }
+        ensures change { IfOk result (IsChangeAt self.now addressee.now.replica from message.now) }
+        ensures room { IfOk result (λ change. room_of change ≤ room_by message.now) }
     {
         let replica = &self.replicas[addressee.replica];
         let context = SlotContext {
@@ -614,6 +673,14 @@ impl Server {
             server: self.id,
             region: replica.region,
         };
-        step_slot(alloc, &context, replica.store.slot_at(place), from, message)
+        step_slot(
+            alloc,
+            &context,
+            replica.store.slot_at(place),
+            from,
+            message,
+            posts,
+            notes,
+        )
     }
 }

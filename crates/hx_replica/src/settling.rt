@@ -19,7 +19,7 @@ fn is_among(versions: &[Version], version: Version) -> bool
 }
 
 /// Whether a version is acknowledged, or one of those that are being acknowledged.
-fn is_settled(slot: &Slot, tail_versions: &[Version], version: Version) -> bool
+pub fn is_settled(slot: &Slot, tail_versions: &[Version], version: Version) -> bool
     ensures { result ≡ settles slot.now.state.acked tail_versions.now version }
 {
     is_among(tail_versions, version) || slot.is_acknowledged(version)

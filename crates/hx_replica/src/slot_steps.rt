@@ -1,4 +1,4 @@
-ghost use Rattle.std.specs.Prelude.{◌≡◌, ◌≤◌, ◌<◌, ◌^◌, ◌∷◌, [], IfOk, true, length};
+ghost use Rattle.std.specs.Prelude.{◌≡◌, ◌≤◌, ◌<◌, ◌^◌, ◌++◌, ◌∷◌, [], IfOk, OnOk, true, length};
 ghost use Rattle.std.specs.List.{All};
 ghost use Rattle.hx_types.specs.Spaces.{IsSpace};
 ghost use Rattle.hx_types.specs.declared.updates.Place.{Place};
@@ -8,11 +8,11 @@ ghost use Rattle.hx_model.specs.Regions.{key_region};
 ghost use Rattle.hx_model.specs.ServerSteps.{ack_step, accepting, by_moves, by_posts, call_step, decided, get_step, known_to, update_step, waiting_doubt, write_step};
 ghost use Rattle.hx_model.specs.Slots.{offered, top_of};
 ghost use Rattle.hx_slot.specs.States.{IsPlacedIn};
-ghost use Rattle.hx_replica.specs.Outputs.{IsComing, IsLeading, IsOutputOf, IsSlotInput, key_in, room_by, room_of, session_in, slot_step_of, context_seen};
+ghost use Rattle.hx_replica.specs.Outputs.{IsComing, IsChangeOf, IsLeading, IsSlotInput, key_in, room_by, room_of, session_in, slot_step_of, context_seen};
 
 use crate::accepting::accepted;
 use crate::contexts::{SlotContext, doubt, place_at, post_ack, reply};
-use crate::outputs::{SlotChange, SlotOutput, slot_replies, slot_unchanged};
+use crate::outputs::{SlotChange, slot_replies};
 use crate::settling::post_lowest_commits;
 use hx_chain::{decide, stuck};
 use hx_slot::Slot;
@@ -29,21 +29,25 @@ pub fn step_slot(
     slot: &Slot,
     from: Actor,
     message: &Message,
-) -> Result<SlotOutput, Memory>
+    posts: &mut Posts,
+    notes: &mut Notes,
+) -> Result<SlotChange, Memory>
     requires map { context.now.map.now ≡ context.now.space.now }
     requires space { IsSpace context.now.space.now }
     requires region { slot.now.region ≡ context.now.region }
     requires input { IsSlotInput context.now.space.now context.now.region slot.now.state from message.now }
-    ensures made { IfOk result (λ made. IsOutputOf context.now.region slot.now.state (key_in message.now) (slot_step_of (context_seen context.now) slot.now.state from message.now) made) }
-    ensures room { IfOk result (λ made. room_of made.change ≤ room_by message.now) }
+    ensures posts { OnOk result (posts.new ≡ posts.old ++ (slot_step_of (context_seen context.now) slot.now.state from message.now).posts) }
+    ensures notes { OnOk result (notes.new ≡ notes.old ++ (slot_step_of (context_seen context.now) slot.now.state from message.now).notes) }
+    ensures change { IfOk result (IsChangeOf context.now.region slot.now.state (key_in message.now) (slot_step_of (context_seen context.now) slot.now.state from message.now)) }
+    ensures room { IfOk result (λ change. room_of change ≤ room_by message.now) }
 {
     match message {
         Message::Call { number, op, .. } => {
             let caller = caller_of(from, *number);
-            call(alloc, context, slot, caller, op)
+            call(alloc, context, slot, caller, op, posts, notes)
         }
-        Message::Update { update, .. } => take(alloc, context, slot, update),
-        Message::Ack { version, .. } => settle(alloc, context, slot, *version),
+        Message::Update { update, .. } => take(alloc, context, slot, update, posts),
+        Message::Ack { version, .. } => settle(alloc, context, slot, *version, posts),
         _ => unreachable!(),
     }
 }
@@ -75,17 +79,21 @@ fn call(
     slot: &Slot,
     caller: Caller,
     op: &Op,
-) -> Result<SlotOutput, Memory>
+    posts: &mut Posts,
+    notes: &mut Notes,
+) -> Result<SlotChange, Memory>
     requires map { context.now.map.now ≡ context.now.space.now }
     requires space { IsSpace context.now.space.now }
     requires region { slot.now.region ≡ context.now.region }
     requires leading { IsLeading context.now.space.now context.now.region slot.now.state }
-    ensures { IfOk result (λ made. IsOutputOf context.now.region slot.now.state slot.now.state.base.key (call_step (context_seen context.now) slot.now.state caller op.now) made) }
+    ensures posts { OnOk result (posts.new ≡ posts.old ++ (call_step (context_seen context.now) slot.now.state caller op.now).posts) }
+    ensures notes { OnOk result (notes.new ≡ notes.old ++ (call_step (context_seen context.now) slot.now.state caller op.now).notes) }
+    ensures change { IfOk result (IsChangeOf context.now.region slot.now.state slot.now.state.base.key (call_step (context_seen context.now) slot.now.state caller op.now)) }
 {
     if op.is_write() {
-        write(alloc, context, slot, caller, op)
+        write(alloc, context, slot, caller, op, posts, notes)
     } else {
-        read(alloc, context, slot, caller)
+        read(alloc, context, slot, caller, posts)
     }
 }
 
@@ -95,15 +103,17 @@ fn read(
     context: &SlotContext,
     slot: &Slot,
     caller: Caller,
-) -> Result<SlotOutput, Memory>
+    posts: &mut Posts,
+) -> Result<SlotChange, Memory>
     requires { slot.now.region ≡ context.now.region }
-    ensures { IfOk result (λ made. IsOutputOf context.now.region slot.now.state slot.now.state.base.key (get_step (context_seen context.now) slot.now.state caller) made) }
+    ensures posts { OnOk result (posts.new ≡ posts.old ++ (get_step (context_seen context.now) slot.now.state caller).posts) }
+    ensures change { IfOk result (IsChangeOf context.now.region slot.now.state slot.now.state.base.key (get_step (context_seen context.now) slot.now.state caller)) }
 {
     let answer = match slot.object() {
         Some((_, object)) => Answer::Found(object.copy(alloc)?),
         None => Answer::NotFound,
     };
-    slot_replies(alloc, reply(context, caller, slot.floor(), answer))
+    slot_replies(reply(context, caller, slot.floor(), answer), posts)
 }
 
 /// A write, by what the leader decides on it.
@@ -113,12 +123,16 @@ fn write(
     slot: &Slot,
     caller: Caller,
     op: &Op,
-) -> Result<SlotOutput, Memory>
+    posts: &mut Posts,
+    notes: &mut Notes,
+) -> Result<SlotChange, Memory>
     requires map { context.now.map.now ≡ context.now.space.now }
     requires space { IsSpace context.now.space.now }
     requires region { slot.now.region ≡ context.now.region }
     requires leading { IsLeading context.now.space.now context.now.region slot.now.state }
-    ensures { IfOk result (λ made. IsOutputOf context.now.region slot.now.state slot.now.state.base.key (write_step (context_seen context.now) slot.now.state caller op.now) made) }
+    ensures posts { OnOk result (posts.new ≡ posts.old ++ (write_step (context_seen context.now) slot.now.state caller op.now).posts) }
+    ensures notes { OnOk result (notes.new ≡ notes.old ++ (write_step (context_seen context.now) slot.now.state caller op.now).notes) }
+    ensures change { IfOk result (IsChangeOf context.now.region slot.now.state slot.now.state.base.key (write_step (context_seen context.now) slot.now.state caller op.now)) }
 {
     let top = slot.top();
     prove!(top.0 < u64::MAX);
@@ -131,35 +145,34 @@ fn write(
         caller,
         op,
     )? {
-        Decision::Old => Ok(slot_unchanged(alloc, Posts::new(alloc))),
+        Decision::Old => Ok(SlotChange::Open),
         Decision::Again(version, answer) => {
-            slot_replies(alloc, reply(context, caller, version, answer))
+            slot_replies(reply(context, caller, version, answer), posts)
         }
-        Decision::Wait(version) => wait(alloc, context, slot, caller, version),
-        Decision::Stuck(region) => {
-            slot_replies(alloc, doubt(context, caller, Version(0), region))
-        }
-        Decision::Assign(update) => assign(alloc, context, slot, update),
+        Decision::Wait(version) => wait(context, slot, caller, version, posts),
+        Decision::Stuck(region) => slot_replies(doubt(context, caller, Version(0), region), posts),
+        Decision::Assign(update) => assign(alloc, context, slot, update, posts, notes),
     }
 }
 
 /// A write that is assigned and not committed yet: in doubt where a lost region stands in its way,
 /// else nothing is said.
 fn wait(
-    alloc: Global,
     context: &SlotContext,
     slot: &Slot,
     caller: Caller,
     version: Version,
-) -> Result<SlotOutput, Memory>
+    posts: &mut Posts,
+) -> Result<SlotChange, Memory>
     requires { slot.now.region ≡ context.now.region }
-    ensures { IfOk result (λ made. IsOutputOf context.now.region slot.now.state slot.now.state.base.key (by_posts (waiting_doubt (context_seen context.now) caller version (stuck_of context.now.config.now slot.now.state))) made) }
+    ensures posts { OnOk result (posts.new ≡ posts.old ++ (by_posts (waiting_doubt (context_seen context.now) caller version (stuck_of context.now.config.now slot.now.state))).posts) }
+    ensures change { IfOk result (IsChangeOf context.now.region slot.now.state slot.now.state.base.key (by_posts (waiting_doubt (context_seen context.now) caller version (stuck_of context.now.config.now slot.now.state)))) }
 {
     match stuck(context.config, slot) {
         Some((first, region)) if first.0 <= version.0 => {
-            slot_replies(alloc, doubt(context, caller, version, region))
+            slot_replies(doubt(context, caller, version, region), posts)
         }
-        _ => Ok(slot_unchanged(alloc, Posts::new(alloc))),
+        _ => Ok(SlotChange::Open),
     }
 }
 
@@ -169,22 +182,20 @@ fn assign(
     context: &SlotContext,
     slot: &Slot,
     update: Shared<Update>,
-) -> Result<SlotOutput, Memory>
+    posts: &mut Posts,
+    notes: &mut Notes,
+) -> Result<SlotChange, Memory>
     requires coming { IsComing context.now.region slot.now.state update }
     requires region { slot.now.region ≡ context.now.region }
-    ensures { IfOk result (λ made. IsOutputOf context.now.region slot.now.state update.key (decided (context_seen context.now) slot.now.state update.caller (a_decision.Assign update)) made) }
+    ensures posts { OnOk result (posts.new ≡ posts.old ++ (decided (context_seen context.now) slot.now.state update.caller (a_decision.Assign update)).posts) }
+    ensures notes { OnOk result (notes.new ≡ notes.old ++ (decided (context_seen context.now) slot.now.state update.caller (a_decision.Assign update)).notes) }
+    ensures change { IfOk result (IsChangeOf context.now.region slot.now.state update.key (decided (context_seen context.now) slot.now.state update.caller (a_decision.Assign update))) }
 {
     let note = Note::Assigned {
         update: update.copy(alloc)?,
     };
-    let mut notes = Notes::new(alloc);
     notes.push(note)?;
-    let made = accept(alloc, context, slot, update)?;
-    Ok(SlotOutput {
-        posts: made.posts,
-        notes,
-        change: made.change,
-    })
+    accept(alloc, context, slot, update, posts)
 }
 
 /// An update is known, accepted or early.
@@ -193,35 +204,38 @@ fn take(
     context: &SlotContext,
     slot: &Slot,
     update: &Shared<Update>,
-) -> Result<SlotOutput, Memory>
+    posts: &mut Posts,
+) -> Result<SlotChange, Memory>
     requires placed { IsPlacedIn context.now.region update.now }
     requires few { length update.now.places ≤ 17 }
     requires after { All (λ (p : Place). p.after.0 < update.now.version.0) update.now.places }
     requires region { slot.now.region ≡ context.now.region }
-    ensures { IfOk result (λ made. IsOutputOf context.now.region slot.now.state update.now.key (update_step (context_seen context.now) slot.now.state update.now) made) }
+    ensures posts { OnOk result (posts.new ≡ posts.old ++ (update_step (context_seen context.now) slot.now.state update.now).posts) }
+    ensures change { IfOk result (IsChangeOf context.now.region slot.now.state update.now.key (update_step (context_seen context.now) slot.now.state update.now)) }
 {
     if update.version.0 <= slot.top().0 {
-        return Ok(slot_unchanged(alloc, known(alloc, context, slot, update)?));
+        post_known(alloc, context, slot, update, posts)?;
+        return Ok(SlotChange::Open);
     }
-    accept(alloc, context, slot, update.copy(alloc)?)
+    accept(alloc, context, slot, update.copy(alloc)?, posts)
 }
 
 /// A known update is acknowledged again where it is committed.
-fn known(
+fn post_known(
     alloc: Global,
     context: &SlotContext,
     slot: &Slot,
     update: &Update,
-) -> Result<Posts, Memory>
+    posts: &mut Posts,
+) -> Result<(), Memory>
     requires placed { IsPlacedIn context.now.region update.now }
     requires few { length update.now.places ≤ 17 }
-    ensures { IfOk result (λ posts. posts ≡ known_to (context_seen context.now) slot.now.state update.now) }
+    ensures { OnOk result (posts.new ≡ posts.old ++ known_to (context_seen context.now) slot.now.state update.now) }
 {
-    let mut posts = Posts::new(alloc);
     if update.version.0 <= slot.floor().0 {
-        post_ack(alloc, context, update, &mut posts)?;
+        post_ack(alloc, context, update, posts)?;
     }
-    Ok(posts)
+    Ok(())
 }
 
 /// An update above the top is offered to the slot.
@@ -230,21 +244,19 @@ fn accept(
     context: &SlotContext,
     slot: &Slot,
     update: Shared<Update>,
-) -> Result<SlotOutput, Memory>
+    posts: &mut Posts,
+) -> Result<SlotChange, Memory>
     requires coming { IsComing context.now.region slot.now.state update }
     requires region { slot.now.region ≡ context.now.region }
-    ensures { IfOk result (λ made. IsOutputOf context.now.region slot.now.state update.key (by_moves (context_seen context.now) (accepting (context_seen context.now) slot.now.state (offered context.now.region slot.now.state update))) made) }
+    ensures posts { OnOk result (posts.new ≡ posts.old ++ (by_moves (context_seen context.now) (accepting (context_seen context.now) slot.now.state (offered context.now.region slot.now.state update))).posts) }
+    ensures change { IfOk result (IsChangeOf context.now.region slot.now.state update.key (by_moves (context_seen context.now) (accepting (context_seen context.now) slot.now.state (offered context.now.region slot.now.state update)))) }
 {
     let place = place_at(context, &update);
-    let made = accepted(alloc, context, slot, &update)?;
-    Ok(SlotOutput {
-        posts: made.posts,
-        notes: Notes::new(alloc),
-        change: SlotChange::Accept {
-            update,
-            place,
-            tail_versions: made.tail_versions,
-        },
+    let tail_versions = accepted(alloc, context, slot, &update, posts)?;
+    Ok(SlotChange::Accept {
+        update,
+        place,
+        tail_versions,
     })
 }
 
@@ -254,29 +266,13 @@ fn settle(
     context: &SlotContext,
     slot: &Slot,
     version: Version,
-) -> Result<SlotOutput, Memory>
+    posts: &mut Posts,
+) -> Result<SlotChange, Memory>
     requires { slot.now.region ≡ context.now.region }
-    ensures made { IfOk result (λ made. IsOutputOf context.now.region slot.now.state slot.now.state.base.key (ack_step (context_seen context.now) slot.now.state version.0) made) }
-    ensures room { IfOk result (λ made. room_of made.change ≡ 0) }
+    ensures posts { OnOk result (posts.new ≡ posts.old ++ (ack_step (context_seen context.now) slot.now.state version.0).posts) }
+    ensures change { IfOk result (IsChangeOf context.now.region slot.now.state slot.now.state.base.key (ack_step (context_seen context.now) slot.now.state version.0)) }
+    ensures room { IfOk result (λ change. room_of change ≡ 0) }
 {
-    Ok(SlotOutput {
-        posts: settled(alloc, context, slot, version)?,
-        notes: Notes::new(alloc),
-        change: SlotChange::Acknowledge { version },
-    })
-}
-
-/// The posts of the updates that an acknowledgement commits.
-fn settled(
-    alloc: Global,
-    context: &SlotContext,
-    slot: &Slot,
-    version: Version,
-) -> Result<Posts, Memory>
-    requires { slot.now.region ≡ context.now.region }
-    ensures { IfOk result (λ posts. posts ≡ (ack_step (context_seen context.now) slot.now.state version.0).posts) }
-{
-    let mut posts = Posts::new(alloc);
-    post_lowest_commits(alloc, context, slot, slot.would_commit(version), &mut posts)?;
-    Ok(posts)
+    post_lowest_commits(alloc, context, slot, slot.would_commit(version), posts)?;
+    Ok(SlotChange::Acknowledge { version })
 }

@@ -18,7 +18,7 @@ use hx_store::Store;
 use hx_types::{Actor, Config, Memory, Message, Post, Posts, ServerId, Shared, Space};
 use std::alloc::Global;
 
-/// What every replica sends again on a tick.
+/// Posts what every replica sends again on a tick.
 pub fn tick_all(
     alloc: Global,
     space: &Space,
@@ -26,11 +26,11 @@ pub fn tick_all(
     config: &Config,
     server: ServerId,
     replicas: &[Replica],
-) -> Result<Posts, Memory>
+    posts: &mut Posts,
+) -> Result<(), Memory>
     requires { All (λ (r : Held). r.store.region ≡ r.region) replicas.now }
-    ensures { IfOk result (λ posts. posts ≡ flat_map (λ (r : Held). replica_tick space.now (standing config.now server) (view_of r)) replicas.now) }
+    ensures { OnOk result (posts.new ≡ posts.old ++ flat_map (λ (r : Held). replica_tick space.now (standing config.now server) (view_of r)) replicas.now) }
 {
-    let mut posts = Posts::new(alloc);
     for replica in replicas {
         let context = SlotContext {
             space,
@@ -39,9 +39,9 @@ pub fn tick_all(
             server,
             region: replica.region,
         };
-        tick_replica(alloc, &context, replica, &mut posts)?;
+        tick_replica(alloc, &context, replica, posts)?;
     }
-    Ok(posts)
+    Ok(())
 }
 
 /// A replica that is installed and whose region isn't lost sends a snapshot to the joiner that it

@@ -1,4 +1,4 @@
-use Rattle.std.proofs.Common.{◌++◌, List, ap, ◌∙◌}
+use Rattle.std.proofs.Common.{◌++◌, List, ap, append_assoc, refl, ◌∙◌}
 use Rattle.std.specs.Borrow.{Bor}
 use Rattle.std.specs.List.{flat_map}
 use Rattle.hx_types.specs.declared.messages.Post.{Post}
@@ -9,17 +9,33 @@ use Rattle.hx_replica.specs.Outputs.{tail_version, settled_among, context_seen, 
 use Rattle.hx_replica.proofs.Offers.{acceptance}
 use Rattle.hx_replica.proofs.accepting.take_all.Goals as goal
 
-pub returns : goal.returns
-returns c =
+pub returns-clause-posts : goal.returns-clause-posts
+returns-clause-posts c =
     let context = context_seen c.args.context.now in
     let s = c.args.slot.now.state in
-    acceptance context s c.args.update.now c.args.updates.now c.args.line.now c.post_updates.new.tail_versions.items c.post_commits.new.posts c.requires.coming.above
+    let passed : List Post = flat_map (λ (b : Bor Update). passed_on context b.now) c.args.updates.now in
+    let told : List Version → List Post = λ vs. flat_map (λ (b : Bor Update). told_of context b.now) (settled_among s.acked vs c.args.line.now) in
+    let vs : List Version = c.post_updates.new.tail_versions.items in
+    let is = acceptance context s c.args.update.now c.args.updates.now c.args.line.now vs (passed ++ told vs) c.requires.coming.above
     c.requires.taken c.requires.new
-    (c.in_ok-post_updates.ensures.tail_versions ∙ ap (λ (vs : List Version). vs ++ flat_map (λ (b : Bor Update). tail_version context b.now) c.args.updates.now) c.new-tail_versions.ensures.items)
-    c.requires.line
-    (
+    (c.in_ok-post_updates.ensures.tail_versions ∙ ap
+    (λ (xs : List Version). xs ++ flat_map (λ (b : Bor Update). tail_version context b.now) c.args.updates.now) c.new-tail_versions.ensures.items)
+    c.requires.line refl in
     c.in_ok-post_commits.ensures
-    ∙ ap (λ (ps : List Post). ps ++ flat_map (λ (b : Bor Update). told_of context b.now) (settled_among s.acked c.as_slice.result.now c.args.line.now))
-    (c.in_ok-post_updates.ensures.posts ∙ ap (λ (ps : List Post). ps ++ flat_map (λ (b : Bor Update). passed_on context b.now) c.args.updates.now) c.new-posts.ensures)
-    ∙ ap (λ (vs : List Version). flat_map (λ (b : Bor Update). passed_on context b.now) c.args.updates.now ++ flat_map (λ (b : Bor Update). told_of context b.now) (settled_among s.acked vs c.args.line.now)) c.as_slice.ensures.value
-    )
+    ∙ ap (λ (xs : List Version). c.post_updates.new.posts ++ told xs) c.as_slice.ensures.value
+    ∙ ap (λ (ps : List Post). ps ++ told vs) c.in_ok-post_updates.ensures.posts
+    ∙ append_assoc c.args.posts.now passed (told vs)
+    ∙ ap (λ (ps : List Post). c.args.posts.now ++ ps) is.posts_are
+
+pub returns-clause-ends : goal.returns-clause-ends
+returns-clause-ends c =
+    let context = context_seen c.args.context.now in
+    let s = c.args.slot.now.state in
+    let vs : List Version = c.post_updates.new.tail_versions.items in
+    (
+    acceptance context s c.args.update.now c.args.updates.now c.args.line.now vs _ c.requires.coming.above
+    c.requires.taken c.requires.new
+    (c.in_ok-post_updates.ensures.tail_versions ∙ ap
+    (λ (xs : List Version). xs ++ flat_map (λ (b : Bor Update). tail_version context b.now) c.args.updates.now) c.new-tail_versions.ensures.items)
+    c.requires.line refl
+    ).ends

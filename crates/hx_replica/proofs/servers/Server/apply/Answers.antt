@@ -1,12 +1,11 @@
-use Rattle.std.proofs.Common.{ℕ, ◌+◌, subst, sym}
-use Rattle.hx_types.specs.declared.spaces.Space.{Space}
-use Rattle.hx_model.specs.ServerSteps.{ServerState}
-use Rattle.hx_replica.specs.Sound.{IsSoundServer}
-use Rattle.hx_replica.proofs.StayingSound.{stays_sound}
+use Rattle.hx_model.specs.ServerSteps.{server_step}
 use Rattle.hx_replica.proofs.servers.Server.apply.Goals as goal
 
+pub make-requires : goal.make-requires
+make-requires c = record { after = (server_step c.args.self.now.space c.args.self.now.state c.args.plan.entry.input).state; is = c.requires.change }
+
+pub returns-clause-state : goal.returns-clause-state
+returns-clause-state c = c.make.ensures.state (server_step c.args.self.now.space c.args.self.now.state c.args.plan.entry.input).state c.requires.change
+
 pub returns-clause-sound : goal.returns-clause-sound
-returns-clause-sound c = λ sessions n h k.
-    let v = c.args.self.now in
-    subst (λ (x : Space). IsSoundServer x sessions (n + 1) c.make.new.self.state) (sym c.make.ensures.space)
-    (subst (λ (x : ServerState). IsSoundServer v.space sessions (n + 1) x) (sym c.make.ensures.state) (stays_sound v.space sessions n v.state c.args.plan.entry.input h k))
+returns-clause-sound c = λ sessions n. c.make.ensures.sound c.args.plan.entry.input sessions n c.requires.change
