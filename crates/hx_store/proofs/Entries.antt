@@ -15,7 +15,7 @@ use Rattle.hx_index.specs.Orders.{rows_at}
 use Rattle.hx_index.proofs.Looping.{set-elsewhere, set-here, set-length}
 use Rattle.hx_store.specs.Indexed.{IndexedState, is_marked, kept_at}
 use Rattle.hx_store.specs.Invariant.{HasMoved, is_listed, key_in, stored_at}
-use Rattle.hx_store.specs.Prefixes.{IsPrefixOf}
+use Rattle.hx_types.specs.Prefixes.{IsPrefixOf}
 use Rattle.hx_store.specs.Slots.{AreSlots, Entry, IsStepped, StoreSlot, entries_of, rows_in}
 use Rattle.hx_store.proofs.Finding.{none-lookup}
 use Rattle.hx_store.proofs.Following.{set-marked, set-unmarked}

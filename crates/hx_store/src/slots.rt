@@ -3,6 +3,7 @@ ghost use Rattle.std.specs.Cmp.Lexicographic.{slice_cmp};
 ghost use Rattle.std.specs.List.{All, IsDistinct, filter, flat_map, list_any};
 ghost use Rattle.std.specs.Ordering.{nat_cmp};
 ghost use Rattle.hx_model.specs.Slots.{is_pending, moved_all, offered};
+ghost use Rattle.hx_types.specs.Prefixes.{IsPrefixOf};
 ghost use Rattle.hx_types.specs.Words.{list_of, same_text, text_below};
 ghost use Rattle.hx_index.specs.Looks.{HaveCounted};
 ghost use Rattle.hx_index.specs.Orders.{IsIndexOf, count_of, stands_in};
@@ -10,7 +11,6 @@ ghost use Rattle.hx_index.specs.Searches.{least_run, most_looks};
 ghost use Rattle.hx_index.specs.Sides.{matches_at};
 ghost use Rattle.hx_store.specs.Indexed.{is_marked};
 ghost use Rattle.hx_store.specs.Invariant.{AscendAt, HasAll, HasMoved, IsAdded, IsListedAt, IsReplacedAt, IsSplit, KeysApart, is_listed, key_in, stored_at};
-ghost use Rattle.hx_store.specs.Prefixes.{IsPrefixOf};
 ghost use Rattle.hx_store.specs.Slots.{Entry, IsFresh, StoreSlot, rows_in};
 ghost use Rattle.hx_store.specs.Stores.{ArePending, CanBeOffered, accepted_at, acknowledged_at, forgotten_at, marked_at, no_moves, settled_at};
 
@@ -18,7 +18,7 @@ use crate::indexed::Indexed;
 use crate::stepping::accept;
 use hx_index::Ids;
 use hx_slot::Slot;
-use hx_types::{Exact, Memory, RegionId, Rows, Shared, Terms, Text, Update, Version};
+use hx_types::{Exact, Memory, RegionId, Rows, Shared, Terms, Text, Update, Version, prefix_of};
 use indexmap::IndexMap;
 use std::alloc::Global;
 use std::cmp::Ordering;
@@ -387,21 +387,4 @@ fn take_marked(ids: &mut Ids, order: &[usize], marks: &[bool])
             ids.push_reserved(*place as u32);
         }
     }
-}
-
-/// The first eight bytes of a text as a number, the first of them highest, with zeros behind a text
-/// that is shorter. Of a lower number the text is lower too; of the same it can be either.
-fn prefix_of(text: &str) -> u64
-    ensures { IsPrefixOf text.now result }
-{
-    let bytes = text.as_bytes();
-    let mut prefix = 0;
-    for place in 0..8 {
-        let byte = match bytes.get(place) {
-            Some(byte) => *byte,
-            None => 0,
-        };
-        prefix = prefix * 256 + byte as u64;
-    }
-    prefix
 }

@@ -4,7 +4,7 @@ use Rattle.indexmap.proofs.CallerLemmas.{insert_entry-new}
 use Rattle.hx_types.specs.Words.{same_text}
 use Rattle.hx_model.specs.Slots.{new_state, object_of}
 use Rattle.hx_slot.specs.States.{SlotState}
-use Rattle.hx_store.specs.Prefixes.{IsPrefixOf}
+use Rattle.hx_types.specs.Prefixes.{IsPrefixOf}
 use Rattle.hx_store.specs.Slots.{AreSlots, Entry, SlotsState, entries_of}
 use Rattle.hx_store.proofs.Entries.{entry-added, no-key, slots-added}
 use Rattle.hx_store.proofs.slots.Slots.add.Goals as goal
