@@ -232,7 +232,9 @@ module _ (ss : List SlotState) (s : SlotState) (none : row s ≡ None) where
   length-added [] = refl
   length-added (x ∷ xs) = let more = length-added xs in omega (arith, more)
 
-  pub slots-added : {ps : List ℕ} (ks : List Key) (key : List ℕ) (p : ℕ) (x : IndexedState) → IsPrefixOf key p → AreSlots ks ps ss x → length ss + 1 < 2 ^ 32 → AreSlots (ks ++ (key, false) ∷ []) (ps ++ p ∷ []) (ss ++ s ∷ []) x
+  pub slots-added : {ps : List ℕ} (ks : List Key) (key : List ℕ) (p : ℕ) (x : IndexedState) → IsPrefixOf key p → AreSlots ks ps ss x
+      → length ss + 1 < 2 ^ 32
+      → AreSlots (ks ++ (key, false) ∷ []) (ps ++ p ∷ []) (ss ++ s ∷ []) x
   slots-added {ps = ps} ks key p x own h few = record {
     count = (let a = keys-added ks in let b = length-added ss in let c = h.count in omega (arith, a, b, c));
     first = added-prefix ks ps key p h.first own;

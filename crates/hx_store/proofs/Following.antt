@@ -265,13 +265,15 @@ module _ (index : IndexState) (rows : List (Option Row)) (marks : List Bool) (pl
     fresh = λ i l f. elim (cases_eq i place) [
       | inl p ↦ ap (rows_at (slice_set rows place row)) p ∙ ap flat (set-here rows place row last-within) ∙ e ∙ ap (kept_at slots) (sym p)
       | inr n ↦ ap flat (set-elsewhere rows place i row n) ∙ ap (λ (r : List (Option Row)). rows_at r i) (sym rs)
-          ∙ of.fresh i (let q = ap length ms in let s = set-length marks place false in omega (arith, l, q, s)) (ap (λ (m : List Bool). is_marked m i) ms ∙ sym (set-unmarked marks place i false n) ∙ f)
+          ∙ of.fresh i (let q = ap length ms in let s = set-length marks place false in omega (arith, l, q, s))
+          (ap (λ (m : List Bool). is_marked m i) ms ∙ sym (set-unmarked marks place i false n) ∙ f)
     ];
     past = λ i l.
         let s = set-length marks place false in
         let q = ap length ms in
         let m = marked-within marks place last-marked in
-        ap flat (set-elsewhere rows place i row (λ p. omega (arith, l, s, m, p))) ∙ ap (λ (r : List (Option Row)). rows_at r i) (sym rs) ∙ of.past i (omega (arith, l, s, q));
+        ap flat (set-elsewhere rows place i row (λ p. omega (arith, l, s, m, p))) ∙ ap (λ (r : List (Option Row)). rows_at r i) (sym rs)
+        ∙ of.past i (omega (arith, l, s, q));
   }
 
 -- beyond the slots is no object
@@ -281,7 +283,8 @@ kept-past (s ∷ slots) zero l = absurd (omega (arith, l))
 kept-past (s ∷ slots) (suc i) l = kept-past slots i (omega (arith, l))
 
 -- where each slot has a place and nothing is marked the index has each slot by its object
-pub all-fresh : (slots : List SlotState) (x : IndexedState) → IsOf slots x → length slots ≤ length x.stale → marked_count x.stale ≡ 0 → rows_at x.rows ≡ kept_at slots
+pub all-fresh : (slots : List SlotState) (x : IndexedState) → IsOf slots x → length slots ≤ length x.stale → marked_count x.stale ≡ 0
+    → rows_at x.rows ≡ kept_at slots
 all-fresh slots x of n e = λ k i. at i k
   where
     at : (i : ℕ) → rows_at x.rows i ≡ kept_at slots i
@@ -390,7 +393,10 @@ kept-end rows index h room few = record {
   few = (let l = length-end rows None in omega (arith, l, few));
 }
 
-pub indexed-end : (index : IndexState) (rows : List (Option Row)) (marks : List Bool) (places : List ℕ) (cap : ℕ) → AreIndexed index rows marks places cap → (next : IndexState) (most : ℕ) → IsKept rows next → length rows + 1 ≤ next.room → length rows + 1 < 2 ^ 32 → length rows + 1 ≤ most → AreIndexed next (rows ++ None ∷ []) (marks ++ true ∷ []) (places ++ length rows ∷ []) most
+pub indexed-end : (index : IndexState) (rows : List (Option Row)) (marks : List Bool) (places : List ℕ) (cap : ℕ)
+    → AreIndexed index rows marks places cap → (next : IndexState) (most : ℕ) → IsKept rows next
+    → length rows + 1 ≤ next.room → length rows + 1 < 2 ^ 32 → length rows + 1 ≤ most
+    → AreIndexed next (rows ++ None ∷ []) (marks ++ true ∷ []) (places ++ length rows ∷ []) most
 indexed-end index rows marks places cap h next most kept room few enough = record {
   kept = kept-end rows next kept room few;
   each_marked = length-end marks true ∙ ap (λ n. n + 1) h.each_marked ∙ sym (length-end rows None);
@@ -402,10 +408,35 @@ indexed-end index rows marks places cap h next most kept room few enough = recor
     new-marks : List Bool
     new-marks = marks ++ true ∷ []
 
+    same : length marks ≡ length rows
+    same = h.each_marked
+
+    -- at the new place
+    last : times (length marks) (places ++ length rows ∷ []) ≡ one_if (is_marked new-marks (length marks))
+    last =
+        let t = times-end (length marks) places (length rows) in
+        let s = ap one_if (eq-eqb (length rows) (length marks) (sym same)) in
+        let b = h.each (length marks) in
+        let z = ap one_if (marks-past marks (length marks) (omega arith)) in
+        let n = ap one_if (marks-end marks) in
+        omega (arith, t, s, b, z, n)
+
+    -- and at another
+    other : (i : ℕ) → (length rows ≡ i → ⊥) → is_marked new-marks i ≡ is_marked marks i
+        → times i (places ++ length rows ∷ []) ≡ one_if (is_marked new-marks i)
+    other i apart e =
+        let t = times-end i places (length rows) in
+        let s = same-one (length rows) i apart in
+        let b = h.each i in
+        let n = ap one_if e in
+        omega (arith, t, s, b, n)
+
+    beyond : (i : ℕ) → length marks < i → is_marked new-marks i ≡ is_marked marks i
+    beyond i l = marks-past new-marks i (let e = length-end marks true in omega (arith, l, e)) ∙ sym (marks-past marks i (omega (arith, l)))
+
     one : (i : ℕ) → times i (places ++ length rows ∷ []) ≡ one_if (is_marked new-marks i)
     one i = elim (cases_order i (length marks)) [
-      | inl p ↦ subst (λ j. times j (places ++ length rows ∷ []) ≡ one_if (is_marked new-marks j)) (sym p)
-          (let t = times-end (length marks) places (length rows) in let s = ap one_if (eq-eqb (length rows) (length marks) (sym h.each_marked)) in let b = h.each (length marks) in let z = ap one_if (marks-past marks (length marks) (omega arith)) in let n = ap one_if (marks-end marks) in omega (arith, t, s, b, z, n))
-      | inr (inl l) ↦ (let q = h.each_marked in let t = times-end i places (length rows) in let s = same-one (length rows) i (λ p. omega (arith, p, q, l)) in let b = h.each i in let n = ap one_if (marks-front marks i l) in omega (arith, t, s, b, n))
-      | inr (inr l) ↦ (let q = h.each_marked in let t = times-end i places (length rows) in let s = same-one (length rows) i (λ p. omega (arith, p, q, l)) in let b = h.each i in let z = ap one_if (marks-past marks i (omega (arith, l))) in let n = ap one_if (marks-past new-marks i (let e = length-end marks true in omega (arith, l, e))) in omega (arith, t, s, b, z, n))
+      | inl p ↦ subst (λ j. times j (places ++ length rows ∷ []) ≡ one_if (is_marked new-marks j)) (sym p) last
+      | inr (inl l) ↦ other i (λ p. (let q = same in omega (arith, p, q, l))) (marks-front marks i l)
+      | inr (inr l) ↦ other i (λ p. (let q = same in omega (arith, p, q, l))) (beyond i l)
     ]

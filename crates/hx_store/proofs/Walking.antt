@@ -38,7 +38,9 @@ pub mark-at : (marks : List Bool) (i : ℕ) (d : Bool) → i < length marks → 
 mark-at marks i d l = ap (λ (o : Option Bool). when_some o false (λ (m : Bool). m)) (slice_get-get_or marks i d l)
 
 -- one member more is marked
-pub mark-more : (marks : List Bool) (places : List ℕ) (k x : ℕ) → x < length marks → slice_get places k ≡ Some x → ((i : ℕ) → is_marked marks i ≡ stands_in (take k places) i) → (i : ℕ) → is_marked (slice_set marks x true) i ≡ stands_in (take (k + 1) places) i
+pub mark-more : (marks : List Bool) (places : List ℕ) (k x : ℕ) → x < length marks → slice_get places k ≡ Some x
+    → ((i : ℕ) → is_marked marks i ≡ stands_in (take k places) i)
+    → (i : ℕ) → is_marked (slice_set marks x true) i ≡ stands_in (take (k + 1) places) i
 mark-more marks places k x l at h i = by ∙ sym (ap (λ (xs : List ℕ). stands_in xs i) (take_next places k x at) ∙ stands-end i x (take k places))
   where
     last : (b : Bool) → (b || true) ≡ true
@@ -51,17 +53,21 @@ mark-more marks places k x l at h i = by ∙ sym (ap (λ (xs : List ℕ). stands
 
     by : is_marked (slice_set marks x true) i ≡ (stands_in (take k places) i || eqb x i)
     by = elim (cases_eq i x) [
-      | inl p ↦ ap (is_marked (slice_set marks x true)) p ∙ set-marked marks x true l ∙ sym (ap (λ b. stands_in (take k places) i || b) (eq-eqb x i (sym p)) ∙ last (stands_in (take k places) i))
-      | inr n ↦ set-unmarked marks x i true n ∙ h i ∙ sym (ap (λ b. stands_in (take k places) i || b) (ne_eqb x i (λ p. n (sym p))) ∙ none (stands_in (take k places) i))
+      | inl p ↦ ap (is_marked (slice_set marks x true)) p ∙ set-marked marks x true l
+          ∙ sym (ap (λ b. stands_in (take k places) i || b) (eq-eqb x i (sym p)) ∙ last (stands_in (take k places) i))
+      | inr n ↦ set-unmarked marks x i true n ∙ h i
+          ∙ sym (ap (λ b. stands_in (take k places) i || b) (ne_eqb x i (λ p. n (sym p))) ∙ none (stands_in (take k places) i))
     ]
 
 -- what passes at a place comes on top of what passes before it
-pub filter-room : {A : Type 0} (p : A → Bool) (xs : List A) (k : ℕ) (d : A) → k < length xs → p (get_or xs k d) ≡ true → length (filter p (take k xs)) < length (filter p xs)
+pub filter-room : {A : Type 0} (p : A → Bool) (xs : List A) (k : ℕ) (d : A) → k < length xs → p (get_or xs k d) ≡ true
+    → length (filter p (take k xs)) < length (filter p xs)
 filter-room p [] k d l t = absurd (omega (arith, l))
 filter-room p (x ∷ xs) zero d l t = (let e = ap (λ (zs : List _). length zs) (cond-true (p x) (x ∷ filter p xs) (filter p xs) t) in omega (arith, e))
 filter-room p (x ∷ xs) (suc k) d l t = by (p x) (filter-room p xs k d (omega (arith, l)) t)
   where
-    by : (b : Bool) → length (filter p (take k xs)) < length (filter p xs) → length (if b then x ∷ filter p (take k xs) else filter p (take k xs)) < length (if b then x ∷ filter p xs else filter p xs)
+    by : (b : Bool) → length (filter p (take k xs)) < length (filter p xs)
+        → length (if b then x ∷ filter p (take k xs) else filter p (take k xs)) < length (if b then x ∷ filter p xs else filter p xs)
     by true h = omega (arith, h)
     by false h = h
 
@@ -84,7 +90,9 @@ module _ (es : List Entry) (old order : List ℕ) (h : HasAll es (stands_in old)
 
   -- are as many
   pub walked-length : IsDistinct eqb old → length (filter (stands_in old) order) ≡ length old
-  walked-length once = same-numbers (filter (stands_in old) order) old (ascend-times es (filter (stands_in old) order) walked-ascends) (distinct-times old once) walked-same
+  walked-length once =
+      let each = ascend-times es (filter (stands_in old) order) walked-ascends in
+      same-numbers (filter (stands_in old) order) old each (distinct-times old once) walked-same
 
 pub narrower : (es : List Entry) (p q : ℕ → Bool) (order : List ℕ) → HasAll es p order → ((i : ℕ) → q i ≡ true → p i ≡ true) → HasAll es q order
 narrower es p q order h f = record {

@@ -110,8 +110,8 @@ impl Indexed {
         Ok(())
     }
 
-    /// Makes a place for one slot more, which is marked, and room for n places in all. What is there
-    /// stays, whatever comes.
+    /// Makes a place for one slot more, which is marked, and room for n places in all. What is
+    /// there stays, whatever comes.
     fn add_place(&mut self, alloc: Global, n: u32) -> Result<(), Memory>
         requires { length self.old.stale < n }
         ensures wider { IsWider self.old self.new }

@@ -150,8 +150,8 @@ impl Slots {
         order.partition_point(|place| self.is_below(*place, prefix, key))
     }
 
-    /// The key of a place goes last, with an empty slot that isn't listed. The index gets a place for
-    /// it when a search asks. Of more than 4,294,967,295 slots there is no index, and that is
+    /// The key of a place goes last, with an empty slot that isn't listed. The index gets a place
+    /// for it when a search asks. Of more than 4,294,967,295 slots there is no index, and that is
     /// [`Memory`] too.
     pub fn add(
         &mut self,

@@ -7,4 +7,5 @@ use Rattle.hx_store.proofs.searching.rows_at.Given as goal
 -- the rows of the places so far were found, and there is room for those of all
 abbrev pub invariant-loop-place : goal.invariant-loop-place
 invariant-loop-place l =
-    (l.found.items ≡ flat_map (λ i. list_of (rows_at l.rows i)) (take l.place-index l.places)) × (vec_len l.found ≤ l.place-index) × (length l.places ≤ vec_capacity l.found)
+    (l.found.items ≡ flat_map (λ i. list_of (rows_at l.rows i)) (take l.place-index l.places))
+    × (vec_len l.found ≤ l.place-index) × (length l.places ≤ vec_capacity l.found)

@@ -37,7 +37,8 @@ loop-place-preserved c =
       )
       | else-marks-place w ↦ (
         (λ j. (w.ids-is j).items) ∙ c.loop-place.invariant.0
-            ∙ sym (more ∙ ap (λ (b : Bool). filter (is_marked marks) (take k order) ++ cond b (place ∷ []) []) (at ∙ w.if-marks-place.false) ∙ append-nil (filter (is_marked marks) (take k order))),
+            ∙ sym (more ∙ ap (λ (b : Bool). filter (is_marked marks) (take k order) ++ cond b (place ∷ []) []) (at ∙ w.if-marks-place.false)
+            ∙ append-nil (filter (is_marked marks) (take k order))),
         (λ j. vec_capacity (w.ids-is j)) ∙ c.loop-place.invariant.1,
       )
     ]

@@ -96,15 +96,22 @@ invariant_of-self-2 c =
     let few : length rows + 1 < 2 ^ 32 = omega (arith, each, view, fewer, fits) in
     let enough : length rows + 1 ≤ cap = omega (arith, each, view, fewer, here, same, more, whole) in
     let place : c.len-place.result ≡ length rows = omega (arith, rows_ok, len) in
-    let done = indexed-end c.self.inside.index rows marks places (vec_capacity c.self.inside.stale) c.self.invariant next cap (roomy rows c.self.inside.index next c.self.invariant.kept c.reserve.ensures.orders c.reserve.ensures.stays) room few enough in
-    subst (λ (r : List (Option Row)). AreIndexed next r c.push_reserved-2.new.self.items c.push_reserved-3.new.self.items cap) (sym (c.push_reserved.ensures.items ∙ ap (λ (r : List (Option Row)). r ++ None ∷ []) c.in_ok-reserve-2.ensures.items))
+    let kept = roomy rows c.self.inside.index next c.self.invariant.kept c.reserve.ensures.orders c.reserve.ensures.stays in
+    let former = vec_capacity c.self.inside.stale in
+    let done = indexed-end c.self.inside.index rows marks places former c.self.invariant next cap kept room few enough in
+    let new_rows = c.push_reserved.ensures.items ∙ ap (λ (r : List (Option Row)). r ++ None ∷ []) c.in_ok-reserve-2.ensures.items in
+    let new_marks = c.push_reserved-2.ensures.items ∙ ap (λ (m : List Bool). m ++ true ∷ []) c.in_ok-reserve-3.ensures.items in
+    let new_places = c.push_reserved-3.ensures.items ∙ (λ k. c.in_ok-reserve-4.ensures.items k ++ place k ∷ []) in
+    subst (λ (r : List (Option Row)). AreIndexed next r c.push_reserved-2.new.self.items c.push_reserved-3.new.self.items cap) (sym new_rows)
     (
-    subst (λ (m : List Bool). AreIndexed next (rows ++ None ∷ []) m c.push_reserved-3.new.self.items cap) (sym (c.push_reserved-2.ensures.items ∙ ap (λ (m : List Bool). m ++ true ∷ []) c.in_ok-reserve-3.ensures.items))
-    (subst (λ (p : List ℕ). AreIndexed next (rows ++ None ∷ []) (marks ++ true ∷ []) p cap) (sym (c.push_reserved-3.ensures.items ∙ (λ k. c.in_ok-reserve-4.ensures.items k ++ place k ∷ []))) done)
+    subst (λ (m : List Bool). AreIndexed next (rows ++ None ∷ []) m c.push_reserved-3.new.self.items cap) (sym new_marks)
+    (subst (λ (p : List ℕ). AreIndexed next (rows ++ None ∷ []) (marks ++ true ∷ []) p cap) (sym new_places) done)
     )
 
 pub returns-clause-wider : goal.returns-clause-wider
 returns-clause-wider c =
+    let rows = c.in_ok-reserve-2.ensures.items ∙ ap (λ (x : IndexedState). x.rows) c.self.view_is in
+    let marks = c.in_ok-reserve-3.ensures.items ∙ ap (λ (x : IndexedState). x.stale) c.self.view_is in
     wider c.args.self.now (record { index = c.reserve.new.self; rows = c.push_reserved.new.self.items; stale = c.push_reserved-2.new.self.items })
-    (c.push_reserved.ensures.items ∙ ap (λ (r : List (Option Row)). r ++ None ∷ []) (c.in_ok-reserve-2.ensures.items ∙ ap (λ (x : IndexedState). x.rows) c.self.view_is))
-    (c.push_reserved-2.ensures.items ∙ ap (λ (m : List Bool). m ++ true ∷ []) (c.in_ok-reserve-3.ensures.items ∙ ap (λ (x : IndexedState). x.stale) c.self.view_is))
+    (c.push_reserved.ensures.items ∙ ap (λ (r : List (Option Row)). r ++ None ∷ []) rows)
+    (c.push_reserved-2.ensures.items ∙ ap (λ (m : List Bool). m ++ true ∷ []) marks)

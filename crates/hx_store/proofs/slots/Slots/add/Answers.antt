@@ -1,4 +1,4 @@
-use Rattle.std.proofs.Common.{◌++◌, ◌∷◌, [], ℕ, Bool, List, false, ap, arith, subst, sym, ◌∙◌}
+use Rattle.std.proofs.Common.{◌≡◌, ◌++◌, ◌∷◌, [], ℕ, Bool, List, None, false, ap, arith, subst, sym, ◌∙◌}
 use Rattle.indexmap.specs.IndexMap.{insert_entry}
 use Rattle.indexmap.proofs.CallerLemmas.{insert_entry-new}
 use Rattle.hx_types.specs.Words.{same_text}
@@ -16,6 +16,7 @@ invariant_of-self-2 c =
     let n = c.len-count.ensures in
     let ok = c.self.inside.slots.ok.0 in
     let test = c.if-count.false in
+    let none : object_of c.new-slot.result.region c.new-slot.result.state ≡ None = λ k. object_of (c.new-slot.ensures.region k) (c.new-slot.ensures.state k) in
     let prefixes = (c.push_reserved-2.ensures.items ∙ ap (λ (ps : List ℕ). ps ++ c.prefix_of.result ∷ []) c.in_ok-reserve-2.ensures.items) in
     let own = subst (λ (k : List ℕ). IsPrefixOf k c.prefix_of.result) c.as_str.ensures c.prefix_of.ensures in
     subst (λ (ks : List (List ℕ × Bool)). AreSlots ks c.push_reserved-2.new.self.items c.push_reserved.new.self.items c.self.inside.indexed) (sym keys)
@@ -23,7 +24,7 @@ invariant_of-self-2 c =
     subst (λ (ps : List ℕ). AreSlots (c.self.inside.keys.entries ++ (c.args.key.now, false) ∷ []) ps c.push_reserved.new.self.items c.self.inside.indexed) (sym prefixes)
     (
     subst (λ (xs : List SlotState). AreSlots (c.self.inside.keys.entries ++ (c.args.key.now, false) ∷ []) (c.self.inside.prefixes.items ++ c.prefix_of.result ∷ []) xs c.self.inside.indexed) (sym items)
-    (slots-added c.self.inside.slots.items c.new-slot.result (λ k. object_of (c.new-slot.ensures.region k) (c.new-slot.ensures.state k)) c.self.inside.keys.entries c.args.key.now c.prefix_of.result c.self.inside.indexed own c.self.invariant (omega (arith, n, ok, test)))
+    (slots-added c.self.inside.slots.items c.new-slot.result none c.self.inside.keys.entries c.args.key.now c.prefix_of.result c.self.inside.indexed own c.self.invariant (omega (arith, n, ok, test)))
     )
     )
 

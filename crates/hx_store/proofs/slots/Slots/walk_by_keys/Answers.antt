@@ -15,7 +15,8 @@ marks_of-requires c = λ k d l.
     let here : k < length ids = subst (λ (xs : List ℕ). k < length xs) same l in
     let x = get_or ids k d in
     let within = c.requires.order.within x (c.requires.order.all x (stands-at ids k d here)) in
-    let count = count-is c.self.inside.keys.entries c.self.inside.slots.items c.args.self.now.entries c.self.invariant.count (ap (λ (s : SlotsState). s.entries) c.self.view_is) in
+    let view = ap (λ (s : SlotsState). s.entries) c.self.view_is in
+    let count = count-is c.self.inside.keys.entries c.self.inside.slots.items c.args.self.now.entries c.self.invariant.count view in
     let len = c.len.ensures in
     let ok = c.self.inside.slots.ok.0 in
     subst (λ (xs : List ℕ). get_or xs k d < c.len.result) (sym same) (omega (arith, within, count, len, ok))
@@ -24,7 +25,8 @@ pub take_marked-requires-clause-within : goal.take_marked-requires-clause-within
 take_marked-requires-clause-within c = λ k d l.
     let order = c.args.order.now in
     let within = c.requires.order.within (get_or order k d) (stands-at order k d l) in
-    let count = count-is c.self.inside.keys.entries c.self.inside.slots.items c.args.self.now.entries c.self.invariant.count (ap (λ (s : SlotsState). s.entries) c.self.view_is) in
+    let view = ap (λ (s : SlotsState). s.entries) c.self.view_is in
+    let count = count-is c.self.inside.keys.entries c.self.inside.slots.items c.args.self.now.entries c.self.invariant.count view in
     let len = c.len.ensures in
     let ok = c.self.inside.slots.ok.0 in
     let marks = c.in_ok-marks.ensures.count in
@@ -44,7 +46,9 @@ pub take_marked-requires-clause-room : goal.take_marked-requires-clause-room
 take_marked-requires-clause-room c =
     let ids = c.args.ids.now.items in
     let order = c.args.order.now in
-    let seen : is_marked c.as_slice-2.result.now ≡ stands_in ids = ap is_marked c.as_slice-2.ensures.value ∙ c.in_ok-marks.ensures.marks ∙ ap stands_in c.as_slice.ensures.value in
+    let seen : is_marked c.as_slice-2.result.now ≡ stands_in ids =
+    ap is_marked c.as_slice-2.ensures.value ∙ c.in_ok-marks.ensures.marks ∙ ap stands_in c.as_slice.ensures.value
+    in
     let as_many = walked-length c.args.self.now.entries ids order c.requires.order c.requires.once in
     let same = ap (λ (p : ℕ → Bool). length (filter p order)) seen in
     let ok = c.args.ids.now.ok in
@@ -54,12 +58,18 @@ pub returns-clause-same : goal.returns-clause-same
 returns-clause-same c = λ i.
     let ids = c.args.ids.now.items in
     let order = c.args.order.now in
-    let seen : is_marked c.as_slice-2.result.now ≡ stands_in ids = ap is_marked c.as_slice-2.ensures.value ∙ c.in_ok-marks.ensures.marks ∙ ap stands_in c.as_slice.ensures.value in
-    ap (λ (xs : List ℕ). stands_in xs i) (c.take_marked.ensures ∙ ap (λ (p : ℕ → Bool). filter p order) seen) ∙ walked-same c.args.self.now.entries ids order c.requires.order i
+    let seen : is_marked c.as_slice-2.result.now ≡ stands_in ids =
+    ap is_marked c.as_slice-2.ensures.value ∙ c.in_ok-marks.ensures.marks ∙ ap stands_in c.as_slice.ensures.value
+    in
+    let now = c.take_marked.ensures ∙ ap (λ (p : ℕ → Bool). filter p order) seen in
+    ap (λ (xs : List ℕ). stands_in xs i) now ∙ walked-same c.args.self.now.entries ids order c.requires.order i
 
 pub returns-clause-ascend : goal.returns-clause-ascend
 returns-clause-ascend c =
     let ids = c.args.ids.now.items in
     let order = c.args.order.now in
-    let seen : is_marked c.as_slice-2.result.now ≡ stands_in ids = ap is_marked c.as_slice-2.ensures.value ∙ c.in_ok-marks.ensures.marks ∙ ap stands_in c.as_slice.ensures.value in
-    subst (AscendAt c.args.self.now.entries) (sym (c.take_marked.ensures ∙ ap (λ (p : ℕ → Bool). filter p order) seen)) (walked-ascends c.args.self.now.entries ids order c.requires.order)
+    let seen : is_marked c.as_slice-2.result.now ≡ stands_in ids =
+    ap is_marked c.as_slice-2.ensures.value ∙ c.in_ok-marks.ensures.marks ∙ ap stands_in c.as_slice.ensures.value
+    in
+    let now = c.take_marked.ensures ∙ ap (λ (p : ℕ → Bool). filter p order) seen in
+    subst (AscendAt c.args.self.now.entries) (sym now) (walked-ascends c.args.self.now.entries ids order c.requires.order)
