@@ -1,5 +1,5 @@
 -- The rows of a server's table: where whom the server and its input name is known, each step's posts name known actors alone.
-use Rattle.std.proofs.Common.{◌≡◌, ℕ, inl, inr, false, List, [], ◌∷◌, map, Option, Some, None, refl, ap, sym, subst, eqb, ltb}
+use Rattle.std.proofs.Common.{◌≡◌, ℕ, inl, false, List, [], ◌∷◌, map, Option, Some, None, refl, sym, subst, eqb, ltb}
 use Rattle.std.specs.Prelude.{⊤}
 use Rattle.std.specs.List.{flat_map, slice_get}
 use Rattle.std.proofs.lemmas.Bool.{cond_both}

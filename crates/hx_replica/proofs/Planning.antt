@@ -114,9 +114,9 @@ module _ (v : ServerValue) (from : Actor) (m : Message) (number : ℕ) (hears : 
         room = less_room number (key_in m) n (room_of change) v place few (subst (λ (x : List ℕ). HasRoomAt number x n v place) k room);
         fits = so.fits;
         state = ap (λ (t : ServerStep). folded_server t.state) step_is
-        ∙ ap (λ (moves : List Move). folded_server (with_slot v.state r (moved_all moves s))) (sym so.moves)
-        ∙ (let here = found-lean v.state number r bare at.at_place in with-slot-lean v.state r (moved_all (moves_by r.region s change) s)
-        (stepped change r.region s) bare here (stepped_lean change r.region s (state-lean v.space r (key_in m) here)));
+            ∙ ap (λ (moves : List Move). folded_server (with_slot v.state r (moved_all moves s))) (sym so.moves)
+            ∙ (let here = found-lean v.state number r bare at.at_place in with-slot-lean v.state r (moved_all (moves_by r.region s change) s)
+            (stepped change r.region s) bare here (stepped_lean change r.region s (state-lean v.space r (key_in m) here)));
       }
 
 -- no replica hears it
@@ -136,8 +136,9 @@ module _ (old new : ServerValue) (from : Actor) (m : Message) (space : new.space
     hears_still = subst (λ (x : ServerState). CanHear new.space x from m) (sym state) (subst (λ (x : Space). CanHear x old.state from m) (sym space) hears)
 
     found_still : IsFound new.state.replicas number (heard new.space new.state m)
-    found_still = found_there new.state.replicas number (heard new.space new.state m)
-    (ap (λ (x : ServerState). Some (slice_get x.replicas number)) state ∙ at ∙ ap (option_map (λ (r : Replica). Some r)) heard_still)
+    found_still =
+        found_there new.state.replicas number (heard new.space new.state m)
+        (ap (λ (x : ServerState). Some (slice_get x.replicas number)) state ∙ at ∙ ap (option_map (λ (r : Replica). Some r)) heard_still)
 
     step_still : message_step new.space new.state from m ≡ message_step old.space old.state from m
     step_still = ap (λ (x : Space). message_step x new.state from m) space ∙ ap (λ (x : ServerState). message_step old.space x from m) state

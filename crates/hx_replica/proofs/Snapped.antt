@@ -36,7 +36,6 @@ use Rattle.hx_replica.specs.Installing.{CanCome, IsSnapshot}
 use Rattle.hx_replica.specs.Plans.{CanHear, IsChange, IsJoinOn}
 use Rattle.hx_replica.specs.Replicas.{view_of}
 use Rattle.hx_replica.specs.Servers.{ServerValue}
-use Rattle.hx_replica.specs.Ticking.{standing}
 use Rattle.hx_replica.proofs.Asking.{placed}
 use Rattle.hx_replica.proofs.Changing.{view_at}
 use Rattle.hx_replica.proofs.Hearing.{found_region, replica_in_epoch_found}

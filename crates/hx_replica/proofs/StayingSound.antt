@@ -1,5 +1,5 @@
 -- A server's step leaves it sound, where it and its input are.
-use Rattle.std.proofs.Common.{◌≡◌, ℕ, ◌+◌, ◌<◌, ◌≤◌, List, [], ◌∷◌, length, map, true, false, inl, inr, refl, sym, ◌∙◌, subst, arith, leb}
+use Rattle.std.proofs.Common.{◌≡◌, ℕ, ◌+◌, ◌<◌, ◌≤◌, List, [], ◌∷◌, length, map, true, inl, inr, refl, sym, ◌∙◌, subst, arith, leb}
 use Rattle.std.specs.List.{AllByRecursion}
 use Rattle.std.proofs.lemmas.Bool.{cond_both, false≢true, le-leb}
 use Rattle.hx_types.specs.declared.ids.RegionId.{RegionId}

@@ -16,7 +16,7 @@ use Rattle.hx_types.specs.declared.spaces.Space.{Space}
 use Rattle.hx_types.specs.Effects.{key_of}
 use Rattle.hx_model.specs.Regions.{key_region}
 use Rattle.hx_types.specs.Words.{provided, when_some}
-use Rattle.hx_model.specs.ServerSteps.{SlotStep, SlotContext as ModelContext, accepting, ack_step, by_posts, call_step, tail_acks, move_posts, next_at, prev_at, told_to, update_step}
+use Rattle.hx_model.specs.ServerSteps.{SlotStep, SlotContext as ModelContext, accepting, ack_step, by_moves, by_posts, call_step, tail_acks, move_posts, next_at, prev_at, told_to, update_step}
 use Rattle.hx_model.specs.Neighbours.{is_end}
 use Rattle.hx_model.specs.Slots.{KeyState, Move, acknowledged, moved_all, offered, taken, top_of}
 use Rattle.hx_slot.specs.States.{IsPlacedIn}
@@ -132,6 +132,10 @@ pub record IsComing (g : RegionId) (s : KeyState) (u : Update) : Type 0 where
 -- what is posted where a slot is offered an update
 abbrev pub accepting_posts : ModelContext → KeyState → Update → List Post
 accepting_posts context s u = flat_map (move_posts context) (accepting context s (offered context.region s u))
+
+-- the step of a slot that is offered an update
+abbrev pub accept_step : ModelContext → KeyState → Update → SlotStep
+accept_step context s u = by_moves context (accepting context s (offered context.region s u))
 
 -- the versions of the updates that are then taken and whose chain ends here
 pub record AreEnds (context : ModelContext) (s : KeyState) (u : Update) (tail_versions : List Version) : Type 0 where

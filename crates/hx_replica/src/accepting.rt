@@ -16,6 +16,7 @@ use std::alloc::Global;
 /// A slot is offered an update above its top: the update and each early one whose turn then comes
 /// go to the next replica or end here, and what can be committed is told of. The versions whose
 /// chain ends here are the result.
+#[inline(always)]
 pub fn accepted(
     alloc: Global,
     context: &SlotContext,
@@ -46,7 +47,7 @@ pub fn accepted(
 
 /// The same of a slot that holds no other update: its chain is looked at once, and no list of
 /// updates is made for it.
-#[inline]
+#[inline(always)]
 fn accepted_alone(
     alloc: Global,
     context: &SlotContext,

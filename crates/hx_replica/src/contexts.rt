@@ -40,6 +40,7 @@ pub fn place_at(context: &SlotContext, update: &Update) -> u32
 }
 
 /// The replica after the context's in the chain of an update.
+#[inline(always)]
 fn next_of(context: &SlotContext, update: &Update) -> Hop
     requires placed { IsPlacedIn context.now.region update.now }
     requires few { length update.now.places ≤ 17 }
@@ -66,6 +67,7 @@ pub fn end_version(context: &SlotContext, update: &Update) -> Option<Version>
 }
 
 /// The replica before the context's in the chain of an update.
+#[inline(always)]
 fn prev_of(context: &SlotContext, update: &Update) -> Hop
     requires placed { IsPlacedIn context.now.region update.now }
     requires few { length update.now.places ≤ 17 }

@@ -5,10 +5,11 @@ ghost use Rattle.hx_types.specs.declared.updates.Place.{Place};
 ghost use Rattle.hx_types.specs.declared.outcomes.Decision.TheVariants as a_decision;
 ghost use Rattle.hx_model.specs.Leading.{decide, stuck_of};
 ghost use Rattle.hx_model.specs.Regions.{key_region};
-ghost use Rattle.hx_model.specs.ServerSteps.{ack_step, accepting, by_moves, by_posts, call_step, decided, get_step, known_to, update_step, waiting_doubt, write_step};
-ghost use Rattle.hx_model.specs.Slots.{offered, top_of};
+ghost use Rattle.hx_model.specs.ServerSteps.{ack_step, call_step, decided, get_step, known_to, update_step, waiting_doubt, write_step};
+ghost use Rattle.hx_model.specs.Slots.{top_of};
 ghost use Rattle.hx_slot.specs.States.{IsPlacedIn};
-ghost use Rattle.hx_replica.specs.Outputs.{IsComing, IsChangeOf, IsLeading, IsSlotInput, key_in, room_by, room_of, session_in, slot_step_of, context_seen};
+ghost use Rattle.hx_replica.specs.declared.outputs.SlotChange.TheVariants.{Open};
+ghost use Rattle.hx_replica.specs.Outputs.{IsComing, IsChangeOf, IsLeading, IsSlotInput, accept_step, key_in, room_by, room_of, session_in, slot_step_of, context_seen};
 
 use crate::accepting::accepted;
 use crate::contexts::{SlotContext, doubt, place_at, post_ack, reply};
@@ -23,6 +24,7 @@ use hx_types::{
 use std::alloc::Global;
 
 /// What a step makes of the slot to which a message goes.
+#[inline(always)]
 pub fn step_slot(
     alloc: Global,
     context: &SlotContext,
@@ -165,8 +167,8 @@ fn wait(
     posts: &mut Posts,
 ) -> Result<SlotChange, Memory>
     requires { slot.now.region ≡ context.now.region }
-    ensures posts { OnOk result (posts.new ≡ posts.old ++ (by_posts (waiting_doubt (context_seen context.now) caller version (stuck_of context.now.config.now slot.now.state))).posts) }
-    ensures change { IfOk result (IsChangeOf context.now.region slot.now.state slot.now.state.base.key (by_posts (waiting_doubt (context_seen context.now) caller version (stuck_of context.now.config.now slot.now.state)))) }
+    ensures posts { OnOk result (posts.new ≡ posts.old ++ waiting_doubt (context_seen context.now) caller version (stuck_of context.now.config.now slot.now.state)) }
+    ensures change { IfOk result (λ change. change ≡ Open) }
 {
     match stuck(context.config, slot) {
         Some((first, region)) if first.0 <= version.0 => {
@@ -199,6 +201,7 @@ fn assign(
 }
 
 /// An update is known, accepted or early.
+#[inline(always)]
 fn take(
     alloc: Global,
     context: &SlotContext,
@@ -239,6 +242,7 @@ fn post_known(
 }
 
 /// An update above the top is offered to the slot.
+#[inline(always)]
 fn accept(
     alloc: Global,
     context: &SlotContext,
@@ -248,8 +252,8 @@ fn accept(
 ) -> Result<SlotChange, Memory>
     requires coming { IsComing context.now.region slot.now.state update }
     requires region { slot.now.region ≡ context.now.region }
-    ensures posts { OnOk result (posts.new ≡ posts.old ++ (by_moves (context_seen context.now) (accepting (context_seen context.now) slot.now.state (offered context.now.region slot.now.state update))).posts) }
-    ensures change { IfOk result (IsChangeOf context.now.region slot.now.state update.key (by_moves (context_seen context.now) (accepting (context_seen context.now) slot.now.state (offered context.now.region slot.now.state update)))) }
+    ensures posts { OnOk result (posts.new ≡ posts.old ++ (accept_step (context_seen context.now) slot.now.state update).posts) }
+    ensures change { IfOk result (IsChangeOf context.now.region slot.now.state update.key (accept_step (context_seen context.now) slot.now.state update)) }
 {
     let place = place_at(context, &update);
     let tail_versions = accepted(alloc, context, slot, &update, posts)?;
@@ -261,6 +265,7 @@ fn accept(
 }
 
 /// A version is acknowledged, and what can be committed is told of.
+#[inline(always)]
 fn settle(
     alloc: Global,
     context: &SlotContext,

@@ -1,4 +1,4 @@
-use Rattle.std.proofs.Common.{◌≡◌, ◌++◌, ◌≤◌, ◌<◌, List, ap, append-nil, append_assoc, arith, sym, true, ◌∙◌}
+use Rattle.std.proofs.Common.{◌≡◌, ◌++◌, List, ap, append-nil, append_assoc, arith, sym, true, ◌∙◌}
 use Rattle.hx_types.specs.declared.messages.Post.{Post}
 use Rattle.hx_types.specs.declared.ids.Version.{Version}
 use Rattle.hx_types.specs.declared.updates.Update.{Update}

@@ -1,5 +1,5 @@
-use Rattle.std.proofs.Common.{◌≡◌, ◌++◌, IfOk, OnOk, ap, subst, sym, ◌∙◌}
-use Rattle.hx_model.specs.ServerSteps.{ServerStep, input_step, halting, message_step, server_step, tick_step}
+use Rattle.std.proofs.Common.{◌≡◌, ◌++◌, IfOk, OnOk, ap, subst, sym}
+use Rattle.hx_model.specs.ServerSteps.{ServerStep}
 use Rattle.hx_replica.specs.Plans.{IsChange}
 use Rattle.hx_replica.proofs.Bareness.{bare_seen}
 use Rattle.hx_replica.proofs.Planning.{always, can_hear, nothing_more, step_on}

@@ -1,4 +1,4 @@
-use Rattle.std.proofs.Common.{ℕ, ◌+◌, subst, sym}
+use Rattle.std.proofs.Common.{◌+◌, subst, sym}
 use Rattle.hx_types.specs.declared.spaces.Space.{Space}
 use Rattle.hx_model.specs.ServerSteps.{ServerState, server_step}
 use Rattle.hx_replica.specs.Sound.{IsSoundServer}
