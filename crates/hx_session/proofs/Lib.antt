@@ -1,3 +1,4 @@
+pub mod Growing
 pub mod Sent
 pub mod Texts
 pub mod Joining

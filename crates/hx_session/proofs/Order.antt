@@ -31,9 +31,9 @@ use Rattle.hx_region.proofs.Planned.{asked}
 use Rattle.hx_session.specs.declared.parts.Part.{Part}
 use Rattle.hx_session.specs.declared.prepared.Change.{Change}
 use Rattle.hx_session.specs.declared.sessions.Session.TheInside.{Inside}
-use Rattle.hx_session.specs.Changes.{changed, part_seen, parts_after}
+use Rattle.hx_session.specs.Changes.{IsChange, changed, part_seen, parts_after}
 use Rattle.hx_session.specs.Invariant.{IsInOrder, IsSession, IsStateOf, value_of}
-use Rattle.hx_session.specs.Sessions.{CanTake, SessionValue}
+use Rattle.hx_session.specs.Sessions.{SessionValue}
 use Rattle.hx_session.proofs.Kept.{regions_of, regions_stay}
 use Rattle.hx_session.proofs.Staying.{step_of_space}
 
@@ -132,13 +132,14 @@ applied_state i v c config parts view adopted put =
     ∙ ap (λ (k : Config). record (changed (value_of i).state c) { config = k }) adopted
     ∙ ap (λ (w : SessionValue). changed w.state c) view
 
-pub applied_in_order : (i : Inside) (v : SessionValue) (c : Change) (config : Config) (parts : List Part) (input : Input) → value_of i ≡ v → IsSession i → config ≡ unwrap_or c.config i.config
-    → map part_seen parts ≡ parts_after (map part_seen i.parts) c.parts → changed v.state c ≡ (session_step v.space v.state input).state → CanTake v.space v.state input → IsSession (after_change i c config parts)
-applied_in_order i v c config parts input view ok adopted put step can =
-    let same : (value_of (after_change i c config parts)).state ≡ (session_step v.space v.state input).state = applied_state i v c config parts view adopted put ∙ step in
+pub applied_in_order : (i : Inside) (v : SessionValue) (c : Change) (config : Config) (parts : List Part) → value_of i ≡ v → IsSession i → config ≡ unwrap_or c.config i.config
+    → map part_seen parts ≡ parts_after (map part_seen i.parts) c.parts → IsChange v c → IsSession (after_change i c config parts)
+applied_in_order i v c config parts view ok adopted put is =
+    let input = is.0 in
+    let same : (value_of (after_change i c config parts)).state ≡ (session_step v.space v.state input).state = applied_state i v c config parts view adopted put ∙ is.1.makes in
     record {
       map_is = ok.map_is;
       of_space = subst (λ (x : Space). IsStateOf x (value_of (after_change i c config parts)).state) (sym (ap (λ (w : SessionValue). w.space) view))
-          (subst (IsStateOf v.space) (sym same) (step_of_space v.space v.state (subst (λ (w : SessionValue). IsStateOf w.space w.state) view ok.of_space) input can));
+          (subst (IsStateOf v.space) (sym same) (step_of_space v.space v.state (subst (λ (w : SessionValue). IsStateOf w.space w.state) view ok.of_space) input is.1.takes));
       in_order = subst IsInOrder (sym same) (step_in_order v.space v.state (subst (λ (w : SessionValue). IsInOrder w.state) view ok.in_order) input);
     }

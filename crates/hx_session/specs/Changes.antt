@@ -1,30 +1,28 @@
 -- What a step makes of a session, and a step that is ready to be made.
-use Rattle.std.specs.Prelude.{◌≡◌, ℕ, Bool, false, ◌||◌, is_some, List, [], ◌∷◌, ◌++◌, map, if◌then◌else◌, slice_set, unwrap_or, None, Some}
+use Rattle.std.specs.Prelude.{◌≡◌, ℕ, Bool, false, ◌||◌, is_some, List, [], map, if◌then◌else◌, slice_set, unwrap_or, None, Some}
 use Rattle.std.specs.List.{flat_map}
 use Rattle.hx_types.specs.declared.calls.Answer.{Answer}
 use Rattle.hx_types.specs.declared.calls.Op.{Op}
 use Rattle.hx_types.specs.declared.calls.Row.{Row}
 use Rattle.hx_types.specs.declared.configs.Config.{Config}
-use Rattle.hx_types.specs.declared.ids.Epoch.{Epoch}
 use Rattle.hx_types.specs.declared.ids.RegionId.{RegionId}
-use Rattle.hx_types.specs.declared.ids.SessionId.{SessionId}
 use Rattle.hx_types.specs.declared.ids.Version.{Version}
 use Rattle.hx_types.specs.declared.spaces.Space.{Space}
 use Rattle.hx_types.specs.declared.values.Term.{Term}
-use Rattle.hx_types.specs.declared.messages.Message.TheVariants as a_message
-use Rattle.hx_types.specs.declared.ids.Actor.TheVariants.{Coordinator, Session}
-use Rattle.hx_types.specs.declared.traces.Note.TheVariants as a_note
+use Rattle.hx_types.specs.declared.messages.Post.{Post}
+use Rattle.hx_types.specs.declared.traces.Input.{Input}
 use Rattle.hx_types.specs.Configs.{head_of}
-use Rattle.hx_types.specs.Words.{post, provided, same_region, when_some}
-use Rattle.hx_model.specs.SessionSteps.{Part as PartSeen, SessionState, SessionStep, ask_to, call_under_way, is_administrative, lacks_part, send, session_step, staying, with_part}
+use Rattle.hx_types.specs.Words.{same_region, when_some}
+use Rattle.hx_model.specs.SessionSteps.{Part as PartSeen, SessionState, SessionStep, ask_to, awaits, call_under_way, ending, is_administrative, lacks_part, send, session_step, staying, with_part}
+use Rattle.hx_session.specs.declared.kinds.CallKind.{CallKind}
 use Rattle.hx_session.specs.declared.parts.Part.{Part}
 use Rattle.hx_session.specs.declared.parts.PartsChange.{PartsChange}
 use Rattle.hx_session.specs.declared.parts.PartsChange.TheVariants.{Stay, Replace, Put}
 use Rattle.hx_session.specs.declared.prepared.Change.{Change}
-use Rattle.hx_session.specs.declared.prepared.StepOutput.{StepOutput}
 use Rattle.hx_session.specs.declared.prepared.Plan.{Plan}
 use Rattle.hx_session.specs.declared.prepared.Progress.{Progress}
 use Rattle.hx_session.specs.declared.sending.Sender.{Sender}
+use Rattle.hx_session.specs.Kinds.{kind_test}
 use Rattle.hx_session.specs.Sessions.{CanTake, SessionValue, session_entry}
 
 -- a part as the definitions say it
@@ -67,11 +65,18 @@ changed s c =
       parts = parts_after s.parts c.parts;
     }
 
--- what was made is the step
-pub record IsOutputOf (s : SessionState) (step : SessionStep) (made : StepOutput) : Type 0 where
-  pub posts : made.posts ≡ step.posts
-  pub notes : made.notes ≡ step.notes
-  pub state : changed s made.change ≡ step.state
+-- the change is that of the step
+abbrev pub Makes : SessionState → SessionStep → Change → Type 0
+Makes s step change = changed s change ≡ step.state
+
+-- the change is that of the session's step on an input that it can take
+pub record IsChangeOn (s : SessionValue) (input : Input) (change : Change) : Type 0 where
+  pub takes : CanTake s.space s.state input
+  pub makes : Makes s.state (session_step s.space s.state input) change
+
+-- the change is that of some step of the session
+abbrev pub IsChange : SessionValue → Change → Type 0
+IsChange s change = (input : Input) × IsChangeOn s input change
 
 -- the plan is that of the session's step on an input that it can take
 pub record IsPlanOn (s : SessionValue) (plan : Plan) : Type 0 where
@@ -79,18 +84,13 @@ pub record IsPlanOn (s : SessionValue) (plan : Plan) : Type 0 where
   pub entry : plan.entry ≡ session_entry s.space s.state plan.entry.input
   pub change : changed s.state plan.change ≡ (session_step s.space s.state plan.entry.input).state
 
--- nothing is posted, noted or changed
-abbrev pub unmoved_at : Progress → StepOutput
-unmoved_at progress = record { posts = []; notes = []; change = record { config = None; progress = progress; parts = Stay } }
+-- nothing is changed
+abbrev pub unmoved_at : Progress → Change
+unmoved_at progress = record { config = None; progress = progress; parts = Stay }
 
 -- the call under way ends
-abbrev pub ended_as : Progress → Version → Answer → StepOutput
-ended_as progress version answer =
-    record {
-      posts = [];
-      notes = a_note.Ended progress.begun version answer ∷ [];
-      change = record { config = None; progress = record progress { under_way = false }; parts = Replace [] };
-    }
+abbrev pub ended_as : Progress → Change
+ended_as progress = record { config = None; progress = record progress { under_way = false }; parts = Replace [] }
 
 -- the sender as a session that has these calls and parts
 abbrev pub sender_seen : Sender → List Op → List PartSeen → SessionState
@@ -105,45 +105,25 @@ sender_seen s calls parts =
       parts = parts;
     }
 
--- a call begins before what was made of sending it
-abbrev pub begun_as : ℕ → StepOutput → StepOutput
-begun_as number made =
-    record {
-      posts = made.posts;
-      notes = a_note.Began number ∷ made.notes;
-      change = record { config = made.change.config; progress = made.change.progress; parts = afresh made.change.parts };
-    }
+-- the first member of each region is asked
+abbrev pub asks_posted : Sender → List Term → List RegionId → List Post
+asks_posted s terms regions = flat_map (λ (g : RegionId). ask_to (sender_seen s [] []) terms g (head_of s.config.now g)) regions
 
--- where the call is still under way, the newest configuration is asked for
-abbrev pub polled_as : SessionId → Epoch → StepOutput → StepOutput
-polled_as id epoch made =
-    record {
-      posts = made.posts ++ provided made.change.progress.under_way (post (Session id) Coordinator (a_message.Poll epoch) ∷ []);
-      notes = made.notes;
-      change = made.change;
-    }
-
--- the first member of each region is asked, and no region has answered
-abbrev pub asked_as : Sender → List Term → List RegionId → StepOutput
-asked_as s terms regions =
-    record {
-      posts = flat_map (λ (g : RegionId). ask_to (sender_seen s [] []) terms g (head_of s.config.now g)) regions;
-      notes = [];
-      change = record { config = None; progress = s.progress; parts = Replace (map asked_part regions) };
-    }
+-- and no region has answered
+abbrev pub asked_as : Progress → List RegionId → Change
+asked_as progress regions = record { config = None; progress = progress; parts = Replace (map asked_part regions) }
 
 -- a configuration is adopted, too
-abbrev pub adopting_as : Config → StepOutput → StepOutput
-adopting_as config made =
-    record {
-      posts = made.posts;
-      notes = made.notes;
-      change = record { config = Some config; progress = made.change.progress; parts = made.change.parts };
-    }
+abbrev pub adopting_as : Config → Change → Change
+adopting_as config change = record { config = Some config; progress = change.progress; parts = change.parts }
 
 -- a part is kept
-abbrev pub kept_as : Progress → ℕ → Part → StepOutput
-kept_as progress place part = record { posts = []; notes = []; change = record { config = None; progress = progress; parts = Put place part } }
+abbrev pub kept_as : Progress → ℕ → Part → Change
+kept_as progress place part = record { config = None; progress = progress; parts = Put place part }
+
+-- a call ends with an answer of its number, where it is under way and of the kind
+abbrev pub answer_step : SessionState → ℕ → CallKind → Version → Answer → SessionStep
+answer_step s number kind version answer = if awaits s number (kind_test kind) then ending s version answer else staying s
 
 -- the parts once a region has rows
 abbrev pub with_parts : SessionState → RegionId → List Row → SessionState

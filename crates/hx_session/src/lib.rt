@@ -11,5 +11,5 @@ mod prepared;
 mod sending;
 mod sessions;
 
-pub use prepared::Plan;
+pub use prepared::{Change, Plan};
 pub use sessions::Session;

@@ -1,12 +1,17 @@
-ghost use Rattle.std.specs.Prelude.{◌≡◌, ◌∷◌, map, IfOk, unwrap_or};
-ghost use Rattle.hx_session.specs.Changes.{adopting_as, afresh, begun_as, ended_as, kept_as, part_seen, parts_after, polled_as, unmoved_at};
+ghost use Rattle.std.specs.Prelude.{◌≡◌, ◌∷◌, ◌++◌, [], map, take, IfOk, OnErr, OnOk, Some, unwrap_or};
+ghost use Rattle.hx_types.specs.declared.ids.Actor.TheVariants as an_actor;
+ghost use Rattle.hx_types.specs.declared.messages.Message.TheVariants as a_message;
+ghost use Rattle.hx_types.specs.declared.traces.Note.TheVariants as a_note;
+ghost use Rattle.hx_types.specs.Words.{post, provided};
+ghost use Rattle.hx_session.specs.Changes.{adopting_as, afresh, ended_as, kept_as, part_seen, parts_after, unmoved_at};
 
 use crate::parts::{Part, Parts, PartsChange};
 use hx_types::{
-    Actor, Answer, Config, Entry, Epoch, Exact, Memory, Message, Note, Notes, Post, Posts,
+    Actor, Answer, Config, Entry, Epoch, Memory, Message, Note, Notes, Post, Posts, Sequence,
     SessionId, Shared, Version,
 };
 use std::alloc::Global;
+use std::mem;
 
 /// How far a session is: the number of the last call that began, whether it is under way, and
 /// whether it was sent.
@@ -17,13 +22,14 @@ pub struct Progress {
     pub sent: bool,
 }
 
-/// What a step changes of its session.
+/// What a step changes of its session. It was computed in one state of it, and is made in that state
+/// by [`Session::make`](crate::Session::make).
 pub struct Change {
     /// The configuration that is adopted, if one is.
-    pub config: Option<Shared<Config>>,
+    pub(crate) config: Option<Shared<Config>>,
     /// How far the session is then.
-    pub progress: Progress,
-    pub parts: PartsChange,
+    pub(crate) progress: Progress,
+    pub(crate) parts: PartsChange,
 }
 
 impl Drop for Change {
@@ -38,7 +44,7 @@ impl Drop for Change {
 
 impl Change {
     /// The same change where there were no parts before. It takes no memory.
-    fn afresh(self, alloc: Global) -> Change
+    pub(crate) fn afresh(self, alloc: Global) -> Change
         ensures { result ≡ record { config = self.config; progress = self.progress; parts = afresh self.parts } }
     {
         let Change {
@@ -53,8 +59,24 @@ impl Change {
         }
     }
 
+    /// The same change, by which a configuration is adopted, too. It takes no memory.
+    pub(crate) fn adopting(self, adopted: Shared<Config>) -> Change
+        ensures { result ≡ adopting_as adopted self }
+    {
+        let Change {
+            config: _,
+            progress,
+            parts,
+        } = self;
+        Change {
+            config: Some(adopted),
+            progress,
+            parts,
+        }
+    }
+
     /// Makes the change of a session's configuration and parts. It takes no memory.
-    pub fn apply(self, config: &mut Shared<Config>, parts: &mut Parts)
+    pub(crate) fn apply(self, config: &mut Shared<Config>, parts: &mut Parts)
         ensures config { config.new ≡ unwrap_or self.config config.old }
         ensures parts { map part_seen parts.new ≡ parts_after (map part_seen parts.old) self.parts }
     {
@@ -66,14 +88,6 @@ impl Change {
         adopt(config, adopted);
         change.apply(parts);
     }
-}
-
-/// What a step posts, notes and changes.
-#[derive(Drop)]
-pub struct StepOutput {
-    pub posts: Posts,
-    pub notes: Notes,
-    pub change: Change,
 }
 
 /// A step that is ready to be made: its entry, and what it changes.
@@ -92,18 +106,14 @@ impl Plan {
     }
 }
 
-/// Nothing is posted, noted or changed.
-pub fn plan_nothing(alloc: Global, progress: Progress) -> StepOutput
+/// Nothing is changed.
+pub fn change_nothing(progress: Progress) -> Change
     ensures { result ≡ unmoved_at progress }
 {
-    StepOutput {
-        posts: Posts::new(alloc),
-        notes: Notes::new(alloc),
-        change: Change {
-            config: None,
-            progress,
-            parts: PartsChange::Stay,
-        },
+    Change {
+        config: None,
+        progress,
+        parts: PartsChange::Stay,
     }
 }
 
@@ -113,63 +123,41 @@ pub fn ended(
     progress: Progress,
     version: Version,
     answer: Answer,
-) -> Result<StepOutput, Memory>
-    ensures { IfOk result (λ made. made ≡ ended_as progress version answer) }
+    notes: &mut Notes,
+) -> Result<Change, Memory>
+    ensures change { IfOk result (λ change. change ≡ ended_as progress) }
+    ensures notes { OnOk result (notes.new ≡ notes.old ++ a_note.Ended progress.begun version answer ∷ []) }
+    ensures notes_stay { OnErr result (notes.new ≡ notes.old) }
 {
-    let mut notes = Notes::new(alloc);
     notes.push(Note::Ended {
         number: progress.begun,
         version,
         answer,
     })?;
-    Ok(StepOutput {
-        posts: Posts::new(alloc),
-        notes,
-        change: Change {
-            config: None,
-            progress: Progress {
-                begun: progress.begun,
-                under_way: false,
-                sent: progress.sent,
-            },
-            parts: PartsChange::Replace(Parts::new(alloc)),
+    Ok(Change {
+        config: None,
+        progress: Progress {
+            begun: progress.begun,
+            under_way: false,
+            sent: progress.sent,
         },
+        parts: PartsChange::Replace(Parts::new(alloc)),
     })
-}
-
-/// A call began, and this was made of sending it.
-pub fn begun(alloc: Global, number: u32, made: StepOutput) -> Result<StepOutput, Memory>
-    ensures { IfOk result (λ begun. begun ≡ begun_as number made) }
-{
-    let notes = with_first(made.notes, Note::Began { number })?;
-    Ok(StepOutput {
-        posts: made.posts,
-        notes,
-        change: made.change.afresh(alloc),
-    })
-}
-
-fn with_first(notes: Notes, note: Note) -> Result<Notes, Memory>
-    ensures { IfOk result (λ after. after ≡ note ∷ notes) }
-{
-    let mut items = notes.into_vec();
-    items.insert(0, note)?;
-    Ok(Notes::from_vec(items))
 }
 
 /// Where the call is still under way, the coordinator is asked for its newest configuration.
-pub fn polled(id: SessionId, epoch: Epoch, made: StepOutput) -> Result<StepOutput, Memory>
-    ensures { IfOk result (λ after. after ≡ polled_as id epoch made) }
+pub fn poll(id: SessionId, epoch: Epoch, under_way: bool, posts: &mut Posts) -> Result<(), Memory>
+    ensures posts { OnOk result (posts.new ≡ posts.old ++ provided under_way (post (an_actor.Session id) an_actor.Coordinator (a_message.Poll epoch) ∷ [])) }
+    ensures posts_stay { OnErr result (posts.new ≡ posts.old) }
 {
-    let mut made = made;
-    if made.change.progress.under_way {
-        made.posts.push(Post {
+    if under_way {
+        posts.push(Post {
             from: Actor::Session(id),
             to: Actor::Coordinator,
             message: Message::Poll { epoch },
         })?;
     }
-    Ok(made)
+    Ok(())
 }
 
 /// A configuration takes the place of another, where there is one. It takes no memory.
@@ -182,29 +170,23 @@ fn adopt(config: &mut Shared<Config>, adopted: Option<Shared<Config>>)
 }
 
 /// A part is kept.
-pub fn kept(alloc: Global, progress: Progress, place: usize, part: Part) -> StepOutput
+pub fn kept(progress: Progress, place: usize, part: Part) -> Change
     ensures { result ≡ kept_as progress place part }
 {
-    StepOutput {
-        posts: Posts::new(alloc),
-        notes: Notes::new(alloc),
-        change: Change {
-            config: None,
-            progress,
-            parts: PartsChange::Put { place, part },
-        },
+    Change {
+        config: None,
+        progress,
+        parts: PartsChange::Put { place, part },
     }
 }
 
-/// A configuration is adopted, too.
-pub fn adopting(
-    alloc: Global,
-    config: &Shared<Config>,
-    made: StepOutput,
-) -> Result<StepOutput, Memory>
-    ensures { IfOk result (λ after. after ≡ adopting_as config.now made) }
+/// Cuts a list back to so many items. It takes no memory.
+#[cold]
+#[inline(never)]
+pub fn cut_back<T: Drop>(alloc: Global, list: &mut Sequence<T>, count: usize)
+    ensures { list.new ≡ take count list.old }
 {
-    let mut made = made;
-    made.change.config = Some(config.copy(alloc)?);
-    Ok(made)
+    let mut items = mem::replace(list, Sequence::new(alloc)).into_vec();
+    items.truncate(count);
+    *list = Sequence::from_vec(items);
 }

@@ -1,12 +1,13 @@
-ghost use Rattle.std.specs.Prelude.{◌≡◌, ◌++◌, ◌∷◌, [], ℕ, List, IfOk, OnOk, None};
+ghost use Rattle.std.specs.Prelude.{◌≡◌, ◌++◌, ◌∷◌, [], ℕ, List, IfOk, OnErr, OnOk, None};
 ghost use Rattle.hx_types.specs.declared.calls.Op.{Op as Operation};
 ghost use Rattle.hx_types.specs.Configs.{head_of};
 ghost use Rattle.hx_model.specs.Planning.{plan_of};
 ghost use Rattle.hx_model.specs.SessionSteps.{Part as PartSeen, ask_regions, ask_to, call_to, lost_answer, send, send_to, to_coordinator};
-ghost use Rattle.hx_session.specs.Changes.{IsOutputOf, asked_as, sender_seen};
+ghost use Rattle.hx_session.specs.Changes.{Makes, asked_as, asks_posted, sender_seen};
+ghost use Rattle.hx_session.specs.Lists.{Grows};
 
 use crate::parts::{Part, Parts, PartsChange};
-use crate::prepared::{Change, Progress, StepOutput, ended};
+use crate::prepared::{Change, Progress, change_nothing, ended};
 use hx_region::{RegionMap, plan};
 use hx_types::{
     Actor, Answer, Config, Exact, Memory, Message, Notes, Op, Planned, Post, Posts, RegionId,
@@ -30,11 +31,21 @@ pub struct Sender<'a> {
 /// each planned region, a stop or an add to the coordinator. Where the region is lost, or a search
 /// has no plan, the call ends: a write that was sent before in doubt, any other refused. That a
 /// client does so by itself, with its own configuration, is HyperDex's; the two answers are this
-/// project's choice.
-pub fn send(alloc: Global, sender: &Sender, op: &Op) -> Result<StepOutput, Memory>
+/// project's choice. What is posted and noted goes behind what the lists have.
+pub fn send(
+    alloc: Global,
+    sender: &Sender,
+    op: &Op,
+    posts: &mut Posts,
+    notes: &mut Notes,
+) -> Result<Change, Memory>
     requires { sender.now.map.now ≡ sender.now.space.now }
-    ensures made { IfOk result (λ made. (calls : List Operation) (parts : List PartSeen) → IsOutputOf (sender_seen sender.now calls parts) (send sender.now.space.now (sender_seen sender.now calls parts) op.now) made) }
-    ensures config { IfOk result (λ made. made.change.config ≡ None) }
+    ensures change { IfOk result (λ change. (calls : List Operation) (parts : List PartSeen) → Makes (sender_seen sender.now calls parts) (send sender.now.space.now (sender_seen sender.now calls parts) op.now) change) }
+    ensures config { IfOk result (λ change. change.config ≡ None) }
+    ensures posts { OnOk result ((calls : List Operation) (parts : List PartSeen) → posts.new ≡ posts.old ++ (send sender.now.space.now (sender_seen sender.now calls parts) op.now).posts) }
+    ensures notes { OnOk result ((calls : List Operation) (parts : List PartSeen) → notes.new ≡ notes.old ++ (send sender.now.space.now (sender_seen sender.now calls parts) op.now).notes) }
+    ensures posts_grow { OnErr result (Grows posts.old posts.new) }
+    ensures notes_stay { OnErr result (notes.new ≡ notes.old) }
 {
     match op {
         Op::Put { key, .. }
@@ -43,15 +54,15 @@ pub fn send(alloc: Global, sender: &Sender, op: &Op) -> Result<StepOutput, Memor
         | Op::Cput { key, .. }
         | Op::Atomic { key, .. } => {
             let region = sender.map.of_key(key);
-            send_to(alloc, sender, op, region)
+            send_to(alloc, sender, op, region, posts, notes)
         }
-        Op::Search { terms } => search(alloc, sender, terms),
+        Op::Search { terms } => search(alloc, sender, terms, posts, notes),
         Op::Stop { server } => {
             let message = Message::StopServer {
                 number: sender.progress.begun,
                 server: *server,
             };
-            to_coordinator(alloc, sender, message)
+            to_coordinator(sender, message, posts)
         }
         Op::Add { server, region } => {
             let message = Message::AddReplica {
@@ -59,33 +70,40 @@ pub fn send(alloc: Global, sender: &Sender, op: &Op) -> Result<StepOutput, Memor
                 server: *server,
                 region: *region,
             };
-            to_coordinator(alloc, sender, message)
+            to_coordinator(sender, message, posts)
         }
     }
 }
 
 /// A call on a key goes to the first member of the key's region.
-fn send_to(alloc: Global, sender: &Sender, op: &Op, region: RegionId) -> Result<StepOutput, Memory>
-    ensures made { IfOk result (λ made. (calls : List Operation) (parts : List PartSeen) → IsOutputOf (sender_seen sender.now calls parts) (send_to (sender_seen sender.now calls parts) op.now region) made) }
-    ensures config { IfOk result (λ made. made.change.config ≡ None) }
+fn send_to(
+    alloc: Global,
+    sender: &Sender,
+    op: &Op,
+    region: RegionId,
+    posts: &mut Posts,
+    notes: &mut Notes,
+) -> Result<Change, Memory>
+    ensures change { IfOk result (λ change. (calls : List Operation) (parts : List PartSeen) → Makes (sender_seen sender.now calls parts) (send_to (sender_seen sender.now calls parts) op.now region) change) }
+    ensures config { IfOk result (λ change. change.config ≡ None) }
+    ensures posts { OnOk result ((calls : List Operation) (parts : List PartSeen) → posts.new ≡ posts.old ++ (send_to (sender_seen sender.now calls parts) op.now region).posts) }
+    ensures notes { OnOk result ((calls : List Operation) (parts : List PartSeen) → notes.new ≡ notes.old ++ (send_to (sender_seen sender.now calls parts) op.now region).notes) }
+    ensures posts_stay { OnErr result (posts.new ≡ posts.old) }
+    ensures notes_stay { OnErr result (notes.new ≡ notes.old) }
 {
     if sender.config.is_lost(region) {
         let answer = lost_answer(sender, op, region);
-        return ended(alloc, sender.progress, Version(0), answer);
+        return ended(alloc, sender.progress, Version(0), answer, notes);
     }
-    let posts = call_to(alloc, sender, op, region)?;
-    Ok(StepOutput {
-        posts,
-        notes: Notes::new(alloc),
-        change: Change {
-            config: None,
-            progress: Progress {
-                begun: sender.progress.begun,
-                under_way: sender.progress.under_way,
-                sent: true,
-            },
-            parts: PartsChange::Stay,
+    call_to(alloc, sender, op, region, posts)?;
+    Ok(Change {
+        config: None,
+        progress: Progress {
+            begun: sender.progress.begun,
+            under_way: sender.progress.under_way,
+            sent: true,
         },
+        parts: PartsChange::Stay,
     })
 }
 
@@ -102,10 +120,16 @@ fn lost_answer(sender: &Sender, op: &Op, region: RegionId) -> Answer
 }
 
 /// The post of a call to the first member of a region.
-fn call_to(alloc: Global, sender: &Sender, op: &Op, region: RegionId) -> Result<Posts, Memory>
-    ensures { IfOk result (λ posts. posts ≡ call_to (sender_seen sender.now [] []) op.now (head_of sender.now.config.now region)) }
+fn call_to(
+    alloc: Global,
+    sender: &Sender,
+    op: &Op,
+    region: RegionId,
+    posts: &mut Posts,
+) -> Result<(), Memory>
+    ensures posts { OnOk result (posts.new ≡ posts.old ++ call_to (sender_seen sender.now [] []) op.now (head_of sender.now.config.now region)) }
+    ensures posts_stay { OnErr result (posts.new ≡ posts.old) }
 {
-    let mut posts = Posts::new(alloc);
     if let Some(server) = sender.config.head(region) {
         posts.push(Post {
             from: Actor::Session(sender.id),
@@ -117,46 +141,49 @@ fn call_to(alloc: Global, sender: &Sender, op: &Op, region: RegionId) -> Result<
             },
         })?;
     }
-    Ok(posts)
+    Ok(())
 }
 
 /// The coordinator is asked.
 #[cold]
 #[inline(never)]
-fn to_coordinator(alloc: Global, sender: &Sender, message: Message) -> Result<StepOutput, Memory>
-    ensures made { IfOk result (λ made. (calls : List Operation) (parts : List PartSeen) → IsOutputOf (sender_seen sender.now calls parts) (to_coordinator (sender_seen sender.now calls parts) message) made) }
-    ensures config { IfOk result (λ made. made.change.config ≡ None) }
+fn to_coordinator(sender: &Sender, message: Message, posts: &mut Posts) -> Result<Change, Memory>
+    ensures change { IfOk result (λ change. (calls : List Operation) (parts : List PartSeen) → Makes (sender_seen sender.now calls parts) (to_coordinator (sender_seen sender.now calls parts) message) change) }
+    ensures config { IfOk result (λ change. change.config ≡ None) }
+    ensures posts { OnOk result ((calls : List Operation) (parts : List PartSeen) → posts.new ≡ posts.old ++ (to_coordinator (sender_seen sender.now calls parts) message).posts) }
+    ensures posts_stay { OnErr result (posts.new ≡ posts.old) }
 {
-    let mut posts = Posts::new(alloc);
     posts.push(Post {
         from: Actor::Session(sender.id),
         to: Actor::Coordinator,
         message,
     })?;
-    Ok(StepOutput {
-        posts,
-        notes: Notes::new(alloc),
-        change: Change {
-            config: None,
-            progress: sender.progress,
-            parts: PartsChange::Stay,
-        },
-    })
+    Ok(change_nothing(sender.progress))
 }
 
 /// A search asks the regions of its plan, or ends where it has none.
 #[inline(never)]
-fn search(alloc: Global, sender: &Sender, terms: &Terms) -> Result<StepOutput, Memory>
+fn search(
+    alloc: Global,
+    sender: &Sender,
+    terms: &Terms,
+    posts: &mut Posts,
+    notes: &mut Notes,
+) -> Result<Change, Memory>
     requires { sender.now.map.now ≡ sender.now.space.now }
-    ensures made { IfOk result (λ made. (calls : List Operation) (parts : List PartSeen) → IsOutputOf (sender_seen sender.now calls parts) (ask_regions (sender_seen sender.now calls parts) terms.now (plan_of sender.now.space.now sender.now.config.now terms.now)) made) }
-    ensures config { IfOk result (λ made. made.change.config ≡ None) }
+    ensures change { IfOk result (λ change. (calls : List Operation) (parts : List PartSeen) → Makes (sender_seen sender.now calls parts) (ask_regions (sender_seen sender.now calls parts) terms.now (plan_of sender.now.space.now sender.now.config.now terms.now)) change) }
+    ensures config { IfOk result (λ change. change.config ≡ None) }
+    ensures posts { OnOk result ((calls : List Operation) (parts : List PartSeen) → posts.new ≡ posts.old ++ (ask_regions (sender_seen sender.now calls parts) terms.now (plan_of sender.now.space.now sender.now.config.now terms.now)).posts) }
+    ensures notes { OnOk result ((calls : List Operation) (parts : List PartSeen) → notes.new ≡ notes.old ++ (ask_regions (sender_seen sender.now calls parts) terms.now (plan_of sender.now.space.now sender.now.config.now terms.now)).notes) }
+    ensures posts_grow { OnErr result (Grows posts.old posts.new) }
+    ensures notes_stay { OnErr result (notes.new ≡ notes.old) }
 {
     match plan(alloc, sender.map, sender.config, terms)? {
-        Planned::Regions { regions, .. } => ask_regions(alloc, sender, terms, &regions),
+        Planned::Regions { regions, .. } => ask_regions(alloc, sender, terms, &regions, posts),
         Planned::Lost(region) => {
             let epoch = sender.config.epoch;
             let answer = Answer::Refused { region, epoch };
-            ended(alloc, sender.progress, Version(0), answer)
+            ended(alloc, sender.progress, Version(0), answer, notes)
         }
     }
 }
@@ -167,26 +194,24 @@ fn ask_regions(
     sender: &Sender,
     terms: &Terms,
     regions: &RegionList,
-) -> Result<StepOutput, Memory>
-    ensures { IfOk result (λ made. made ≡ asked_as sender.now terms.now regions.now) }
+    posts: &mut Posts,
+) -> Result<Change, Memory>
+    ensures change { IfOk result (λ change. change ≡ asked_as sender.now.progress regions.now) }
+    ensures posts { OnOk result (posts.new ≡ posts.old ++ asks_posted sender.now terms.now regions.now) }
+    ensures posts_grow { OnErr result (Grows posts.old posts.new) }
 {
-    let mut posts = Posts::new(alloc);
-    let mut parts = Parts::new(alloc);
+    let mut parts = Parts::with_capacity(alloc, regions.len())?;
     for region in regions.as_slice() {
-        ask(alloc, sender, terms, *region, &mut posts)?;
+        ask(alloc, sender, terms, *region, posts)?;
         parts.push(Part {
             region: *region,
             rows: None,
         })?;
     }
-    Ok(StepOutput {
-        posts,
-        notes: Notes::new(alloc),
-        change: Change {
-            config: None,
-            progress: sender.progress,
-            parts: PartsChange::Replace(parts),
-        },
+    Ok(Change {
+        config: None,
+        progress: sender.progress,
+        parts: PartsChange::Replace(parts),
     })
 }
 
@@ -198,7 +223,8 @@ fn ask(
     region: RegionId,
     posts: &mut Posts,
 ) -> Result<(), Memory>
-    ensures { OnOk result (posts.new ≡ posts.old ++ ask_to (sender_seen sender.now [] []) terms.now region (head_of sender.now.config.now region)) }
+    ensures posts { OnOk result (posts.new ≡ posts.old ++ ask_to (sender_seen sender.now [] []) terms.now region (head_of sender.now.config.now region)) }
+    ensures posts_stay { OnErr result (posts.new ≡ posts.old) }
 {
     if let Some(server) = sender.config.head(region) {
         posts.push(Post {

@@ -1,28 +1,29 @@
-ghost use Rattle.std.specs.Prelude.{◌≡◌, ℕ, ◌<◌, ◌≤◌, ◌+◌, true, false, length, slice_get, IfOk, IsSomeAnd, None, OnErr, OnOk, if◌then◌else◌};
+ghost use Rattle.std.specs.Prelude.{◌≡◌, ℕ, ◌<◌, ◌≤◌, ◌+◌, ◌++◌, [], true, false, length, slice_get, IfOk, IsSomeAnd, None, OnErr, OnOk};
 ghost use Rattle.std.specs.List.{All};
 ghost use Rattle.std.specs.Option.{option_copied};
 ghost use Rattle.hx_types.specs.Configs.{first_config};
 ghost use Rattle.hx_types.specs.Fitting.{numbered};
+ghost use Rattle.hx_types.specs.declared.messages.PostId.{PostId};
 ghost use Rattle.hx_types.specs.declared.limits.TheConstants.{MOST_CALLS};
+ghost use Rattle.hx_types.specs.declared.traces.Input.TheVariants as an_input;
 ghost use Rattle.hx_types.specs.Spaces.{Fits, IsSpace};
 ghost use Rattle.hx_model.specs.Schedule.{is_idle};
-ghost use Rattle.hx_model.specs.SessionSteps.{Part as PartSeen, awaits, begin, call_under_way, end_with_parts, ending, found_step, session_at_start, session_install, session_message, session_step, session_tick, staying};
-ghost use Rattle.hx_session.specs.Changes.{IsOutputOf, IsPlanOn, in_config, sent_anew, with_parts};
-ghost use Rattle.hx_types.specs.Posted.{ArePostsOf, InputUpTo, NameOnly, PostsUpTo};
-ghost use Rattle.hx_session.specs.Sessions.{CanTake, SessionUpTo, is_ended, known_to, with_call};
+ghost use Rattle.hx_model.specs.SessionSteps.{Part as PartSeen, awaits, begin, call_under_way, end_with_parts, found_step, session_at_start, session_install, session_message, session_step, session_tick};
+ghost use Rattle.hx_session.specs.Changes.{IsChange, IsChangeOn, IsPlanOn, Makes, answer_step, in_config, sent_anew, with_parts};
+ghost use Rattle.hx_session.specs.Lists.{Grows};
+ghost use Rattle.hx_types.specs.Posted.{ArePostsOf, InputUpTo, MessageUpTo, NameOnly, PostsUpTo};
+ghost use Rattle.hx_session.specs.Sessions.{CanTake, IsSoundDelivery, SessionUpTo, is_ended, known_to, with_call};
 ghost use Rattle.hx_session.specs.Kinds.{kind_test};
 
 use crate::kinds::{CallKind, is_of};
 use crate::merging::merged;
 use crate::parts::{Part, Parts, all_found, lacking};
-use crate::prepared::{
-    Plan, Progress, StepOutput, adopting, begun, ended, kept, plan_nothing, polled,
-};
+use crate::prepared::{Change, Plan, Progress, change_nothing, cut_back, ended, kept, poll};
 use crate::sending::{Sender, send};
 use hx_region::RegionMap;
 use hx_types::{
-    Actor, Answer, Calls, Config, Entry, Epoch, Exact, Input, Memory, Message, Op, RegionId, Rows,
-    SessionId, Shared, Space, Version, first_shared_config,
+    Actor, Answer, Calls, Config, Entry, Epoch, Exact, Input, Memory, Message, Note, Notes, Op,
+    Posts, RegionId, Rows, SessionId, Shared, Space, Version, first_shared_config,
 };
 use std::alloc::Global;
 use std::marker::Model;
@@ -148,19 +149,18 @@ impl Session {
         ensures space { self.new.space ≡ self.old.space }
         ensures state { self.new.state ≡ self.old.state }
     {
-        let Ok(made) = self.made(alloc, &input) else {
+        let mut posts = Posts::new(alloc);
+        let mut notes = Notes::new(alloc);
+        let Ok(change) = self.made(alloc, &input, &mut posts, &mut notes) else {
             return Err(Memory);
         };
         let entry = Entry {
             actor: Actor::Session(self.id),
             input,
-            outputs: made.posts,
-            notes: made.notes,
+            outputs: posts,
+            notes,
         };
-        Ok(Plan {
-            entry,
-            change: made.change,
-        })
+        Ok(Plan { entry, change })
     }
 
     /// Makes a prepared step, and gives its entry. It takes no memory.
@@ -171,9 +171,79 @@ impl Session {
         ensures state { self.new.state ≡ (session_step self.old.space self.old.state plan.entry.input).state }
     {
         let Plan { entry, change } = plan;
+        self.make(change);
+        entry
+    }
+
+    /// Computes the step that a message of a sender makes. What it posts and notes goes behind what
+    /// the lists have, and what it changes is given, for [`Session::make`]. The posts are of the
+    /// space, name only the coordinator and actors that the session, the sender or the message names,
+    /// and have no epoch above the greatest of theirs. On an error the lists are as before.
+    #[inline]
+    pub fn hear(
+        &self,
+        alloc: Global,
+        from: Actor,
+        message: &Message,
+        posts: &mut Posts,
+        notes: &mut Notes,
+    ) -> Result<Change, Memory>
+        requires { IsSoundDelivery self.now.space self.now.state.id from message.now }
+        ensures change { IfOk result (λ change. (id : PostId) → IsChangeOn self.now (an_input.Deliver id from message.now) change) }
+        ensures posts { OnOk result (posts.new ≡ posts.old ++ (session_message self.now.space self.now.state message.now).posts) }
+        ensures notes { OnOk result (notes.new ≡ notes.old ++ (session_message self.now.space self.now.state message.now).notes) }
+        ensures of_space { ArePostsOf self.now.space (session_message self.now.space self.now.state message.now).posts }
+        ensures named { (id : PostId) → NameOnly (known_to self.now.state (an_input.Deliver id from message.now)) (session_message self.now.space self.now.state message.now).posts }
+        ensures small { (most : ℕ) → SessionUpTo most self.now.state → MessageUpTo most message.now → PostsUpTo most (session_message self.now.space self.now.state message.now).posts }
+        ensures posts_stay { OnErr result (posts.new ≡ posts.old) }
+        ensures notes_stay { OnErr result (notes.new ≡ notes.old) }
+    {
+        let _ = &self.id;
+        let (post_count, note_count) = (posts.len(), notes.len());
+        let Ok(change) = self.heard(alloc, message, posts, notes) else {
+            cut_back(alloc, posts, post_count);
+            cut_back(alloc, notes, note_count);
+            return Err(Memory);
+        };
+        Ok(change)
+    }
+
+    /// Computes the step of the session's own turn, as [`Session::hear`] that of a message.
+    #[inline]
+    pub fn tick(
+        &self,
+        alloc: Global,
+        posts: &mut Posts,
+        notes: &mut Notes,
+    ) -> Result<Change, Memory>
+        ensures change { IfOk result (IsChangeOn self.now an_input.Tick) }
+        ensures posts { OnOk result (posts.new ≡ posts.old ++ (session_tick self.now.space self.now.state).posts) }
+        ensures notes { OnOk result (notes.new ≡ notes.old ++ (session_tick self.now.space self.now.state).notes) }
+        ensures of_space { ArePostsOf self.now.space (session_tick self.now.space self.now.state).posts }
+        ensures named { NameOnly (known_to self.now.state an_input.Tick) (session_tick self.now.space self.now.state).posts }
+        ensures small { (most : ℕ) → SessionUpTo most self.now.state → PostsUpTo most (session_tick self.now.space self.now.state).posts }
+        ensures posts_stay { OnErr result (posts.new ≡ posts.old) }
+        ensures notes_stay { OnErr result (notes.new ≡ notes.old) }
+    {
+        let _ = &self.id;
+        let (post_count, note_count) = (posts.len(), notes.len());
+        let Ok(change) = self.turned(alloc, posts, notes) else {
+            cut_back(alloc, posts, post_count);
+            cut_back(alloc, notes, note_count);
+            return Err(Memory);
+        };
+        Ok(change)
+    }
+
+    /// Makes a change that was computed in this state. It takes no memory.
+    #[inline]
+    pub fn make(&mut self, change: Change)
+        requires { IsChange self.old change }
+        ensures space { self.new.space ≡ self.old.space }
+        ensures state { (input : Input) → IsChangeOn self.old input change → self.new.state ≡ (session_step self.old.space self.old.state input).state }
+    {
         self.progress = change.progress;
         change.apply(&mut self.config, &mut self.parts);
-        entry
     }
 
     /// Whether a call is left and none is under way.
@@ -191,61 +261,103 @@ impl Session {
     }
 
     /// What the step of an input makes.
-    fn made(&self, alloc: Global, input: &Input) -> Result<StepOutput, Memory>
+    fn made(
+        &self,
+        alloc: Global,
+        input: &Input,
+        posts: &mut Posts,
+        notes: &mut Notes,
+    ) -> Result<Change, Memory>
         requires { CanTake self.now.space self.now.state input.now }
-        ensures { IfOk result (IsOutputOf self.now.state (session_step self.now.space self.now.state input.now)) }
+        ensures change { IfOk result (IsChangeOn self.now input.now) }
+        ensures posts { OnOk result (posts.new ≡ posts.old ++ (session_step self.now.space self.now.state input.now).posts) }
+        ensures notes { OnOk result (notes.new ≡ notes.old ++ (session_step self.now.space self.now.state input.now).notes) }
     {
         match input {
-            Input::Tick => self.tick(alloc),
-            Input::Deliver { message, .. } => self.hear(alloc, message),
+            Input::Tick => self.tick(alloc, posts, notes),
+            Input::Deliver { from, message, .. } => self.hear(alloc, *from, message, posts, notes),
             Input::Halt => unreachable!(),
         }
     }
 
     /// Its turn: the call under way is sent again, or the next one begins.
-    fn tick(&self, alloc: Global) -> Result<StepOutput, Memory>
-        ensures { IfOk result (IsOutputOf self.now.state (session_tick self.now.space self.now.state)) }
+    fn turned(&self, alloc: Global, posts: &mut Posts, notes: &mut Notes) -> Result<Change, Memory>
+        ensures change { IfOk result (Makes self.now.state (session_tick self.now.space self.now.state)) }
+        ensures posts { OnOk result (posts.new ≡ posts.old ++ (session_tick self.now.space self.now.state).posts) }
+        ensures notes { OnOk result (notes.new ≡ notes.old ++ (session_tick self.now.space self.now.state).notes) }
+        ensures posts_grow { OnErr result (Grows posts.old posts.new) }
+        ensures notes_grow { OnErr result (Grows notes.old notes.new) }
     {
         if self.progress.under_way {
-            self.send_again(alloc)
+            self.send_again(alloc, posts, notes)
         } else {
-            self.begin_next(alloc)
+            self.begin_next(alloc, posts, notes)
         }
     }
 
     /// The call under way is sent again, and the newest configuration is asked for.
     #[cold]
     #[inline(never)]
-    fn send_again(&self, alloc: Global) -> Result<StepOutput, Memory>
+    fn send_again(
+        &self,
+        alloc: Global,
+        posts: &mut Posts,
+        notes: &mut Notes,
+    ) -> Result<Change, Memory>
         requires { self.now.state.under_way ≡ true }
-        ensures { IfOk result (IsOutputOf self.now.state (session_tick self.now.space self.now.state)) }
+        ensures change { IfOk result (Makes self.now.state (session_tick self.now.space self.now.state)) }
+        ensures posts { OnOk result (posts.new ≡ posts.old ++ (session_tick self.now.space self.now.state).posts) }
+        ensures notes { OnOk result (notes.new ≡ notes.old ++ (session_tick self.now.space self.now.state).notes) }
+        ensures posts_grow { OnErr result (Grows posts.old posts.new) }
+        ensures notes_grow { OnErr result (Grows notes.old notes.new) }
     {
         match self.call(self.progress.begun) {
             Some(op) => {
                 let sender = self.sender(&self.config, self.progress);
-                let made = send(alloc, &sender, op)?;
-                polled(self.id, self.config.epoch, made)
+                let change = send(alloc, &sender, op, posts, notes)?;
+                poll(self.id, self.config.epoch, change.progress.under_way, posts)?;
+                Ok(change)
             }
-            None => Ok(plan_nothing(alloc, self.progress)),
+            None => Ok(change_nothing(self.progress)),
         }
     }
 
     /// The next call begins, where one is left.
-    fn begin_next(&self, alloc: Global) -> Result<StepOutput, Memory>
+    fn begin_next(
+        &self,
+        alloc: Global,
+        posts: &mut Posts,
+        notes: &mut Notes,
+    ) -> Result<Change, Memory>
         requires { self.now.state.under_way ≡ false }
-        ensures { IfOk result (IsOutputOf self.now.state (session_tick self.now.space self.now.state)) }
+        ensures change { IfOk result (Makes self.now.state (session_tick self.now.space self.now.state)) }
+        ensures posts { OnOk result (posts.new ≡ posts.old ++ (session_tick self.now.space self.now.state).posts) }
+        ensures notes { OnOk result (notes.new ≡ notes.old ++ (session_tick self.now.space self.now.state).notes) }
+        ensures posts_grow { OnErr result (Grows posts.old posts.new) }
+        ensures notes_grow { OnErr result (Grows notes.old notes.new) }
     {
         let number = self.progress.begun + 1;
         match self.call(number) {
-            Some(op) => self.begin(alloc, number, op),
-            None => Ok(plan_nothing(alloc, self.progress)),
+            Some(op) => self.begin(alloc, number, op, posts, notes),
+            None => Ok(change_nothing(self.progress)),
         }
     }
 
     /// A call begins.
-    fn begin(&self, alloc: Global, number: u32, op: &Op) -> Result<StepOutput, Memory>
+    fn begin(
+        &self,
+        alloc: Global,
+        number: u32,
+        op: &Op,
+        posts: &mut Posts,
+        notes: &mut Notes,
+    ) -> Result<Change, Memory>
         requires { number ≡ self.now.state.begun + 1 }
-        ensures { IfOk result (IsOutputOf self.now.state (begin self.now.space self.now.state op.now)) }
+        ensures change { IfOk result (Makes self.now.state (begin self.now.space self.now.state op.now)) }
+        ensures posts { OnOk result (posts.new ≡ posts.old ++ (begin self.now.space self.now.state op.now).posts) }
+        ensures notes { OnOk result (notes.new ≡ notes.old ++ (begin self.now.space self.now.state op.now).notes) }
+        ensures posts_grow { OnErr result (Grows posts.old posts.new) }
+        ensures notes_grow { OnErr result (Grows notes.old notes.new) }
     {
         let progress = Progress {
             begun: number,
@@ -253,31 +365,43 @@ impl Session {
             sent: false,
         };
         let sender = self.sender(&self.config, progress);
-        let made = send(alloc, &sender, op)?;
-        begun(alloc, number, made)
+        notes.push(Note::Began { number })?;
+        let change = send(alloc, &sender, op, posts, notes)?;
+        Ok(change.afresh(alloc))
     }
 
     /// What a message makes.
-    fn hear(&self, alloc: Global, message: &Message) -> Result<StepOutput, Memory>
-        ensures { IfOk result (IsOutputOf self.now.state (session_message self.now.space self.now.state message.now)) }
+    fn heard(
+        &self,
+        alloc: Global,
+        message: &Message,
+        posts: &mut Posts,
+        notes: &mut Notes,
+    ) -> Result<Change, Memory>
+        ensures change { IfOk result (Makes self.now.state (session_message self.now.space self.now.state message.now)) }
+        ensures posts { OnOk result (posts.new ≡ posts.old ++ (session_message self.now.space self.now.state message.now).posts) }
+        ensures notes { OnOk result (notes.new ≡ notes.old ++ (session_message self.now.space self.now.state message.now).notes) }
+        ensures posts_grow { OnErr result (Grows posts.old posts.new) }
+        ensures notes_stay { OnErr result (notes.new ≡ notes.old) }
     {
         match message {
             Message::Reply {
                 number,
                 version,
                 answer,
-            } => self.answered(alloc, *number, CallKind::OnKey, *version, answer),
+            } => self.answered(alloc, *number, CallKind::OnKey, *version, answer, notes),
             Message::Outcome { number, answer } => {
-                self.answered(alloc, *number, CallKind::Administrative, Version(0), answer)
+                let kind = CallKind::Administrative;
+                self.answered(alloc, *number, kind, Version(0), answer, notes)
             }
             Message::Found {
                 epoch,
                 number,
                 region,
                 rows,
-            } => self.found(alloc, *epoch, *number, *region, rows),
-            Message::Install { config } => self.install(alloc, config),
-            _ => Ok(plan_nothing(alloc, self.progress)),
+            } => self.found(alloc, *epoch, *number, *region, rows, notes),
+            Message::Install { config } => self.install(alloc, config, posts, notes),
+            _ => Ok(change_nothing(self.progress)),
         }
     }
 
@@ -289,15 +413,18 @@ impl Session {
         number: u32,
         region: RegionId,
         rows: &Rows,
-    ) -> Result<StepOutput, Memory>
-        ensures { IfOk result (IsOutputOf self.now.state (found_step self.now.state epoch number region rows.now)) }
+        notes: &mut Notes,
+    ) -> Result<Change, Memory>
+        ensures change { IfOk result (Makes self.now.state (found_step self.now.state epoch number region rows.now)) }
+        ensures notes { OnOk result (notes.new ≡ notes.old ++ (found_step self.now.state epoch number region rows.now).notes) }
+        ensures notes_stay { OnErr result (notes.new ≡ notes.old) }
     {
         if !self.awaits(number, CallKind::Search) || epoch.0 != self.config.epoch.0 {
-            return Ok(plan_nothing(alloc, self.progress));
+            return Ok(change_nothing(self.progress));
         }
         match lacking(self.parts.as_slice(), region) {
-            Some(place) => self.keep(alloc, place, region, rows),
-            None => Ok(plan_nothing(alloc, self.progress)),
+            Some(place) => self.keep(alloc, place, region, rows, notes),
+            None => Ok(change_nothing(self.progress)),
         }
     }
 
@@ -309,47 +436,72 @@ impl Session {
         place: usize,
         region: RegionId,
         rows: &Rows,
-    ) -> Result<StepOutput, Memory>
+        notes: &mut Notes,
+    ) -> Result<Change, Memory>
         requires { IsSomeAnd (slice_get self.now.state.parts place) (λ (p : PartSeen). p.region ≡ region) }
-        ensures { IfOk result (IsOutputOf self.now.state (end_with_parts (with_parts self.now.state region rows.now))) }
+        ensures change { IfOk result (Makes self.now.state (end_with_parts (with_parts self.now.state region rows.now))) }
+        ensures notes { OnOk result (notes.new ≡ notes.old ++ (end_with_parts (with_parts self.now.state region rows.now)).notes) }
+        ensures notes_stay { OnErr result (notes.new ≡ notes.old) }
     {
         let parts = self.parts.as_slice();
         if all_found(parts, region) {
             let rows = merged(alloc, parts, region, rows)?;
-            return ended(alloc, self.progress, Version(0), Answer::Rows(rows));
+            let answer = Answer::Rows(rows);
+            return ended(alloc, self.progress, Version(0), answer, notes);
         }
         let rows = rows.copy(alloc)?;
         let part = Part {
             region,
             rows: Some(rows),
         };
-        Ok(kept(alloc, self.progress, place, part))
+        Ok(kept(self.progress, place, part))
     }
 
     /// A configuration of a higher epoch is adopted, and a call on a key or a search sent anew.
     #[cold]
     #[inline(never)]
-    fn install(&self, alloc: Global, config: &Shared<Config>) -> Result<StepOutput, Memory>
-        ensures { IfOk result (IsOutputOf self.now.state (session_install self.now.space self.now.state config.now)) }
+    fn install(
+        &self,
+        alloc: Global,
+        config: &Shared<Config>,
+        posts: &mut Posts,
+        notes: &mut Notes,
+    ) -> Result<Change, Memory>
+        ensures change { IfOk result (Makes self.now.state (session_install self.now.space self.now.state config.now)) }
+        ensures posts { OnOk result (posts.new ≡ posts.old ++ (session_install self.now.space self.now.state config.now).posts) }
+        ensures notes { OnOk result (notes.new ≡ notes.old ++ (session_install self.now.space self.now.state config.now).notes) }
+        ensures posts_grow { OnErr result (Grows posts.old posts.new) }
+        ensures notes_stay { OnErr result (notes.new ≡ notes.old) }
     {
         if config.epoch.0 <= self.config.epoch.0 {
-            return Ok(plan_nothing(alloc, self.progress));
+            return Ok(change_nothing(self.progress));
         }
-        let made = self.send_anew(alloc, config)?;
-        adopting(alloc, config, made)
+        let adopted = config.copy(alloc)?;
+        let change = self.send_anew(alloc, config, posts, notes)?;
+        Ok(change.adopting(adopted))
     }
 
     /// A call on a key or a search is sent in another configuration.
-    fn send_anew(&self, alloc: Global, config: &Config) -> Result<StepOutput, Memory>
-        ensures made { IfOk result (IsOutputOf (in_config self.now.state config.now) (sent_anew self.now.space self.now.state config.now)) }
-        ensures config { IfOk result (λ made. made.change.config ≡ None) }
+    fn send_anew(
+        &self,
+        alloc: Global,
+        config: &Config,
+        posts: &mut Posts,
+        notes: &mut Notes,
+    ) -> Result<Change, Memory>
+        ensures change { IfOk result (Makes (in_config self.now.state config.now) (sent_anew self.now.space self.now.state config.now)) }
+        ensures config { IfOk result (λ change. change.config ≡ None) }
+        ensures posts { OnOk result (posts.new ≡ posts.old ++ (sent_anew self.now.space self.now.state config.now).posts) }
+        ensures notes { OnOk result (notes.new ≡ notes.old ++ (sent_anew self.now.space self.now.state config.now).notes) }
+        ensures posts_grow { OnErr result (Grows posts.old posts.new) }
+        ensures notes_stay { OnErr result (notes.new ≡ notes.old) }
     {
         match self.call_under_way() {
             Some(op) if !is_of(CallKind::Administrative, op) => {
                 let sender = self.sender(config, self.progress);
-                send(alloc, &sender, op)
+                send(alloc, &sender, op, posts, notes)
             }
-            _ => Ok(plan_nothing(alloc, self.progress)),
+            _ => Ok(change_nothing(self.progress)),
         }
     }
 
@@ -361,14 +513,17 @@ impl Session {
         kind: CallKind,
         version: Version,
         answer: &Answer,
-    ) -> Result<StepOutput, Memory>
-        ensures { IfOk result (IsOutputOf self.now.state (if awaits self.now.state number (kind_test kind) then ending self.now.state version answer.now else staying self.now.state)) }
+        notes: &mut Notes,
+    ) -> Result<Change, Memory>
+        ensures change { IfOk result (Makes self.now.state (answer_step self.now.state number kind version answer.now)) }
+        ensures notes { OnOk result (notes.new ≡ notes.old ++ (answer_step self.now.state number kind version answer.now).notes) }
+        ensures notes_stay { OnErr result (notes.new ≡ notes.old) }
     {
         if !self.awaits(number, kind) {
-            return Ok(plan_nothing(alloc, self.progress));
+            return Ok(change_nothing(self.progress));
         }
         let answer = answer.copy(alloc)?;
-        ended(alloc, self.progress, version, answer)
+        ended(alloc, self.progress, version, answer, notes)
     }
 
     /// Whether the call under way has this number and is of this kind.

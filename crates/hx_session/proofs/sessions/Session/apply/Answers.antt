@@ -1,6 +1,0 @@
-use Rattle.hx_session.proofs.Order.{applied_in_order}
-use Rattle.hx_session.proofs.sessions.Session.apply.Goals as goal
-
-pub invariant_of-self : goal.invariant_of-self
-invariant_of-self c =
-    applied_in_order c.self.inside c.args.self.now c.args.plan.change c.apply.new.config c.apply.new.parts c.args.plan.entry.input c.self.view_is c.self.invariant c.apply.ensures.config c.apply.ensures.parts c.requires.change c.requires.takes
