@@ -1,6 +1,6 @@
 -- What a session makes of the rows of a region.
 use Rattle.hx_model.specs.Lines.{no_version}
-use Rattle.std.proofs.Common.{◌≡◌, ℕ, Bool, true, false, ◌&&◌, ◌==◌, List, [], ◌∷◌, ◌++◌, cond, map, Option, None, Some, refl, ap, sym, ◌∙◌, subst}
+use Rattle.std.proofs.Common.{◌≡◌, ℕ, Bool, true, false, ◌&&◌, ◌==◌, List, [], ◌∷◌, ◌++◌, map, Option, None, Some, refl, ap, sym, ◌∙◌, subst}
 use Rattle.std.specs.List.{list_all, list_any, slice_get}
 use Rattle.std.specs.Prelude.{IsSomeAnd}
 use Rattle.std.proofs.lemmas.Bool.{cond-true, cond-false}
@@ -8,37 +8,20 @@ use Rattle.hx_types.specs.declared.calls.Answer.TheVariants as an_answer
 use Rattle.hx_types.specs.declared.calls.Row.{Row}
 use Rattle.hx_types.specs.declared.ids.Epoch.{Epoch}
 use Rattle.hx_types.specs.declared.ids.RegionId.{RegionId}
-use Rattle.hx_types.specs.declared.ids.Version.{Version}
-use Rattle.hx_types.specs.declared.calls.Answer.{Answer}
 use Rattle.hx_types.specs.declared.traces.Note.{Note}
 use Rattle.hx_types.specs.declared.traces.Note.TheVariants as a_note
 use Rattle.hx_types.specs.Spaces.{IsAscending}
 use Rattle.hx_model.specs.SessionSteps.{Part as PartSeen, SessionState, SessionStep, all_parts, awaits, end_with_parts, ending, found_step, is_search, lacks_part, merged_parts, staying, with_part}
-use Rattle.hx_session.specs.declared.kinds.CallKind.{CallKind}
 use Rattle.hx_session.specs.declared.parts.Part.{Part}
 use Rattle.hx_session.specs.declared.prepared.Change.{Change}
 use Rattle.hx_session.specs.declared.sessions.Session.TheInside.{Inside}
-use Rattle.hx_session.specs.Changes.{Makes, answer_step, ended_as, is_found, kept_as, lacks_rows, part_seen, unmoved_at, with_parts}
+use Rattle.hx_session.specs.Changes.{Makes, ended_as, is_found, kept_as, lacks_rows, part_seen, unmoved_at, with_parts}
 use Rattle.hx_session.specs.Invariant.{value_of}
-use Rattle.hx_session.specs.Kinds.{kind_test}
 use Rattle.hx_session.specs.Sessions.{SessionValue}
 use Rattle.hx_session.proofs.Kept.{all_found_seen, kept_there, lacking_seen, regions_of, same_number}
 
 abbrev state_of : Inside → SessionState
 state_of i = (value_of i).state
-
--- a step that is one of two posts nothing where both do
-quiet_both : (b : Bool) (x y : SessionStep) → x.posts ≡ [] → y.posts ≡ [] → (cond b x y).posts ≡ []
-quiet_both true x y p q = p
-quiet_both false x y p q = q
-
-pub found_quiet : (s : SessionState) (epoch : Epoch) (number : ℕ) (g : RegionId) (rows : List Row) → (found_step s epoch number g rows).posts ≡ []
-found_quiet s epoch number g rows =
-    quiet_both (awaits s number is_search && (epoch.0 == s.config.epoch.0) && list_any (lacks_part g) s.parts) (end_with_parts (with_parts s g rows)) (staying s)
-    (quiet_both (all_parts (with_parts s g rows).parts) (ending (with_parts s g rows) no_version (an_answer.Rows (merged_parts (with_parts s g rows).parts))) (staying (with_parts s g rows)) refl refl) refl
-
-pub answer_quiet : (s : SessionState) (number : ℕ) (kind : CallKind) (version : Version) (answer : Answer) → (answer_step s number kind version answer).posts ≡ []
-answer_quiet s number kind version answer = quiet_both (awaits s number (kind_test kind)) (ending s version answer) (staying s) refl refl
 
 -- all regions have answered
 module _ (i : Inside) (v : SessionValue) (g : RegionId) (rows : List Row) (view : value_of i ≡ v) (all : list_all (is_found g) i.parts ≡ true) where
