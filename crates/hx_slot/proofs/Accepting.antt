@@ -12,9 +12,9 @@ use Rattle.hx_slot.specs.declared.updates.PlacedUpdate.{PlacedUpdate}
 use Rattle.hx_slot.specs.declared.updates.AcceptedUpdate.{AcceptedUpdate}
 use Rattle.hx_slot.specs.declared.slots.Slot.TheInside.{Inside}
 use Rattle.hx_slot.specs.Updates.{Ascends, IsHeld, IsPlaced, last_version, newest_first, places_in}
-use Rattle.hx_slot.specs.Acks.{AreAcked, count_unacked, is_of_version}
+use Rattle.hx_slot.specs.Acks.{AreAcked, is_of_version}
 use Rattle.hx_slot.specs.Bases.{kept_in}
-use Rattle.hx_slot.specs.Invariant.{IsLine, IsSlot, coming, pending_in, whole, updates_of, versions_of}
+use Rattle.hx_slot.specs.Invariant.{IsLine, IsSlot, coming, pending_in, whole, updates_of}
 use Rattle.hx_slot.proofs.Newest.{last_version-above, newest_first-append, pending-ascends, top-pending}
 
 -- what holds of each, of one more and of those that a test keeps
@@ -78,15 +78,6 @@ acked-push v acked ts t h a l f =
       known = known-push ts t acked h.known;
     }
 
--- an unacknowledged update more
-pub count-push : (ts : List AcceptedUpdate) (t : AcceptedUpdate) → count_unacked (ts ++ t ∷ []) ≤ count_unacked ts + 1
-count-push [] t = cond_both t.acknowledged 0 1 (λ n. n + 0 ≤ 0 + 1) (λ e. omega arith) (λ e. omega arith)
-count-push (x ∷ ts) t =
-    let b = count-push ts t in
-    let n : count_unacked ((x ∷ ts) ++ t ∷ []) ≡ cond x.acknowledged 0 1 + count_unacked (ts ++ t ∷ []) = refl in
-    let m : count_unacked (x ∷ ts) ≡ cond x.acknowledged 0 1 + count_unacked ts = refl in
-    omega (arith, b, n, m)
-
 -- as many places, and those of the update
 pub places-push : (ts : List AcceptedUpdate) (t : AcceptedUpdate) → places_in (ts ++ t ∷ []) ≡ places_in ts + length t.update.places
 places-push [] t = (let n : places_in (t ∷ []) ≡ length t.update.places + 0 = refl in omega (arith, n))
@@ -110,27 +101,18 @@ pub accepted-slot : (a : Inside) (t : AcceptedUpdate) (accepted : Vec AcceptedUp
 accepted-slot a t accepted early spare h p above f items len capacity held early_len early_capacity s =
     let e = sym items in
     let pending = pending-push a h t ∙ refl in
-    let within = h.line.within in
-    let count = count-push (pending_in a) t in
-    let l = a.accepted.ok.0 in
     let room = h.room in
     record {
       line = subst (λ (ts : List AcceptedUpdate). IsLine a.region a.base.floor.0 ts a.committed a.floor.0) e (line-push h.line t p above);
       base = h.base;
       bare = h.bare;
       untouched = h.untouched;
-      acked = subst (λ (ts : List AcceptedUpdate). AreAcked (versions_of a.acked.items) (drop a.committed ts)) e
-          (subst (AreAcked (versions_of a.acked.items)) (sym pending) (acked-push a.floor.0 (versions_of a.acked.items) (pending_in a) t h.acked (pending-ascends h.line) (let q = top-pending h.line in omega (arith, q, above)) f));
+      acked = subst (λ (ts : List AcceptedUpdate). AreAcked (a.acked.versions) (drop a.committed ts)) e
+          (subst (AreAcked (a.acked.versions)) (sym pending) (acked-push a.floor.0 (a.acked.versions) (pending_in a) t h.acked (pending-ascends h.line) (let q = top-pending h.line in omega (arith, q, above)) f));
       early = held;
       room = record {
         accepted = (let r = room.accepted in omega (arith, r));
         early = (let r = room.early in omega (arith, r));
-        pending = (let r = room.pending in omega (arith, r, l, within));
-        acked = (
-            let r = room.acked in
-            let n = ap (λ (ts : List AcceptedUpdate). count_unacked (drop a.committed ts)) items ∙ ap count_unacked pending in
-            omega (arith, r, n, count)
-            );
         few = (let r = room.few in omega (arith, r));
         base = λ m. (
             let r = room.base m in
@@ -156,7 +138,7 @@ pub accepted-state : (a : Inside) (t : AcceptedUpdate) (accepted : Vec AcceptedU
 accepted-state a t accepted early spare items kept =
     let line = ap (newest_first []) items ∙ newest_first-append [] a.accepted.items (t ∷ []) in
     let waiting = ap updates_of kept ∙ updates_of-filter t.update.version.0 a.early.items in
-    λ j. record { marks = a.keeps_marks; base = kept_in a.key a.base; accepted = line j; floor = a.floor.0; acked = versions_of a.acked.items; early = waiting j }
+    λ j. record { marks = a.keeps_marks; base = kept_in a.key a.base; accepted = line j; floor = a.floor.0; acked = a.acked.versions; early = waiting j }
 
 -- the slot with other early updates, no more of them with those to come
 pub held-slot : (a : Inside) (early : Vec PlacedUpdate Global) (spare : ℕ) → IsSlot a → AllByRecursion (IsHeld a.region) early.items → vec_len early + spare ≤ coming a → vec_capacity early ≡ vec_capacity a.early
@@ -173,8 +155,6 @@ held-slot a early spare h held fewer capacity =
       room = record {
         accepted = (let r = room.accepted in omega (arith, r));
         early = (let r = room.early in omega (arith, r));
-        pending = (let r = room.pending in omega (arith, r));
-        acked = (let r = room.acked in omega (arith, r));
         few = (let r = room.few in omega (arith, r));
         base = λ m. (
             let r = room.base m in
@@ -187,7 +167,7 @@ pub held-state : (a : Inside) (p : PlacedUpdate) (early : Vec PlacedUpdate Globa
     → (whole (record a { early = early; spare = spare })).state ≡ moved (Hold p.update) (whole a).state
 held-state a p early spare items =
     let waiting = ap updates_of items ∙ map_push (λ (q : PlacedUpdate). q.update) _ p ∙ ap (λ (us : List Update). us ++ p.update ∷ []) (updates_of-filter p.update.version.0 a.early.items) in
-    λ j. record { marks = a.keeps_marks; base = kept_in a.key a.base; accepted = newest_first [] a.accepted.items; floor = a.floor.0; acked = versions_of a.acked.items; early = waiting j }
+    λ j. record { marks = a.keeps_marks; base = kept_in a.key a.base; accepted = newest_first [] a.accepted.items; floor = a.floor.0; acked = a.acked.versions; early = waiting j }
 
 -- without the one that is taken out
 pub by_recursion-remove : {A : Type 0} (P : A → Type 0) (xs : List A) (i : ℕ) → AllByRecursion P xs → AllByRecursion P (remove xs i)
@@ -207,4 +187,4 @@ pub removed-state : (a : Inside) (i : ℕ) (p : PlacedUpdate) (early : Vec Place
     → moved (Take p.update) (whole (record a { early = early; spare = spare })).state ≡ moved (Take p.update) (whole a).state
 removed-state a i p early spare l e items =
     let waiting = ap (λ (ps : List PlacedUpdate). filter (other_version p.update.version.0) (updates_of ps)) items ∙ filter-removed p.update.version.0 a.early.items i p l e refl in
-    λ j. record { marks = a.keeps_marks; base = kept_in a.key a.base; accepted = p.update ∷ newest_first [] a.accepted.items; floor = a.floor.0; acked = versions_of a.acked.items; early = waiting j }
+    λ j. record { marks = a.keeps_marks; base = kept_in a.key a.base; accepted = p.update ∷ newest_first [] a.accepted.items; floor = a.floor.0; acked = a.acked.versions; early = waiting j }

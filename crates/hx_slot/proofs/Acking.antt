@@ -1,17 +1,15 @@
 -- Acknowledgements of pending updates, and what they commit.
-use Rattle.std.proofs.Common.{◌≡◌, ℕ, zero, suc, ◌+◌, ◌<◌, ◌≤◌, Bool, true, false, not, ◌||◌, List, [], ◌∷◌, map, length, take, drop, set, get_or, Option, Some, None, refl, ap, sym, ◌∙◌, subst, arith, cond, eqb, ltb, inl, inr}
+use Rattle.std.proofs.Common.{◌≡◌, ℕ, zero, suc, ◌<◌, Bool, true, false, not, ◌&&◌, ◌||◌, List, [], ◌∷◌, map, length, take, drop, set, get_or, Option, Some, None, refl, ap, sym, ◌∙◌, subst, arith, cond, eqb, ltb, inl, inr}
 use Rattle.std.specs.List.{AllByRecursion, filter, find, list_any, position}
 use Rattle.std.proofs.lemmas.Bool.{cases_eq, cond_both, cond-false, cond-true, eq-eqb, eqb-false, eqb-true, false≢true, false_from_ne_true, lt-ltb, ltb-true, ne_eqb, not-true, or_cases, or_left, or_right}
 use Rattle.std.proofs.lemmas.List.{take-append-drop}
 use Rattle.std.proofs.lemmas.List.Folds.{list_any-append, list_any_at}
-use Rattle.hx_types.specs.declared.ids.Version.{Version}
 use Rattle.hx_types.specs.declared.updates.Update.{Update}
 use Rattle.hx_types.specs.Words.{provided}
 use Rattle.hx_model.specs.Slots.{Commit, KeyState, Move, commits, moved_all}
 use Rattle.hx_slot.specs.declared.updates.AcceptedUpdate.{AcceptedUpdate}
-use Rattle.hx_slot.specs.Acks.{AreAcked, AreSameUpdates, count_unacked, front_acked, front_with, is_of_version}
+use Rattle.hx_slot.specs.Acks.{AreAcked, AreSameUpdates, front_acked, front_with, is_acknowledged_as, is_of_version}
 use Rattle.hx_slot.specs.Updates.{Ascends, last_version}
-use Rattle.hx_slot.specs.Invariant.{versions_of}
 use Rattle.hx_slot.proofs.Accepting.{by_recursion-filter, not_in}
 use Rattle.hx_slot.proofs.Newest.{Ascends-append, by_recursion-drop, last_version-above, update_of}
 use Rattle.hx_slot.proofs.SameUpdates.{same-set}
@@ -208,44 +206,6 @@ acked-settled v n ts acked h a =
       known = known-settled v n ts acked h a.known;
     }
 
--- no more are unacknowledged among the rest
-pub count-drop : (n : ℕ) (ts : List AcceptedUpdate) → count_unacked (drop n ts) ≤ count_unacked ts
-count-drop zero ts = omega arith
-count-drop (suc n) [] = omega arith
-count-drop (suc n) (t ∷ rest) =
-    let b = count-drop n rest in
-    let m : count_unacked (t ∷ rest) ≡ cond t.acknowledged 0 1 + count_unacked rest = refl in
-    omega (arith, b, m)
-
--- one update's mark is set
-pub count-set : (ts : List AcceptedUpdate) (i : ℕ) (t : AcceptedUpdate) → i < length ts → t ≡ get_or ts i t → count_unacked (set ts i (record t { acknowledged = true })) + cond t.acknowledged 0 1 ≡ count_unacked ts
-count-set [] i t l e = absurd (omega arith)
-count-set (x ∷ rest) zero t l e =
-    let m : count_unacked (x ∷ rest) ≡ cond x.acknowledged 0 1 + count_unacked rest = refl in
-    let n : count_unacked (record t { acknowledged = true } ∷ rest) ≡ 0 + count_unacked rest = refl in
-    let q : cond t.acknowledged 0 1 ≡ cond x.acknowledged 0 1 = ap {B = ℕ} (λ (y : AcceptedUpdate). cond y.acknowledged 0 1) e in
-    omega (arith, m, n, q)
-count-set (x ∷ rest) (suc i) t l e =
-    let b = count-set rest i t (omega arith) e in
-    let m : count_unacked (x ∷ rest) ≡ cond x.acknowledged 0 1 + count_unacked rest = refl in
-    let n : count_unacked (x ∷ set rest i (record t { acknowledged = true })) ≡ cond x.acknowledged 0 1 + count_unacked (set rest i (record t { acknowledged = true })) = refl in
-    omega (arith, b, m, n)
-
--- an acknowledged version that is taken out leaves room
-pub length-dropped : (v : ℕ) (acked : List ℕ) → length (filter (λ w. not (eqb w v)) acked) + cond (is_acked acked v) 1 0 ≤ length acked
-length-dropped v [] = omega arith
-length-dropped v (w ∷ rest) =
-    by (eqb w v) (length-dropped v rest)
-  where
-    most : (b : Bool) → cond b 1 0 ≤ 1
-    most true = omega arith
-    most false = omega arith
-
-    by : (c : Bool) → length (filter (λ x. not (eqb x v)) rest) + cond (is_acked rest v) 1 0 ≤ length rest
-        → length (cond (not c) (w ∷ filter (λ x. not (eqb x v)) rest) (filter (λ x. not (eqb x v)) rest)) + cond (c || is_acked rest v) 1 0 ≤ length (w ∷ rest)
-    by true h = omega (arith, h)
-    by false h = omega (arith, h)
-
 -- versions at later places are higher
 place-above : (v : ℕ) (ts : List AcceptedUpdate) (i : ℕ) (t : AcceptedUpdate) → Ascends v ts → i < length ts → t ≡ get_or ts i t → v < t.update.version.0
 place-above v [] i t h l e = absurd (omega arith)
@@ -306,14 +266,36 @@ marked-at acked (x ∷ rest) (suc i) t l e m = marked-at acked rest i t (omega a
 pub acked-none : (ts : List AcceptedUpdate) → AllByRecursion (λ (t : AcceptedUpdate). t.acknowledged ≡ false) ts → AreAcked [] ts
 acked-none ts h = record { marked = h; known = tt }
 
--- versions that a test of their numbers keeps
-pub versions-filter : (test : ℕ → Bool) (vs : List Version) → versions_of (filter (λ (v : Version). test v.0) vs) ≡ filter test (versions_of vs)
-versions-filter test [] = refl
-versions-filter test (v ∷ rest) =
-    cond_both (test v.0) (v ∷ filter (λ (v : Version). test v.0) rest) (filter (λ (v : Version). test v.0) rest) (λ (vs : List Version). versions_of vs ≡ filter test (versions_of (v ∷ rest)))
-    (λ e. ap (λ (ns : List ℕ). v.0 ∷ ns) (versions-filter test rest) ∙ sym (cond-true (test v.0) _ _ e))
-    (λ e. versions-filter test rest ∙ sym (cond-false (test v.0) _ _ e))
+-- an update of the version that is marked, where the version is acknowledged
+marked-one : (is acked marked rest others : Bool) → (is ≡ true → marked ≡ acked) → rest ≡ (acked && others) → ((marked && is) || rest) ≡ (acked && (is || others))
+marked-one true true marked rest others f e = ap (λ b. (b && true) || rest) (f refl)
+marked-one true false marked rest others f e = ap (λ b. (b && true) || rest) (f refl) ∙ e
+marked-one false acked true rest others f e = e
+marked-one false acked false rest others f e = e
 
-pub versions-any : (v : ℕ) (vs : List Version) → list_any (λ (w : Version). eqb w.0 v) vs ≡ is_acked (versions_of vs) v
-versions-any v [] = refl
-versions-any v (w ∷ rest) = ap (λ b. eqb w.0 v || b) (versions-any v rest)
+none-marked : (b : Bool) → false ≡ (b && false)
+none-marked true = refl
+none-marked false = refl
+
+marked-any : (v : ℕ) (ts : List AcceptedUpdate) (acked : List ℕ) → AllByRecursion (IsMarked acked) ts → list_any (is_acknowledged_as v) ts ≡ (is_acked acked v && list_any (is_of_version v) ts)
+marked-any v [] acked h = none-marked (is_acked acked v)
+marked-any v (t ∷ rest) acked h =
+    marked-one (is_of_version v t) (is_acked acked v) t.acknowledged (list_any (is_acknowledged_as v) rest) (list_any (is_of_version v) rest)
+    (λ e. h.0 ∙ ap (is_acked acked) (eqb-true t.update.version.0 v e))
+    (marked-any v rest acked h.1)
+
+-- an acknowledged version is that of an update
+pending-acked : (v : ℕ) (ts : List AcceptedUpdate) (acked : List ℕ) → AreKnown ts acked → is_acked acked v ≡ true → list_any (is_of_version v) ts ≡ true
+pending-acked v ts [] k e = absurd (false≢true e)
+pending-acked v ts (w ∷ rest) k e = elim (or_cases (eqb w v) (is_acked rest v) e) [
+  | inl s ↦ subst (λ n. list_any (is_of_version n) ts ≡ true) (eqb-true w v s) k.0
+  | inr s ↦ pending-acked v ts rest k.1 s
+]
+
+absorb : (b c : Bool) → (b ≡ true → c ≡ true) → (b && c) ≡ b
+absorb true c f = f refl
+absorb false c f = refl
+
+-- a version is acknowledged where its update is there and marked so
+pub acknowledged-any : (v : ℕ) (ts : List AcceptedUpdate) (acked : List ℕ) → AreAcked acked ts → list_any (is_acknowledged_as v) ts ≡ is_acked acked v
+acknowledged-any v ts acked h = marked-any v ts acked h.marked ∙ absorb (is_acked acked v) (list_any (is_of_version v) ts) (pending-acked v ts acked h.known)

@@ -17,9 +17,9 @@ use Rattle.hx_law_folds.specs.Folding.{above, folded}
 use Rattle.hx_slot.specs.declared.bases.Base.{Base}
 use Rattle.hx_slot.specs.declared.updates.AcceptedUpdate.{AcceptedUpdate}
 use Rattle.hx_slot.specs.declared.slots.Slot.TheInside.{Inside}
-use Rattle.hx_slot.specs.Acks.{AreAcked, count_unacked}
+use Rattle.hx_slot.specs.Acks.{AreAcked}
 use Rattle.hx_slot.specs.Bases.{IsFolded, kept_in}
-use Rattle.hx_slot.specs.Invariant.{IsLine, IsSlot, seen, updates_of, versions_of}
+use Rattle.hx_slot.specs.Invariant.{IsLine, IsSlot, seen, updates_of}
 use Rattle.hx_slot.specs.States.{IsOrderly, IsRowUpTo, IsSettledInto, SlotState}
 use Rattle.hx_slot.specs.MarksAndTouches.{AscendByRegion, marks_over, touches_over}
 use Rattle.hx_slot.specs.Updates.{Ascends, IsPlaced, last_version, newest_first, places_in, row_by, row_over}
@@ -104,7 +104,7 @@ state_with a base ts =
       base = kept_in a.key base;
       accepted = newest_first [] ts;
       floor = a.floor.0;
-      acked = versions_of a.acked.items;
+      acked = a.acked.versions;
       early = updates_of a.early.items;
     }
 
@@ -122,7 +122,7 @@ folded-same a base t rest c line f =
       base = record { key = a.key; floor = record { 0 = a.floor.0 }; object = row j; marks = marks j; touches = touches j };
       accepted = pending j;
       floor = a.floor.0;
-      acked = versions_of a.acked.items;
+      acked = a.acked.versions;
       early = updates_of a.early.items;
     }
 
@@ -209,13 +209,11 @@ module _ (a : Inside) (h : IsSlot a) (base : Base) (t : AcceptedUpdate) (rest : 
         base = orderly a.keeps_marks a.key t a.base base line.ascends.0 h.base f;
         bare = still-none a.keeps_marks a.base.marks.items base.marks.items f.no_marks h.bare;
         untouched = still-none a.keeps_marks a.base.touches.items base.touches.items f.no_touches h.untouched;
-        acked = subst (AreAcked (versions_of a.acked.items)) (sym pending) h.acked;
+        acked = subst (AreAcked (a.acked.versions)) (sym pending) h.acked;
         early = h.early;
         room = record {
           accepted = (let r = room.accepted in omega (arith, r, len, capacity));
           early = room.early;
-          pending = (let r = room.pending in omega (arith, r, len, count));
-          acked = (let r = room.acked in let q = ap count_unacked pending in omega (arith, r, q));
           few = (let r = room.few in omega (arith, r, len));
           base = λ m. (
               let r = room.base m in

@@ -22,12 +22,13 @@ use Rattle.hx_law_folds.proofs.Folds.{folded-twice, kept-folded, mark-folded, to
 use Rattle.hx_law_folds.proofs.Shown.{acknowledged-settled, alike-folded, alike-show, settled-same}
 use Rattle.hx_law_folds.proofs.Slots.{alike-moved_all, settled-fit, slot-folded, AllFit}
 use Rattle.hx_slot.specs.declared.updates.PlacedUpdate.{PlacedUpdate}
+use Rattle.hx_slot.specs.declared.ack_order.AckOrder.{AckOrder}
 use Rattle.hx_slot.specs.declared.updates.AcceptedUpdate.{AcceptedUpdate}
 use Rattle.hx_slot.specs.declared.slots.Slot.TheInside.{Inside}
 use Rattle.hx_slot.specs.declared.bases.Base.{Base}
 use Rattle.hx_slot.specs.Acks.{AreSameUpdates, front_acked, front_with, is_of_version, is_waiting_below}
 use Rattle.hx_slot.specs.Updates.{Ascends, last_version, newest_first, row_over}
-use Rattle.hx_slot.specs.Invariant.{IsSlot, pending_in, seen, versions_of, whole}
+use Rattle.hx_slot.specs.Invariant.{IsSlot, pending_in, seen, whole}
 use Rattle.hx_slot.specs.States.{IsOrderly, call_at}
 use Rattle.hx_slot.specs.Bases.{IsCopied, IsWidened}
 use Rattle.hx_slot.specs.Rooms.{IsGrown}
@@ -153,11 +154,11 @@ pub pending-version : (a : Inside) → IsSlot a → (v : ℕ) → list_any (is_o
 pending-version a h v = settling.pending-version a h v ∙ sym (ap (list_any (λ (u : Update). eqb u.version.0 v)) (shown a h).pending)
 
 pub waits-seen : (a : Inside) → IsSlot a → (v : ℕ) → list_any (is_waiting_below v) (pending_in a) ≡ waits_below (seen a).state.acked v (pending_of (seen a).state)
-waits-seen a h v = settling.waits-any (versions_of a.acked.items) v (pending_in a) h.acked.marked ∙ ap (waits_below (versions_of a.acked.items) v) (pending-seen a h)
+waits-seen a h v = settling.waits-any (a.acked.versions) v (pending_in a) h.acked.marked ∙ ap (waits_below (a.acked.versions) v) (pending-seen a h)
 
 -- what is settled is committed, and goes into the base
-pub settled-state : (a : Inside) (n : ℕ) (floor : Version) (acked : Vec Version Global) → IsSlot a → n ≡ front_acked (pending_in a) → floor.0 ≡ last_version a.floor.0 (take n (pending_in a))
-    → acked.items ≡ filter (λ (v : Version). ltb floor.0 v.0) a.acked.items
+pub settled-state : (a : Inside) (n : ℕ) (floor : Version) (acked : AckOrder) → IsSlot a → n ≡ front_acked (pending_in a) → floor.0 ≡ last_version a.floor.0 (take n (pending_in a))
+    → acked.versions ≡ filter (ltb floor.0) a.acked.versions
     → (seen (record a { committed = a.committed + n; floor = floor; acked = acked })).state ≡ folded a.region (moved_all (settled (seen a).state) (seen a).state)
 settled-state a n floor acked h e f items =
     let w = slot-whole a h in
@@ -170,24 +171,24 @@ settled-state a n floor acked h e f items =
     ∙ ap (λ (ms : List Move). folded a.region (moved_all ms (whole a).state)) same
     )
 
-pub acknowledged-state : (a : Inside) (i : ℕ) (t : AcceptedUpdate) (accepted : Vec AcceptedUpdate Global) (acked : Vec Version Global) → i < length (pending_in a) → t ≡ get_or (pending_in a) i t
-    → accepted.items ≡ set a.accepted.items (a.committed + i) (record t { acknowledged = true }) → versions_of acked.items ≡ with_ack t.update.version.0 (versions_of a.acked.items)
+pub acknowledged-state : (a : Inside) (i : ℕ) (t : AcceptedUpdate) (accepted : Vec AcceptedUpdate Global) (acked : AckOrder) → i < length (pending_in a) → t ≡ get_or (pending_in a) i t
+    → accepted.items ≡ set a.accepted.items (a.committed + i) (record t { acknowledged = true }) → acked.versions ≡ with_ack t.update.version.0 (a.acked.versions)
     → (seen (record a { accepted = accepted; acked = acked })).state ≡ moved (Acknowledge t.update.version.0) (seen a).state
 acknowledged-state a i t accepted acked l e items acks = ap (folded a.region) (settling.acknowledged-state a i t accepted acked l e items acks)
 
-pub forgotten-state : (a : Inside) (accepted : Vec AcceptedUpdate Global) (acked : Vec Version Global) (early : Vec PlacedUpdate Global) → AreSameUpdates a.accepted.items accepted.items → acked.items ≡ [] → early.items ≡ []
+pub forgotten-state : (a : Inside) (accepted : Vec AcceptedUpdate Global) (acked : AckOrder) (early : Vec PlacedUpdate Global) → AreSameUpdates a.accepted.items accepted.items → acked.versions ≡ [] → early.items ≡ []
     → (seen (record a { accepted = accepted; acked = acked; early = early })).state ≡ moved Forget (seen a).state
 forgotten-state a accepted acked early same none_acked none_early = ap (folded a.region) (settling.forgotten-state a accepted acked early same none_acked none_early)
 
-pub renewed-state : (a : Inside) (key : List ℕ) (base : Base) (accepted : Vec AcceptedUpdate Global) (acked : Vec Version Global) (early : Vec PlacedUpdate Global) → key ≡ a.key → IsCopied a.base base
-    → AreSameUpdates a.accepted.items accepted.items → acked.items ≡ [] → early.items ≡ []
+pub renewed-state : (a : Inside) (key : List ℕ) (base : Base) (accepted : Vec AcceptedUpdate Global) (acked : AckOrder) (early : Vec PlacedUpdate Global) → key ≡ a.key → IsCopied a.base base
+    → AreSameUpdates a.accepted.items accepted.items → acked.versions ≡ [] → early.items ≡ []
     → (seen (record a { key = key; base = base; accepted = accepted; acked = acked; early = early; spare = 0 })).state ≡ moved Forget (seen a).state
 renewed-state a key base accepted acked early same_key copied same none_acked none_early = ap (folded a.region) (renewing.renewed-state a key base accepted acked early same_key copied same none_acked none_early)
 
-pub refitted-state : (a : Inside) (accepted : Vec AcceptedUpdate Global) (early : Vec PlacedUpdate Global) (acked : Vec Version Global) (base : Base) (spare : ℕ)
-    → IsGrown a.accepted accepted → IsGrown a.early early → IsGrown a.acked acked → IsWidened a.base base
-    → (seen (record a { accepted = accepted; early = early; acked = acked; base = base; spare = spare })).state ≡ (seen a).state
-refitted-state a accepted early acked base spare more held acks wider = ap (folded a.region) (refitting.refitted-state a accepted early acked base spare more held acks wider)
+pub refitted-state : (a : Inside) (accepted : Vec AcceptedUpdate Global) (early : Vec PlacedUpdate Global) (base : Base) (spare : ℕ)
+    → IsGrown a.accepted accepted → IsGrown a.early early → IsWidened a.base base
+    → (seen (record a { accepted = accepted; early = early; base = base; spare = spare })).state ≡ (seen a).state
+refitted-state a accepted early base spare more held wider = ap (folded a.region) (refitting.refitted-state a accepted early base spare more held wider)
 
 -- a taken update above the floor stays above it
 take-folded : (g : RegionId) (s : KeyState) (u : Update) → s.floor < u.version.0 → folded g (moved (Take u) s) ≡ moved (Take u) (folded g s)

@@ -15,4 +15,5 @@ pub mod Orderly
 pub mod Renewed
 pub mod Lean
 pub mod Standing
+pub mod Walks
 pub mod Committing

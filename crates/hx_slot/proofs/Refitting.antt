@@ -1,8 +1,7 @@
 -- A slot with more room.
-use Rattle.std.proofs.Common.{◌≡◌, ℕ, ◌+◌, ◌≤◌, Bool, List, [], ◌∷◌, Vec, length, drop, refl, ap, sym, ◌∙◌, subst, arith, cond}
+use Rattle.std.proofs.Common.{◌≡◌, ℕ, Bool, List, [], Vec, drop, ap, sym, ◌∙◌, subst}
 use Rattle.std.specs.List.{AllByRecursion}
 use Rattle.std.specs.declared.alloc.Global.{Global}
-use Rattle.std.proofs.lemmas.Bool.{cond_both}
 use Rattle.hx_types.specs.declared.ids.Version.{Version}
 use Rattle.hx_types.specs.Words.{provided}
 use Rattle.hx_slot.specs.declared.updates.PlacedUpdate.{PlacedUpdate}
@@ -10,19 +9,11 @@ use Rattle.hx_slot.specs.declared.updates.AcceptedUpdate.{AcceptedUpdate}
 use Rattle.hx_slot.specs.declared.slots.Slot.TheInside.{Inside}
 use Rattle.hx_slot.specs.declared.bases.Base.{Base}
 use Rattle.hx_slot.specs.Updates.{IsHeld, newest_first}
-use Rattle.hx_slot.specs.Acks.{AreAcked, count_unacked}
+use Rattle.hx_slot.specs.Acks.{AreAcked}
 use Rattle.hx_slot.specs.Bases.{IsCopied, IsWidened, kept_in}
-use Rattle.hx_slot.specs.Invariant.{HasRoom, IsLine, IsSlot, updates_of, versions_of, whole}
+use Rattle.hx_slot.specs.Invariant.{HasRoom, IsLine, IsSlot, updates_of, whole}
 use Rattle.hx_slot.specs.Rooms.{IsGrown}
 use Rattle.hx_slot.specs.States.{IsOrderly}
-
--- no more updates are unacknowledged than there are
-pub count-length : (ts : List AcceptedUpdate) → count_unacked ts ≤ length ts
-count-length [] = omega arith
-count-length (t ∷ rest) =
-    let b = count-length rest in
-    let n : count_unacked (t ∷ rest) ≡ cond t.acknowledged 0 1 + count_unacked rest = refl in
-    cond_both t.acknowledged 0 1 (λ k. count_unacked (t ∷ rest) ≡ k + count_unacked rest → count_unacked (t ∷ rest) ≤ length (t ∷ rest)) (λ e q. omega (arith, b, q)) (λ e q. omega (arith, b, q)) n
 
 -- the same state is in order
 pub same-kept : (key : List ℕ) (old new : Base) → IsCopied old new → kept_in key new ≡ kept_in key old
@@ -40,29 +31,27 @@ pub widened-copied : (old new : Base) → IsWidened old new → IsCopied old new
 widened-copied old new w = record { floor = w.floor; object = w.object; marks = w.marks.items; touches = w.touches.items }
 
 -- the slot with the same entries and more room
-pub refitted-slot : (a : Inside) (accepted : Vec AcceptedUpdate Global) (early : Vec PlacedUpdate Global) (acked : Vec Version Global) (base : Base) (spare : ℕ)
-    → IsSlot a → IsGrown a.accepted accepted → IsGrown a.early early → IsGrown a.acked acked → IsWidened a.base base
-    → HasRoom (record a { accepted = accepted; early = early; acked = acked; base = base; spare = spare })
-    → IsSlot (record a { accepted = accepted; early = early; acked = acked; base = base; spare = spare })
-refitted-slot a accepted early acked base spare h more held acks wider room =
+pub refitted-slot : (a : Inside) (accepted : Vec AcceptedUpdate Global) (early : Vec PlacedUpdate Global) (base : Base) (spare : ℕ)
+    → IsSlot a → IsGrown a.accepted accepted → IsGrown a.early early → IsWidened a.base base
+    → HasRoom (record a { accepted = accepted; early = early; base = base; spare = spare })
+    → IsSlot (record a { accepted = accepted; early = early; base = base; spare = spare })
+refitted-slot a accepted early base spare h more held wider room =
     let same = same-kept a.key a.base base (widened-copied a.base base wider) in
     record {
       line = subst (λ (n : ℕ). IsLine a.region n accepted.items a.committed a.floor.0) (sym (ap (λ (v : Version). v.0) wider.floor)) (subst (λ (ts : List AcceptedUpdate). IsLine a.region a.base.floor.0 ts a.committed a.floor.0) (sym more.items) h.line);
       base = subst IsOrderly (sym same) h.base;
       bare = same-provided a.keeps_marks a.base.marks.items base.marks.items wider.marks.items h.bare;
       untouched = same-provided a.keeps_marks a.base.touches.items base.touches.items wider.touches.items h.untouched;
-      acked = subst (λ (ts : List AcceptedUpdate). AreAcked (versions_of acked.items) (drop a.committed ts)) (sym more.items)
-          (subst (λ (vs : List Version). AreAcked (versions_of vs) (drop a.committed a.accepted.items)) (sym acks.items) h.acked);
+      acked = subst (λ (ts : List AcceptedUpdate). AreAcked a.acked.versions (drop a.committed ts)) (sym more.items) h.acked;
       early = subst (AllByRecursion (IsHeld a.region)) (sym held.items) h.early;
       room = room;
     }
 
-pub refitted-state : (a : Inside) (accepted : Vec AcceptedUpdate Global) (early : Vec PlacedUpdate Global) (acked : Vec Version Global) (base : Base) (spare : ℕ)
-    → IsGrown a.accepted accepted → IsGrown a.early early → IsGrown a.acked acked → IsWidened a.base base
-    → (whole (record a { accepted = accepted; early = early; acked = acked; base = base; spare = spare })).state ≡ (whole a).state
-refitted-state a accepted early acked base spare more held acks wider =
+pub refitted-state : (a : Inside) (accepted : Vec AcceptedUpdate Global) (early : Vec PlacedUpdate Global) (base : Base) (spare : ℕ)
+    → IsGrown a.accepted accepted → IsGrown a.early early → IsWidened a.base base
+    → (whole (record a { accepted = accepted; early = early; base = base; spare = spare })).state ≡ (whole a).state
+refitted-state a accepted early base spare more held wider =
     let same = same-kept a.key a.base base (widened-copied a.base base wider) in
     let line = more.items in
-    let none = acks.items in
     let waiting = held.items in
-    λ j. record { marks = a.keeps_marks; base = same j; accepted = newest_first [] (line j); floor = a.floor.0; acked = versions_of (none j); early = updates_of (waiting j) }
+    λ j. record { marks = a.keeps_marks; base = same j; accepted = newest_first [] (line j); floor = a.floor.0; acked = a.acked.versions; early = updates_of (waiting j) }

@@ -1,40 +1,38 @@
 -- A slot after acknowledgements.
-use Rattle.std.proofs.Common.{◌≡◌, ℕ, zero, suc, ◌+◌, ◌<◌, ◌≤◌, Bool, true, false, not, ◌&&◌, ◌||◌, List, map, [], ◌∷◌, Vec, length, take, drop, set, get_or, Some, vec_capacity, vec_len, refl, ap, sym, ◌∙◌, subst, arith, cond, eqb, ltb}
+use Rattle.std.proofs.Common.{◌≡◌, ℕ, zero, suc, ◌+◌, ◌<◌, ◌≤◌, true, false, not, ◌&&◌, ◌||◌, List, map, [], ◌∷◌, Vec, length, take, drop, set, get_or, Some, vec_capacity, vec_len, refl, ap, sym, ◌∙◌, subst, arith, eqb, ltb}
 use Rattle.std.specs.List.{AllByRecursion, AllWithin, filter, list_any, position}
 use Rattle.std.specs.declared.alloc.Global.{Global}
 use Rattle.std.proofs.lemmas.Bool.{cond-false, cond-true, eqb-true}
 use Rattle.std.proofs.lemmas.List.Quantifiers.{position-Some}
 use Rattle.std.proofs.Math.Seq.{take-add}
-use Rattle.std.proofs.lemmas.List.{drop-drop, drop-set-add, get_or-drop, length-drop, length-map}
+use Rattle.std.proofs.lemmas.List.{drop-drop, drop-set-add, get_or-drop, length-drop}
 use Rattle.hx_types.specs.declared.ids.Version.{Version}
 use Rattle.hx_types.specs.declared.outcomes.Acked.TheVariants as an_ack
 use Rattle.hx_types.specs.declared.updates.Update.{Update}
 use Rattle.hx_model.specs.Slots.{Acknowledge, Forget, KeyState, Move, ack_answer, commits, is_pending, moved, moved_all, pending_of, settled, waits_below}
 use Rattle.hx_slot.specs.declared.updates.PlacedUpdate.{PlacedUpdate}
+use Rattle.hx_slot.specs.declared.ack_order.AckOrder.{AckOrder}
 use Rattle.hx_slot.specs.declared.updates.AcceptedUpdate.{AcceptedUpdate}
 use Rattle.hx_slot.specs.declared.slots.Slot.TheInside.{Inside}
-use Rattle.hx_slot.specs.Acks.{AreAcked, AreSameUpdates, count_unacked, front_acked, front_with, is_of_version, is_waiting_below}
+use Rattle.hx_slot.specs.Acks.{AreAcked, AreSameUpdates, front_acked, front_with, is_of_version, is_waiting_below}
 use Rattle.hx_slot.specs.Updates.{IsHeld, last_version, newest_first}
 use Rattle.hx_slot.specs.Bases.{kept_in}
-use Rattle.hx_slot.specs.Invariant.{IsSlot, coming, pending_in, whole, updates_of, versions_of}
-use Rattle.hx_slot.proofs.Acking.{acked-none, acked-settled, acked-set, commits-count, commits-front, commits-state, commits-with, commits_of, count-drop, count-set, dropped, dropped-upto, length-dropped, marked-at, pending-any, versions-filter, with_ack}
+use Rattle.hx_slot.specs.Invariant.{IsSlot, pending_in, whole, updates_of}
+use Rattle.hx_slot.proofs.Acking.{acked-none, acked-settled, acked-set, commits-count, commits-front, commits-state, commits-with, commits_of, dropped, dropped-upto, pending-any, with_ack}
 use Rattle.hx_slot.proofs.Newest.{last_version-append, pending-ascends, update_of}
 use Rattle.hx_slot.proofs.Reading.{pending-seen}
-use Rattle.hx_slot.proofs.Refitting.{count-length}
 use Rattle.hx_slot.proofs.SameUpdates.{same-line, same-newest_first, same-places, same-set}
 
 -- the slot with its lowest pending updates committed
-pub settled-slot : (a : Inside) (n : ℕ) (floor : Version) (acked : Vec Version Global) → IsSlot a → n ≤ length (pending_in a) → floor.0 ≡ last_version a.floor.0 (take n (pending_in a))
-    → acked.items ≡ filter (λ (v : Version). ltb floor.0 v.0) a.acked.items → vec_len acked ≤ vec_len a.acked → vec_capacity acked ≡ vec_capacity a.acked
+pub settled-slot : (a : Inside) (n : ℕ) (floor : Version) (acked : AckOrder) → IsSlot a → n ≤ length (pending_in a) → floor.0 ≡ last_version a.floor.0 (take n (pending_in a))
+    → acked.versions ≡ filter (ltb floor.0) a.acked.versions
     → IsSlot (record a { committed = a.committed + n; floor = floor; acked = acked })
-settled-slot a n floor acked h w f items len capacity =
+settled-slot a n floor acked h w f versions =
     let pending = drop-drop n a.committed a.accepted.items in
-    let acks = ap versions_of items ∙ versions-filter (ltb floor.0) a.acked.items ∙ ap (λ v. filter (ltb v) (versions_of a.acked.items)) f in
+    let acks = versions ∙ ap (λ v. filter (ltb v) a.acked.versions) f in
     let room = h.room in
     let size = length-drop a.committed a.accepted.items in
     let ok = a.accepted.ok.0 in
-    let few = count-drop n (pending_in a) in
-    let left = ap count_unacked pending in
     record {
       line = record {
         ascends = h.line.ascends;
@@ -45,83 +43,57 @@ settled-slot a n floor acked h w f items len capacity =
       base = h.base;
       bare = h.bare;
       untouched = h.untouched;
-      acked = subst (AreAcked (versions_of acked.items)) pending (subst (λ (vs : List ℕ). AreAcked vs (drop n (pending_in a))) (sym acks) (acked-settled a.floor.0 n (pending_in a) (versions_of a.acked.items) (pending-ascends h.line) h.acked));
+      acked = subst (AreAcked (acked.versions)) pending (subst (λ (vs : List ℕ). AreAcked vs (drop n (pending_in a))) (sym acks) (acked-settled a.floor.0 n (pending_in a) (a.acked.versions) (pending-ascends h.line) h.acked));
       early = h.early;
       room = record {
         accepted = room.accepted;
         early = room.early;
-        pending = (let r = room.pending in omega (arith, r));
-        acked = (let r = room.acked in omega (arith, r, few, left));
         few = room.few;
         base = room.base;
       };
     }
 
-pub settled-state : (a : Inside) (n : ℕ) (floor : Version) (acked : Vec Version Global) → IsSlot a → n ≡ front_acked (pending_in a) → floor.0 ≡ last_version a.floor.0 (take n (pending_in a))
-    → acked.items ≡ filter (λ (v : Version). ltb floor.0 v.0) a.acked.items
+pub settled-state : (a : Inside) (n : ℕ) (floor : Version) (acked : AckOrder) → IsSlot a → n ≡ front_acked (pending_in a) → floor.0 ≡ last_version a.floor.0 (take n (pending_in a))
+    → acked.versions ≡ filter (ltb floor.0) a.acked.versions
     → (whole (record a { committed = a.committed + n; floor = floor; acked = acked })).state ≡ moved_all (settled (whole a).state) (whole a).state
-settled-state a n floor acked h e f items =
-    let moves = ap (commits (versions_of a.acked.items)) (sym (pending-seen a h)) ∙ commits-front (versions_of a.acked.items) (pending_in a) h.acked.marked ∙ ap (λ k. commits_of (take k (pending_in a))) (sym e) in
-    let acks = ap versions_of items ∙ versions-filter (ltb floor.0) a.acked.items ∙ ap (λ v. filter (ltb v) (versions_of a.acked.items)) f ∙ sym (dropped-upto a.floor.0 n (pending_in a) (versions_of a.acked.items) (pending-ascends h.line) h.acked.known) in
-    let state : (whole (record a { committed = a.committed + n; floor = floor; acked = acked })).state ≡ record (whole a).state { floor = last_version a.floor.0 (take n (pending_in a)); acked = dropped (take n (pending_in a)) (versions_of a.acked.items) } =
+settled-state a n floor acked h e f versions =
+    let moves = ap (commits (a.acked.versions)) (sym (pending-seen a h)) ∙ commits-front (a.acked.versions) (pending_in a) h.acked.marked ∙ ap (λ k. commits_of (take k (pending_in a))) (sym e) in
+    let acks = versions ∙ ap (λ v. filter (ltb v) a.acked.versions) f ∙ sym (dropped-upto a.floor.0 n (pending_in a) (a.acked.versions) (pending-ascends h.line) h.acked.known) in
+    let state : (whole (record a { committed = a.committed + n; floor = floor; acked = acked })).state ≡ record (whole a).state { floor = last_version a.floor.0 (take n (pending_in a)); acked = dropped (take n (pending_in a)) (a.acked.versions) } =
     λ j. record { marks = a.keeps_marks; base = kept_in a.key a.base; accepted = newest_first [] a.accepted.items; floor = f j; acked = acks j; early = updates_of a.early.items } in
     state ∙ sym (commits-state (take n (pending_in a)) (whole a).state) ∙ sym (ap (λ (ms : List Move). moved_all ms (whole a).state) moves)
 
 pub settled-count : (a : Inside) → IsSlot a → length (settled (whole a).state) ≡ front_acked (pending_in a)
-settled-count a h = ap (λ (us : List Update). length (commits (versions_of a.acked.items) us)) (sym (pending-seen a h)) ∙ commits-count (versions_of a.acked.items) (pending_in a) h.acked.marked
-
-one_of : (b : Bool) → cond b 1 0 + cond b 0 1 ≡ 1
-one_of true = refl
-one_of false = refl
+settled-count a h = ap (λ (us : List Update). length (commits (a.acked.versions) us)) (sym (pending-seen a h)) ∙ commits-count (a.acked.versions) (pending_in a) h.acked.marked
 
 -- how many an acknowledgement would commit
 pub would-count : (a : Inside) → IsSlot a → (v : ℕ) → length (settled (moved (Acknowledge v) (whole a).state)) ≡ front_with v (pending_in a)
-would-count a h v = ap (λ (us : List Update). length (commits (with_ack v (versions_of a.acked.items)) us)) (sym (pending-seen a h)) ∙ commits-with v (versions_of a.acked.items) (pending_in a) h.acked.marked
+would-count a h v = ap (λ (us : List Update). length (commits (with_ack v (a.acked.versions)) us)) (sym (pending-seen a h)) ∙ commits-with v (a.acked.versions) (pending_in a) h.acked.marked
 
 -- whether a version is pending
 pub pending-version : (a : Inside) → IsSlot a → (v : ℕ) → list_any (is_of_version v) (pending_in a) ≡ is_pending v (whole a).state
 pending-version a h v = sym (pending-any v (pending_in a)) ∙ ap (list_any (λ (u : Update). eqb u.version.0 v)) (pending-seen a h)
 
--- room for one acknowledgement more
-pub ack-room : (a : Inside) → IsSlot a → (i : ℕ) (t : AcceptedUpdate) (acked : Vec Version Global) → i < length (pending_in a) → t ≡ get_or (pending_in a) i t
-    → acked.items ≡ filter (λ (v : Version). not (eqb v.0 t.update.version.0)) a.acked.items
-    → (vec_len acked + 1) + (count_unacked (set (pending_in a) i (record t { acknowledged = true })) + coming a) ≤ vec_capacity a.acked
-ack-room a h i t acked l e items =
-    let acks = ap length items ∙ sym (length-map (filter (λ (v : Version). not (eqb v.0 t.update.version.0)) a.acked.items) (λ (v : Version). v.0)) ∙ ap length (versions-filter (λ n. not (eqb n t.update.version.0)) a.acked.items) in
-    let fewer = length-dropped t.update.version.0 (versions_of a.acked.items) in
-    let all = length-map a.acked.items (λ (v : Version). v.0) in
-    let count = count-set (pending_in a) i t l e in
-    let mark = marked-at (versions_of a.acked.items) (pending_in a) i t l e h.acked.marked in
-    let was = ap {B = ℕ} (λ b. cond b 1 0) mark in
-    let one = one_of t.acknowledged in
-    let r = h.room.acked in
-    let ok = a.acked.ok.0 in
-    let now = acked.ok.0 in
-    omega (arith, acks, fewer, all, count, was, one, r, ok, now)
-
 -- the slot with one version more acknowledged
-pub acknowledged-slot : (a : Inside) (i : ℕ) (t : AcceptedUpdate) (accepted : Vec AcceptedUpdate Global) (acked : Vec Version Global) → IsSlot a → i < length (pending_in a) → t ≡ get_or (pending_in a) i t
+pub acknowledged-slot : (a : Inside) (i : ℕ) (t : AcceptedUpdate) (accepted : Vec AcceptedUpdate Global) (acked : AckOrder) → IsSlot a → i < length (pending_in a) → t ≡ get_or (pending_in a) i t
     → accepted.items ≡ set a.accepted.items (a.committed + i) (record t { acknowledged = true }) → vec_len accepted ≡ vec_len a.accepted → vec_capacity accepted ≡ vec_capacity a.accepted
-    → versions_of acked.items ≡ with_ack t.update.version.0 (versions_of a.acked.items) → vec_len acked + count_unacked (set (pending_in a) i (record t { acknowledged = true })) + coming a ≤ vec_capacity acked → vec_capacity a.acked ≤ vec_capacity acked
+    → acked.versions ≡ with_ack t.update.version.0 a.acked.versions
     → IsSlot (record a { accepted = accepted; acked = acked })
-acknowledged-slot a i t accepted acked h l e items len capacity acks more grown =
+acknowledged-slot a i t accepted acked h l e items len capacity acks =
     let size = length-drop a.committed a.accepted.items in
     let same = subst (λ (ts : List AcceptedUpdate). AreSameUpdates a.accepted.items ts) (sym items) (same-set a.accepted.items (a.committed + i) t true (omega (arith, size, l)) (e ∙ get_or-drop a.committed a.accepted.items i t)) in
     let pending = ap (drop a.committed) items ∙ drop-set-add a.committed a.accepted.items i (record t { acknowledged = true }) in
-    let count = ap count_unacked pending in
     let room = h.room in
     record {
       line = same-line h.line accepted.items same;
       base = h.base;
       bare = h.bare;
       untouched = h.untouched;
-      acked = subst (AreAcked (versions_of acked.items)) (sym pending) (subst (λ (vs : List ℕ). AreAcked vs (set (pending_in a) i (record t { acknowledged = true }))) (sym acks) (acked-set a.floor.0 (versions_of a.acked.items) (pending_in a) i t (pending-ascends h.line) l e h.acked));
+      acked = subst (AreAcked (acked.versions)) (sym pending) (subst (λ (vs : List ℕ). AreAcked vs (set (pending_in a) i (record t { acknowledged = true }))) (sym acks) (acked-set a.floor.0 (a.acked.versions) (pending_in a) i t (pending-ascends h.line) l e h.acked));
       early = h.early;
       room = record {
         accepted = (let r = room.accepted in omega (arith, r));
         early = room.early;
-        pending = (let r = room.pending in omega (arith, r));
-        acked = omega (arith, more, count);
         few = (let r = room.few in omega (arith, r));
         base = λ m. (
             let r = room.base m in
@@ -131,8 +103,8 @@ acknowledged-slot a i t accepted acked h l e items len capacity acks more grown 
       };
     }
 
-pub acknowledged-state : (a : Inside) (i : ℕ) (t : AcceptedUpdate) (accepted : Vec AcceptedUpdate Global) (acked : Vec Version Global) → i < length (pending_in a) → t ≡ get_or (pending_in a) i t
-    → accepted.items ≡ set a.accepted.items (a.committed + i) (record t { acknowledged = true }) → versions_of acked.items ≡ with_ack t.update.version.0 (versions_of a.acked.items)
+pub acknowledged-state : (a : Inside) (i : ℕ) (t : AcceptedUpdate) (accepted : Vec AcceptedUpdate Global) (acked : AckOrder) → i < length (pending_in a) → t ≡ get_or (pending_in a) i t
+    → accepted.items ≡ set a.accepted.items (a.committed + i) (record t { acknowledged = true }) → acked.versions ≡ with_ack t.update.version.0 (a.acked.versions)
     → (whole (record a { accepted = accepted; acked = acked })).state ≡ moved (Acknowledge t.update.version.0) (whole a).state
 acknowledged-state a i t accepted acked l e items acks =
     let size = length-drop a.committed a.accepted.items in
@@ -148,28 +120,24 @@ each-drop P (suc n) [] h = tt
 each-drop P (suc n) (t ∷ rest) h = each-drop P n rest (λ k d a b. h (suc k) d (omega arith) (omega arith))
 
 -- the slot that forgets acknowledgements and early updates
-pub forgotten-slot : (a : Inside) (accepted : Vec AcceptedUpdate Global) (acked : Vec Version Global) (early : Vec PlacedUpdate Global) → IsSlot a
+pub forgotten-slot : (a : Inside) (accepted : Vec AcceptedUpdate Global) (acked : AckOrder) (early : Vec PlacedUpdate Global) → IsSlot a
     → AreSameUpdates a.accepted.items accepted.items → AllWithin (λ (t : AcceptedUpdate). t.acknowledged ≡ false) accepted.items a.committed (vec_len accepted) → vec_len accepted ≡ vec_len a.accepted → vec_capacity accepted ≡ vec_capacity a.accepted
-    → acked.items ≡ [] → vec_len acked ≡ 0 → vec_capacity acked ≡ vec_capacity a.acked → early.items ≡ [] → vec_len early ≡ 0 → vec_capacity early ≡ vec_capacity a.early
+    → acked.versions ≡ [] → early.items ≡ [] → vec_len early ≡ 0 → vec_capacity early ≡ vec_capacity a.early
     → IsSlot (record a { accepted = accepted; acked = acked; early = early })
-forgotten-slot a accepted acked early h same forgotten len capacity none_acked no_acks acked_capacity none_early no_early early_capacity =
+forgotten-slot a accepted acked early h same forgotten len capacity none_acked none_early no_early early_capacity =
     let ok = accepted.ok.0 in
     let unmarked = each-drop (λ (t : AcceptedUpdate). t.acknowledged ≡ false) a.committed accepted.items (λ k d low high. forgotten k d low (omega (arith, ok, high))) in
-    let size = length-drop a.committed accepted.items in
-    let few = count-length (drop a.committed accepted.items) in
     let room = h.room in
     record {
       line = same-line h.line accepted.items same;
       base = h.base;
       bare = h.bare;
       untouched = h.untouched;
-      acked = subst (λ (vs : List Version). AreAcked (versions_of vs) (drop a.committed accepted.items)) (sym none_acked) (acked-none (drop a.committed accepted.items) unmarked);
+      acked = subst (λ (vs : List ℕ). AreAcked vs (drop a.committed accepted.items)) (sym none_acked) (acked-none (drop a.committed accepted.items) unmarked);
       early = subst (AllByRecursion (IsHeld a.region)) (sym none_early) tt;
       room = record {
         accepted = (let r = room.accepted in omega (arith, r));
         early = (let r = room.early in omega (arith, r));
-        pending = (let r = room.pending in omega (arith, r));
-        acked = (let r = room.pending in omega (arith, r, few, size, ok));
         few = (let r = room.few in omega (arith, r));
         base = λ m. (
             let r = room.base m in
@@ -179,11 +147,11 @@ forgotten-slot a accepted acked early h same forgotten len capacity none_acked n
       };
     }
 
-pub forgotten-state : (a : Inside) (accepted : Vec AcceptedUpdate Global) (acked : Vec Version Global) (early : Vec PlacedUpdate Global) → AreSameUpdates a.accepted.items accepted.items → acked.items ≡ [] → early.items ≡ []
+pub forgotten-state : (a : Inside) (accepted : Vec AcceptedUpdate Global) (acked : AckOrder) (early : Vec PlacedUpdate Global) → AreSameUpdates a.accepted.items accepted.items → acked.versions ≡ [] → early.items ≡ []
     → (whole (record a { accepted = accepted; acked = acked; early = early })).state ≡ moved Forget (whole a).state
 forgotten-state a accepted acked early same none_acked none_early =
     let line = same-newest_first [] a.accepted.items accepted.items same in
-    λ j. record { marks = a.keeps_marks; base = kept_in a.key a.base; accepted = line j; floor = a.floor.0; acked = versions_of (none_acked j); early = updates_of (none_early j) }
+    λ j. record { marks = a.keeps_marks; base = kept_in a.key a.base; accepted = line j; floor = a.floor.0; acked = none_acked j; early = updates_of (none_early j) }
 
 -- a pending update of the version, read at its place in the line
 pub record IsRead (a : Inside) (v i : ℕ) (t : AcceptedUpdate) : Type 0 where
@@ -200,11 +168,6 @@ read-at a v i t p e =
       read = read;
       version = ap (λ (x : AcceptedUpdate). x.update.version.0) read ∙ eqb-true (get_or (pending_in a) i t).update.version.0 v at.1;
     }
-
--- the acknowledged versions with one more
-pub acks-with : (v t : ℕ) (old dropped new : List Version) (version : Version) → version.0 ≡ v → t ≡ v → dropped ≡ filter (λ (w : Version). not (eqb w.0 v)) old → new ≡ version ∷ dropped → versions_of new ≡ with_ack t (versions_of old)
-acks-with v t old dropped new version e q d n =
-    ap versions_of n ∙ ap (λ k. k ∷ versions_of dropped) e ∙ ap (λ (ns : List ℕ). v ∷ ns) (ap versions_of d ∙ versions-filter (λ k. not (eqb k v)) old) ∙ ap (λ k. with_ack k (versions_of old)) (sym q)
 
 -- whether a lower update waits
 pub waits-any : (acked : List ℕ) (v : ℕ) (ts : List AcceptedUpdate) → AllByRecursion (λ (t : AcceptedUpdate). t.acknowledged ≡ list_any (λ w. eqb w t.update.version.0) acked) ts

@@ -1,10 +1,14 @@
 -- The acknowledgements of pending updates.
-use Rattle.std.specs.Prelude.{◌≡◌, ℕ, zero, suc, ◌+◌, ⊤, Bool, true, not, nat_lt, ◌&&◌, ◌||◌, List, [], ◌∷◌, if◌then◌else◌, ◌==◌}
+use Rattle.std.specs.Prelude.{◌≡◌, ℕ, zero, suc, ⊤, Bool, true, not, nat_lt, ◌&&◌, ◌||◌, List, [], ◌∷◌, if◌then◌else◌, ◌==◌}
 use Rattle.std.specs.List.{AllByRecursion, list_any}
 use Rattle.hx_slot.specs.declared.updates.AcceptedUpdate.{AcceptedUpdate}
 
 abbrev pub is_of_version : ℕ → AcceptedUpdate → Bool
 is_of_version v t = t.update.version.0 == v
+
+-- an acknowledged update of the version
+abbrev pub is_acknowledged_as : ℕ → AcceptedUpdate → Bool
+is_acknowledged_as v t = t.acknowledged && is_of_version v t
 
 -- an update of a lower version that isn't acknowledged
 abbrev pub is_waiting_below : ℕ → AcceptedUpdate → Bool
@@ -14,11 +18,6 @@ is_waiting_below v t = nat_lt t.update.version.0 v && not t.acknowledged
 pub record AreAcked (acked : List ℕ) (pending : List AcceptedUpdate) : Type 0 where
   pub marked : AllByRecursion (λ (t : AcceptedUpdate). t.acknowledged ≡ list_any (λ v. v == t.update.version.0) acked) pending
   pub known : AllByRecursion (λ v. list_any (is_of_version v) pending ≡ true) acked
-
--- how many updates aren't acknowledged
-abbrev pub count_unacked : List AcceptedUpdate → ℕ
-count_unacked [] = 0
-count_unacked (t ∷ rest) = (if t.acknowledged then 0 else 1) + count_unacked rest
 
 -- how many updates at the front are acknowledged
 abbrev pub front_acked : List AcceptedUpdate → ℕ

@@ -1,21 +1,17 @@
 -- What a slot keeps, and what contracts see of it.
-use Rattle.std.specs.Prelude.{◌≡◌, ℕ, ◌+◌, ◌-◌, ◌*◌, ◌^◌, ◌<◌, ◌≤◌, true, List, [], map, length, take, drop, vec_capacity, vec_len}
+use Rattle.std.specs.Prelude.{◌≡◌, ℕ, ◌+◌, ◌*◌, ◌^◌, ◌<◌, ◌≤◌, true, List, [], map, length, take, drop, vec_capacity, vec_len}
 use Rattle.std.specs.List.{AllByRecursion}
 use Rattle.hx_types.specs.declared.ids.RegionId.{RegionId}
-use Rattle.hx_types.specs.declared.ids.Version.{Version}
 use Rattle.hx_types.specs.declared.updates.Update.{Update}
 use Rattle.hx_types.specs.Words.{provided}
 use Rattle.hx_law_folds.specs.Folding.{folded}
 use Rattle.hx_slot.specs.declared.updates.PlacedUpdate.{PlacedUpdate}
 use Rattle.hx_slot.specs.declared.updates.AcceptedUpdate.{AcceptedUpdate}
 use Rattle.hx_slot.specs.declared.slots.Slot.TheInside.{Inside}
-use Rattle.hx_slot.specs.Acks.{AreAcked, count_unacked}
+use Rattle.hx_slot.specs.Acks.{AreAcked}
 use Rattle.hx_slot.specs.Bases.{HasBaseRoom, kept_in}
 use Rattle.hx_slot.specs.Updates.{Ascends, IsHeld, IsPlaced, last_version, newest_first, places_in}
 use Rattle.hx_slot.specs.States.{IsOrderly, SlotState}
-
-abbrev pub versions_of : List Version → List ℕ
-versions_of versions = map (λ (v : Version). v.0) versions
 
 abbrev pub updates_of : List PlacedUpdate → List Update
 updates_of early = map (λ (p : PlacedUpdate). p.update) early
@@ -30,7 +26,7 @@ whole a =
         base = kept_in a.key a.base;
         accepted = newest_first [] a.accepted.items;
         floor = a.floor.0;
-        acked = versions_of a.acked.items;
+        acked = a.acked.versions;
         early = updates_of a.early.items;
       };
       spare = a.spare;
@@ -55,12 +51,10 @@ pending_in a = drop a.committed a.accepted.items
 abbrev pub coming : Inside → ℕ
 coming a = vec_len a.early + a.spare
 
--- there is room for the updates that may still come and for the acknowledgements of all, and where marks and touches are kept for those of all
+-- there is room for the updates that may still come, and where marks and touches are kept for those of all
 pub record HasRoom (a : Inside) : Type 0 where
   pub accepted : vec_len a.accepted + coming a ≤ vec_capacity a.accepted
   pub early : coming a ≤ vec_capacity a.early
-  pub pending : (vec_len a.accepted - a.committed) + coming a ≤ vec_capacity a.acked
-  pub acked : vec_len a.acked + count_unacked (pending_in a) + coming a ≤ vec_capacity a.acked
   pub few : vec_len a.accepted + coming a + 1 < 2 ^ 32
   pub base : a.keeps_marks ≡ true → HasBaseRoom a.base (vec_len a.accepted + coming a) (places_in a.accepted.items + 17 * coming a)
 
@@ -69,6 +63,6 @@ pub record IsSlot (a : Inside) : Type 0 where
   pub base : IsOrderly (kept_in a.key a.base)
   pub bare : provided a.keeps_marks a.base.marks.items ≡ a.base.marks.items
   pub untouched : provided a.keeps_marks a.base.touches.items ≡ a.base.touches.items
-  pub acked : AreAcked (versions_of a.acked.items) (pending_in a)
+  pub acked : AreAcked (a.acked.versions) (pending_in a)
   pub early : AllByRecursion (IsHeld a.region) a.early.items
   pub room : HasRoom a

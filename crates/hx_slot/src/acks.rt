@@ -1,8 +1,7 @@
-ghost use Rattle.std.specs.Prelude.{◌≡◌, ◌≤◌, ◌==◌, false, filter, length, nat_lt, not, position, vec_capacity, vec_len};
+ghost use Rattle.std.specs.Prelude.{◌≡◌, ◌≤◌, false, length, position, vec_capacity, vec_len};
 ghost use Rattle.std.specs.List.{AllWithin, list_any};
-ghost use Rattle.hx_slot.specs.Acks.{AreSameUpdates, front_acked, front_with, is_of_version, is_waiting_below};
+ghost use Rattle.hx_slot.specs.Acks.{AreSameUpdates, front_acked, front_with, is_acknowledged_as, is_of_version, is_waiting_below};
 ghost use Rattle.hx_slot.specs.declared.updates.AcceptedUpdate.{AcceptedUpdate};
-ghost use Rattle.hx_types.specs.declared.ids.Version.{Version};
 
 use crate::updates::AcceptedUpdate;
 use hx_types::Version;
@@ -25,11 +24,11 @@ pub fn has_update(pending: &[AcceptedUpdate], version: Version) -> bool
         .any(|taken| taken.update.version.0 == version.0)
 }
 
-/// Whether the version is among these.
-pub fn has_version(acked: &[Version], version: Version) -> bool
-    ensures { result ≡ list_any (λ (v : Version). v.0 == version.0) acked.now }
+/// Whether the update of the version is there and acknowledged.
+pub fn is_acknowledged(pending: &[AcceptedUpdate], version: Version) -> bool
+    ensures { result ≡ list_any (is_acknowledged_as version.0) pending.now }
 {
-    acked.iter().any(|acked| acked.0 == version.0)
+    pending.iter().any(|taken| taken.acknowledged && taken.update.version.0 == version.0)
 }
 
 /// Whether an update of a lower version isn't acknowledged.
@@ -63,24 +62,6 @@ pub fn acknowledged_with(pending: &[AcceptedUpdate], version: Version) -> usize
         }
     }
     pending.len()
-}
-
-/// Takes a version out.
-pub fn drop_ack(acked: &mut Vec<Version>, version: Version)
-    ensures items { acked.new.items ≡ filter (λ (v : Version). not (v.0 == version.0)) acked.old.items }
-    ensures len { vec_len acked.new ≤ vec_len acked.old }
-    ensures capacity { vec_capacity acked.new ≡ vec_capacity acked.old }
-{
-    acked.retain(|acked| acked.0 != version.0);
-}
-
-/// Takes the versions up to a floor out.
-pub fn drop_acks_upto(acked: &mut Vec<Version>, floor: Version)
-    ensures items { acked.new.items ≡ filter (λ (v : Version). nat_lt floor.0 v.0) acked.old.items }
-    ensures len { vec_len acked.new ≤ vec_len acked.old }
-    ensures capacity { vec_capacity acked.new ≡ vec_capacity acked.old }
-{
-    acked.retain(|acked| floor.0 < acked.0);
 }
 
 /// Marks the updates from a place on as not acknowledged.

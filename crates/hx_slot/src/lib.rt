@@ -17,6 +17,7 @@
 //! update that finds their count full is held, committed, until it can go into the base.
 #![tactic(auto)]
 
+mod ack_order;
 mod acks;
 mod bases;
 mod early;

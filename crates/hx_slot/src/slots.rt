@@ -15,9 +15,10 @@ ghost use Rattle.hx_types.specs.declared.updates.Place.{Place};
 ghost use Rattle.hx_types.specs.declared.snapshots.Touch.{Touch as Touched};
 ghost use Rattle.hx_types.specs.declared.updates.Update.{Update};
 
+use crate::ack_order::AckOrder;
 use crate::acks::{
-    acknowledged_front, acknowledged_with, drop_ack, drop_acks_upto, forget_acks, has_update,
-    has_version, place_of, waits_below,
+    acknowledged_front, acknowledged_with, forget_acks, has_update, is_acknowledged, place_of,
+    waits_below,
 };
 use crate::bases::Base;
 use crate::early::{drop_version, early_after, early_at};
@@ -31,7 +32,7 @@ use crate::touches::{last_touch, touches_over};
 use crate::updates::{AcceptedUpdate, PlacedUpdate};
 use hx_types::{
     Acked, Answer, Exact, Kept, Marks, Memory, Object, Offer, RegionId, SessionId, Shared, Text,
-    Touches, Update, Version, insert_within,
+    Touches, Update, Version,
 };
 use std::alloc::Global;
 use std::marker::Model;
@@ -52,8 +53,8 @@ pub struct Slot {
     committed: usize,
     /// The version of the last committed one, or that of the base.
     floor: Version,
-    /// The acknowledged pending versions, the newest acknowledgement first.
-    acked: Vec<Version>,
+    /// In which order the acknowledged pending versions were acknowledged.
+    acked: AckOrder,
     /// The updates that came before their turn, in the order of their coming.
     early: Vec<PlacedUpdate>,
 }
@@ -143,7 +144,7 @@ impl Slot {
             accepted: Vec::new(alloc),
             committed: 0,
             floor,
-            acked: Vec::new(alloc),
+            acked: AckOrder::new(),
             early: Vec::new(alloc),
         }
     }
@@ -278,8 +279,6 @@ impl Slot {
         ensures region { IfOk result (λ slot. slot.region ≡ self.now.region) }
         ensures held { IfOk result (λ slot. slot.held ≡ self.now.held) }
     {
-        let mut acked = Vec::new(alloc);
-        grow(&mut acked, self.accepted.len() - self.committed)?;
         let line = self.accepted.as_slice();
         let accepted = renewed_line(alloc, line)?;
         Ok(Slot {
@@ -291,7 +290,7 @@ impl Slot {
             accepted,
             committed: self.committed,
             floor: self.floor,
-            acked,
+            acked: AckOrder::new(),
             early: Vec::new(alloc),
         })
     }
@@ -372,15 +371,7 @@ impl Slot {
         if self.accepted.len() + coming >= u32::MAX as usize {
             return Err(Memory);
         }
-        let acks = self.accepted.len() - self.committed + coming;
-        make_room(
-            &mut self.accepted,
-            coming,
-            &mut self.early,
-            n as usize,
-            &mut self.acked,
-            acks,
-        )?;
+        make_room(&mut self.accepted, coming, &mut self.early, n as usize)?;
         self.base
             .reserve(self.keeps_marks, self.accepted.as_slice(), coming)?;
         self.spare = n;
@@ -477,7 +468,8 @@ impl Slot {
     pub fn is_acknowledged(&self, version: Version) -> bool
         ensures { result ≡ list_any (λ v. v == version.0) self.now.state.acked }
     {
-        has_version(self.acked.as_slice(), version)
+        let pending = rest_of(self.accepted.as_slice(), self.committed);
+        is_acknowledged(pending, version)
     }
 
     /// Takes an acknowledgement in. It is `Unknown` where the version isn't pending, `Kept` where a
@@ -533,8 +525,7 @@ impl Slot {
             unreachable!()
         };
         self.accepted[self.committed + place].acknowledged = true;
-        drop_ack(&mut self.acked, version);
-        insert_within(&mut self.acked, 0, version);
+        self.acked = self.acked.with(&version);
     }
 
     /// Commits the lowest pending updates, as far as they are acknowledged, and gives how many. It
@@ -551,7 +542,7 @@ impl Slot {
         let count = acknowledged_front(pending);
         self.floor = last_version(self.floor, &pending[..count]);
         self.committed += count;
-        drop_acks_upto(&mut self.acked, self.floor);
+        self.acked = self.acked.above(&self.floor);
         self.fold();
         count as u32
     }
@@ -565,7 +556,7 @@ impl Slot {
         ensures held { self.new.held ≡ self.old.held }
         ensures stands { (s : KeyState) → StandsFor self.old.region self.old.state s → StandsFor self.new.region self.new.state (moved Forget s) }
     {
-        self.acked.clear();
+        self.acked = AckOrder::new();
         self.early.clear();
         forget_acks(&mut self.accepted, self.committed);
     }
@@ -707,18 +698,13 @@ fn make_room(
     more_accepted: usize,
     early: &mut Vec<PlacedUpdate>,
     more_early: usize,
-    acked: &mut Vec<Version>,
-    more_acked: usize,
 ) -> Result<(), Memory>
     ensures accepted { IsGrown accepted.old accepted.new }
     ensures early { IsGrown early.old early.new }
-    ensures acked { IsGrown acked.old acked.new }
     ensures accepted_room { OnOk result (vec_len accepted.new + more_accepted ≤ vec_capacity accepted.new) }
     ensures early_room { OnOk result (vec_len early.new + more_early ≤ vec_capacity early.new) }
-    ensures acked_room { OnOk result (vec_len acked.new + more_acked ≤ vec_capacity acked.new) }
 {
     grow(accepted, more_accepted)?;
     grow(early, more_early)?;
-    grow(acked, more_acked)?;
     Ok(())
 }

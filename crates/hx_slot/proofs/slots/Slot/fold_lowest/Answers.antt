@@ -1,5 +1,5 @@
 -- The lowest committed update leaves the list for the base, and nothing is seen of it.
-use Rattle.std.proofs.Common.{◌≡◌, ◌-◌, suc, ◌∙◌, arith, drop}
+use Rattle.std.proofs.Common.{◌≡◌, ◌-◌, suc, arith, drop}
 use Rattle.hx_slot.proofs.Committing.{committed-seen, committed-slot, front}
 use Rattle.hx_slot.proofs.slots.Slot.fold_lowest.Goals as goal
 

@@ -1,14 +1,18 @@
-use Rattle.std.proofs.Common.{ℕ, List, ◌∙◌, ap, eqb}
+-- The pending updates that are marked are those of the acknowledged versions.
+use Rattle.std.proofs.Common.{ℕ, List, ◌∙◌, ap, drop, eqb}
 use Rattle.std.specs.List.{list_any}
-use Rattle.hx_types.specs.declared.ids.Version.{Version}
+use Rattle.hx_slot.specs.declared.updates.AcceptedUpdate.{AcceptedUpdate}
+use Rattle.hx_slot.specs.Acks.{is_acknowledged_as}
+use Rattle.hx_slot.specs.Invariant.{pending_in}
 use Rattle.hx_slot.specs.States.{SlotState}
-use Rattle.hx_slot.proofs.Acking.{versions-any}
+use Rattle.hx_slot.proofs.Acking.{acknowledged-any}
 use Rattle.hx_slot.proofs.slots.Slot.is_acknowledged.Goals as goal
 
 pub returns : goal.returns
 returns c =
+    let a = c.self.inside in
     let v = c.args.version.0 in
-    c.has_version.ensures
-    ∙ ap (λ (vs : List Version). list_any (λ (w : Version). eqb w.0 v) vs) c.as_slice.ensures.value
-    ∙ versions-any v c.self.inside.acked.items
+    c.is_acknowledged.ensures
+    ∙ ap (λ (ts : List AcceptedUpdate). list_any (is_acknowledged_as v) ts) (c.rest_of-pending.ensures ∙ ap (drop a.committed) c.as_slice.ensures.value)
+    ∙ acknowledged-any v (pending_in a) a.acked.versions c.self.invariant.acked
     ∙ ap (λ (s : SlotState). list_any (λ (w : ℕ). eqb w v) s.state.acked) c.self.view_is

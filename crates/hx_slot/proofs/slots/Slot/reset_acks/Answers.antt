@@ -9,13 +9,12 @@ use Rattle.hx_slot.proofs.slots.Slot.reset_acks.Goals as goal
 pub invariant_of-self : goal.invariant_of-self
 invariant_of-self c =
     let f = c.forget_acks.ensures in
-    let acks = c.clear.ensures in
-    let early = c.clear-2.ensures in
-    forgotten-slot c.self.inside c.forget_acks.new.accepted c.clear.new.self c.clear-2.new.self c.self.invariant f.same f.forgotten f.len f.capacity acks.items acks.len acks.capacity early.items early.len early.capacity
+    let early = c.clear.ensures in
+    forgotten-slot c.self.inside c.forget_acks.new.accepted c.new-self-inside.result c.clear.new.self c.self.invariant f.same f.forgotten f.len f.capacity c.new-self-inside.ensures early.items early.len early.capacity
 
 pub returns-clause-state : goal.returns-clause-state
 returns-clause-state c =
-    forgotten-state c.self.inside c.forget_acks.new.accepted c.clear.new.self c.clear-2.new.self c.forget_acks.ensures.same c.clear.ensures.items c.clear-2.ensures.items
+    forgotten-state c.self.inside c.forget_acks.new.accepted c.new-self-inside.result c.clear.new.self c.forget_acks.ensures.same c.new-self-inside.ensures c.clear.ensures.items
     ∙ ap (λ (s : SlotState). moved Forget s.state) c.self.view_is
 
 pub returns-clause-stands : goal.returns-clause-stands

@@ -16,10 +16,10 @@ invariant_of-self c =
     let a = c.self.inside in
     let n = c.acknowledged_front-count.result in
     let rest = c.rest_of-pending.ensures ∙ ap (drop a.committed) c.as_slice.ensures.value in
-    settled-slot a n c.last_version-self-inside.result c.drop_acks_upto.new.acked c.self.invariant
+    settled-slot a n c.last_version-self-inside.result c.above-self-inside.result c.self.invariant
     (subst (λ (ts : List AcceptedUpdate). n ≤ length ts) rest c.acknowledged_front-count.ensures.within)
     (c.last_version-self-inside.ensures ∙ ap (λ (ts : List AcceptedUpdate). last_version a.floor.0 (take n ts)) rest)
-    c.drop_acks_upto.ensures.items c.drop_acks_upto.ensures.len c.drop_acks_upto.ensures.capacity
+    c.above-self-inside.ensures
 
 pub returns-clause-count : goal.returns-clause-count
 returns-clause-count c =
@@ -33,10 +33,10 @@ returns-clause-state c =
     let n = c.acknowledged_front-count.result in
     let rest = c.rest_of-pending.ensures ∙ ap (drop a.committed) c.as_slice.ensures.value in
     c.fold.ensures.state
-    ∙ settled-state a n c.last_version-self-inside.result c.drop_acks_upto.new.acked c.self.invariant
+    ∙ settled-state a n c.last_version-self-inside.result c.above-self-inside.result c.self.invariant
     (c.acknowledged_front-count.ensures.front ∙ ap front_acked rest)
     (c.last_version-self-inside.ensures ∙ ap (λ (ts : List AcceptedUpdate). last_version a.floor.0 (take n ts)) rest)
-    c.drop_acks_upto.ensures.items
+    c.above-self-inside.ensures
     ∙ ap (λ (s : SlotState). folded s.region (moved_all (settled s.state) s.state)) c.self.view_is
 
 pub returns-clause-stands : goal.returns-clause-stands
