@@ -1,12 +1,12 @@
-//! In which order pending versions were acknowledged. Only proofs read it; it takes no memory, and
-//! its functions do nothing when they run.
 ghost use Rattle.std.specs.Prelude.{◌≡◌, ◌==◌, ℕ, List, [], ◌∷◌, filter, nat_lt, not};
 ghost use Rattle.std.specs.Borrow.{ftrue};
 
 use hx_types::Version;
 use std::marker::Model;
 
-/// The acknowledged versions, the newest acknowledgement first.
+/// The acknowledged pending versions, the newest acknowledgement first. Only proofs read them: an
+/// order takes no memory, and its functions do nothing when they run. Which updates are
+/// acknowledged the updates themselves say.
 #[derive(Drop)]
 pub struct AckOrder {
     pub ghost versions: { List ℕ },
@@ -17,6 +17,8 @@ impl Model for AckOrder {
 }
 
 unsafe impl Send for AckOrder {}
+
+unsafe impl Sync for AckOrder {}
 
 impl AckOrder {
     /// Nothing is acknowledged.
