@@ -10,3 +10,4 @@ pub mod RecordRows
 pub mod SearchRows
 pub mod Places
 pub mod Unnoted
+pub mod Issuing

@@ -1,10 +1,12 @@
-ghost use Rattle.std.specs.Prelude.{◌≡◌, map, reverse, IfOk};
+ghost use Rattle.std.specs.Prelude.{◌≡◌, [], false, map, reverse, IfOk};
+ghost use Rattle.std.specs.List.{flat_map};
 ghost use Rattle.std.specs.Option.{option_map};
 ghost use Rattle.hx_types.specs.declared.calls.Caller.{Caller};
 ghost use Rattle.hx_types.specs.Fitting.{call_of};
 ghost use Rattle.hx_model.specs.Histories.{records_of};
 ghost use Rattle.hx_history.specs.Calls.{notes_of, shape, span_in};
 ghost use Rattle.hx_history.specs.Events.{event_view, events_of};
+ghost use Rattle.hx_history.specs.Issued.{issued_by, issued_in};
 ghost use Rattle.hx_history.specs.Listed.{AreHistories};
 
 use crate::call_notes::{SessionNotes, empty_table, take_entry};
@@ -12,13 +14,14 @@ use crate::events::{Event, push_events};
 use crate::key_histories::{Histories, histories_from};
 use crate::recorded::records_from;
 use hx_trace::Trace;
-use hx_types::{Memory, Records, Script};
+use hx_types::{Memory, Note, Records, Script};
 use std::alloc::Global;
 
-/// What the notes of a trace say: of each call, and of keys in order.
+/// What the notes of a trace say: of each call, of keys in order, and whether a configuration was issued.
 pub struct Gathered<'a> {
     pub table: Vec<SessionNotes<'a>>,
     pub events: Vec<Event<'a>>,
+    pub has_issued: bool,
 }
 
 impl Drop for Gathered<'_> {
@@ -26,6 +29,7 @@ impl Drop for Gathered<'_> {
         let Gathered {
             table: _,
             events: _,
+            has_issued: _,
         } = self;
     }
 }
@@ -34,6 +38,8 @@ impl Drop for Gathered<'_> {
 pub struct RecordsAndHistories {
     pub records: Records,
     pub histories: Histories,
+    /// Whether a note says that a configuration was issued.
+    pub has_issued: bool,
 }
 
 impl Drop for RecordsAndHistories {
@@ -41,8 +47,21 @@ impl Drop for RecordsAndHistories {
         let RecordsAndHistories {
             records: _,
             histories: _,
+            has_issued: _,
         } = self;
     }
+}
+
+/// Whether one of the notes says that a configuration was issued.
+fn has_issued(notes: &[Note]) -> bool
+    ensures { result ≡ false → flat_map issued_by notes.now ≡ [] }
+{
+    for note in notes {
+        if let Note::Issued { .. } = note {
+            return true;
+        }
+    }
+    false
 }
 
 /// What all notes of a trace say. Entries without notes are passed over.
@@ -50,16 +69,23 @@ fn gather<'a>(alloc: Global, script: &'a Script, trace: &'a Trace) -> Result<Gat
     ensures spans { IfOk result (λ gathered. (c : Caller) → span_in (map (λ row. row.items) gathered.table.items) c ≡ option_map (λ op. notes_of c (reverse trace.now)) (call_of script.now c)) }
     ensures as_script { IfOk result (λ gathered. shape (map (λ row. row.items) gathered.table.items) ≡ shape script.now.sessions) }
     ensures events { IfOk result (λ gathered. map event_view gathered.events.items ≡ events_of script.now trace.now) }
+    ensures issued { IfOk result (λ gathered. gathered.has_issued ≡ false → issued_in trace.now ≡ []) }
 {
     let mut table = empty_table(alloc, script)?;
     let mut events = Vec::new(alloc);
+    let mut issued = false;
     for place in 0..trace.len() {
         if let Some(entry) = trace.noted(place) {
             take_entry(&mut table, place as u64 + 1, entry);
             push_events(&mut events, script, entry.actor, entry.notes)?;
+            issued |= has_issued(entry.notes);
         }
     }
-    Ok(Gathered { table, events })
+    Ok(Gathered {
+        table,
+        events,
+        has_issued: issued,
+    })
 }
 
 /// The records of [`records`](crate::records) and the histories of [`histories`](crate::histories), after one
@@ -71,9 +97,14 @@ pub fn records_and_histories(
 ) -> Result<RecordsAndHistories, Memory>
     ensures records { IfOk result (λ both. both.records ≡ records_of script.now (reverse trace.now)) }
     ensures histories { IfOk result (λ both. AreHistories script.now (reverse trace.now) both.histories) }
+    ensures issued { IfOk result (λ both. both.has_issued ≡ false → issued_in trace.now ≡ []) }
 {
     let gathered = gather(alloc, script, trace)?;
     let records = records_from(alloc, &gathered.table)?;
     let histories = histories_from(alloc, script, &gathered.events)?;
-    Ok(RecordsAndHistories { records, histories })
+    Ok(RecordsAndHistories {
+        records,
+        histories,
+        has_issued: gathered.has_issued,
+    })
 }

@@ -4,6 +4,7 @@ pub mod BundleReports
 pub mod DriverLines
 pub mod EntryLines
 pub mod LostRegions
+pub mod NoneIssued
 pub mod Ranges
 pub mod Reports
 pub mod Traces

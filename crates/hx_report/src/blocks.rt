@@ -50,6 +50,6 @@ pub fn put_block(
     put_space(out, &script.space)?;
     put_records(alloc, out, script, &both.records)?;
     put_histories(out, &script.space, &both.histories)?;
-    put_epochs(alloc, out, script, trace)?;
+    put_epochs(alloc, out, script, trace, both.has_issued)?;
     put_rest(out, trace, totals, with_trace)
 }

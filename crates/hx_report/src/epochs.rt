@@ -1,9 +1,10 @@
 //! The lines of epochs.
 
-ghost use Rattle.std.specs.Prelude.{◌≡◌, ◌++◌, reverse, IfOk, OnOk};
+ghost use Rattle.std.specs.Prelude.{◌≡◌, ◌++◌, [], false, reverse, IfOk, OnOk};
 ghost use Rattle.std.specs.List.{flat_map};
 ghost use Rattle.hx_types.specs.Configs.{is_lost};
 ghost use Rattle.hx_types.specs.Spaces.{IsSpace};
+ghost use Rattle.hx_history.specs.Issued.{issued_in};
 ghost use Rattle.hx_report.specs.Reporting.{entry_lines, epoch_line, epochs_text, lost_numbers, lost_text, note_lines, servers_text};
 
 use crate::labels::put_labeled;
@@ -92,18 +93,24 @@ fn put_issued(alloc: Global, out: &mut Vec<u8>, trace: &Trace) -> Result<(), Mem
     Ok(())
 }
 
-/// Appends the lines of epoch 1 and of the epochs that were issued in the trace.
+/// Appends the lines of epoch 1 and of the epochs that were issued in the trace, over which it goes only
+/// where there are any: it is long.
 #[tactic(auto, unfolding(crate::specs::Reporting::epochs_text))]
 pub fn put_epochs(
     alloc: Global,
     out: &mut Vec<u8>,
     script: &Script,
     trace: &Trace,
+    has_issued: bool,
 ) -> Result<(), Memory>
-    requires { IsSpace script.now.space }
+    requires space { IsSpace script.now.space }
+    requires issued { has_issued ≡ false → issued_in trace.now ≡ [] }
     ensures { OnOk result
         (out.new.items ≡ out.old.items ++ epochs_text script.now (reverse trace.now)) }
 {
     put_epoch(alloc, out, &first_config(alloc, &script.space)?)?;
-    put_issued(alloc, out, trace)
+    if has_issued {
+        put_issued(alloc, out, trace)?;
+    }
+    Ok(())
 }
