@@ -2,7 +2,7 @@
 use Rattle.hx_model.specs.Lines.{upto}
 use Rattle.std.specs.Prelude.{ℕ, zero, suc, unwrap_or, ◌-◌, Bool, List, [], ◌∷◌, ◌++◌, map, fold, filter, slice_get, if◌then◌else◌, Option, None, Some}
 use Rattle.std.specs.List.{flat_map}
-use Rattle.std.specs.Option.{option_and_then, option_map}
+use Rattle.std.specs.Option.{option_and_then, option_copied, option_map}
 use Rattle.std.specs.Borrow.{Bor}
 use Rattle.hx_types.specs.declared.ids.Actor.{Actor}
 use Rattle.hx_types.specs.declared.calls.Answer.{Answer}
@@ -23,6 +23,7 @@ use Rattle.hx_types.specs.Fitting.{call_of, is_refused}
 use Rattle.hx_model.specs.Histories.{in_place, not_refused, write_item}
 use Rattle.hx_history.specs.declared.events.Event.{Event}
 use Rattle.hx_history.specs.declared.events.Read.{Read}
+use Rattle.hx_history.specs.declared.items.ItemRef.{ItemRef}
 use Rattle.hx_history.specs.declared.events.Event.TheVariants as an_event
 
 -- a get that ended and was not refused
@@ -114,6 +115,10 @@ told script reads high (u ∷ older) =
 -- the history of a key by its events
 abbrev pub history_by : Script → List KeyEvent → List Item
 history_by script events = told script (reads_by events) None (not_refused (line_by events))
+
+-- what the code's item points to
+abbrev pub item_view : ItemRef → Item
+item_view r = record { version = r.version; caller = r.caller; op = r.op.now; answer = r.answer.now; object = option_copied r.object }
 
 -- the updates that references point to
 abbrev pub updates_at : List (Bor Update) → List Update

@@ -8,6 +8,8 @@ use Rattle.hx_types.specs.Words.{IsIn}
 use Rattle.hx_types.specs.Posts.{keys_ascend}
 use Rattle.hx_model.specs.Histories.{history_of}
 use Rattle.hx_history.specs.declared.key_histories.KeyHistory.{KeyHistory}
+use Rattle.hx_history.specs.declared.key_histories.KeyItems.{KeyItems}
+use Rattle.hx_history.specs.Events.{item_view}
 
 abbrev pub keys_of_histories : List KeyHistory → List (List ℕ)
 keys_of_histories listed = map (λ (h : KeyHistory). h.key) listed
@@ -27,3 +29,7 @@ pub record AreHistories (script : Script) (trace : List Entry) (listed : List Ke
 abbrev pub listed_of : List ℕ → List Item → List KeyHistory
 listed_of key [] = []
 listed_of key (x ∷ items) = record { key = key; items = x ∷ items } ∷ []
+
+-- what the code's history points to
+abbrev pub history_view : KeyItems → KeyHistory
+history_view h = record { key = h.key; items = map item_view h.items.items }

@@ -7,12 +7,13 @@ ghost use Rattle.std.specs.Str.{bytes_eq};
 ghost use Rattle.hx_model.specs.Histories.{history_of};
 ghost use Rattle.hx_types.specs.declared.traces.Entry.{Entry};
 ghost use Rattle.hx_history.specs.Events.{event_view, events_of, history_by, is_at, key_of};
-ghost use Rattle.hx_history.specs.Listed.{AreHistories, listed_of};
+ghost use Rattle.hx_history.specs.Listed.{AreHistories, history_view, listed_of};
 
 use crate::events::{Event, events};
+use crate::items::{ItemRef, items_of};
 use crate::placing::history_from;
 use hx_trace::Trace;
-use hx_types::{Items, Memory, Same, Script, Sequence, Text};
+use hx_types::{Exact, Items, Memory, Same, Script, Sequence, Text};
 use std::alloc::Global;
 use std::collections::BTreeMap;
 
@@ -30,6 +31,13 @@ impl Drop for KeyHistory {
 
 /// Histories in byte order of keys.
 pub type Histories = Sequence<KeyHistory>;
+
+/// The history of a key: its items of what the trace and the script have, the oldest first.
+#[derive(Drop)]
+pub struct KeyItems<'a> {
+    pub key: Text,
+    pub items: Vec<ItemRef<'a>>,
+}
 
 type Groups<'a> = BTreeMap<&'a str, Vec<Event<'a>>>;
 
@@ -54,7 +62,8 @@ pub fn history(alloc: Global, script: &Script, trace: &Trace, key: &Text) -> Res
     let all = events(alloc, script, trace)?;
     let found = events_at(alloc, &all, key)?;
     let items = history_from(alloc, script, &found)?;
-    Ok(items)
+    let copies = items_of(alloc, &items)?;
+    Ok(copies)
 }
 
 /// The events of each key.
@@ -72,25 +81,54 @@ fn groups<'a>(alloc: Global, events: &[Event<'a>]) -> Result<Groups<'a>, Memory>
 }
 
 /// Adds the history of a key, unless it has no item.
-fn push_history(
+fn push_items<'a>(
     alloc: Global,
-    listed: &mut Histories,
-    script: &Script,
+    listed: &mut Vec<KeyItems<'a>>,
+    script: &'a Script,
     key: &str,
-    events: &[Event<'_>],
+    events: &[Event<'a>],
 ) -> Result<(), Memory>
-    ensures { OnOk result (listed.new ≡ listed.old ++ listed_of key.now (history_by script.now (map event_view events.now))) }
+    ensures { OnOk result (map history_view listed.new.items ≡ map history_view listed.old.items ++ listed_of key.now (history_by script.now (map event_view events.now))) }
 {
     let items = history_from(alloc, script, events)?;
     if items.is_empty() {
         return Ok(());
     }
     let key = Text::from_str(alloc, key)?;
-    listed.push(KeyHistory { key, items })?;
+    listed.push(KeyItems { key, items })?;
     Ok(())
 }
 
-/// The histories of all keys of a trace's events that have one with items.
+/// The histories of all keys of a trace's events that have one with items, in byte order of keys.
+pub fn items_by_key<'a>(
+    alloc: Global,
+    script: &'a Script,
+    events: &[Event<'a>],
+) -> Result<Vec<KeyItems<'a>>, Memory>
+    ensures { IfOk result (λ listed. (trace : List Entry) → map event_view events.now ≡ events_of script.now trace → AreHistories script.now (reverse trace) (map history_view listed.items)) }
+{
+    let groups = groups(alloc, events)?;
+    let mut listed = Vec::new(alloc);
+    for (key, events) in groups.iter() {
+        push_items(alloc, &mut listed, script, key, events)?;
+    }
+    Ok(listed)
+}
+
+/// Copies of histories.
+fn copies_of(alloc: Global, listed: &[KeyItems<'_>]) -> Result<Histories, Memory>
+    ensures { IfOk result (λ made. made ≡ map history_view listed.now) }
+{
+    let mut made = Histories::new(alloc);
+    for history in listed {
+        let key = history.key.copy(alloc)?;
+        let items = items_of(alloc, &history.items)?;
+        made.push(KeyHistory { key, items })?;
+    }
+    Ok(made)
+}
+
+/// The same as copies.
 pub fn histories_from(
     alloc: Global,
     script: &Script,
@@ -98,12 +136,9 @@ pub fn histories_from(
 ) -> Result<Histories, Memory>
     ensures { IfOk result (λ listed. (trace : List Entry) → map event_view events.now ≡ events_of script.now trace → AreHistories script.now (reverse trace) listed) }
 {
-    let groups = groups(alloc, events)?;
-    let mut listed = Histories::new(alloc);
-    for (key, events) in groups.iter() {
-        push_history(alloc, &mut listed, script, key, events)?;
-    }
-    Ok(listed)
+    let listed = items_by_key(alloc, script, events)?;
+    let copies = copies_of(alloc, &listed)?;
+    Ok(copies)
 }
 
 /// The histories of all keys that have one with items.

@@ -6,6 +6,7 @@
 
 mod call_notes;
 mod events;
+mod items;
 mod key_histories;
 mod lines;
 mod placing;
@@ -13,7 +14,8 @@ mod recorded;
 mod searched;
 mod walking;
 
-pub use key_histories::{Histories, KeyHistory, histories, history};
+pub use items::ItemRef;
+pub use key_histories::{Histories, KeyHistory, KeyItems, histories, history};
 pub use recorded::records;
 pub use searched::searches;
-pub use walking::{RecordsAndHistories, records_and_histories};
+pub use walking::{RecordsAndHistories, RecordsAndItems, records_and_histories, records_and_items};

@@ -1,12 +1,14 @@
 ghost use Rattle.std.specs.Prelude.{◌≡◌, ◌+◌, ◌<◌, ◌≤◌, ◌++◌, ℕ, List, [], map, reverse, filter, length, replicate, slice_get, IfOk, OnOk};
 ghost use Rattle.std.specs.List.{AllWithin};
 ghost use Rattle.std.specs.List.Sorted.{IsNonDecreasingBy};
+ghost use Rattle.std.specs.Option.{option_copied};
 ghost use Rattle.hx_model.specs.Histories.{write_item};
-ghost use Rattle.hx_history.specs.Events.{event_view, history_by, is_in_place, item_on, read_view, told, updates_at, version_at};
+ghost use Rattle.hx_history.specs.Events.{event_view, history_by, is_in_place, item_on, item_view, read_view, told, updates_at, version_at};
 
 use crate::events::{Event, Read};
+use crate::items::ItemRef;
 use crate::lines::{line_of, reads_of, writes_of};
-use hx_types::{Answer, Caller, Exact, Item, Items, Memory, Object, Op, Script, Update, Version};
+use hx_types::{Memory, Object, Script, Update};
 use std::alloc::Global;
 
 /// How many writes have at most this version.
@@ -48,93 +50,75 @@ fn places_of<'a>(
     Ok(places)
 }
 
-/// The item of a call of this operation, with copies of what it is told.
-fn item_of(
-    alloc: Global,
-    version: Version,
-    caller: Caller,
-    op: &Op,
-    answer: &Answer,
-    object: &Option<Object>,
-) -> Result<Item, Memory>
-    ensures { IfOk result (λ item. item ≡ record { version = version; caller = caller; op = op.now; answer = answer.now; object = object.now }) }
-{
-    let object = object.copy(alloc)?;
-    let answer = answer.copy(alloc)?;
-    let op = op.copy(alloc)?;
-    Ok(Item {
-        version,
-        caller,
-        op,
-        answer,
-        object,
-    })
-}
-
 /// Adds gets of an object.
-fn push_reads(
-    alloc: Global,
-    items: &mut Items,
-    reads: &[Read<'_>],
-    object: &Option<Object>,
+fn push_reads<'a>(
+    items: &mut Vec<ItemRef<'a>>,
+    reads: &[Read<'a>],
+    object: Option<&'a Object>,
 ) -> Result<(), Memory>
-    ensures { OnOk result (items.new ≡ items.old ++ map (item_on object.now) (map read_view reads.now)) }
+    ensures { OnOk result (map item_view items.new.items ≡ map item_view items.old.items ++ map (item_on (option_copied object.entry)) (map read_view reads.now)) }
 {
     for read in reads {
-        let item = item_of(
-            alloc,
-            read.version,
-            read.caller,
-            read.op,
-            read.answer,
+        items.push(ItemRef {
+            version: read.version,
+            caller: read.caller,
+            op: read.op,
+            answer: read.answer,
             object,
-        )?;
-        items.push(item)?;
+        })?;
     }
     Ok(())
 }
 
 /// Adds a write.
-fn push_write(
-    alloc: Global,
-    items: &mut Items,
-    script: &Script,
-    update: &Update,
+fn push_write<'a>(
+    items: &mut Vec<ItemRef<'a>>,
+    script: &'a Script,
+    update: &'a Update,
 ) -> Result<(), Memory>
-    ensures { OnOk result (items.new ≡ items.old ++ write_item script.now update.now) }
+    ensures { OnOk result (map item_view items.new.items ≡ map item_view items.old.items ++ write_item script.now update.now) }
 {
     let Some(op) = script.call(update.caller) else {
         return Ok(());
     };
-    let (version, caller) = (update.version, update.caller);
-    let item = item_of(alloc, version, caller, op, &update.answer, &update.object)?;
-    items.push(item)
+    items.push(ItemRef {
+        version: update.version,
+        caller: update.caller,
+        op,
+        answer: &update.answer,
+        object: update.object.as_ref(),
+    })?;
+    Ok(())
 }
 
 /// The gets and writes of a key in order.
-fn arrange(
+fn arrange<'a>(
     alloc: Global,
-    script: &Script,
-    writes: &[&Update],
-    reads: &[Read<'_>],
-) -> Result<Items, Memory>
+    script: &'a Script,
+    writes: &[&'a Update],
+    reads: &[Read<'a>],
+) -> Result<Vec<ItemRef<'a>>, Memory>
     requires { IsNonDecreasingBy version_at writes.now }
-    ensures { IfOk result (λ items. items ≡ told script.now (map read_view reads.now) None (reverse (updates_at writes.now))) }
+    ensures { IfOk result (λ items. map item_view items.items ≡ told script.now (map read_view reads.now) None (reverse (updates_at writes.now))) }
 {
     let places = places_of(alloc, writes, reads)?;
-    let mut items = Items::with_capacity(alloc, writes.len().saturating_add(reads.len()))?;
-    push_reads(alloc, &mut items, &places[0], &None)?;
+    let mut items = Vec::with_capacity(alloc, writes.len().saturating_add(reads.len()))?;
+    push_reads(&mut items, &places[0], None)?;
     for (place, update) in writes.iter().enumerate() {
-        push_write(alloc, &mut items, script, update)?;
-        push_reads(alloc, &mut items, &places[place + 1], &update.object)?;
+        push_write(&mut items, script, update)?;
+        push_reads(&mut items, &places[place + 1], update.object.as_ref())?;
     }
     Ok(items)
 }
 
 /// The history of the key that these events are of.
 #[tactic(auto, using(crate::proofs::Newest::standing))]
-pub fn history_from(alloc: Global, script: &Script, events: &[Event<'_>]) -> Result<Items, Memory>
-    ensures { IfOk result (λ items. items ≡ history_by script.now (map event_view events.now)) }
+pub fn history_from<'a>(
+    alloc: Global,
+    script: &'a Script,
+    events: &[Event<'a>],
+) -> Result<Vec<ItemRef<'a>>, Memory>
+    ensures { IfOk result (λ items. map item_view items.items ≡ history_by script.now (map event_view events.now)) }
 {
     let line = line_of(alloc, events)?;
     let writes = writes_of(alloc, &line)?;

@@ -7,17 +7,18 @@ ghost use Rattle.hx_model.specs.Histories.{records_of};
 ghost use Rattle.hx_history.specs.Calls.{notes_of, shape, span_in};
 ghost use Rattle.hx_history.specs.Events.{event_view, events_of};
 ghost use Rattle.hx_history.specs.Issued.{issued_by, issued_in};
-ghost use Rattle.hx_history.specs.Listed.{AreHistories};
+ghost use Rattle.hx_history.specs.Listed.{AreHistories, history_view};
 
 use crate::call_notes::{SessionNotes, empty_table, take_entry};
 use crate::events::{Event, push_events};
-use crate::key_histories::{Histories, histories_from};
+use crate::key_histories::{Histories, KeyItems, histories_from, items_by_key};
 use crate::recorded::records_from;
 use hx_trace::Trace;
 use hx_types::{Memory, Note, Records, Script};
 use std::alloc::Global;
 
-/// What the notes of a trace say: of each call, of keys in order, and whether a configuration was issued.
+/// What the notes of a trace say: of each call, of keys in order, and whether a configuration was
+/// issued.
 pub struct Gathered<'a> {
     pub table: Vec<SessionNotes<'a>>,
     pub events: Vec<Event<'a>>,
@@ -38,8 +39,6 @@ impl Drop for Gathered<'_> {
 pub struct RecordsAndHistories {
     pub records: Records,
     pub histories: Histories,
-    /// Whether a note says that a configuration was issued.
-    pub has_issued: bool,
 }
 
 impl Drop for RecordsAndHistories {
@@ -47,9 +46,17 @@ impl Drop for RecordsAndHistories {
         let RecordsAndHistories {
             records: _,
             histories: _,
-            has_issued: _,
         } = self;
     }
+}
+
+/// The records of calls, the histories of keys of what the trace and the script have, and whether
+/// a note says that a configuration was issued.
+#[derive(Drop)]
+pub struct RecordsAndItems<'a> {
+    pub records: Records,
+    pub histories: Vec<KeyItems<'a>>,
+    pub has_issued: bool,
 }
 
 /// Whether one of the notes says that a configuration was issued.
@@ -97,12 +104,27 @@ pub fn records_and_histories(
 ) -> Result<RecordsAndHistories, Memory>
     ensures records { IfOk result (λ both. both.records ≡ records_of script.now (reverse trace.now)) }
     ensures histories { IfOk result (λ both. AreHistories script.now (reverse trace.now) both.histories) }
-    ensures issued { IfOk result (λ both. both.has_issued ≡ false → issued_in trace.now ≡ []) }
 {
     let gathered = gather(alloc, script, trace)?;
     let records = records_from(alloc, &gathered.table)?;
     let histories = histories_from(alloc, script, &gathered.events)?;
-    Ok(RecordsAndHistories {
+    Ok(RecordsAndHistories { records, histories })
+}
+
+/// The same, of which the histories are no copies, and whether a configuration was issued.
+pub fn records_and_items<'a>(
+    alloc: Global,
+    script: &'a Script,
+    trace: &'a Trace,
+) -> Result<RecordsAndItems<'a>, Memory>
+    ensures records { IfOk result (λ both. both.records ≡ records_of script.now (reverse trace.now)) }
+    ensures histories { IfOk result (λ both. AreHistories script.now (reverse trace.now) (map history_view both.histories.items)) }
+    ensures issued { IfOk result (λ both. both.has_issued ≡ false → issued_in trace.now ≡ []) }
+{
+    let gathered = gather(alloc, script, trace)?;
+    let records = records_from(alloc, &gathered.table)?;
+    let histories = items_by_key(alloc, script, &gathered.events)?;
+    Ok(RecordsAndItems {
         records,
         histories,
         has_issued: gathered.has_issued,

@@ -30,7 +30,8 @@ line_stays space old new more p e is = record {
 }
 
 -- a line that was appended
-pub line_behind : (space : Space) (old new : List ℕ) (p : PrintedRow) → new ≡ old ++ row_line space p.row.now → p.start ≡ length old → p.end ≡ length new → IsLine space new p
+pub line_behind : (space : Space) (old new : List ℕ) (p : PrintedRow) → new ≡ old ++ row_line space p.row.now
+    → p.start ≡ length old → p.end ≡ length new → IsLine space new p
 line_behind space old new p e start end = record {
   begins = omega (arith, start, end, ap length e, length-append old (row_line space p.row.now));
   ends = omega (arith, end);

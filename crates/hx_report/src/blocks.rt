@@ -11,7 +11,7 @@ use crate::drivers::put_drivers;
 use crate::epochs::put_epochs;
 use crate::items::put_histories;
 use crate::tracing::put_trace;
-use hx_history::records_and_histories;
+use hx_history::records_and_items;
 use hx_print::put_space;
 use hx_trace::Trace;
 use hx_types::{Memory, Script, Totals};
@@ -46,7 +46,7 @@ pub fn put_block(
     requires { IsSpace script.now.space }
     ensures { OnOk result (AddsBlock script.now (reverse trace.now) totals.now with_trace out.old.items out.new.items) }
 {
-    let both = records_and_histories(alloc, script, trace)?;
+    let both = records_and_items(alloc, script, trace)?;
     put_space(out, &script.space)?;
     put_records(alloc, out, script, &both.records)?;
     put_histories(out, &script.space, &both.histories)?;

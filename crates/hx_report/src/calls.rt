@@ -44,7 +44,8 @@ fn put_span(out: &mut Vec<u8>, call: &Record) -> Result<(), Memory>
     put_end(out, &call.end)
 }
 
-/// Appends what a call was answered, if anything, with the rows of a search beside those printed before.
+/// Appends what a call was answered, if anything, with the rows of a search beside those printed
+/// before.
 #[tactic(auto, unfolding(crate::specs::Reporting::maybe_answer_lines, crate::specs::Reporting::answer_lines))]
 fn put_answered<'a>(
     out: &mut Vec<u8>,

@@ -93,8 +93,8 @@ fn put_issued(alloc: Global, out: &mut Vec<u8>, trace: &Trace) -> Result<(), Mem
     Ok(())
 }
 
-/// Appends the lines of epoch 1 and of the epochs that were issued in the trace, over which it goes only
-/// where there are any: it is long.
+/// Appends the lines of epoch 1 and of the epochs that were issued in the trace, over which it goes
+/// only where there are any: it is long.
 #[tactic(auto, unfolding(crate::specs::Reporting::epochs_text))]
 pub fn put_epochs(
     alloc: Global,

@@ -1,14 +1,17 @@
 //! The lines of histories.
 
-ghost use Rattle.std.specs.Prelude.{◌≡◌, ◌++◌, OnOk};
+ghost use Rattle.std.specs.Prelude.{◌≡◌, ◌++◌, map, OnOk};
+ghost use Rattle.std.specs.Option.{option_copied};
 ghost use Rattle.std.specs.List.{flat_map};
+ghost use Rattle.hx_history.specs.Events.{item_view};
+ghost use Rattle.hx_history.specs.Listed.{history_view};
 ghost use Rattle.hx_report.specs.Reporting.{history_lines, item_line, item_text, state_text, word_of};
 
 use crate::labels::put_labeled;
 use crate::objects::put_object;
-use hx_history::{Histories, KeyHistory};
+use hx_history::{ItemRef, KeyItems};
 use hx_print::{put_bytes, put_caller, put_text};
-use hx_types::{Answer, Item, Memory, Object, Space};
+use hx_types::{Answer, Memory, Object, Space};
 
 /// The word for the answer of an item.
 #[tactic(auto, unfolding(crate::specs::Reporting::word_of))]
@@ -31,6 +34,14 @@ fn word_of(answer: &Answer) -> &'static [u8]
 pub fn put_state(out: &mut Vec<u8>, space: &Space, object: &Option<Object>) -> Result<(), Memory>
     ensures { OnOk result (out.new.items ≡ out.old.items ++ state_text space.now object.now) }
 {
+    put_state_of(out, space, object.as_ref())
+}
+
+/// The same of an object that lies elsewhere.
+#[tactic(auto, unfolding(crate::specs::Reporting::state_text))]
+fn put_state_of(out: &mut Vec<u8>, space: &Space, object: Option<&Object>) -> Result<(), Memory>
+    ensures { OnOk result (out.new.items ≡ out.old.items ++ state_text space.now (option_copied object.entry)) }
+{
     match object {
         Some(object) => {
             put_bytes(out, b"present")?;
@@ -41,8 +52,8 @@ pub fn put_state(out: &mut Vec<u8>, space: &Space, object: &Option<Object>) -> R
 }
 
 #[tactic(auto, unfolding(crate::specs::Reporting::item_text))]
-fn put_item_head(out: &mut Vec<u8>, item: &Item) -> Result<(), Memory>
-    ensures { OnOk result (out.new.items ≡ out.old.items ++ item_text item.now) }
+fn put_item_head(out: &mut Vec<u8>, item: &ItemRef<'_>) -> Result<(), Memory>
+    ensures { OnOk result (out.new.items ≡ out.old.items ++ item_text (item_view item.now)) }
 {
     put_labeled(out, b"item ", item.version.0)?;
     put_bytes(out, b" ")?;
@@ -50,20 +61,20 @@ fn put_item_head(out: &mut Vec<u8>, item: &Item) -> Result<(), Memory>
 }
 
 #[tactic(auto, unfolding(crate::specs::Reporting::item_line))]
-fn put_item(out: &mut Vec<u8>, space: &Space, item: &Item) -> Result<(), Memory>
-    ensures { OnOk result (out.new.items ≡ out.old.items ++ item_line space.now item.now) }
+fn put_item(out: &mut Vec<u8>, space: &Space, item: &ItemRef<'_>) -> Result<(), Memory>
+    ensures { OnOk result (out.new.items ≡ out.old.items ++ item_line space.now (item_view item.now)) }
 {
     put_item_head(out, item)?;
     put_bytes(out, b" ")?;
-    put_bytes(out, word_of(&item.answer))?;
+    put_bytes(out, word_of(item.answer))?;
     put_bytes(out, b" ")?;
-    put_state(out, space, &item.object)?;
+    put_state_of(out, space, item.object)?;
     put_bytes(out, b"\n")
 }
 
-fn put_items(out: &mut Vec<u8>, space: &Space, items: &[Item]) -> Result<(), Memory>
+fn put_items(out: &mut Vec<u8>, space: &Space, items: &[ItemRef<'_>]) -> Result<(), Memory>
     ensures { OnOk result
-        (out.new.items ≡ out.old.items ++ flat_map (item_line space.now) items.now) }
+        (out.new.items ≡ out.old.items ++ flat_map (item_line space.now) (map item_view items.now)) }
 {
     for item in items {
         put_item(out, space, item)?;
@@ -72,21 +83,25 @@ fn put_items(out: &mut Vec<u8>, space: &Space, items: &[Item]) -> Result<(), Mem
 }
 
 #[tactic(auto, unfolding(crate::specs::Reporting::history_lines))]
-fn put_history(out: &mut Vec<u8>, space: &Space, history: &KeyHistory) -> Result<(), Memory>
-    ensures { OnOk result (out.new.items ≡ out.old.items ++ history_lines space.now history.now) }
+fn put_history(out: &mut Vec<u8>, space: &Space, history: &KeyItems<'_>) -> Result<(), Memory>
+    ensures { OnOk result (out.new.items ≡ out.old.items ++ history_lines space.now (history_view history.now)) }
 {
     put_bytes(out, b"history ")?;
     put_text(out, &history.key)?;
     put_bytes(out, b"\n")?;
-    put_items(out, space, history.items.as_slice())
+    put_items(out, space, &history.items)
 }
 
 /// Appends the histories of keys.
-pub fn put_histories(out: &mut Vec<u8>, space: &Space, histories: &Histories) -> Result<(), Memory>
+pub fn put_histories(
+    out: &mut Vec<u8>,
+    space: &Space,
+    histories: &[KeyItems<'_>],
+) -> Result<(), Memory>
     ensures { OnOk result
-        (out.new.items ≡ out.old.items ++ flat_map (history_lines space.now) histories.now) }
+        (out.new.items ≡ out.old.items ++ flat_map (history_lines space.now) (map history_view histories.now)) }
 {
-    for history in histories.as_slice() {
+    for history in histories {
         put_history(out, space, history)?;
     }
     Ok(())

@@ -23,8 +23,8 @@ pub struct PrintedRow<'a> {
     pub end: usize,
 }
 
-/// The rows that were printed, of each key the last one, in byte order of keys: a search mostly finds
-/// what another one found, and a line is copied faster than made.
+/// The rows that were printed, of each key the last one, in byte order of keys: a search mostly
+/// finds what another one found, and a line is copied faster than made.
 #[derive(Drop)]
 pub struct PrintedRows<'a> {
     pub rows: Vec<PrintedRow<'a>>,
@@ -90,8 +90,8 @@ fn put_made<'a>(
     Ok(made)
 }
 
-/// Appends the line of a row, copied where it was printed. Looks for it among the printed rows from a
-/// place on, and returns the place behind those of lower keys and its own.
+/// Appends the line of a row, copied where it was printed. Looks for it among the printed rows from
+/// a place on, and returns the place behind those of lower keys and its own.
 fn put_next_row<'a>(
     out: &mut Vec<u8>,
     space: &Space,
@@ -174,6 +174,7 @@ fn keep_made(printed: &mut PrintedRows<'_>) -> Result<(), Memory>
 }
 
 /// Appends the lines of an answer's rows, beside those printed before.
+#[inline(never)]
 fn put_beside<'a>(
     out: &mut Vec<u8>,
     space: &Space,
@@ -191,8 +192,8 @@ fn put_beside<'a>(
     keep_made(printed)
 }
 
-/// Appends how many rows there are, and their lines. A row that was printed before has its line copied
-/// where the answer isn't much shorter than what was printed.
+/// Appends how many rows there are, and their lines. A row that was printed before has its line
+/// copied where the answer isn't much shorter than what was printed.
 #[tactic(auto, unfolding(crate::specs::Reporting::rows_lines))]
 pub fn put_rows_again<'a>(
     out: &mut Vec<u8>,

@@ -9,7 +9,9 @@ pub made-init : goal.made-init
 made-init c =
     record {
       printed = λ space is. record { rows = is.rows; made = is.made };
-      both = λ space is. subst (All (IsLine space c.args.printed.now.lines.items)) (sym c.clear.ensures.items) (All-nil (IsLine space c.args.printed.now.lines.items));
+      both = λ space is.
+          let P = IsLine space c.args.printed.now.lines.items in
+          subst (All P) (sym c.clear.ensures.items) (All-nil P);
     }
 
 pub made-preserved : goal.made-preserved
@@ -19,8 +21,11 @@ made-preserved c =
       both = λ space is.
           let p = c.made.invariant.printed space is in
           let P = IsLine space c.made.printed.lines.items in
-          let made = all_at P c.made.printed.made.items c.deref.result.now c.made.next c.in-Some.made.now c.deref.ensures.value c.in-Some.ensures.lookup.3.0 c.in-Some.ensures.lookup.1 p.made in
-          let both = c.in_ok-place.ensures space c.made.printed.lines.items (subst (All P) (sym c.deref-in-Some.ensures.value) p.rows) (c.made.invariant.both space is) in
+          let made =
+          all_at P c.made.printed.made.items c.deref.result.now c.made.next c.in-Some.made.now c.deref.ensures.value
+          c.in-Some.ensures.lookup.3.0 c.in-Some.ensures.lookup.1 p.made in
+          let rows = subst (All P) (sym c.deref-in-Some.ensures.value) p.rows in
+          let both = c.in_ok-place.ensures space c.made.printed.lines.items rows (c.made.invariant.both space is) in
           subst (All P) (sym c.in_ok-push.ensures.items) (All-push P c.take_lower.new.both.items c.in-Some.made.now both made);
     }
 
@@ -29,7 +34,8 @@ returns c =
     λ space is.
     let p = c.made.invariant.printed space is in
     let P = IsLine space c.made.printed.lines.items in
-    let both = c.in_ok-take_lower.ensures space c.made.printed.lines.items (subst (All P) (sym c.deref-2.ensures.value) p.rows) (c.made.invariant.both space is) in
+    let rows = subst (All P) (sym c.deref-2.ensures.value) p.rows in
+    let both = c.in_ok-take_lower.ensures space c.made.printed.lines.items rows (c.made.invariant.both space is) in
     record {
       rows = subst (λ rows. All P rows.items) (sym c.swap.ensures.x_after) both;
       made = subst (All P) (sym c.clear-2.ensures.items) (All-nil P);

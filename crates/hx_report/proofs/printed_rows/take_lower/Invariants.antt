@@ -5,7 +5,8 @@ use Rattle.hx_report.specs.PrintedRows.{IsLine}
 use Rattle.hx_report.proofs.printed_rows.take_lower.Given as goal
 
 abbrev pub invariant-lower : goal.invariant-lower
-invariant-lower l = (space : Space) (lines : List ℕ) → All (IsLine space lines) l.rows → All (IsLine space lines) l.fn.both.items → All (IsLine space lines) l.both.items
+invariant-lower l =
+    (space : Space) (lines : List ℕ) → All (IsLine space lines) l.rows → All (IsLine space lines) l.fn.both.items → All (IsLine space lines) l.both.items
 
 abbrev pub decreases-lower : goal.decreases-lower
 decreases-lower l = length l.rows - l.place
