@@ -63,10 +63,12 @@ turned : (a b : List ℕ) (o : Ordering) → order a b ≡ o → order b a ≡ o
 turned a b o h = nat_list_cmp_total.antisymm b a ∙ ap ordering_reverse h
 
 -- where a row comes among rows, by how its key compares to that of the first
-comes : (r x : Row) (rest : List Row) (o : Ordering) → order r.key x.key ≡ o → with_row r (x ∷ rest) ≡ match_ordering o (r ∷ x ∷ rest) (kept_of r x ∷ rest) (x ∷ with_row r rest)
+comes : (r x : Row) (rest : List Row) (o : Ordering) → order r.key x.key ≡ o
+    → with_row r (x ∷ rest) ≡ match_ordering o (r ∷ x ∷ rest) (kept_of r x ∷ rest) (x ∷ with_row r rest)
 comes r x rest o h = by o (same_is r.key x.key ∙ ap is_eq h) (below_is r.key x.key ∙ ap is_lt h)
   where
-    by : (o : Ordering) → same_text r.key x.key ≡ is_eq o → text_below r.key x.key ≡ is_lt o → with_row r (x ∷ rest) ≡ match_ordering o (r ∷ x ∷ rest) (kept_of r x ∷ rest) (x ∷ with_row r rest)
+    by : (o : Ordering) → same_text r.key x.key ≡ is_eq o → text_below r.key x.key ≡ is_lt o
+        → with_row r (x ∷ rest) ≡ match_ordering o (r ∷ x ∷ rest) (kept_of r x ∷ rest) (x ∷ with_row r rest)
     by Less s b = cond-false (same_text r.key x.key) _ _ s ∙ cond-true (text_below r.key x.key) _ _ b
     by Equal s b = cond-true (same_text r.key x.key) _ _ s
     by Greater s b = cond-false (same_text r.key x.key) _ _ s ∙ cond-false (text_below r.key x.key) _ _ b
@@ -95,7 +97,8 @@ passes r s l (x ∷ rest) = by (order s.key x.key) refl (order r.key x.key) refl
         ∙ sym (over i ∙ ap (λ (rows : List Row). r ∷ rows) (comes s x rest Greater h))
     by Greater h Equal i more =
         ap (with_row r) (comes s x rest Greater h) ∙ comes r x (with_row s rest) Equal i
-        ∙ sym (ap (with_row s) (comes r x rest Equal i) ∙ comes s (kept_of r x) rest Greater (ap (order s.key) (kept-key r x (equal_from r.key x.key (ap is_eq i))) ∙ h))
+        ∙ sym (ap (with_row s) (comes r x rest Equal i)
+        ∙ comes s (kept_of r x) rest Greater (ap (order s.key) (kept-key r x (equal_from r.key x.key (ap is_eq i))) ∙ h))
     by Greater h Greater i more =
         ap (with_row r) (comes s x rest Greater h) ∙ comes r x (with_row s rest) Greater i ∙ ap (λ (rows : List Row). x ∷ rows) more
         ∙ sym (ap (with_row s) (comes r x rest Greater i) ∙ comes s x (with_row r rest) Greater h)
@@ -116,7 +119,8 @@ together r s e (x ∷ rest) = by (order s.key x.key) refl (together r s e rest)
     kept : (o : Ordering) → order s.key x.key ≡ o → order (kept_of r s).key x.key ≡ o
     kept o h = ap (λ (k : List ℕ). order k x.key) (kept-key r s e) ∙ h
 
-    by : (o : Ordering) → order s.key x.key ≡ o → with_row r (with_row s rest) ≡ with_row (kept_of r s) rest → with_row r (with_row s (x ∷ rest)) ≡ with_row (kept_of r s) (x ∷ rest)
+    by : (o : Ordering) → order s.key x.key ≡ o → with_row r (with_row s rest) ≡ with_row (kept_of r s) rest
+        → with_row r (with_row s (x ∷ rest)) ≡ with_row (kept_of r s) (x ∷ rest)
     by Less h more =
         ap (with_row r) (comes s x rest Less h) ∙ comes r s (x ∷ rest) Equal (ap (λ (k : List ℕ). order k s.key) e ∙ tied_itself nat_list_cmp_total s.key)
         ∙ sym (comes (kept_of r s) x rest Less (kept Less h))
@@ -126,7 +130,8 @@ together r s e (x ∷ rest) = by (order s.key x.key) refl (together r s e rest)
         ∙ ap (λ (k : Row). k ∷ rest) (kept-assoc r s x)
         ∙ sym (comes (kept_of r s) x rest Equal (kept Equal h))
     by Greater h more =
-        ap (with_row r) (comes s x rest Greater h) ∙ comes r x (with_row s rest) Greater (ap (λ (k : List ℕ). order k x.key) e ∙ h) ∙ ap (λ (rows : List Row). x ∷ rows) more
+        ap (with_row r) (comes s x rest Greater h) ∙ comes r x (with_row s rest) Greater (ap (λ (k : List ℕ). order k x.key) e ∙ h)
+        ∙ ap (λ (rows : List Row). x ∷ rows) more
         ∙ sym (comes (kept_of r s) x rest Greater (kept Greater h))
 
 -- whether a row is of this key
@@ -168,7 +173,8 @@ out_first : (y : Row) (more : List Row) (xs : List Row) → filter (has_key y.ke
 out_first y more [] e w = absurd cc
 out_first y more (x ∷ xs) e w = by (has_key y.key x) refl e (out_first y more xs)
   where
-    past : (u v : Bool) → (u ≡ true → v ≡ false) → (y x : Row) (us vs : List Row) → cond u (y ∷ us) us ≡ vs → cond u (y ∷ cond v (x ∷ us) us) (cond v (x ∷ us) us) ≡ cond v (x ∷ vs) vs
+    past : (u v : Bool) → (u ≡ true → v ≡ false) → (y x : Row) (us vs : List Row) → cond u (y ∷ us) us ≡ vs
+        → cond u (y ∷ cond v (x ∷ us) us) (cond v (x ∷ us) us) ≡ cond v (x ∷ vs) vs
     past true true n y x us vs e = absurd (let t = n refl in cc)
     past true false n y x us vs e = e
     past false true n y x us vs e = ap (λ (l : List Row). x ∷ l) e
@@ -179,7 +185,8 @@ out_first y more (x ∷ xs) e w = by (has_key y.key x) refl e (out_first y more 
         → filter (has_key w.key) (y ∷ cond b xs (x ∷ without y.key xs)) ≡ filter (has_key w.key) (x ∷ xs)
     by true h e later = ap (λ (b : Row). filter (has_key w.key) (b ∷ xs)) (sym (first_is e))
     by false h e later =
-        past (has_key w.key y) (has_key w.key x) (λ t. ap (λ (k : List ℕ). same_text k x.key) (same-from w.key y.key t) ∙ h) y x (filter (has_key w.key) (without y.key xs)) (filter (has_key w.key) xs) (later e w)
+        past (has_key w.key y) (has_key w.key x) (λ t. ap (λ (k : List ℕ). same_text k x.key) (same-from w.key y.key t) ∙ h) y x
+        (filter (has_key w.key) (without y.key xs)) (filter (has_key w.key) xs) (later e w)
 
 -- rows of each key stand in the same order
 abbrev pub StayInTurn : List Row → List Row → Type 0
@@ -188,7 +195,8 @@ StayInTurn xs ys = (w : Row) → filter (has_key w.key) ys ≡ filter (has_key w
 -- so they are joined to the same rows
 pub joined-in_turn : (xs ys : List Row) → StayInTurn xs ys → (rows : List Row) → rows_joined ys rows ≡ rows_joined xs rows
 joined-in_turn [] [] s rows = refl
-joined-in_turn (x ∷ xs) [] s rows = absurd (let e = s x ∙ cond-true (has_key x.key x) (x ∷ filter (has_key x.key) xs) (filter (has_key x.key) xs) (same-itself x.key) in cc)
+joined-in_turn (x ∷ xs) [] s rows = absurd
+    (let e = s x ∙ cond-true (has_key x.key x) (x ∷ filter (has_key x.key) xs) (filter (has_key x.key) xs) (same-itself x.key) in cc)
 joined-in_turn xs (y ∷ ys) s rows =
     let first : filter (has_key y.key) xs ≡ y ∷ filter (has_key y.key) ys =
     sym (s y) ∙ cond-true (has_key y.key y) (y ∷ filter (has_key y.key) ys) (filter (has_key y.key) ys) (same-itself y.key)
@@ -223,13 +231,18 @@ Rise (r ∷ rest) = AllByRecursion (λ (x : Row). is_lt (order x.key r.key) ≡ 
 pub rise-from_sorted : (xs : List Row) → IsSortedByKey row_key (slice_cmp nat_cmp) xs → Rise xs
 rise-from_sorted xs up = by xs (sorted_far _ (ranks_by nat_list_cmp_total row_key) xs up)
   where
-    not_below : (b : Row) (rest : List Row) → ((k : ℕ) (d : Row) → k < length rest → is_lt (order (get_or rest k d).key b.key) ≡ false) → AllByRecursion (λ (x : Row). is_lt (order x.key b.key) ≡ false) rest
+    not_below : (b : Row) (rest : List Row) → ((k : ℕ) (d : Row) → k < length rest → is_lt (order (get_or rest k d).key b.key) ≡ false)
+        → AllByRecursion (λ (x : Row). is_lt (order x.key b.key) ≡ false) rest
     not_below b [] h = tt
     not_below b (c ∷ rest) h = (h zero c (omega arith), not_below b rest (λ k d l. h (suc k) d (omega (arith, l))))
 
     by : (xs : List Row) → ((i j : ℕ) (d : Row) → i ≤ j → j < length xs → is_lt (order (get_or xs j d).key (get_or xs i d).key) ≡ false) → Rise xs
     by [] h = tt
-    by (b ∷ rest) h = (not_below b rest (λ k d l. h zero (suc k) d (omega arith) (omega (arith, l))), by rest (λ i j d l m. h (suc i) (suc j) d (omega (arith, l)) (omega (arith, m))))
+    by (b ∷ rest) h = (
+      not_below b rest (λ k d l. h zero (suc k) d (omega arith) (omega (arith, l))),
+      by rest
+          (λ i j d l m. h (suc i) (suc j) d (omega (arith, l)) (omega (arith, m))),
+    )
 
 -- a row whose key is below all others stands before them
 abbrev AllAbove : List ℕ → List Row → Type 0
@@ -251,7 +264,8 @@ above_all key low (x ∷ rest) l h = (at (order low x.key) refl, above_all key l
     at Greater e = absurd (let t : true ≡ false = sym (ap is_lt (turned low x.key Greater e)) ∙ h.0 in cc)
 
 -- the first of rows that rise, where the next has another key
-pub next_key : (r x : Row) (rest : List Row) → Rise (r ∷ x ∷ rest) → same_text x.key r.key ≡ false → rows_joined (r ∷ x ∷ rest) [] ≡ r ∷ rows_joined (x ∷ rest) []
+pub next_key : (r x : Row) (rest : List Row) → Rise (r ∷ x ∷ rest) → same_text x.key r.key ≡ false
+    → rows_joined (r ∷ x ∷ rest) [] ≡ r ∷ rows_joined (x ∷ rest) []
 next_key r x rest up n = stands_first r (x ∷ rest) (low, above_all r.key x.key rest low up.1.0)
   where
     by : (o : Ordering) → order x.key r.key ≡ o → order r.key x.key ≡ Less
@@ -263,12 +277,14 @@ next_key r x rest up n = stands_first r (x ∷ rest) (low, above_all r.key x.key
     low = by (order x.key r.key) refl
 
 -- where the next has the same key, one of the two stays
-pub same_key-later : (r x : Row) (rest : List Row) → same_text x.key r.key ≡ true → nat_lt x.version.0 r.version.0 ≡ false → rows_joined (r ∷ x ∷ rest) [] ≡ rows_joined (x ∷ rest) []
+pub same_key-later : (r x : Row) (rest : List Row) → same_text x.key r.key ≡ true → nat_lt x.version.0 r.version.0 ≡ false
+    → rows_joined (r ∷ x ∷ rest) [] ≡ rows_joined (x ∷ rest) []
 same_key-later r x rest e l =
     together r x (sym (same-from x.key r.key e)) (rows_joined rest [])
     ∙ ap (λ (k : Row). with_row k (rows_joined rest [])) (cond-false (nat_lt x.version.0 r.version.0) r x l)
 
-pub same_key-earlier : (r x : Row) (rest : List Row) → same_text x.key r.key ≡ true → nat_lt x.version.0 r.version.0 ≡ true → rows_joined (r ∷ x ∷ rest) [] ≡ rows_joined (r ∷ rest) []
+pub same_key-earlier : (r x : Row) (rest : List Row) → same_text x.key r.key ≡ true → nat_lt x.version.0 r.version.0 ≡ true
+    → rows_joined (r ∷ x ∷ rest) [] ≡ rows_joined (r ∷ rest) []
 same_key-earlier r x rest e l =
     together r x (sym (same-from x.key r.key e)) (rows_joined rest [])
     ∙ ap (λ (k : Row). with_row k (rows_joined rest [])) (cond-true (nat_lt x.version.0 r.version.0) r x l)
@@ -282,35 +298,50 @@ pub record IsPassed (rows : List Row) (kept : Row) (rest whole : List Row) : Typ
   pub all : rows ++ rows_joined (kept ∷ rest) [] ≡ rows_joined whole []
   pub rise : Rise (kept ∷ rest)
 
-pub passed-none : (sorted : List Row) (first : Row) (rest : List Row) → sorted ≡ first ∷ rest → IsSortedByKey row_key (slice_cmp nat_cmp) sorted → IsPassed [] first rest sorted
+pub passed-none : (sorted : List Row) (first : Row) (rest : List Row) → sorted ≡ first ∷ rest → IsSortedByKey row_key (slice_cmp nat_cmp) sorted
+    → IsPassed [] first rest sorted
 passed-none sorted first rest e up = record {
   all = ap (λ (l : List Row). rows_joined l []) (sym e);
   rise = subst Rise e (rise-from_sorted sorted up);
 }
 
-pub passed-next : (rows : List Row) (kept x : Row) (rest whole : List Row) → IsPassed rows kept (x ∷ rest) whole → same_text x.key kept.key ≡ false → IsPassed (rows ++ kept ∷ []) x rest whole
+pub passed-next : (rows : List Row) (kept x : Row) (rest whole : List Row) → IsPassed rows kept (x ∷ rest) whole → same_text x.key kept.key ≡ false
+    → IsPassed (rows ++ kept ∷ []) x rest whole
 passed-next rows kept x rest whole p n = record {
   all = append_assoc rows (kept ∷ []) (rows_joined (x ∷ rest) []) ∙ ap (λ (l : List Row). rows ++ l) (sym (next_key kept x rest p.rise n)) ∙ p.all;
   rise = p.rise.1;
 }
 
-pub passed-later : (rows : List Row) (kept x : Row) (rest whole : List Row) → IsPassed rows kept (x ∷ rest) whole → same_text x.key kept.key ≡ true → not (nat_lt x.version.0 kept.version.0) ≡ true → IsPassed rows x rest whole
-passed-later rows kept x rest whole p e l = record { all = ap (λ (l : List Row). rows ++ l) (sym (same_key-later kept x rest e (sym (not-not (nat_lt x.version.0 kept.version.0)) ∙ ap not l))) ∙ p.all; rise = p.rise.1 }
+pub passed-later : (rows : List Row) (kept x : Row) (rest whole : List Row) → IsPassed rows kept (x ∷ rest) whole → same_text x.key kept.key ≡ true
+    → not (nat_lt x.version.0 kept.version.0) ≡ true → IsPassed rows x rest whole
+passed-later rows kept x rest whole p e l = record {
+  all = ap (λ (l : List Row). rows ++ l)
+      (sym (same_key-later kept x rest e (sym (not-not (nat_lt x.version.0 kept.version.0)) ∙ ap not l))) ∙ p.all;
+  rise = p.rise.1;
+}
 
-pub passed-earlier : (rows : List Row) (kept x : Row) (rest whole : List Row) → IsPassed rows kept (x ∷ rest) whole → same_text x.key kept.key ≡ true → not (nat_lt x.version.0 kept.version.0) ≡ false → IsPassed rows kept rest whole
-passed-earlier rows kept x rest whole p e l = record { all = ap (λ (l : List Row). rows ++ l) (sym (same_key-earlier kept x rest e (sym (not-not (nat_lt x.version.0 kept.version.0)) ∙ ap not l))) ∙ p.all; rise = (p.rise.0.1, p.rise.1.1) }
+pub passed-earlier : (rows : List Row) (kept x : Row) (rest whole : List Row) → IsPassed rows kept (x ∷ rest) whole → same_text x.key kept.key ≡ true
+    → not (nat_lt x.version.0 kept.version.0) ≡ false → IsPassed rows kept rest whole
+passed-earlier rows kept x rest whole p e l = record {
+  all = ap (λ (l : List Row). rows ++ l)
+      (sym (same_key-earlier kept x rest e (sym (not-not (nat_lt x.version.0 kept.version.0)) ∙ ap not l))) ∙ p.all;
+  rise = (p.rise.0.1, p.rise.1.1);
+}
 
 -- what a stable sort ensures, where each call of the closure compares two keys
 module _ {F : Type 0} (g : Mut F (Bor Row × (Bor Row × Unit {0})) Ordering) (f : F) where
   abbrev pub ComparesKeys : Type 0
-  ComparesKeys = (a : Bor Row × (Bor Row × Unit {0})) (r : Ordering) (f' : F) → Called g f a r f' → (r ≡ slice_cmp nat_cmp (row_key a.0.now) (row_key a.1.0.now)) × (f' ≡ f)
+  ComparesKeys = (a : Bor Row × (Bor Row × Unit {0})) (r : Ordering) (f' : F) → Called g f a r f'
+      → (r ≡ slice_cmp nat_cmp (row_key a.0.now) (row_key a.1.0.now)) × (f' ≡ f)
 
   as_keys : ComparesKeys → ComparesAs g (λ x y. is_lt (slice_cmp nat_cmp (row_key x) (row_key y))) f
-  as_keys h = always_returns_same g (λ a r. is_lt r ≡ is_lt (slice_cmp nat_cmp (row_key a.0.now) (row_key a.1.0.now))) f (λ a r f' k. (ap is_lt (h a r f' k).0, (h a r f' k).1))
+  as_keys h = always_returns_same g (λ a r. is_lt r ≡ is_lt (slice_cmp nat_cmp (row_key a.0.now) (row_key a.1.0.now))) f
+      (λ a r f' k. (ap is_lt (h a r f' k).0, (h a r f' k).1))
 
 module _ {F : Type 0} {g : Mut F (Bor Row × (Bor Row × Unit {0})) Ordering} {f : F} where
   pub sorted-from : (xs : List Row) → IsSortedByClosure g f xs → ComparesKeys g f → IsSortedByKey row_key (slice_cmp nat_cmp) xs
   sorted-from xs up h = up (λ x y. is_lt (slice_cmp nat_cmp (row_key x) (row_key y))) (ranks_by nat_list_cmp_total row_key) (as_keys g f h)
 
   pub in_turn-from : (xs ys : List Row) → IsStableByClosure g f xs ys → ComparesKeys g f → StayInTurn xs ys
-  in_turn-from xs ys stable h = in_turn-from_stable xs ys (stable (λ x y. is_lt (slice_cmp nat_cmp (row_key x) (row_key y))) (ranks_by nat_list_cmp_total row_key) (as_keys g f h))
+  in_turn-from xs ys stable h = in_turn-from_stable xs ys
+      (stable (λ x y. is_lt (slice_cmp nat_cmp (row_key x) (row_key y))) (ranks_by nat_list_cmp_total row_key) (as_keys g f h))

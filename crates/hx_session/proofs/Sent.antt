@@ -15,9 +15,11 @@ seen_asked [] = refl
 seen_asked (g ∷ rest) = ap (λ (ps : List PartSeen). record { region = g; rows = None } ∷ ps) (seen_asked rest)
 
 -- a search that has a plan
-pub asked_makes : (sender : Sender) (terms : List Term) (s : ℕ) (regions : List RegionId) (planned : Planned) → planned ≡ a_plan.Regions s regions → (calls : List Op) (parts : List PartSeen) (change : Change) → change ≡ asked_as sender.progress regions
+pub asked_makes : (sender : Sender) (terms : List Term) (s : ℕ) (regions : List RegionId) (planned : Planned) → planned ≡ a_plan.Regions s regions
+    → (calls : List Op) (parts : List PartSeen) (change : Change) → change ≡ asked_as sender.progress regions
     → Makes (sender_seen sender calls parts) (ask_regions (sender_seen sender calls parts) terms planned) change
 asked_makes sender terms s regions planned is calls parts change e =
     let seen : SessionState = sender_seen sender calls parts in
     subst (λ (p : Planned). Makes seen (ask_regions seen terms p) change) (sym is)
-    (subst (λ (c : Change). Makes seen (ask_regions seen terms (a_plan.Regions s regions)) c) (sym e) (ap (λ (ps : List PartSeen). record seen { parts = ps }) (seen_asked regions)))
+    (subst (λ (c : Change). Makes seen (ask_regions seen terms (a_plan.Regions s regions)) c) (sym e)
+    (ap (λ (ps : List PartSeen). record seen { parts = ps }) (seen_asked regions)))

@@ -19,7 +19,8 @@ returns c =
     subst (λ (rows : List Row). IfOk c.picked.result (λ picked. picked ≡ rows))
     (
     ap (λ (lent : List Row). rows_joined lent []) c.as_slice.ensures.value
-    ∙ joined-in_turn c.in_ok-rows.rows.items c.sort_by.new.self.items (in_turn-from c.in_ok-rows.rows.items c.sort_by.new.self.items c.sort_by.ensures.stable (λ a r f' called. search rules)) []
+    ∙ joined-in_turn c.in_ok-rows.rows.items c.sort_by.new.self.items
+    (in_turn-from c.in_ok-rows.rows.items c.sort_by.new.self.items c.sort_by.ensures.stable (λ a r f' called. search rules)) []
     ∙ ap (λ (rows : List Row). rows_joined rows []) c.in_ok-rows.ensures
     ∙ merged-at_once (map (with_part c.args.region c.args.found.now) (map part_seen c.args.parts.now))
     )

@@ -10,6 +10,7 @@ returns-in-Regions-clause-change c =
     IfOk-weaker c.ask_regions.result _ _
     (
     λ change e. λ calls parts. asked_makes c.args.sender.now c.args.terms.now c.in-Regions.subspace c.in-Regions.regions _
-    (ap (λ (x : Space). plan_of x c.args.sender.now.config.now c.args.terms.now) (sym c.requires) ∙ sym c.in_ok-regions.ensures.exact ∙ c.in-Regions.is) calls parts change e
+    (ap (λ (x : Space). plan_of x c.args.sender.now.config.now c.args.terms.now) (sym c.requires) ∙ sym c.in_ok-regions.ensures.exact
+    ∙ c.in-Regions.is) calls parts change e
     )
     c.ask_regions.ensures.change

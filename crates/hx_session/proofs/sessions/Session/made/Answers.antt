@@ -6,4 +6,5 @@ use Rattle.hx_session.proofs.sessions.Session.made.Goals as goal
 
 pub returns-in-Deliver-clause-change : goal.returns-in-Deliver-clause-change
 returns-in-Deliver-clause-change c =
-    IfOk-weaker c.hear.result _ _ (λ change h. subst (λ (i : Input). IsChangeOn c.args.self.now i change) (sym c.in-Deliver.is) (h c.in-Deliver.id)) c.hear.ensures.change
+    IfOk-weaker c.hear.result _ _
+    (λ change h. subst (λ (i : Input). IsChangeOn c.args.self.now i change) (sym c.in-Deliver.is) (h c.in-Deliver.id)) c.hear.ensures.change

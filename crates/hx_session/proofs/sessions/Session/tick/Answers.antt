@@ -7,7 +7,8 @@ use Rattle.hx_session.proofs.sessions.Session.tick.Goals as goal
 
 pub returns-in_default-clause-of_space : goal.returns-in_default-clause-of_space
 returns-in_default-clause-of_space c =
-    posts_of_space c.args.self.now.space c.args.self.now.state (subst (λ (v : SessionValue). IsStateOf v.space v.state) c.self.view_is c.self.invariant.of_space) Tick tt
+    posts_of_space c.args.self.now.space c.args.self.now.state
+    (subst (λ (v : SessionValue). IsStateOf v.space v.state) c.self.view_is c.self.invariant.of_space) Tick tt
 
 pub returns-in_default-clause-named : goal.returns-in_default-clause-named
 returns-in_default-clause-named c = posts_named c.args.self.now.space c.args.self.now.state Tick
@@ -17,7 +18,8 @@ returns-in_default-clause-small c = λ most low. posts_small c.args.self.now.spa
 
 pub returns-clause-of_space : goal.returns-clause-of_space
 returns-clause-of_space c =
-    posts_of_space c.args.self.now.space c.args.self.now.state (subst (λ (v : SessionValue). IsStateOf v.space v.state) c.self.view_is c.self.invariant.of_space) Tick tt
+    posts_of_space c.args.self.now.space c.args.self.now.state
+    (subst (λ (v : SessionValue). IsStateOf v.space v.state) c.self.view_is c.self.invariant.of_space) Tick tt
 
 pub returns-clause-named : goal.returns-clause-named
 returns-clause-named c = posts_named c.args.self.now.space c.args.self.now.state Tick
