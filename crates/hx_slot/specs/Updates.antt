@@ -1,5 +1,5 @@
 -- The updates that a slot holds, in the order in which they were accepted or came.
-use Rattle.std.specs.Prelude.{◌≡◌, ℕ, ◌+◌, ◌<◌, ◌≤◌, ⊤, List, [], ◌∷◌, length, if◌then◌else◌, Option, None, Some}
+use Rattle.std.specs.Prelude.{◌≡◌, ℕ, ◌+◌, ◌<◌, ◌≤◌, ⊤, Bool, not, ◌||◌, List, [], ◌∷◌, length, if◌then◌else◌, Option, None, Some}
 use Rattle.std.specs.Option.{option_map}
 use Rattle.hx_types.specs.declared.calls.Row.{Row}
 use Rattle.hx_types.specs.declared.ids.RegionId.{RegionId}
@@ -43,6 +43,10 @@ pub record IsHeld (g : RegionId) (p : PlacedUpdate) : Type 0 where
 -- the object is set by an update that keeps and changes, and removed by one that doesn't keep
 abbrev pub row_by : AcceptedUpdate → Option Row → Option Row
 row_by t old = if t.place.keeps then if t.update.changes then row_of t.update else old else None
+
+-- the row after the update isn't the one before it
+abbrev pub changes_row : AcceptedUpdate → Bool
+changes_row t = not t.place.keeps || t.update.changes
 
 -- the row after updates, from the one before them
 abbrev pub row_over : Option Row → List AcceptedUpdate → Option Row

@@ -1,11 +1,9 @@
-ghost use Rattle.std.specs.Prelude.{◌≡◌, ℕ, ◌+◌, ◌*◌, ◌^◌, ◌<◌, IfOk, OnErr, OnOk, Option, length, true};
+ghost use Rattle.std.specs.Prelude.{◌≡◌, ℕ, ◌+◌, ◌*◌, ◌^◌, ◌<◌, None, IfOk, OnErr, OnOk, length, true};
 ghost use Rattle.std.specs.List.{AllByRecursion};
-ghost use Rattle.std.specs.Option.{unwrap_or};
-ghost use Rattle.hx_types.specs.declared.calls.Row.{Row};
 ghost use Rattle.hx_slot.specs.Bases.{HasBaseRoom, IsFolded, IsWidened};
 ghost use Rattle.hx_slot.specs.States.{HasFewPlaces};
 ghost use Rattle.hx_slot.specs.MarksAndTouches.{AscendByRegion};
-ghost use Rattle.hx_slot.specs.Updates.{places_in, row_by};
+ghost use Rattle.hx_slot.specs.Updates.{changes_row, places_in, row_by};
 ghost use Rattle.hx_slot.specs.declared.updates.AcceptedUpdate.{AcceptedUpdate};
 
 use crate::line::{copy_row, place_count, row_of};
@@ -60,7 +58,7 @@ impl Base {
         ensures folded { OnOk result (IsFolded kept taken.now self.old self.new) }
         ensures stays { OnErr result (self.new ≡ self.old) }
     {
-        let change = row_change(alloc, taken)?;
+        let row = row_set(alloc, taken)?;
         if kept {
             let update = taken.update.get();
             let mark = mark_by(alloc, update)?;
@@ -68,29 +66,26 @@ impl Base {
             note_touches(&mut self.touches, update.version, update.places.as_slice());
         }
         self.floor = taken.update.version;
-        change_row(&mut self.object, change);
+        if changes_row(taken) {
+            self.object = row;
+        }
         Ok(())
     }
 }
 
-/// The row after an update, where it isn't the one before it.
-fn row_change(alloc: Global, taken: &AcceptedUpdate) -> Result<Option<Option<Row>>, Memory>
-    ensures { IfOk result (λ change. (old : Option Row) → unwrap_or change old ≡ row_by taken.now old) }
+/// Whether the row after an update isn't the one before it.
+fn changes_row(taken: &AcceptedUpdate) -> bool
+    ensures { result ≡ changes_row taken.now }
 {
-    if !taken.place.keeps {
-        return Ok(Some(None));
-    }
-    if !taken.update.changes {
-        return Ok(None);
-    }
-    let row = copy_row(alloc, row_of(taken))?;
-    Ok(Some(row))
+    !taken.place.keeps || taken.update.changes
 }
 
-fn change_row(row: &mut Option<Row>, change: Option<Option<Row>>)
-    ensures { row.new ≡ unwrap_or change row.old }
+/// The row that an update sets, or `None` where it sets none.
+fn row_set(alloc: Global, taken: &AcceptedUpdate) -> Result<Option<Row>, Memory>
+    ensures { IfOk result (λ row. row ≡ row_by taken.now None) }
 {
-    if let Some(after) = change {
-        *row = after;
+    if taken.place.keeps && taken.update.changes {
+        return copy_row(alloc, row_of(taken));
     }
+    Ok(None)
 }

@@ -20,6 +20,9 @@ pub fn drop_version(early: &mut Vec<PlacedUpdate>, version: Version)
     ensures len { vec_len early.new ≤ vec_len early.old }
     ensures capacity { vec_capacity early.new ≡ vec_capacity early.old }
 {
+    if early.is_empty() {
+        return;
+    }
     early.retain(|placed| placed.update.version.0 != version.0);
 }
 
