@@ -7,32 +7,34 @@ ghost use Rattle.hx_model.specs.ServerSteps.{passed_on};
 ghost use Rattle.hx_model.specs.Slots.{follows, offered, pending_of, taken, top_of, turns};
 ghost use Rattle.hx_replica.specs.Outputs.{AreEnds, IsComing, IsHere, IsNew, accepting_posts, tail_version, seen, context_seen};
 
-use crate::contexts::{SlotContext, place_at, post_commit, post_update};
+use crate::contexts::{SlotContext, post_commit_at, post_update, post_update_at};
 use crate::settling::{is_settled, line_of, post_commits};
 use hx_slot::Slot;
 use hx_types::{Memory, Posts, Shared, Update, Version};
 use std::alloc::Global;
 
-/// A slot is offered an update above its top: the update and each early one whose turn then comes
-/// go to the next replica or end here, and what can be committed is told of. The versions whose
-/// chain ends here are the result.
+/// A slot is offered an update above its top, with this place in the region of the context: the
+/// update and each early one whose turn then comes go to the next replica or end here, and what can
+/// be committed is told of. The versions whose chain ends here are the result.
 #[inline(always)]
 pub fn accepted(
     alloc: Global,
     context: &SlotContext,
     slot: &Slot,
     update: &Shared<Update>,
+    place: u32,
     posts: &mut Posts,
 ) -> Result<Vec<Version>, Memory>
     requires coming { IsComing context.now.region slot.now.state update.now }
+    requires place { place ≡ place_number context.now.region update.now.places }
     requires region { slot.now.region ≡ context.now.region }
     ensures posts { OnOk result (posts.new ≡ posts.old ++ accepting_posts (context_seen context.now) slot.now.state update.now) }
     ensures ends { IfOk result (λ ends. AreEnds (context_seen context.now) slot.now.state update.now ends.items) }
 {
     if slot.early_count() == 0 && slot.pending_count() == 0 {
-        return accepted_alone(alloc, context, slot, update, posts);
+        return accepted_alone(alloc, context, slot, update, place, posts);
     }
-    let taken = taken_by(alloc, context, slot, update)?;
+    let taken = taken_by(alloc, context, slot, update, place)?;
     let line = line_of(alloc, slot, taken.as_slice())?;
     take_all(
         alloc,
@@ -45,17 +47,18 @@ pub fn accepted(
     )
 }
 
-/// The same of a slot that holds no other update: its chain is looked at once, and no list of
-/// updates is made for it.
+/// The same of a slot that holds no other update: no list of updates is made for it.
 #[inline(always)]
 fn accepted_alone(
     alloc: Global,
     context: &SlotContext,
     slot: &Slot,
     update: &Shared<Update>,
+    place: u32,
     posts: &mut Posts,
 ) -> Result<Vec<Version>, Memory>
     requires coming { IsComing context.now.region slot.now.state update.now }
+    requires place { place ≡ place_number context.now.region update.now.places }
     requires region { slot.now.region ≡ context.now.region }
     requires early { slot.now.state.early ≡ [] }
     requires pending { pending_of slot.now.state ≡ [] }
@@ -63,12 +66,12 @@ fn accepted_alone(
     ensures ends { IfOk result (λ ends. AreEnds (context_seen context.now) slot.now.state update.now ends.items) }
 {
     let mut tail_versions = Vec::new(alloc);
-    if !is_in_turn(context, slot, update) {
+    if !is_in_turn(context, slot, update, place) {
         return Ok(tail_versions);
     }
-    post_update(alloc, context, update, posts, &mut tail_versions)?;
+    post_update_at(alloc, context, update, place, posts, &mut tail_versions)?;
     if is_settled(slot, tail_versions.as_slice(), update.version) {
-        post_commit(alloc, context, update, posts)?;
+        post_commit_at(alloc, context, update, place, posts)?;
     }
     Ok(tail_versions)
 }
@@ -107,13 +110,15 @@ fn taken_by<'a>(
     context: &SlotContext,
     slot: &'a Slot,
     update: &'a Shared<Update>,
+    place: u32,
 ) -> Result<Vec<&'a Shared<Update>>, Memory>
+    requires place { place ≡ place_number context.now.region update.now.places }
     requires coming { IsComing context.now.region slot.now.state update.now }
     requires region { slot.now.region ≡ context.now.region }
     ensures taken { IfOk result (λ us. seen us.items ≡ taken (offered context.now.region slot.now.state update.now)) }
     ensures new { IfOk result (λ us. All (IsNew context.now.region slot.now.state.floor) us.items) }
 {
-    if is_in_turn(context, slot, update) {
+    if is_in_turn(context, slot, update, place) {
         taken_from(alloc, slot, update)
     } else {
         Ok(Vec::new(alloc))
@@ -121,11 +126,14 @@ fn taken_by<'a>(
 }
 
 /// Whether the update's turn has come: the version after which it comes is the slot's top.
-fn is_in_turn(context: &SlotContext, slot: &Slot, update: &Update) -> bool
-    requires coming { IsComing context.now.region slot.now.state update.now }
+#[inline]
+fn is_in_turn(context: &SlotContext, slot: &Slot, update: &Update, place: u32) -> bool
+    requires place { place ≡ place_number context.now.region update.now.places }
     ensures { result ≡ follows context.now.region (top_of slot.now.state) update.now }
 {
-    match update.places.get(place_at(context, update) as usize) {
+    // The contract alone speaks of where the slot stands.
+    let _ = context;
+    match update.places.get(place as usize) {
         Some(place) => place.after.0 == slot.top().0,
         None => false,
     }

@@ -39,19 +39,15 @@ pub fn place_at(context: &SlotContext, update: &Update) -> u32
     }
 }
 
-/// The replica after the context's in the chain of an update.
+/// The replica after the context's in the chain of an update with this place.
 #[inline(always)]
-fn next_of(context: &SlotContext, update: &Update) -> Hop
+fn next_of(context: &SlotContext, update: &Update, place: u32) -> Hop
     requires placed { IsPlacedIn context.now.region update.now }
     requires few { length update.now.places ≤ 17 }
+    requires place { place ≡ place_number context.now.region update.now.places }
     ensures { result ≡ next_at (context_seen context.now) update.now }
 {
-    next(
-        context.config,
-        update,
-        place_at(context, update),
-        context.server,
-    )
+    next(context.config, update, place, context.server)
 }
 
 /// The version of an update, where its chain ends at the context.
@@ -60,25 +56,19 @@ pub fn end_version(context: &SlotContext, update: &Update) -> Option<Version>
     requires few { length update.now.places ≤ 17 }
     ensures { list_of result ≡ tail_version (context_seen context.now) update.now }
 {
-    match next_of(context, update) {
+    match next_of(context, update, place_at(context, update)) {
         Hop::End => Some(update.version),
         Hop::At { .. } | Hop::Blocked(_) => None,
     }
 }
 
-/// The replica before the context's in the chain of an update.
+/// The replica before the context's in the chain of an update with this place.
 #[inline(always)]
-fn prev_of(context: &SlotContext, update: &Update) -> Hop
-    requires placed { IsPlacedIn context.now.region update.now }
-    requires few { length update.now.places ≤ 17 }
+fn prev_of(context: &SlotContext, update: &Update, place: u32) -> Hop
+    requires place { place ≡ place_number context.now.region update.now.places }
     ensures { result ≡ prev_at (context_seen context.now) update.now }
 {
-    prev(
-        context.config,
-        update,
-        place_at(context, update),
-        context.server,
-    )
+    prev(context.config, update, place, context.server)
 }
 
 /// The region of a place.
@@ -106,7 +96,26 @@ pub fn post_update(
     ensures posts { OnOk result (posts.new ≡ posts.old ++ passed_on (context_seen context.now) update.now) }
     ensures tail_versions { OnOk result (tail_versions.new.items ≡ tail_versions.old.items ++ tail_version (context_seen context.now) update.now) }
 {
-    match next_of(context, update) {
+    let place = place_at(context, update);
+    post_update_at(alloc, context, update, place, posts, tail_versions)
+}
+
+/// The same of an update with this place in the region of the context.
+pub fn post_update_at(
+    alloc: Global,
+    context: &SlotContext,
+    update: &Shared<Update>,
+    place: u32,
+    posts: &mut Posts,
+    tail_versions: &mut Vec<Version>,
+) -> Result<(), Memory>
+    requires placed { IsPlacedIn context.now.region update.now }
+    requires few { length update.now.places ≤ 17 }
+    requires place { place ≡ place_number context.now.region update.now.places }
+    ensures posts { OnOk result (posts.new ≡ posts.old ++ passed_on (context_seen context.now) update.now) }
+    ensures tail_versions { OnOk result (tail_versions.new.items ≡ tail_versions.old.items ++ tail_version (context_seen context.now) update.now) }
+{
+    match next_of(context, update, place) {
         Hop::At { server, place } => {
             posts.push(update_post(alloc, context, update, server, place)?)?;
             Ok(())
@@ -171,7 +180,7 @@ pub fn post_ack(
     requires few { length update.now.places ≤ 17 }
     ensures { OnOk result (posts.new ≡ posts.old ++ ack_to (context_seen context.now) update.now (prev_at (context_seen context.now) update.now)) }
 {
-    match prev_of(context, update) {
+    match prev_of(context, update, place_at(context, update)) {
         Hop::At { server, place } => {
             posts.push(ack_post(alloc, context, update, server, place)?)?;
             Ok(())
@@ -192,7 +201,22 @@ pub fn post_commit(
     requires few { length update.now.places ≤ 17 }
     ensures { OnOk result (posts.new ≡ posts.old ++ told_of (context_seen context.now) update.now) }
 {
-    match prev_of(context, update) {
+    let place = place_at(context, update);
+    post_commit_at(alloc, context, update, place, posts)
+}
+
+/// The same of an update with this place in the region of the context.
+pub fn post_commit_at(
+    alloc: Global,
+    context: &SlotContext,
+    update: &Update,
+    place: u32,
+    posts: &mut Posts,
+) -> Result<(), Memory>
+    requires place { place ≡ place_number context.now.region update.now.places }
+    ensures { OnOk result (posts.new ≡ posts.old ++ told_of (context_seen context.now) update.now) }
+{
+    match prev_of(context, update, place) {
         Hop::At { server, place } => {
             posts.push(ack_post(alloc, context, update, server, place)?)?;
             Ok(())

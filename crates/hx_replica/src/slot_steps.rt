@@ -256,7 +256,7 @@ fn accept(
     ensures change { IfOk result (IsChangeOf context.now.region slot.now.state update.key (accept_step (context_seen context.now) slot.now.state update)) }
 {
     let place = place_at(context, &update);
-    let tail_versions = accepted(alloc, context, slot, &update, posts)?;
+    let tail_versions = accepted(alloc, context, slot, &update, place, posts)?;
     Ok(SlotChange::Accept {
         update,
         place,
