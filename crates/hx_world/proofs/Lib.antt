@@ -1,5 +1,6 @@
 pub mod Numbering
 pub mod Seating
+pub mod Heard
 pub mod Naming
 pub mod Removing
 pub mod Queueing

@@ -274,10 +274,11 @@ module _ (script : Script) (actors : Actors) (log : Log) (w : IsWorldOn script a
         )
 
     -- it has its number
+    pub session_number : (x : CountedSession) → x ≡ get_or actors.sessions.items (u.0 - 1) x → x.session.state.id ≡ u
+    session_number x e = ap (λ (y : SessionState). y.id) (session_here x e).state ∙ session_id script t w.past (session_at (u.0 - 1)) ∙ session_is
+
     pub may_attend : (x : CountedSession) → x ≡ get_or actors.sessions.items (u.0 - 1) x → (input : Input) → MayTake t (Session u) input → MayTake t (Session x.session.state.id) input
-    may_attend x e input may =
-        let number : x.session.state.id ≡ u = ap (λ (y : SessionState). y.id) (session_here x e).state ∙ session_id script t w.past (session_at (u.0 - 1)) ∙ session_is in
-        subst (λ (v : SessionId). MayTake t (Session v) input) (sym number) may
+    may_attend x e input may = subst (λ (v : SessionId). MayTake t (Session v) input) (sym (session_number x e)) may
 
     -- it is as before
     pub unattended : (x : CountedSession) → x ≡ get_or actors.sessions.items (u.0 - 1) x → (after_session : CountedSession) (actors_after : Actors) (same : Log) → counted_session.IsSameSession x after_session → IsSameLog log same

@@ -1,8 +1,15 @@
 -- How entries and the names of the posts that wait are kept.
-use Rattle.std.specs.Prelude.{◌≡◌, ℕ, zero, suc, ◌+◌, List, [], ◌∷◌, ◌++◌, length}
+use Rattle.std.specs.Prelude.{◌≡◌, ℕ, zero, suc, ◌+◌, List, [], ◌∷◌, ◌++◌, length, reverse}
+use Rattle.hx_types.specs.declared.ids.Actor.{Actor}
+use Rattle.hx_types.specs.declared.messages.Post.{Post}
 use Rattle.hx_types.specs.declared.messages.PostId.{PostId}
 use Rattle.hx_types.specs.declared.traces.Entry.{Entry}
+use Rattle.hx_types.specs.declared.traces.Input.{Input}
+use Rattle.hx_types.specs.declared.traces.Note.{Note}
+use Rattle.hx_types.specs.declared.traces.Input.TheVariants.{Tick}
+use Rattle.hx_model.specs.Runs.{post_named}
 use Rattle.hx_model.specs.Schedule.{names_from, without_delivered}
+use Rattle.hx_trace.specs.Lists.{delivery}
 use Rattle.hx_world.specs.declared.logs.Log.{Log}
 
 -- the names of so many posts of an entry, from this place on
@@ -13,6 +20,23 @@ names_counted entry place (suc count) = record { entry = entry; place = place } 
 -- the names that wait after one more entry, with so many entries before it
 abbrev pub names_after : ℕ → Entry → List PostId → List PostId
 names_after entries e names = without_delivered e.input names ++ names_from (entries + 1) 0 e.outputs
+
+-- the delivery of a post of the trace, which stands here oldest first
+abbrev pub heard : PostId → List Entry → Input
+heard id trace = delivery id (post_named id (reverse trace))
+
+-- the entry of that delivery
+abbrev pub heard_entry : Actor → PostId → List Entry → List Post → List Note → Entry
+heard_entry a id trace posts notes = record { actor = a; input = heard id trace; outputs = posts; notes = notes }
+
+-- the entry of an actor's own turn
+abbrev pub ticked_entry : Actor → List Post → List Note → Entry
+ticked_entry a posts notes = record { actor = a; input = Tick; outputs = posts; notes = notes }
+
+-- the entry stands last among the entries, and its posts wait
+pub record IsFiled (old new : List Entry) (waited waits : List PostId) (e : Entry) : Type 0 where
+  pub trace : new ≡ old ++ e ∷ []
+  pub waiting : waits ≡ names_after (length old) e waited
 
 -- the entry stands last, and its posts wait
 pub record Files (old new : Log) (e : Entry) : Type 0 where

@@ -5,6 +5,7 @@ pub mod Coordinators
 pub mod Filing
 pub mod Idle
 pub mod Invariant
+pub mod Lending
 pub mod Names
 pub mod Nexts
 pub mod Servers

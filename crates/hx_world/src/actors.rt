@@ -1,5 +1,6 @@
 ghost use Rattle.std.specs.Prelude.{◌≡◌, true, false, OnOk, OnErr, IfErr, reverse};
 ghost use Rattle.hx_types.specs.declared.ids.Actor.TheVariants as an_actor;
+ghost use Rattle.hx_types.specs.declared.traces.Input.TheVariants as an_input;
 ghost use Rattle.hx_model.specs.Runs.{MayTake, has_halted, is_actor, session_of};
 ghost use Rattle.hx_model.specs.Schedule.{is_idle};
 ghost use Rattle.hx_world.specs.Invariant.{IsWorld};
@@ -9,7 +10,7 @@ use crate::coordinators::{CountedCoordinator, coordinator_takes};
 use crate::ends::StepError;
 use crate::inside::Inside;
 use crate::servers::{CountedServer, server_takes};
-use crate::sessions::{CountedSession, session_takes};
+use crate::sessions::{CountedSession, session_takes, session_ticks};
 use hx_types::{Actor, Input, ServerId, SessionId};
 use std::alloc::Global;
 
@@ -171,5 +172,20 @@ fn to_session(
 {
     let counted = &mut inside.actors.sessions[session.0 as usize - 1];
     session_takes(alloc, counted, &mut inside.log, input)?;
+    Ok(())
+}
+
+/// A session has its own turn, if the entry that it makes of it may be made.
+pub fn session_turn(alloc: Global, inside: &mut Inside, session: SessionId) -> Result<(), StepError>
+    requires world { IsWorld inside.old }
+    requires actor { is_actor inside.old.script (an_actor.Session session) ≡ true }
+    ensures world { IsWorld inside.new }
+    ensures script { inside.new.script ≡ inside.old.script }
+    ensures ok { OnOk result (HasTurn inside.old.script (reverse inside.old.log.trace) (reverse inside.new.log.trace) (an_actor.Session session) an_input.Tick) }
+    ensures err { IfErr result (HasNoTurn inside.old.script (reverse inside.old.log.trace) (an_actor.Session session) an_input.Tick) }
+    ensures same { OnErr result (inside.new.log.trace ≡ inside.old.log.trace) }
+{
+    let counted = &mut inside.actors.sessions[session.0 as usize - 1];
+    session_ticks(alloc, counted, &mut inside.log, session)?;
     Ok(())
 }

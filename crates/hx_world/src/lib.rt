@@ -5,7 +5,9 @@
 mod actors;
 mod coordinators;
 mod ends;
+mod hearing;
 mod inside;
+mod lending;
 mod logs;
 mod schedule;
 mod servers;

@@ -3,13 +3,14 @@ ghost use Rattle.std.specs.Option.{option_copied};
 ghost use Rattle.std.specs.VecDeque.{deque_len, deque_capacity};
 ghost use Rattle.hx_model.specs.Runs.{MayTake, post_named};
 ghost use Rattle.hx_model.specs.Schedule.{without_delivered};
-ghost use Rattle.hx_trace.specs.Rooms.{IsRoomFor};
-ghost use Rattle.hx_world.specs.Filing.{names_after};
+ghost use Rattle.hx_trace.specs.Rooms.{IsRoomFor, LiesAt};
+ghost use Rattle.hx_world.specs.Filing.{heard_entry, names_after, ticked_entry};
 ghost use Rattle.hx_world.specs.Names.{AreAscending};
 
+use crate::lending::Lent;
 use crate::waiting::{push_names, take_out};
 use hx_trace::{GrowingTrace, Trace};
-use hx_types::{Entry, Input, Memory, Post, PostId};
+use hx_types::{Actor, Entry, Input, Memory, Notes, Post, PostId, Posts};
 use std::alloc::Global;
 use std::collections::VecDeque;
 
@@ -19,6 +20,7 @@ use std::collections::VecDeque;
 pub struct Log {
     pub trace: Trace,
     pub waiting: VecDeque<PostId>,
+    pub lent: Lent,
 }
 
 /// No entry, and no post.
@@ -29,6 +31,7 @@ pub fn empty(alloc: Global) -> Log
     Log {
         trace: Trace::new(alloc),
         waiting: VecDeque::new(alloc),
+        lent: Lent::new(alloc),
     }
 }
 
@@ -39,12 +42,13 @@ pub fn sent_post(log: &Log, id: PostId) -> Option<&Post>
     log.trace.sent(id)
 }
 
-/// How many posts the entry has. More than can be numbered don't fit any memory.
-fn posts_of(entry: &Entry) -> Result<u32, Memory>
-    ensures { IfOk result (λ posts. posts ≡ length entry.now.outputs) }
+/// How many posts there are. More than can be numbered don't fit any memory.
+#[inline(always)]
+fn number_of(posts: &Posts) -> Result<u32, Memory>
+    ensures { IfOk result (λ number. number ≡ length posts.now) }
 {
-    match u32::try_from(entry.outputs.len()) {
-        Ok(posts) => Ok(posts),
+    match u32::try_from(posts.len()) {
+        Ok(number) => Ok(number),
         Err(_) => Err(Memory),
     }
 }
@@ -61,9 +65,80 @@ pub fn reserve_entry(
     ensures names { OnOk result (deque_len waiting.new + length entry.now.outputs ≤ deque_capacity waiting.new) }
     ensures few { OnOk result (length entry.now.outputs < 2 ^ 32) }
 {
-    let posts = posts_of(entry)?;
-    waiting.reserve(posts as usize)?;
-    trace.reserve(entry.outputs.len(), entry.notes.len())
+    reserve_lists(trace, waiting, &entry.outputs, &entry.notes)
+}
+
+/// Takes all memory for an entry with these posts and notes. What lies in the trace stays in its
+/// place.
+#[inline(always)]
+pub fn reserve_lists(
+    trace: &mut GrowingTrace,
+    waiting: &mut VecDeque<PostId>,
+    posts: &Posts,
+    notes: &Notes,
+) -> Result<(), Memory>
+    ensures entries { trace.new.entries ≡ trace.old.entries }
+    ensures filed { trace.new.filed ≡ trace.old.filed }
+    ensures room { OnOk result (IsRoomFor trace.new.room (length posts.now) (length notes.now)) }
+    ensures waiting { waiting.new.items ≡ waiting.old.items }
+    ensures names { OnOk result (deque_len waiting.new + length posts.now ≤ deque_capacity waiting.new) }
+    ensures few { OnOk result (length posts.now < 2 ^ 32) }
+{
+    let number = number_of(posts)?;
+    waiting.reserve(number as usize)?;
+    trace.reserve(posts.len(), notes.len())
+}
+
+/// Puts the delivery of a post at the end of the trace, by the place where the post lies, with
+/// posts and notes that move there. The post waits no longer, and the names of the entry's own
+/// posts wait after the others.
+#[inline(always)]
+pub fn append_delivery(
+    trace: &mut GrowingTrace,
+    waiting: &mut VecDeque<PostId>,
+    actor: Actor,
+    id: PostId,
+    at: usize,
+    posts: &mut Posts,
+    notes: &mut Notes,
+)
+    requires room { IsRoomFor trace.old.room (length posts.old) (length notes.old) }
+    requires lies { LiesAt trace.old id at }
+    requires name_room { deque_len waiting.old + length posts.old ≤ deque_capacity waiting.old }
+    requires few_posts { length posts.old < 2 ^ 32 }
+    requires ascending { AreAscending waiting.old.items }
+    ensures trace { trace.new.entries ≡ trace.old.entries ++ heard_entry actor id trace.old.entries posts.old notes.old ∷ [] }
+    ensures waiting { waiting.new.items ≡ names_after (length trace.old.entries) (heard_entry actor id trace.old.entries posts.old notes.old) waiting.old.items }
+    ensures posts { posts.new ≡ [] }
+    ensures notes { notes.new ≡ [] }
+{
+    let number = posts.len() as u32;
+    take_out(waiting, id);
+    trace.append_delivery(actor, id, at, posts, notes);
+    push_names(waiting, trace.len() as u64, number);
+}
+
+/// Puts an entry of an actor's own turn at the end of the trace, with posts and notes that move
+/// there. The names of its posts wait after the others.
+#[inline(always)]
+pub fn append_tick(
+    trace: &mut GrowingTrace,
+    waiting: &mut VecDeque<PostId>,
+    actor: Actor,
+    posts: &mut Posts,
+    notes: &mut Notes,
+)
+    requires room { IsRoomFor trace.old.room (length posts.old) (length notes.old) }
+    requires name_room { deque_len waiting.old + length posts.old ≤ deque_capacity waiting.old }
+    requires few_posts { length posts.old < 2 ^ 32 }
+    ensures trace { trace.new.entries ≡ trace.old.entries ++ ticked_entry actor posts.old notes.old ∷ [] }
+    ensures waiting { waiting.new.items ≡ names_after (length trace.old.entries) (ticked_entry actor posts.old notes.old) waiting.old.items }
+    ensures posts { posts.new ≡ [] }
+    ensures notes { notes.new ≡ [] }
+{
+    let number = posts.len() as u32;
+    trace.append_tick(actor, posts, notes);
+    push_names(waiting, trace.len() as u64, number);
 }
 
 /// Puts an entry at the end of the trace. A delivery takes the name of its post out, and the names of the

@@ -8,12 +8,13 @@ ghost use Rattle.hx_world.specs.Names.{can_receive};
 ghost use Rattle.hx_world.specs.Nexts.{DeliversNext, FailsAt, Makes, delivery_in, tick_of};
 ghost use Rattle.hx_world.specs.Worlds.{Advances, Fails, drain_error};
 
-use crate::actors::{has_halted, running_takes};
+use crate::actors::has_halted;
 use crate::ends::{DrainError, StepError};
+use crate::hearing::running_hears;
 use crate::inside::Inside;
 use crate::logs::sent_post;
 use crate::sessions::CountedSession;
-use crate::steps::{delivery, tick};
+use crate::steps::tick;
 use crate::waiting::lowest;
 use hx_types::{Actor, Post, PostId, SessionId, Step};
 use std::alloc::Global;
@@ -108,10 +109,7 @@ fn deliver_next(alloc: Global, inside: &mut Inside) -> Result<bool, StepError>
     while let Some(id) = lowest(&inside.log.waiting) {
         if let Some(post) = running_post(inside, id) {
             let to = post.to;
-            let Ok(input) = delivery(alloc, id, post) else {
-                return Err(StepError::Memory);
-            };
-            running_takes(alloc, inside, to, input)?;
+            running_hears(alloc, inside, to, id)?;
             return Ok(true);
         }
         let _ = inside.log.waiting.pop_front();

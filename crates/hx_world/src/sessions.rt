@@ -1,18 +1,23 @@
-ghost use Rattle.std.specs.Prelude.{OnOk, OnErr, IfErr, reverse};
+ghost use Rattle.std.specs.Prelude.{◌≡◌, OnOk, OnErr, IfErr, reverse};
 ghost use Rattle.hx_types.specs.declared.ids.Actor.TheVariants as an_actor;
 ghost use Rattle.hx_model.specs.Runs.{MayTake};
+ghost use Rattle.hx_types.specs.declared.traces.Input.TheVariants as an_input;
 ghost use Rattle.hx_session.specs.Sessions.{CanTake, session_entry};
-ghost use Rattle.hx_world.specs.Filing.{Files, IsSameLog};
+ghost use Rattle.hx_trace.specs.Rooms.{LiesAt};
+ghost use Rattle.hx_world.specs.Filing.{Files, IsFiled, IsSameLog, heard};
 ghost use Rattle.hx_world.specs.Names.{AreAscending};
 ghost use Rattle.hx_world.specs.Sessions.{HasTaken, IsSameSession};
 ghost use Rattle.hx_world.specs.Turns.{IsAdmitted, IsBarred};
 
 use crate::ends::StepError;
-use crate::logs::{Log, append_entry, reserve_entry};
+use crate::lending::{Lent, forget};
+use crate::logs::{Log, append_delivery, append_entry, append_tick, reserve_entry, reserve_lists};
 use crate::turns::admit;
 use hx_session::Session;
-use hx_types::Input;
+use hx_trace::GrowingTrace;
+use hx_types::{Actor, Input, MOST_ENTRIES, PostId, SessionId};
 use std::alloc::Global;
+use std::collections::VecDeque;
 
 /// A session, and how many entries it has made.
 pub struct CountedSession {
@@ -57,6 +62,114 @@ pub fn session_takes(
     }
     let entry = counted.session.apply(plan);
     append_entry(trace, &mut log.waiting, entry);
+    counted.entries += 1;
+    Ok(())
+}
+
+/// The session takes a post of the trace, by the place where it lies, if the entry that it makes of
+/// it may be made. It hears the message there, and puts its posts and notes into the lists that it
+/// is lent. All memory is taken before anything else changes.
+#[inline(always)]
+pub fn session_hears(
+    alloc: Global,
+    counted: &mut CountedSession,
+    trace: &mut GrowingTrace,
+    waiting: &mut VecDeque<PostId>,
+    lent: &mut Lent,
+    id: PostId,
+    at: usize,
+) -> Result<(), StepError>
+    requires can { CanTake counted.old.session.space counted.old.session.state (heard id trace.old.entries) }
+    requires may { MayTake (reverse trace.old.entries) (an_actor.Session counted.old.session.state.id) (heard id trace.old.entries) }
+    requires lies { LiesAt trace.old id at }
+    requires ascending { AreAscending waiting.old.items }
+    ensures log { OnOk result (IsFiled trace.old.entries trace.new.entries waiting.old.items waiting.new.items (session_entry counted.old.session.space counted.old.session.state (heard id trace.old.entries))) }
+    ensures taken { OnOk result (HasTaken counted.old counted.new (heard id trace.old.entries)) }
+    ensures admitted { OnOk result (IsAdmitted (session_entry counted.old.session.space counted.old.session.state (heard id trace.old.entries)) counted.old.entries) }
+    ensures barred { IfErr result (IsBarred (session_entry counted.old.session.space counted.old.session.state (heard id trace.old.entries)) counted.old.entries) }
+    ensures same_trace { OnErr result (trace.new.entries ≡ trace.old.entries) }
+    ensures same_waiting { OnErr result (waiting.new.items ≡ waiting.old.items) }
+    ensures same { OnErr result (IsSameSession counted.old counted.new) }
+{
+    let post = trace.post(at);
+    let actor = post.to;
+    if counted.entries >= MOST_ENTRIES {
+        return Err(StepError::Worn(actor));
+    }
+    let heard = counted.session.hear(
+        alloc,
+        post.from,
+        &post.message,
+        &mut lent.posts,
+        &mut lent.notes,
+    );
+    let Ok(change) = heard else {
+        forget(&mut lent.posts, &mut lent.notes);
+        return Err(StepError::Memory);
+    };
+    if reserve_lists(trace, waiting, &lent.posts, &lent.notes).is_err() {
+        forget(&mut lent.posts, &mut lent.notes);
+        return Err(StepError::Memory);
+    }
+    counted.session.make(change);
+    append_delivery(
+        trace,
+        waiting,
+        actor,
+        id,
+        at,
+        &mut lent.posts,
+        &mut lent.notes,
+    );
+    counted.entries += 1;
+    Ok(())
+}
+
+/// The session has its own turn, if the entry that it makes of it may be made. It puts its posts
+/// and notes into the lists that it is lent. All memory is taken before anything else changes.
+pub fn session_ticks(
+    alloc: Global,
+    counted: &mut CountedSession,
+    log: &mut Log,
+    session: SessionId,
+) -> Result<(), StepError>
+    requires id { counted.old.session.state.id ≡ session }
+    ensures log { OnOk result (Files log.old log.new (session_entry counted.old.session.space counted.old.session.state an_input.Tick)) }
+    ensures taken { OnOk result (HasTaken counted.old counted.new an_input.Tick) }
+    ensures admitted { OnOk result (IsAdmitted (session_entry counted.old.session.space counted.old.session.state an_input.Tick) counted.old.entries) }
+    ensures barred { IfErr result (IsBarred (session_entry counted.old.session.space counted.old.session.state an_input.Tick) counted.old.entries) }
+    ensures same_log { OnErr result (IsSameLog log.old log.new) }
+    ensures same { OnErr result (IsSameSession counted.old counted.new) }
+{
+    let lent = &mut log.lent;
+    let made = counted
+        .session
+        .tick(alloc, &mut lent.posts, &mut lent.notes);
+    let Ok(change) = made else {
+        forget(&mut lent.posts, &mut lent.notes);
+        return Err(StepError::Memory);
+    };
+    if lent.posts.is_empty() && lent.notes.is_empty() {
+        return Err(StepError::Idle);
+    }
+    let actor = Actor::Session(session);
+    if counted.entries >= MOST_ENTRIES {
+        forget(&mut lent.posts, &mut lent.notes);
+        return Err(StepError::Worn(actor));
+    }
+    let trace = log.trace.growing();
+    if reserve_lists(trace, &mut log.waiting, &lent.posts, &lent.notes).is_err() {
+        forget(&mut lent.posts, &mut lent.notes);
+        return Err(StepError::Memory);
+    }
+    counted.session.make(change);
+    append_tick(
+        trace,
+        &mut log.waiting,
+        actor,
+        &mut lent.posts,
+        &mut lent.notes,
+    );
     counted.entries += 1;
     Ok(())
 }

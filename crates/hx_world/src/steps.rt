@@ -5,7 +5,7 @@ ghost use Rattle.hx_model.specs.Runs.{is_actor};
 ghost use Rattle.hx_world.specs.Invariant.{IsWorld};
 ghost use Rattle.hx_world.specs.Worlds.{IsStepOf, Refuses, Steps};
 
-use crate::actors::actor_takes;
+use crate::actors::{actor_takes, session_turn};
 use crate::ends::StepError;
 use crate::inside::Inside;
 use crate::logs::sent_post;
@@ -71,6 +71,10 @@ pub fn tick(alloc: Global, inside: &mut Inside, actor: Actor) -> Result<(), Step
     ensures refused { IfErr result (Refuses inside.old.script (reverse inside.old.log.trace) (a_step.Tick actor)) }
     ensures err { OnErr result (inside.new.log.trace ≡ inside.old.log.trace) }
 {
+    if let Actor::Session(session) = actor {
+        session_turn(alloc, inside, session)?;
+        return Ok(());
+    }
     actor_takes(alloc, inside, actor, Input::Tick)?;
     Ok(())
 }
