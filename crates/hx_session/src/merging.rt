@@ -25,9 +25,9 @@ pub fn merged(alloc: Global, parts: &[Part], region: RegionId, found: &Rows) -> 
     picked(alloc, rows.as_slice())
 }
 
-/// A row that is lent, beside the first eight bytes of its key as a number. Rows are put in order by
-/// these, and by the keys themselves only where these are the same: that spares most looks at keys
-/// elsewhere in memory. It is this project's choice. Contracts see the row.
+/// A row that is lent, beside the first eight bytes of its key as a number. Rows are put in order
+/// by these, and by the keys themselves only where these are the same: that spares most looks at
+/// keys elsewhere in memory. It is this project's choice. Contracts see the row.
 #[derive(Drop)]
 struct Keyed<'a> {
     prefix: u64,

@@ -22,8 +22,8 @@ pub struct Progress {
     pub sent: bool,
 }
 
-/// What a step changes of its session. It was computed in one state of it, and is made in that state
-/// by [`Session::make`](crate::Session::make).
+/// What a step changes of its session. It was computed in one state of it, and is made in that
+/// state by [`Session::make`](crate::Session::make).
 pub struct Change {
     /// The configuration that is adopted, if one is.
     pub(crate) config: Option<Shared<Config>>,

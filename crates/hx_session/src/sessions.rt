@@ -121,8 +121,8 @@ impl Session {
         })
     }
 
-    /// Appends a call to those that the session makes, and gives its number, from 1. Where there is no
-    /// memory the session stays and the call is dropped.
+    /// Appends a call to those that the session makes, and gives its number, from 1. Where there is
+    /// no memory the session stays and the call is dropped.
     pub fn submit(&mut self, _alloc: Global, op: Op) -> Result<u32, Memory>
         requires fits { Fits self.old.space op }
         requires few { length self.old.state.calls < MOST_CALLS }
@@ -175,10 +175,11 @@ impl Session {
         entry
     }
 
-    /// Computes the step that a message of a sender makes. What it posts and notes goes behind what
-    /// the lists have, and what it changes is given, for [`Session::make`]. The posts are of the
-    /// space, name only the coordinator and actors that the session, the sender or the message names,
-    /// and have no epoch above the greatest of theirs. On an error the lists are as before.
+    /// Computes the step that a message of a sender makes. What it posts and notes goes behind
+    /// what the lists have, and what it changes is given, for [`Session::make`]. Nothing changes
+    /// yet. The posts are of the space, name only the coordinator, the sender and actors that the
+    /// session or the message names, and have no epoch above the greatest of theirs. On an error
+    /// the lists are as before.
     #[inline]
     pub fn hear(
         &self,
