@@ -201,12 +201,12 @@ impl Server {
 
     /// Computes the step that a message makes which the server gets, and takes all memory that it
     /// needs: what the step posts and notes goes behind what the lists hold, and the result is what
-    /// it changes. Nothing but the room for further updates changes, and none falls. What is posted
-    /// names only the coordinator and actors that the server's configuration, its slots, the sender
-    /// or the message name. Where all that the server holds and the post that it gets are of the
-    /// space, exist and have no epoch and no version above a bound, that is so of what it posts, and
-    /// no epoch and no version of it is above the bound by more than 1. On an error the lists may
-    /// hold anything.
+    /// it changes, for [`Server::make`]. Nothing but the room for further updates changes, and none
+    /// falls. What is posted names only the coordinator and actors that the server's configuration,
+    /// its slots, the sender or the message name. Where all that the server holds and the post that
+    /// it gets are of the space, exist and have no epoch and no version above a bound, that is so
+    /// of what it posts, and no epoch and no version of it is above the bound by more than 1. On an
+    /// error the lists may hold anything.
     #[tactic(auto, using(crate::proofs::Roomy::all_same))]
     pub fn hear(
         &mut self,
@@ -269,9 +269,9 @@ impl Server {
 
     /// Makes what a step changes, as it was computed of this server. It takes no memory. The server
     /// then is as each step leaves it that changes this. Where all that the server holds and the
-    /// post that it got are of the space, exist and have no epoch and no version above a bound, that
-    /// is so of what it then holds, with a bound higher by 1. Room is used by the slot that accepts
-    /// an update, and given up by a replica that joins or that the server has no more.
+    /// post that it got are of the space, exist and have no epoch and no version above a bound,
+    /// that is so of what it then holds, with a bound higher by 1. Room is used by the slot that
+    /// accepts an update, and given up by a replica that joins or that the server has no more.
     #[inline]
     pub fn make(&mut self, change: Change)
         requires { CanMake self.old change }
@@ -479,8 +479,8 @@ impl Server {
         Ok(Change::Join { number, replica })
     }
 
-    /// Posts what a search finds in a region, where this server is a ready member of it. All of the server
-    /// stays, whatever comes: only the index of the region's store is brought up to date.
+    /// Posts what a search finds in a region, where this server is a ready member of it. All of the
+    /// server stays, whatever comes: only the index of the region's store is brought up to date.
     #[inline(never)]
     fn post_found(
         &mut self,
