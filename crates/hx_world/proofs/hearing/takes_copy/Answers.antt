@@ -1,18 +1,17 @@
-use Rattle.std.proofs.Common.{◌≡◌, None, Option, Some, rules, sym, ap, ◌∙◌, subst}
+use Rattle.std.proofs.Common.{◌≡◌, None, Option, Some, sym, ap, ◌∙◌, subst}
+use Rattle.std.proofs.lemmas.Bool.{false≢true}
 use Rattle.std.specs.Option.{option_copied}
 use Rattle.std.specs.Prelude.{IsSome, reverse}
 use Rattle.hx_types.specs.declared.messages.Post.{Post}
-use Rattle.hx_types.specs.declared.traces.Input.{Input}
 use Rattle.hx_model.specs.Runs.{MayTake, post_named}
 use Rattle.hx_world.specs.Filing.{heard}
-use Rattle.hx_world.specs.Turns.{HasNoTurn, HasTurn}
 use Rattle.hx_world.proofs.Heard.{heard_is}
 use Rattle.hx_world.proofs.hearing.takes_copy.Goals as goal
 
 pub unreachable-requires : goal.unreachable-requires
 unreachable-requires c =
     let none : post_named c.args.id (reverse c.args.inside.now.log.trace) ≡ None = sym c.sent_post.ensures ∙ ap option_copied c.in_default.is in
-    subst (λ (o : Option Post). IsSome o) none c.requires.sent
+    false≢true (subst (λ (o : Option Post). IsSome o) none c.requires.sent)
 
 pub running_takes-requires-clause-may : goal.running_takes-requires-clause-may
 running_takes-requires-clause-may c =

@@ -1,4 +1,4 @@
-use Rattle.std.proofs.Common.{◌≡◌, ◌-◌, ◌∙◌, List, refl, rules, sym, subst}
+use Rattle.std.proofs.Common.{◌-◌, ◌∙◌, List, refl, rules, sym, subst}
 use Rattle.std.specs.Prelude.{reverse}
 use Rattle.std.specs.Vec.{with_item}
 use Rattle.hx_types.specs.declared.ids.Actor.TheVariants.{Session}
