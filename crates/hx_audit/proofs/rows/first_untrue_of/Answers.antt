@@ -11,8 +11,8 @@ use Rattle.hx_audit.proofs.rows.first_untrue_of.Goals as goal
 pub returns-then-not-is_row_of : goal.returns-then-not-is_row_of
 returns-then-not-is_row_of c =
     let at : slice_get c.args.rows.now c.loop-place.place ≡ Some c.get-row.result.now =
-        item_at c.args.rows.now c.loop-place.place c.index-rows-place.result c.loop-place-test.true c.index-rows-place.is
-        ∙ ap (λ (r : Row). Some r) (sym c.get-row.ensures) in (
+    item_at c.args.rows.now c.loop-place.place c.index-rows-place.result c.loop-place-test.true c.index-rows-place.is
+    ∙ ap (λ (r : Row). Some r) (sym c.get-row.ensures) in (
       λ h. (let t = c.is_row_of.ensures.1 (subst (λ (o : Option Row). IsRowOf (account_of c.args.block.now) (finished_view c.args.search.now) o c.get-row.result.now) (sym c.loop-place.invariant.above)
           (holds_at c.args.rows.now (IsRowOf (account_of c.args.block.now) (finished_view c.args.search.now) (row_above c.args.rows.now c.loop-place.place)) c.loop-place.place c.get-row.result.now at h)) in
           let f = c.if-not-is_row_of.true in absurd (cc)),
@@ -22,8 +22,8 @@ returns-then-not-is_row_of c =
 pub loop-place-preserved : goal.loop-place-preserved
 loop-place-preserved c =
     let at : slice_get c.args.rows.now c.loop-place.place ≡ Some c.get-row.result.now =
-        item_at c.args.rows.now c.loop-place.place c.index-rows-place.result c.loop-place-test.true c.index-rows-place.is
-        ∙ ap (λ (r : Row). Some r) (sym c.get-row.ensures) in
+    item_at c.args.rows.now c.loop-place.place c.index-rows-place.result c.loop-place-test.true c.index-rows-place.is
+    ∙ ap (λ (r : Row). Some r) (sym c.get-row.ensures) in
     record {
       above = sym (row_after c.args.rows.now c.loop-place.place ∙ at);
       kept = one_more c.args.rows.now (λ k. IsRowOf (account_of c.args.block.now) (finished_view c.args.search.now) (row_above c.args.rows.now k)) c.loop-place.place c.get-row.result.now at
