@@ -6,8 +6,8 @@ use Rattle.std.specs.Ordering.{is_lt, nat_cmp, ordering_then}
 use Rattle.std.specs.declared.cmp.Ordering.{Ordering}
 use Rattle.std.proofs.lemmas.Bool.{false_from_ne_true, false≢true}
 use Rattle.hx_types.specs.Words.{same_text, text_below}
-use Rattle.hx_model.proofs.States.{eq_of_same_text}
-use Rattle.hx_law_folds.proofs.Texts.{below-differs}
+use Rattle.hx_model.proofs.Lemmas.{eq_of_same_text}
+use Rattle.hx_law_folds.proofs.Lemmas.{below-differs}
 
 pub one_key : (a b : List ℕ) → same_text a b ≡ true → a ≡ b
 one_key = eq_of_same_text

@@ -18,3 +18,4 @@ pub mod Truth
 pub mod Placed
 mod ClauseRows
 pub mod Begun
+pub mod Lemmas

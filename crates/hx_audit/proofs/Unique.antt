@@ -6,8 +6,8 @@ use Rattle.hx_types.specs.Words.{IsIn, same_text, text_below, when_some}
 use Rattle.hx_types.specs.declared.calls.Row.{Row}
 use Rattle.hx_model.specs.Matching.{matches}
 use Rattle.hx_model.specs.Searching.{FinishedSearch}
-use Rattle.hx_model.proofs.States.{same_text_self}
-use Rattle.hx_law_folds.proofs.Texts.{below-trans}
+use Rattle.hx_model.proofs.Lemmas.{same_text_self}
+use Rattle.hx_law_folds.proofs.Lemmas.{below-trans}
 use Rattle.hx_report_lines.specs.declared.blocks.Block.{Block}
 use Rattle.hx_report_lines.specs.declared.calls.CallLine.{CallLine}
 use Rattle.hx_report_lines.specs.declared.histories.HistoryLines.{HistoryLines}

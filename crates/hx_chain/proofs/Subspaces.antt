@@ -9,7 +9,7 @@ use Rattle.hx_types.specs.declared.snapshots.Touch.{Touch}
 use Rattle.hx_types.specs.declared.spaces.Space.{Space}
 use Rattle.hx_types.specs.declared.values.Value.{Value}
 use Rattle.hx_types.specs.Words.{below}
-use Rattle.hx_types.proofs.Counting.{map_below_next}
+use Rattle.hx_types.proofs.Lemmas.{map_below_next}
 use Rattle.hx_model.specs.Regions.{place_of}
 use Rattle.hx_chain.specs.Crossing.{crossed, place_for, places_in}
 

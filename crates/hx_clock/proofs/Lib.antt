@@ -4,3 +4,4 @@ pub mod Knowing
 pub mod Carried
 pub mod Steps
 pub mod Orderly
+pub mod Lemmas

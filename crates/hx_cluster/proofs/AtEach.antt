@@ -1,7 +1,7 @@
 -- What holds of each item with its place.
 use Rattle.std.proofs.Common.{◌≡◌, ◌≢◌, ℕ, zero, suc, ◌+◌, ◌<◌, ◌⊎◌, inl, inr, List, [], ◌∷◌, ◌++◌, length, slice_get, slice_set, slice_index_or, Some, None, refl, ap, sym, subst, arith, ⊎_elim, length-append}
 use Rattle.std.proofs.lemmas.Option.{slice_get_read}
-use Rattle.hx_clock.proofs.Lists.{get-below, get-snoc}
+use Rattle.hx_clock.proofs.Lemmas.{get-below, get-snoc}
 use Rattle.hx_cluster.specs.Dealt.{AtEach}
 
 module _ {A : Type 0} where

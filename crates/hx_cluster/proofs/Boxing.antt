@@ -7,12 +7,11 @@ use Rattle.hx_types.specs.declared.ids.Actor.{Actor}
 use Rattle.hx_types.specs.declared.spaces.Space.{Space}
 use Rattle.hx_types.specs.declared.traces.Script.{Script}
 use Rattle.hx_types.specs.Words.{below}
-use Rattle.hx_clock.proofs.Lists.{get-front}
+use Rattle.hx_clock.proofs.Lemmas.{get-front}
 use Rattle.hx_mail.specs.declared.views.BoxNames.{BoxNames}
 use Rattle.hx_mail.specs.Boxes.{Boxed}
 use Rattle.hx_outbox.specs.Places.{names_for, place_of, AreBoxes}
-use Rattle.hx_outbox.proofs.Lists.{at-map, map-length}
-use Rattle.hx_outbox.proofs.Places.{place-below}
+use Rattle.hx_outbox.proofs.Lemmas.{at-map, map-length, place-below}
 use Rattle.hx_desk.specs.Inboxes.{ins_of, HasInPort, IsInPort}
 use Rattle.hx_cluster.specs.declared.opening.BoxPorts.{BoxPorts}
 use Rattle.hx_cluster.specs.Actors.{actor_at}

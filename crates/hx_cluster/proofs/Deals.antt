@@ -18,7 +18,7 @@ use Rattle.hx_law_threads.specs.Own.{IsOwn}
 use Rattle.hx_law_threads.specs.Feeding.{IsFed}
 use Rattle.hx_machine.specs.Machines.{IsMachine}
 use Rattle.hx_law_drivers.specs.Crews.{AreNumbered}
-use Rattle.hx_clock.proofs.Lists.{each_append}
+use Rattle.hx_clock.proofs.Lemmas.{each_append}
 use Rattle.hx_mail.specs.declared.views.Mailed.{Mailed}
 use Rattle.hx_mail.specs.declared.views.Sent.{Sent}
 use Rattle.hx_mail.specs.Boxes.{Boxed, Ported}
@@ -28,8 +28,7 @@ use Rattle.hx_outbox.specs.Places.{place_of}
 use Rattle.hx_outbox.specs.Zipped.{Both}
 use Rattle.hx_fate.specs.States.{untouched}
 use Rattle.hx_outbox.specs.Offers.{IsOffered, IsTotal}
-use Rattle.hx_outbox.proofs.Lists.{map-length}
-use Rattle.hx_outbox.proofs.Offering.{offered-none}
+use Rattle.hx_outbox.proofs.Lemmas.{map-length, offered-none}
 use Rattle.hx_desk.specs.declared.desks.Desk.{Desk}
 use Rattle.hx_desk.specs.Desks.{entries_before, made_by, past_of, told}
 use Rattle.hx_desk.specs.Inboxes.{HasInPort, IsHeardFrom, ins_of}

@@ -10,11 +10,11 @@ use Rattle.hx_types.specs.declared.ids.Actor.{Actor}
 use Rattle.hx_types.specs.declared.spaces.Space.{Space}
 use Rattle.hx_types.specs.declared.traces.Script.{Script}
 use Rattle.hx_types.specs.Words.{below, same_actor, IsIn}
-use Rattle.hx_law_lemmas.proofs.Lists.{in-below, in-filter, in-flat, in-flat_map, in-map, in-slice_get, in_right, in_left}
-use Rattle.hx_law_threads.proofs.Actors.{same_actor_is}
-use Rattle.hx_clock.proofs.Lists.{each_all, each_append, each_in}
+use Rattle.hx_law_lemmas.proofs.Lemmas.{in-below, in-filter, in-flat, in-flat_map, in-map, in-slice_get, in_right, in_left}
+use Rattle.hx_law_threads.proofs.Lemmas.{same_actor_is}
+use Rattle.hx_clock.proofs.Lemmas.{each_all, each_append, each_in}
 use Rattle.hx_outbox.specs.Places.{place_of, Exists}
-use Rattle.hx_outbox.proofs.Places.{place-below}
+use Rattle.hx_outbox.proofs.Lemmas.{place-below}
 use Rattle.hx_desk.specs.declared.desks.Desk.{Desk}
 use Rattle.hx_driver.specs.declared.crews.Crew.{Crew}
 use Rattle.hx_law_drivers.specs.Crews.{desks_of, HaveAllActors}

@@ -1,7 +1,7 @@
 -- A loop over two lists at once: what was yielded, and what is left of each.
 use Rattle.std.proofs.Common.{◌≡◌, ℕ, ◌⊎◌, inl, inr, List, [], ◌∷◌, ◌++◌, map, length, slice_get, Some, ap, sym, ◌∙◌, append_assoc}
 use Rattle.std.proofs.lemmas.List.{map-append}
-use Rattle.hx_outbox.proofs.Lists.{map-length}
+use Rattle.hx_outbox.proofs.Lemmas.{map-length}
 use Rattle.hx_cluster.proofs.Boxing.{item-at, none-left}
 
 module _ {A B : Type 0} where

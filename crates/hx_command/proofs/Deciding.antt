@@ -8,7 +8,7 @@ use Rattle.hx_script.specs.declared.errors.Reason.{Reason}
 use Rattle.hx_script.specs.declared.errors.ScriptError.TheVariants as a_script_error
 use Rattle.hx_replay.specs.Calling.{Drawn, Filled}
 use Rattle.hx_replay.specs.Causes.{limit}
-use Rattle.hx_replay.proofs.Reading.{refused_scripted}
+use Rattle.hx_replay.proofs.Lemmas.{refused_scripted}
 use Rattle.hx_command.specs.Threads.{EndsReading, EndsWith, Handed, IsDecided, IsReadAs, IsTextFaulty, IsTextIn, IsTextJudged, Language, ReadsAs, StopsReading, any_version, nothing, version_1}
 use Rattle.hx_replay.specs.declared.outcomes.Outcome.{Outcome}
 use Rattle.hx_replay.specs.declared.outcomes.Outcome.TheVariants.{Fine, Usage, Refused, TooLarge, ReadFault, WriteFault, Memory, Worn, Wrong}

@@ -14,7 +14,7 @@ use Rattle.hx_mail.specs.Boxes.{Ported}
 use Rattle.hx_fate.specs.declared.fates.FateState.{FateState}
 use Rattle.hx_soak.specs.Soaking.{script_drawn}
 use Rattle.hx_law_soak.specs.Soaks.{IsSoak, NoHalts, SoaksSumUpInOrder}
-use Rattle.hx_law_threads.proofs.Lists.{of_reverse}
+use Rattle.hx_law_threads.proofs.Lemmas.{of_reverse}
 use Rattle.hx_soak.specs.Summing.{IsSummary}
 use Rattle.hx_words.specs.declared.commands.Soak.{Soak}
 use Rattle.hx_run.specs.Ran.{HasNoHalts, HasRisen, is_halt}

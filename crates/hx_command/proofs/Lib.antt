@@ -7,3 +7,4 @@ pub mod Scripts
 pub mod Deciding
 pub mod Tuning
 pub mod Wording
+pub mod Lemmas

@@ -25,8 +25,8 @@ use Rattle.hx_types.specs.Configs.{is_lost, lists_joining, lists_ready, members_
 use Rattle.hx_types.specs.Posts.{AnswerUpTo}
 use Rattle.hx_types.specs.Words.{IsIn, below, post, same_session, server_in, without_server}
 use Rattle.hx_model.specs.CoordinatorSteps.{Answered, CoordinatorState, CoordinatorStep, Issuing, Joined, Newest, Phase, Sealing, Steady, Task, add_step, adds, adds_by, adds_steady, administers, again, answers_with, any_joining, appended, by_number, config_without, coordinator_message, coordinator_step, coordinator_tick, die_for, die_posts, does, does_all, goes, gone_step, is_out, issue, issued, issuing, judged, leaves, lists_without, made_ready, newest_of, outcome, poll_step, ready_now, ready_step, remaining, resting, seal, sealed_now, sealed_step, sealing_or_issue, session_posts, still_sealing, stop_step, stops, telling, to_server, waits_less, with_newest, with_server, with_task}
-use Rattle.hx_law_lemmas.proofs.Lists.{all-of, in-append, in-filter, in-flat_map, in-map, in-provided, in-slice_get, when_some_both}
-use Rattle.hx_law_posts.proofs.Bounds.{answer-up}
+use Rattle.hx_law_lemmas.proofs.Lemmas.{all-of, in-append, in-filter, in-flat_map, in-map, in-provided, in-slice_get, when_some_both}
+use Rattle.hx_law_posts.proofs.Lemmas.{answer-up}
 use Rattle.hx_coord.specs.Coordinators.{MaybeAnswerUpTo, servers_waited_for}
 use Rattle.hx_types.specs.Posted.{MessageUpTo, actors_of_config, actors_of_message, actors_of_op, servers_among}
 

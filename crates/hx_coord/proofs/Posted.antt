@@ -20,10 +20,8 @@ use Rattle.hx_types.specs.Posts.{AnswerUpTo, IsSoundPost}
 use Rattle.hx_types.specs.Spaces.{IsServerOf, IsSpace}
 use Rattle.hx_types.specs.Words.{IsIn, below, post}
 use Rattle.hx_model.specs.CoordinatorSteps.{CoordinatorState, Newest, Phase, Sealing, Steady, coordinator_at_start, coordinator_step}
-use Rattle.hx_law_lemmas.proofs.Lists.{all-in, all-of, in-flat, in_left, in_right, map-in}
-use Rattle.hx_law_posts.proofs.Bounds.{answer-up}
-use Rattle.hx_law_posts.proofs.Configs.{first-of_space}
-use Rattle.hx_law_posts.proofs.CoordinatorSteps.{DoesWell, IsMaybeSound, IsSoundCoordinator, WaitsFor, coordinator-good}
+use Rattle.hx_law_lemmas.proofs.Lemmas.{all-in, all-of, in-flat, in_left, in_right, map-in}
+use Rattle.hx_law_posts.proofs.Lemmas.{answer-up, first-of_space, DoesWell, IsMaybeSound, IsSoundCoordinator, WaitsFor, coordinator-good}
 use Rattle.hx_coord.specs.Coordinators.{CoordinatorUpTo, IsCoordinatorOf, IsInputOf, IsMaybeAnswerOf, IsTaskOf, MaybeAnswerUpTo, actors_of_coordinator, actors_of_task, known_to, servers_waited_for}
 use Rattle.hx_types.specs.Posted.{ArePostsOf, IsPostOf, MessageUpTo, NameOnly, NamesOnly, PostsUpTo, actors_of_config, actors_of_input, actors_of_message, servers_among}
 use Rattle.hx_coord.proofs.Making.{IsGood, Knows, KnowsInput, stepped}

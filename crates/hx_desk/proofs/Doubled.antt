@@ -6,7 +6,7 @@ use Rattle.std.specs.VecDeque.{deque_len, deque_capacity}
 use Rattle.hx_types.specs.declared.messages.Post.{Post}
 use Rattle.hx_outbox.specs.declared.copies.Copies.{Copies}
 use Rattle.hx_outbox.specs.Offers.{firsts_of}
-use Rattle.hx_outbox.proofs.Lists.{map-length}
+use Rattle.hx_outbox.proofs.Lemmas.{map-length}
 use Rattle.hx_desk.specs.declared.desks.Desk.{Desk}
 use Rattle.hx_desk.specs.Givings.{HasPlaces}
 

@@ -13,8 +13,8 @@ use Rattle.hx_mail.specs.declared.views.PortView.{PortView}
 use Rattle.hx_mail.specs.declared.views.Sent.{Sent}
 use Rattle.hx_mail.specs.Boxes.{Boxed, Ported, IsPortOf}
 use Rattle.hx_mail.specs.Ports.{after_take, lists_of, port, put_by, sent}
-use Rattle.hx_mail.proofs.Lists.{put-other, put-own}
-use Rattle.hx_outbox.proofs.Lists.{map-length}
+use Rattle.hx_mail.proofs.Lemmas.{put-other, put-own}
+use Rattle.hx_outbox.proofs.Lemmas.{map-length}
 use Rattle.hx_desk.specs.Desks.{told}
 use Rattle.hx_desk.specs.Told.{told_by}
 use Rattle.hx_desk.specs.Givings.{CanCount}

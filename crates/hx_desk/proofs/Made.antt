@@ -14,11 +14,10 @@ use Rattle.hx_clock.specs.declared.parts.Stamped.{Stamped}
 use Rattle.hx_clock.specs.declared.view.View.{View}
 use Rattle.hx_clock.specs.Parts.{stamped, DeliveryMeets, InputMeets}
 use Rattle.hx_clock.specs.Views.{numbered, Carries, Has, Knows, Owns}
-use Rattle.hx_clock.proofs.Lists.{each_all, in_right}
+use Rattle.hx_clock.proofs.Lemmas.{each_all, in_right}
 use Rattle.hx_law_threads.specs.Feeding.{IsFed, IsFedBy}
-use Rattle.hx_law_threads.proofs.Feeding.{actors_stay_sound}
+use Rattle.hx_law_threads.proofs.Lemmas.{actors_stay_sound, reverse_snoc}
 use Rattle.hx_law_threads.specs.Own.{IsOwn, MayHalt}
-use Rattle.hx_law_threads.proofs.Lists.{reverse_snoc}
 use Rattle.hx_machine.specs.declared.plans.Plan.{Plan}
 use Rattle.hx_machine.specs.Machines.{entry_in, CanTake}
 use Rattle.hx_mail.specs.declared.views.Mailed.{Mailed}

@@ -18,9 +18,9 @@ use Rattle.hx_clock.specs.declared.view.View.{View}
 use Rattle.hx_clock.specs.Parts.{Posted}
 use Rattle.hx_clock.specs.Seats.{Seated}
 use Rattle.hx_clock.specs.Views.{numbered, Has, Knows, Owns}
-use Rattle.hx_clock.proofs.Knowing.{lt_tells}
+use Rattle.hx_clock.proofs.Lemmas.{lt_tells}
 use Rattle.hx_law_threads.specs.Feeding.{latest, IsFedBy}
-use Rattle.hx_law_threads.proofs.Lists.{of_reverse}
+use Rattle.hx_law_threads.proofs.Lemmas.{of_reverse}
 use Rattle.hx_machine.specs.Machines.{CanTake, IsMachine}
 use Rattle.hx_mail.specs.declared.views.Mailed.{Mailed}
 use Rattle.hx_mail.specs.declared.views.Sent.{Sent}

@@ -16,9 +16,9 @@ use Rattle.hx_mail.specs.declared.views.Mailed.{Mailed}
 use Rattle.hx_mail.specs.declared.views.Sent.{Sent}
 use Rattle.hx_mail.specs.Boxes.{Boxed, Ported, IsAddressed, IsPortOf}
 use Rattle.hx_mail.specs.Ports.{after_take, mailed}
-use Rattle.hx_mail.proofs.Lists.{map-snoc}
+use Rattle.hx_mail.proofs.Lemmas.{map-snoc}
 use Rattle.hx_outbox.specs.Places.{names_for, place_of, AreBoxes, Exists}
-use Rattle.hx_outbox.proofs.Places.{place-below}
+use Rattle.hx_outbox.proofs.Lemmas.{place-below}
 use Rattle.hx_desk.specs.Inboxes.{ins_of, HasInPort}
 use Rattle.hx_desk.proofs.Heard.{take-in}
 

@@ -3,16 +3,14 @@ use Rattle.std.proofs.Common.{◌≡◌, ◌+◌, ◌≤◌, ⊎_elim, false, Li
 use mathlib.Core.List.{IsPrefix}
 use Rattle.hx_types.specs.declared.totals.Totals.{Totals}
 use Rattle.hx_clock.specs.declared.parts.Stamped.{Stamped}
-use Rattle.hx_clock.proofs.Lists.{get-below, get-snoc}
+use Rattle.hx_clock.proofs.Lemmas.{get-below, get-snoc}
 use Rattle.hx_law_threads.specs.Cuts.{is_retry}
 use Rattle.hx_mail.specs.Boxes.{Boxed}
 use Rattle.hx_outbox.specs.declared.outboxes.Outbox.{Outbox}
 use Rattle.hx_fate.specs.declared.fates.FateState.{FateState}
 use Rattle.hx_outbox.specs.Offers.{IsTotal}
 use Rattle.hx_outbox.specs.Outboxes.{kept_weight, out_weight, IsOutbox}
-use Rattle.hx_outbox.proofs.Lists.{begins-refl, begins-trans}
-use Rattle.hx_outbox.proofs.Offering.{offered-both, offered-none}
-use Rattle.hx_outbox.proofs.Outs.{more-refl, more-trans}
+use Rattle.hx_outbox.proofs.Lemmas.{begins-refl, begins-trans, offered-both, offered-none, more-refl, more-trans}
 use Rattle.hx_desk.specs.declared.desks.Desk.{Desk}
 use Rattle.hx_desk.specs.Desks.{made_by, HasNoRetry}
 use Rattle.hx_desk.specs.Inboxes.{ins_of}

@@ -26,7 +26,7 @@ use Rattle.hx_model.specs.Schedule.{is_idle}
 use Rattle.hx_model.specs.ServerSteps.{server_step, tick_step, unmoved, ServerState, ServerStep}
 use Rattle.hx_model.specs.SessionSteps.{ask_regions, begin, send, send_to, session_tick, staying, with_poll, SessionState, SessionStep}
 use Rattle.hx_clock.specs.declared.parts.Stamped.{Stamped}
-use Rattle.hx_clock.proofs.Lists.{get-below}
+use Rattle.hx_clock.proofs.Lemmas.{get-below}
 use Rattle.hx_law_threads.specs.Cuts.{is_began, is_idle_actor, is_retry, is_waiting}
 use Rattle.hx_machine.specs.declared.plans.Plan.{Plan}
 use Rattle.hx_machine.specs.Machines.{entry_in}

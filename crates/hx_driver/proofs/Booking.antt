@@ -7,15 +7,14 @@ use Rattle.hx_types.specs.declared.totals.Totals.{Totals}
 use Rattle.hx_types.specs.declared.traces.Script.{Script}
 use Rattle.hx_clock.specs.declared.parts.Stamped.{Stamped}
 use Rattle.hx_clock.specs.Views.{one, total}
-use Rattle.hx_clock.proofs.Lists.{total-append}
+use Rattle.hx_clock.proofs.Lemmas.{total-append}
 use Rattle.hx_mail.specs.declared.views.Mailed.{Mailed}
 use Rattle.hx_mail.specs.Boxes.{Boxed}
 use Rattle.hx_outbox.specs.declared.outboxes.Outbox.{Outbox}
 use Rattle.hx_outbox.specs.Outboxes.{kept_weight}
 use Rattle.hx_fate.specs.declared.fates.FateState.{FateState}
 use Rattle.hx_outbox.specs.Offers.{asked_of, count_of, raised_by, IsOffered, Offer}
-use Rattle.hx_outbox.proofs.Lists.{at-total, set-total, total-one}
-use Rattle.hx_outbox.proofs.Offering.{offered-both, offered-few, offered-long, offered-none}
+use Rattle.hx_outbox.proofs.Lemmas.{at-total, set-total, total-one, offered-both, offered-few, offered-long, offered-none}
 use Rattle.hx_desk.specs.declared.desks.Desk.{Desk}
 use Rattle.hx_desk.specs.declared.faults.Fault.{Fault}
 use Rattle.hx_desk.specs.Desks.{made_by, made_in}

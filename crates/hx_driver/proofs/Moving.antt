@@ -7,12 +7,11 @@ use Rattle.hx_types.specs.declared.ids.Actor.{Actor}
 use Rattle.hx_types.specs.declared.traces.Script.{Script}
 use Rattle.hx_types.specs.Words.{IsIn}
 use Rattle.hx_clock.specs.declared.parts.Stamped.{Stamped}
-use Rattle.hx_clock.proofs.Lists.{each_map}
+use Rattle.hx_clock.proofs.Lemmas.{each_map}
 use Rattle.hx_mail.specs.Boxes.{Boxed}
 use Rattle.hx_fate.specs.declared.fates.FateState.{FateState}
 use Rattle.hx_outbox.specs.Zipped.{Both}
-use Rattle.hx_outbox.proofs.Lists.{begins-refl, begins-trans}
-use Rattle.hx_outbox.proofs.Outs.{more-refl, more-trans}
+use Rattle.hx_outbox.proofs.Lemmas.{begins-refl, begins-trans, more-refl, more-trans}
 use Rattle.hx_desk.specs.declared.desks.Desk.{Desk}
 use Rattle.hx_desk.specs.declared.faults.Fault.{Fault}
 use Rattle.hx_desk.specs.declared.faults.Fault.TheVariants as a_fault

@@ -7,8 +7,7 @@ use Rattle.hx_model.specs.Runs.{IsRun}
 use Rattle.hx_clock.specs.declared.parts.Stamped.{Stamped}
 use Rattle.hx_law_threads.specs.Merged.{parts_in, AreOwnParts, AreWholeParts, HasOwnParts, HasStampsAsPlaces, IsMerged}
 use Rattle.hx_law_threads.specs.Laws.{IsRunOfParts}
-use Rattle.hx_law_threads.proofs.Places.{stamps_are_places}
-use Rattle.hx_law_threads.proofs.Runs.{merged_run}
+use Rattle.hx_law_threads.proofs.Lemmas.{stamps_are_places, merged_run}
 use Rattle.hx_gather.specs.declared.gathering.SeatedPart.{SeatedPart}
 use Rattle.hx_gather.specs.Gathered.{parts_by, parts_of}
 

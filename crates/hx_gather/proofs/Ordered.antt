@@ -8,8 +8,8 @@ use Rattle.std.proofs.lemmas.Map.Keys.{IsDistinct-head, IsDistinct-tail, IsStric
 use Rattle.hx_types.specs.Words.{IsIn}
 use Rattle.hx_clock.specs.declared.parts.Stamped.{Stamped}
 use Rattle.hx_clock.specs.Parts.{stamps_of}
-use Rattle.hx_clock.proofs.Lists.{each_in, in_left, in_right}
-use Rattle.hx_law_threads.proofs.Lists.{in_append, map_append}
+use Rattle.hx_clock.proofs.Lemmas.{each_in, in_left, in_right}
+use Rattle.hx_law_threads.proofs.Lemmas.{in_append, map_append}
 use Rattle.hx_gather.specs.Stretches.{begun_with, stretches_from, with_first, StretchSeen}
 use Rattle.hx_gather.proofs.Stretched.{entries_in, IsFollowing, IsStretchOf}
 

@@ -13,8 +13,7 @@ use Rattle.hx_clock.specs.Parts.{IsCausal, HasStampsBelow}
 use Rattle.hx_clock.specs.Seats.{Seated}
 use Rattle.hx_clock.specs.Views as a_view
 use Rattle.hx_clock.specs.Views.{numbered, one, times, IsWhole, Owns}
-use Rattle.hx_clock.proofs.Histories.{one-same}
-use Rattle.hx_clock.proofs.Lists.{total-append}
+use Rattle.hx_clock.proofs.Lemmas.{one-same, total-append}
 use Rattle.hx_law_threads.specs.Merged.{AreWholeParts}
 use Rattle.hx_gather.specs.declared.gathering.SeatedPart.{SeatedPart}
 use Rattle.hx_gather.specs.Gathered.{parts_of, CountsAll, IsSeated}

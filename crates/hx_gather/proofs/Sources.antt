@@ -20,8 +20,8 @@ use Rattle.itertools.specs.declared.kmerge_impl.KMergeBy.{KMergeBy}
 use Rattle.itertools.proofs.KMergeLemmas.{flat-permutation}
 use Rattle.hx_clock.specs.declared.parts.Stamped.{Stamped}
 use Rattle.hx_clock.specs.Parts.{all_of, stamps_of, IsCausal}
-use Rattle.hx_clock.proofs.Lists.{each_all, each_in}
-use Rattle.hx_law_threads.proofs.Lists.{in_permuted, map_append}
+use Rattle.hx_clock.proofs.Lemmas.{each_all, each_in}
+use Rattle.hx_law_threads.proofs.Lemmas.{in_permuted, map_append}
 use Rattle.hx_law_threads.specs.Merged.{IsMerged}
 use Rattle.hx_trace.specs.declared.turns.Turn.{Turn}
 use Rattle.hx_trace.specs.Turns.{IsTurnOf, stamped_at}

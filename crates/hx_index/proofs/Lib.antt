@@ -11,3 +11,4 @@ pub mod Narrowing
 pub mod Matched
 pub mod Pairs
 pub mod Examples
+pub mod Lemmas

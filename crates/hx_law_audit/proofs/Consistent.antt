@@ -19,7 +19,7 @@ use Rattle.hx_model.specs.Histories.{CallEnd}
 use Rattle.hx_model.specs.Legal.{IsEffect, IsLegal, object_now}
 use Rattle.hx_model.specs.Linear.{EachOnce}
 use Rattle.hx_model.specs.Searching.{FinishedSearch}
-use Rattle.hx_law_folds.proofs.Texts.{below-trans}
+use Rattle.hx_law_folds.proofs.Lemmas.{below-trans}
 use Rattle.hx_report_lines.specs.declared.blocks.Block.{Block}
 use Rattle.hx_report_lines.specs.declared.calls.CallLine.{CallLine}
 use Rattle.hx_report_lines.specs.declared.histories.HistoryLines.{HistoryLines}
@@ -27,8 +27,7 @@ use Rattle.hx_report_lines.specs.declared.histories.ItemLine.{ItemLine}
 use Rattle.hx_audit.specs.Accounts.{IsAnsweredBy, IsCallBy, IsSearchTrueBy, IsTrueRowBy, ended_before}
 use Rattle.hx_audit.specs.Clauses.{HasItem, IsEffectOfCall, IsInTime, IsKnown, IsRowOf, IsTrueAt, ended_before_begin, is_above, is_in_time, is_known, is_on, is_refused_call, row_above}
 use Rattle.hx_audit.specs.Told.{account_of, call_at, end_told, item_told, items_at, op_told, same_caller, search_told}
-use Rattle.hx_audit.proofs.Callers.{one_caller, same_self}
-use Rattle.hx_audit.proofs.Keys.{one_key}
+use Rattle.hx_audit.proofs.Lemmas.{one_caller, same_self, one_key}
 use Rattle.hx_law_audit.proofs.Along.{Along, along_all, along_each, along_legal, along_once, along_part}
 
 -- ---- lists

@@ -20,7 +20,7 @@ use Rattle.hx_model.specs.Histories.{CallEnd}
 use Rattle.hx_model.specs.Legal.{IsLegal}
 use Rattle.hx_model.specs.Linear.{EachOnce}
 use Rattle.hx_model.specs.Searching.{FinishedSearch}
-use Rattle.hx_model.proofs.States.{same_text_self}
+use Rattle.hx_model.proofs.Lemmas.{same_text_self}
 use Rattle.hx_report_lines.specs.declared.blocks.Block.{Block}
 use Rattle.hx_report_lines.specs.declared.calls.CallLine.{CallLine}
 use Rattle.hx_report_lines.specs.declared.histories.HistoryLines.{HistoryLines}
@@ -33,9 +33,7 @@ use Rattle.hx_audit.specs.Accounts.{IsAnsweredBy, IsCallBy, IsLinearBy, IsSearch
 use Rattle.hx_audit.specs.Clauses.{HasItem, IsEffectOfCall, IsInTime, IsKnown, IsRowOf, IsTrueAt, ended_before_begin, is_above, is_in_time, is_known, is_on, is_refused_call, row_above, KeepsInCall, KeepsInHistory}
 use Rattle.hx_audit.specs.Told.{account_of, call_at, end_told, item_told, items_at, same_caller, search_told}
 use Rattle.hx_audit.specs.Verdicts.{IsVerdict, KeepsInPiece, Placed, block_from, block_lines, blocks_from, call_lines, calls_from, histories_from, history_lines, lines_of_calls, space_lines}
-use Rattle.hx_audit.proofs.Callers.{caller_differs, caller_trans, one_caller, same_self}
-use Rattle.hx_audit.proofs.Effects.{faults}
-use Rattle.hx_audit.proofs.Unique.{own_items}
+use Rattle.hx_audit.proofs.Lemmas.{caller_differs, caller_trans, one_caller, same_self, faults, own_items}
 use Rattle.hx_law_audit.proofs.Along.{Along}
 use Rattle.hx_law_audit.proofs.Consistent.{LinearLines, TimelyBy, Told, found_in, in_map, in_reverse, in_told}
 use Rattle.hx_law_audit.specs.Meaning.{IsConsistent}

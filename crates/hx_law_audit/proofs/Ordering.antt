@@ -10,14 +10,13 @@ use Rattle.hx_types.specs.Words.{IsIn, same_text, when_some}
 use Rattle.hx_model.specs.Histories.{CallEnd}
 use Rattle.hx_model.specs.Linear.{EachOnce}
 use Rattle.hx_law_order.specs.Order.{AreInTime, NoneTwice}
-use Rattle.hx_law_order.proofs.Different.{in-time-of-different}
-use Rattle.hx_law_order.proofs.Headline.{histories_have}
+use Rattle.hx_law_order.proofs.Lemmas.{in-time-of-different, histories_have}
 use Rattle.hx_report_lines.specs.declared.blocks.Block.{Block}
 use Rattle.hx_report_lines.specs.declared.calls.CallLine.{CallLine}
 use Rattle.hx_report_lines.specs.declared.histories.HistoryLines.{HistoryLines}
 use Rattle.hx_audit.specs.Accounts.{IsLinearBy, ended_before}
 use Rattle.hx_audit.specs.Told.{account_of, call_at, end_told, item_told, same_caller}
-use Rattle.hx_audit.proofs.Keys.{one_key}
+use Rattle.hx_audit.proofs.Lemmas.{one_key}
 use Rattle.hx_law_audit.specs.Meaning.{EndsFollow, YesMeansOneOrder, times_told}
 use Rattle.hx_law_audit.proofs.Consistent.{found_in, in_map, in_told}
 use Rattle.hx_law_audit.proofs.Meant.{yes_means}

@@ -15,16 +15,15 @@ use Rattle.hx_types.specs.Fitting.{TraceFits, call_of}
 use Rattle.hx_types.specs.Words.{IsIn, same_text, when_some}
 use Rattle.hx_model.specs.Histories.{CallEnd, begin_of, end_of, history_of, note_of_end, record_at}
 use Rattle.hx_model.specs.Linear.{IsCall, IsLinear}
-use Rattle.hx_model.proofs.States.{same_text_self}
+use Rattle.hx_model.proofs.Lemmas.{same_text_self}
 use Rattle.hx_history.specs.declared.key_histories.KeyHistory.{KeyHistory}
 use Rattle.hx_history.specs.Listed.{AreHistories, IsHistory, keys_of_histories}
-use Rattle.hx_law_lemmas.proofs.Lists.{all-in, of-reverse}
-use Rattle.hx_law_lemmas.proofs.Traces.{began_at, begin_is, ended_at}
+use Rattle.hx_law_lemmas.proofs.Lemmas.{all-in, of-reverse, began_at, begin_is, ended_at}
 use Rattle.hx_report_lines.specs.declared.blocks.Block.{Block}
 use Rattle.hx_report_lines.specs.declared.calls.CallLine.{CallLine}
 use Rattle.hx_report_lines.specs.declared.histories.HistoryLines.{HistoryLines}
 use Rattle.hx_audit.specs.Told.{account_of, call_at, end_told, item_told, items_at, op_told}
-use Rattle.hx_audit.proofs.Keys.{one_key}
+use Rattle.hx_audit.proofs.Lemmas.{one_key}
 use Rattle.hx_law_audit.specs.Meaning.{run_account}
 use Rattle.hx_law_audit.proofs.RunLines.{call_line, call_lines, history_lines, item_line, line_end, line_is, sure}
 use Rattle.hx_law_audit.proofs.RunNotes.{began_called, ended_began}

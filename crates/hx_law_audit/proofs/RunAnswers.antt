@@ -30,16 +30,13 @@ use Rattle.hx_model.specs.Legal.{IsLegal, object_now}
 use Rattle.hx_model.specs.Runs.{IsRun}
 use Rattle.hx_model.specs.Searching.{ItemWithNewer, items_with_newer}
 use Rattle.hx_model.specs.SessionSteps.{is_search}
-use Rattle.hx_model.proofs.States.{same_text_self}
+use Rattle.hx_model.proofs.Lemmas.{same_text_self}
 use Rattle.hx_lex.specs.Spelling.{IsText}
 use Rattle.hx_law_texts.specs.Sayable.{CallIsSayable, IsSayable, IsSayableScript}
-use Rattle.hx_law_lemmas.proofs.Lists.{all-in, all-of, in-append, in-flat, in-slice_get, in_left, in_right}
-use Rattle.hx_law_lemmas.proofs.Objects.{fits-key}
-use Rattle.hx_law_lemmas.proofs.Texts.{below-differs}
-use Rattle.hx_law_lemmas.proofs.Traces.{EndedAt, begin_is}
-use Rattle.hx_law_posts.proofs.Bounds.{bounds}
-use Rattle.hx_law_searches.proofs.Headline.{runs_are_linear, runs_fit}
-use Rattle.hx_law_causes.proofs.Headline.{runs_have_causes}
+use Rattle.hx_law_lemmas.proofs.Lemmas.{all-in, all-of, in-append, in-flat, in-slice_get, in_left, in_right, fits-key, below-differs, EndedAt, begin_is}
+use Rattle.hx_law_posts.proofs.Lemmas.{bounds}
+use Rattle.hx_law_searches.proofs.Lemmas.{runs_are_linear, runs_fit}
+use Rattle.hx_law_causes.proofs.Lemmas.{runs_have_causes}
 use Rattle.hx_report_lines.specs.Values.{AnswerIsSayable, Is64, RowIsSayable}
 use Rattle.hx_audit.specs.Told.{answer_told, values_of}
 use Rattle.hx_law_audit.proofs.RunEnds.{ends_sound}

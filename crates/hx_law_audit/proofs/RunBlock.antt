@@ -21,8 +21,8 @@ use Rattle.hx_history.specs.declared.key_histories.KeyHistory.{KeyHistory}
 use Rattle.hx_history.specs.Listed.{AreHistories, IsHistory}
 use Rattle.hx_lex.specs.Spelling.{IsText}
 use Rattle.hx_law_texts.specs.Sayable.{IsSayableScript}
-use Rattle.hx_law_lemmas.proofs.Lists.{Pairwise, all-in, all-of, in-map, of-reverse}
-use Rattle.hx_law_searches.proofs.Headline.{runs_are_linear}
+use Rattle.hx_law_lemmas.proofs.Lemmas.{Pairwise, all-in, all-of, in-map, of-reverse}
+use Rattle.hx_law_searches.proofs.Lemmas.{runs_are_linear}
 use Rattle.hx_report_lines.specs.declared.epochs.EpochLine.{EpochLine}
 use Rattle.hx_report_lines.specs.declared.histories.HistoryLines.{HistoryLines}
 use Rattle.hx_report_lines.specs.Values.{Ascends, AscendsFrom, Is64, IsBlock, IsDriverLine, IsEpochOf, IsHistoryOf, IsItemOf, IsRawLine, MaybeObjectIsSayable}

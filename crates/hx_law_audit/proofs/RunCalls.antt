@@ -20,9 +20,8 @@ use Rattle.hx_model.specs.Histories.{CallEnd, begin_of, callers_of, note_of_end,
 use Rattle.hx_model.specs.Lines.{no_version}
 use Rattle.hx_model.specs.Runs.{IsRun}
 use Rattle.hx_law_texts.specs.Sayable.{CallIsSayable, IsSayableScript}
-use Rattle.hx_law_lemmas.proofs.Lists.{Pairwise, all-of, in-below, in-flat_map, in-map, in-slice_get, pairwise-append}
-use Rattle.hx_law_lemmas.proofs.Traces.{BeganAt, EndedAt, began_at, ended_at}
-use Rattle.hx_law_searches.proofs.Headline.{runs_fit}
+use Rattle.hx_law_lemmas.proofs.Lemmas.{Pairwise, all-of, in-below, in-flat_map, in-map, in-slice_get, pairwise-append, BeganAt, EndedAt, began_at, ended_at}
+use Rattle.hx_law_searches.proofs.Lemmas.{runs_fit}
 use Rattle.hx_report_lines.specs.declared.calls.CallLine.{CallLine}
 use Rattle.hx_report_lines.specs.Values.{Ascends, AscendsFrom, IsCallOf, IsCaller, MaybeAnswerOf, MaybeIs64, VersionBy, VersionFits, caller_below, has_end, names_version}
 use Rattle.hx_law_audit.proofs.RunAnswers.{answer_good, op_good}

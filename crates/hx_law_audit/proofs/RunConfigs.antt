@@ -17,10 +17,9 @@ use Rattle.hx_types.specs.Spaces.{IsConfigOf, IsRegionOf}
 use Rattle.hx_types.specs.Words.{IsIn, below}
 use Rattle.hx_model.specs.Causes.{config_noted}
 use Rattle.hx_model.specs.Runs.{IsRun, coordinator_of}
-use Rattle.hx_law_lemmas.proofs.Lists.{all-of, in-append, in-below, in-filter, in-map}
-use Rattle.hx_law_posts.proofs.Configs.{first-of_space}
-use Rattle.hx_law_posts.proofs.Runs.{epochs_stay_small}
-use Rattle.hx_law_epochs.proofs.Runs.{Notes, epochs-run, keeps-entry}
+use Rattle.hx_law_lemmas.proofs.Lemmas.{all-of, in-append, in-below, in-filter, in-map}
+use Rattle.hx_law_posts.proofs.Lemmas.{first-of_space, epochs_stay_small}
+use Rattle.hx_law_epochs.proofs.Lemmas.{Notes, epochs-run, keeps-entry}
 use Rattle.hx_law_audit.proofs.RunServers.{RisesFrom, ServersRise, first_servers_rise, rises_more, servers_rise}
 
 -- the configurations that notes say were issued

@@ -16,9 +16,8 @@ use Rattle.hx_model.specs.Runs.{IsRun}
 use Rattle.hx_model.specs.Searching.{FinishedSearch, rows_in, search_of, terms_of, with_rows}
 use Rattle.hx_history.specs.declared.key_histories.KeyHistory.{KeyHistory}
 use Rattle.hx_history.specs.Listed.{AreHistories, IsHistory}
-use Rattle.hx_law_lemmas.proofs.Lists.{all-in, of-reverse}
-use Rattle.hx_law_lemmas.proofs.Traces.{began_at}
-use Rattle.hx_law_searches.proofs.Headline.{runs_are_linear, runs_fit, runs_search_well}
+use Rattle.hx_law_lemmas.proofs.Lemmas.{all-in, of-reverse, began_at}
+use Rattle.hx_law_searches.proofs.Lemmas.{runs_are_linear, runs_fit, runs_search_well}
 use Rattle.hx_report_lines.specs.declared.blocks.Block.{Block}
 use Rattle.hx_report_lines.specs.declared.calls.CallLine.{CallLine}
 use Rattle.hx_audit.specs.Accounts.{IsLinearBy}

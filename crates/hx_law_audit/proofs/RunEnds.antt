@@ -41,14 +41,10 @@ use Rattle.hx_model.specs.Planning.{QueryRegions, chosen, lowest_lost, plan_of, 
 use Rattle.hx_model.specs.Regions.{key_region, meets, regions_of}
 use Rattle.hx_model.specs.Runs.{IsRun, MayTake, entry_at, post_named, session_of}
 use Rattle.hx_model.specs.SessionSteps.{SessionState, SessionStep, all_parts, ask_regions, awaits, begin, call_to, call_under_way, end_with_parts, ending, found_step, is_administrative, is_key_call, is_search, lacks_part, lost_answer, merged_parts, send, send_to, session_install, session_message, session_step, session_tick, staying, with_part, with_poll}
-use Rattle.hx_region.proofs.Subspaces.{within}
-use Rattle.hx_law_lemmas.proofs.CallEnds.{awaited}
-use Rattle.hx_law_lemmas.proofs.Lists.{in-below, in-filter, in-find, in-map, when_some_both}
-use Rattle.hx_law_lemmas.proofs.Regions.{place-region}
-use Rattle.hx_law_lemmas.proofs.Traces.{EndedAt}
-use Rattle.hx_law_posts.proofs.Bounds.{IsSoundConfig, bounds, sound_answer-up}
-use Rattle.hx_law_posts.proofs.Runs.{kept-run, posts_stay_sound}
-use Rattle.hx_law_searches.proofs.CallsKept.{step_is}
+use Rattle.hx_region.proofs.Lemmas.{within}
+use Rattle.hx_law_lemmas.proofs.Lemmas.{awaited, in-below, in-filter, in-find, in-map, when_some_both, place-region, EndedAt}
+use Rattle.hx_law_posts.proofs.Lemmas.{IsSoundConfig, bounds, sound_answer-up, kept-run, posts_stay_sound}
+use Rattle.hx_law_searches.proofs.Lemmas.{step_is}
 
 -- ---- the region that a search isn't planned for
 

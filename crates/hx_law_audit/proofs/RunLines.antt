@@ -18,8 +18,7 @@ use Rattle.hx_types.specs.Words.{IsIn, list_of, when_some}
 use Rattle.hx_model.specs.Histories.{CallEnd, begin_of, callers_of, end_of, note_of_end, record_at, record_of, records_of}
 use Rattle.hx_model.specs.Lines.{no_version}
 use Rattle.hx_history.specs.declared.key_histories.KeyHistory.{KeyHistory}
-use Rattle.hx_law_lemmas.proofs.Lists.{in-flat_map, in-map}
-use Rattle.hx_law_lemmas.proofs.Traces.{began_at}
+use Rattle.hx_law_lemmas.proofs.Lemmas.{in-flat_map, in-map, began_at}
 use Rattle.hx_report_lines.specs.declared.calls.CallLine.{CallLine}
 use Rattle.hx_report_lines.specs.declared.histories.HistoryLines.{HistoryLines}
 use Rattle.hx_report_lines.specs.declared.histories.ItemLine.{ItemLine}
@@ -27,7 +26,7 @@ use Rattle.hx_report_lines.specs.declared.histories.ItemWord.{ItemWord}
 use Rattle.hx_report_lines.specs.declared.histories.ItemWord.TheVariants as words
 use Rattle.hx_report_lines.specs.Values.{names_version}
 use Rattle.hx_audit.specs.Told.{call_at, end_told, same_caller}
-use Rattle.hx_audit.proofs.Callers.{one_caller, same_self}
+use Rattle.hx_audit.proofs.Lemmas.{one_caller, same_self}
 use Rattle.hx_law_audit.proofs.RunNotes.{began_called, caller_in}
 use Rattle.hx_law_audit.proofs.SameAccounts.{stop_of}
 

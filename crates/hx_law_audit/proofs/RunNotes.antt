@@ -15,8 +15,7 @@ use Rattle.hx_types.specs.declared.traces.Note.TheVariants as a_note
 use Rattle.hx_types.specs.Fitting.{Noted, TraceFits, call_of, calls_of, ends_well, has_begun, has_ended, is_begin_of, note_fits, noted_in, notes_fit, numbered}
 use Rattle.hx_types.specs.Words.{IsIn, below, same_actor, when_some}
 use Rattle.hx_model.specs.Histories.{callers_of}
-use Rattle.hx_law_lemmas.proofs.Lists.{any-in, in-append, in-flat, in-map, in-reverse, in_left, in_right, map-in, of-reverse}
-use Rattle.hx_law_lemmas.proofs.Traces.{BeganAt, EndedAt, of_session}
+use Rattle.hx_law_lemmas.proofs.Lemmas.{any-in, in-append, in-flat, in-map, in-reverse, in_left, in_right, map-in, of-reverse, BeganAt, EndedAt, of_session}
 
 abbrev said : Actor → Note → Noted
 said a n = record { actor = a; note = n }

@@ -28,9 +28,7 @@ use Rattle.hx_types.specs.Words.{IsIn}
 use Rattle.hx_model.specs.Legal.{IsLegal, object_now}
 use Rattle.hx_lex.specs.Spelling.{IsText, is_plain}
 use Rattle.hx_law_texts.specs.Sayable.{BoundsAreSayable, CallIsSayable, IsSayable}
-use Rattle.hx_law_lemmas.proofs.Edits.{MadeWith, edited-both}
-use Rattle.hx_law_lemmas.proofs.Lists.{all-in, all-of, in-slice_set, in-slice_get, in-map, when_some_both}
-use Rattle.hx_law_lemmas.proofs.Objects.{effect-sound}
+use Rattle.hx_law_lemmas.proofs.Lemmas.{MadeWith, edited-both, all-in, all-of, in-slice_set, in-slice_get, in-map, when_some_both, effect-sound}
 
 -- what is there can be said
 abbrev pub CanBeSaid : Option (List Value) → Type 0

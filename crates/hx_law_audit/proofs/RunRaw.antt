@@ -20,7 +20,7 @@ use Rattle.hx_types.specs.declared.traces.Input.TheVariants as an_input
 use Rattle.hx_types.specs.Words.{IsIn}
 use Rattle.hx_print.specs.Printing.{actor_text, post_name}
 use Rattle.hx_report.specs.Tracing.{field_text, input_text, message_text, post_head, reconfiguration_text}
-use Rattle.hx_law_lemmas.proofs.Lists.{all-of, in-append}
+use Rattle.hx_law_lemmas.proofs.Lemmas.{all-of, in-append}
 
 -- ---- the lines
 

@@ -24,7 +24,7 @@ use Rattle.hx_types.specs.Configs.{first_config, is_lost, lists_joining}
 use Rattle.hx_types.specs.Words.{IsIn, below, post, provided, server_in, without_server}
 use Rattle.hx_model.specs.CoordinatorSteps.{CoordinatorState, CoordinatorStep, Issuing, Newest, Phase, Sealing, Steady, Task, add_step, adds, adds_by, adds_steady, administers, again, answers_with, by_number, config_without, coordinator_message, coordinator_step, coordinator_tick, does, does_all, gone_step, goes, is_out, issue, judged, leaves, newest_of, outcome, poll_step, ready_now, ready_step, remaining, resting, seal, sealed_now, sealed_step, sealing_or_issue, still_sealing, stop_step, stops, telling, to_server, waits_less, with_number, with_server, with_task}
 use Rattle.hx_model.specs.Runs.{coordinator_after, coordinator_of}
-use Rattle.hx_law_lemmas.proofs.Lists.{in-below, in-map}
+use Rattle.hx_law_lemmas.proofs.Lemmas.{in-below, in-map}
 
 -- ---- ascending numbers
 

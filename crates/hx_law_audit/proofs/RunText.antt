@@ -30,7 +30,7 @@ use Rattle.hx_report.specs.Driving.{driver_line, drivers_text}
 use Rattle.hx_report.specs.Reporting as report
 use Rattle.hx_report.specs.Reporting.{answer_lines, called_text, entry_lines, epochs_text, head_text, maybe_answer_lines, note_lines, record_lines, report_text}
 use Rattle.hx_report.specs.Tracing.{entries_text, entry_line, post_line, posts_text, trace_text}
-use Rattle.hx_law_lemmas.proofs.Traces.{began_at}
+use Rattle.hx_law_lemmas.proofs.Lemmas.{began_at}
 use Rattle.hx_report_lines.specs.declared.blocks.Block.{Block}
 use Rattle.hx_report_lines.specs.declared.blocks.DriverLine.{DriverLine}
 use Rattle.hx_report_lines.specs.declared.epochs.EpochLine.{EpochLine}

@@ -12,7 +12,7 @@ use Rattle.hx_types.specs.declared.values.Value.{Value}
 use Rattle.hx_types.specs.Effects.{changed_to, effect_of, left_as, tests_hold, written}
 use Rattle.hx_types.specs.Words.{IsIn}
 use Rattle.hx_model.specs.Legal.{IsLegal, object_now}
-use Rattle.hx_law_lemmas.proofs.Edits.{atomic-both}
+use Rattle.hx_law_lemmas.proofs.Lemmas.{atomic-both}
 use Rattle.hx_report_lines.specs.declared.histories.ItemWord.{ItemWord}
 use Rattle.hx_report_lines.specs.declared.histories.ItemWord.TheVariants as words
 use Rattle.hx_report_lines.specs.Printed.{word_text}

@@ -19,17 +19,9 @@ use Rattle.hx_types.specs.Words.{IsIn, provided, same_text}
 use Rattle.hx_model.specs.Histories.{get_item, get_items, gets_of, history_of, history_on, in_place, is_get_of, line_note, line_notes, line_of, not_refused, write_item}
 use Rattle.hx_model.specs.Lines.{upto}
 use Rattle.hx_model.specs.Runs.{IsRun, Output, coordinator_of, made_of, server_of, session_of}
-use Rattle.hx_law_lemmas.proofs.FactLines.{line-numbered}
-use Rattle.hx_law_lemmas.proofs.Lists.{in-append, in-flat_map, of-reverse, when_some_both}
-use Rattle.hx_law_lemmas.proofs.Numbered.{in-below}
-use Rattle.hx_law_lemmas.proofs.SessionNotes.{keeps_lines}
-use Rattle.hx_law_lemmas.proofs.Traces.{EndedAt}
-use Rattle.hx_law_chains.proofs.CoordinatorPosts.{coordinator-plain}
-use Rattle.hx_law_chains.proofs.Elsewhere.{issued-line}
-use Rattle.hx_law_chains.proofs.ServerPosts.{AnySnapshot, AssignsOne, server-plain}
-use Rattle.hx_law_searches.proofs.CallsKept.{turn_is}
-use Rattle.hx_law_searches.proofs.FromChains.{facts}
-use Rattle.hx_law_searches.proofs.Writes.{not_refused-in}
+use Rattle.hx_law_lemmas.proofs.Lemmas.{line-numbered, in-append, in-flat_map, of-reverse, when_some_both, numbered-within as in-below, keeps_lines, EndedAt}
+use Rattle.hx_law_chains.proofs.Lemmas.{coordinator-plain, issued-line, AnySnapshot, AssignsOne, server-plain}
+use Rattle.hx_law_searches.proofs.Lemmas.{turn_is, facts, not_refused-in}
 use Rattle.hx_law_audit.proofs.RunEnds.{ends_sound}
 
 -- ---- lines

@@ -5,7 +5,7 @@ use Rattle.hx_report_lines.specs.Values.{ReportValue}
 use Rattle.hx_audit.specs.declared.verdicts.Clause.{Clause}
 use Rattle.hx_audit.specs.declared.verdicts.Verdict.TheVariants as verdicts
 use Rattle.hx_audit.specs.Verdicts.{IsBrokenAt, IsFirstBroken, IsKept, rank_of}
-use Rattle.hx_audit.proofs.Ranks.{same_rank}
+use Rattle.hx_audit.proofs.Lemmas.{same_rank}
 use Rattle.hx_law_audit.specs.Meaning.{VerdictsAreUnique}
 
 -- what is kept is broken nowhere

@@ -26,13 +26,10 @@ use Rattle.hx_model.specs.CoordinatorSteps.{CoordinatorState, CoordinatorStep, a
 use Rattle.hx_model.specs.SessionSteps.{SessionState}
 use Rattle.hx_model.specs.Runs.{IsRun, Output, MayTake, coordinator_after, coordinator_of, made_of, server_of, session_after, session_of}
 use Rattle.hx_law_lemmas.specs.Words.{posts_of}
-use Rattle.hx_law_lemmas.proofs.Lists.{in-append}
-use Rattle.hx_law_lemmas.proofs.Traces.{BeganAt, arrived}
-use Rattle.hx_law_epochs.proofs.Runs.{EpochsRun, IsKnown, Notes, epochs-run, keeps-entry, known-after, known-still}
-use Rattle.hx_law_chains.proofs.CoordinatorPosts.{OfCoordinator, coordinator-plain}
-use Rattle.hx_law_chains.proofs.ServerPosts.{AnySnapshot, OfServer, server-plain}
-use Rattle.hx_law_searches.proofs.CallsKept.{step_is}
-use Rattle.hx_law_chains.proofs.Named.{named}
+use Rattle.hx_law_lemmas.proofs.Lemmas.{in-append, BeganAt, arrived}
+use Rattle.hx_law_epochs.proofs.Lemmas.{EpochsRun, IsKnown, Notes, epochs-run, keeps-entry, known-after, known-still}
+use Rattle.hx_law_chains.proofs.Lemmas.{OfCoordinator, coordinator-plain, AnySnapshot, OfServer, server-plain, named}
+use Rattle.hx_law_searches.proofs.Lemmas.{step_is}
 use Rattle.hx_law_causes.proofs.Coordinating.{Answers, AsksFor, ByStep, Given, Spoken, caller_of, coordinated, spoken-map, to-session}
 use Rattle.hx_law_causes.proofs.Outcomes.{Judged, administers_to, not_listed}
 use Rattle.hx_law_causes.proofs.Sessions.{Asks, SessionDoes, Starts, session-does}

@@ -24,12 +24,8 @@ use Rattle.hx_model.specs.Legal.{IsEffect, IsLegal, object_now}
 use Rattle.hx_model.specs.Linear.{IsLinear}
 use Rattle.hx_model.specs.Runs.{IsRun}
 use Rattle.hx_model.specs.Searching.{rows_in, search_of, terms_of, with_rows}
-use Rattle.hx_law_lemmas.proofs.Traces.{BeganAt, EndedAt, ended_at}
-use Rattle.hx_law_lemmas.proofs.SessionNotes.{begins_now}
-use Rattle.hx_law_searches.proofs.CallsKept.{calls_kept, turn_is}
-use Rattle.hx_law_searches.proofs.FromChains.{facts}
-use Rattle.hx_law_searches.proofs.Headline.{runs_are_linear, runs_search_well}
-use Rattle.hx_law_searches.proofs.Times.{ended_unique}
+use Rattle.hx_law_lemmas.proofs.Lemmas.{BeganAt, EndedAt, ended_at, begins_now}
+use Rattle.hx_law_searches.proofs.Lemmas.{calls_kept, turn_is, facts, runs_are_linear, runs_search_well, ended_unique}
 
 -- an older part of a run is a run
 pub run-part : (script : Script) (newer : List Entry) (x : Entry) (older : List Entry) → IsRun script (newer ++ x ∷ older) → IsRun script (x ∷ older)

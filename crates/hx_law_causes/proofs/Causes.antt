@@ -27,9 +27,9 @@ use Rattle.hx_model.specs.Planning.{plan_of}
 use Rattle.hx_model.specs.Regions.{key_region}
 use Rattle.hx_model.specs.Runs.{IsRun}
 use Rattle.hx_model.specs.SessionSteps.{SessionState, lost_answer}
-use Rattle.hx_region.proofs.Planned.{lowest}
-use Rattle.hx_law_lemmas.proofs.Traces.{BeganAt}
-use Rattle.hx_law_epochs.proofs.Runs.{IsKnown}
+use Rattle.hx_region.proofs.Lemmas.{lowest}
+use Rattle.hx_law_lemmas.proofs.Lemmas.{BeganAt}
+use Rattle.hx_law_epochs.proofs.Lemmas.{IsKnown}
 use Rattle.hx_law_causes.proofs.Administered.{OutcomeCause, Passes, WasFulfilled}
 use Rattle.hx_law_causes.proofs.Answered.{the_call}
 use Rattle.hx_law_causes.proofs.Outcomes.{administers_to, not_listed}

@@ -23,8 +23,7 @@ use Rattle.hx_types.specs.declared.traces.Note.TheVariants as a_note
 use Rattle.hx_types.specs.Words.{IsIn, below, post, provided, server_in, without_server}
 use Rattle.hx_types.specs.Configs.{is_lost, lists_joining}
 use Rattle.hx_model.specs.CoordinatorSteps.{Answered, CoordinatorState, CoordinatorStep, Newest, Phase, Sealing, Steady, Task, add_step, adds, adds_steady, again, by_number, coordinator_message, coordinator_step, coordinator_tick, die_for, die_posts, gone_step, goes, is_newest_call, is_out, issue, issuing, judged, newest_answered, newest_of, outcome, ready_now, ready_step, remaining, resting, seal, sealed_now, sealed_step, sealing_or_issue, session_posts, still_sealing, stop_step, stops, telling, to_server, waits_less, with_answer, with_newest, with_number, with_server, with_task}
-use Rattle.hx_law_lemmas.proofs.Newest.{in-with_newest, newest-in}
-use Rattle.hx_law_lemmas.proofs.Lists.{in-append, in-flat_map, in-map, in-provided}
+use Rattle.hx_law_lemmas.proofs.Lemmas.{in-with_newest, newest-in, in-append, in-flat_map, in-map, in-provided}
 use Rattle.hx_law_causes.proofs.Outcomes.{Judged, issuing-well, judged-is}
 
 -- what is said of the session that is answered

@@ -24,7 +24,7 @@ use Rattle.hx_model.specs.Schedule.{next_entry, scheduled, stepped}
 use Rattle.hx_model.specs.Runs.{IsRun}
 use Rattle.std.specs.List.{All}
 use Rattle.std.proofs.lemmas.List.Elements.{All-from_recursion}
-use Rattle.hx_law_lemmas.proofs.SmallBooks.{small_books_are}
+use Rattle.hx_law_lemmas.proofs.Lemmas.{small_books_are}
 use Rattle.hx_law_causes.proofs.Headline.{runs_have_causes}
 use Rattle.hx_law_causes.proofs.Replaying.{scheduled-run}
 

@@ -34,15 +34,11 @@ use Rattle.hx_model.specs.Runs.{IsRun, MayTake, session_of}
 use Rattle.hx_model.specs.ServerSteps.{get_answer}
 use Rattle.hx_model.specs.SessionSteps.{SessionState, is_key_call}
 use Rattle.hx_law_lemmas.specs.Words.{posts_of}
-use Rattle.hx_law_lemmas.proofs.Edits.{atomic-both}
-use Rattle.hx_law_lemmas.proofs.CallEnds.{started}
-use Rattle.hx_law_lemmas.proofs.Traces.{BeganAt, EndedAt, arrived, began_at}
-use Rattle.hx_law_lemmas.proofs.SessionNotes.{ends_now, may_start}
-use Rattle.hx_law_chains.proofs.Named.{named}
-use Rattle.hx_law_epochs.proofs.Runs.{IsKnown}
+use Rattle.hx_law_lemmas.proofs.Lemmas.{atomic-both, started, BeganAt, EndedAt, arrived, began_at, ends_now, may_start}
+use Rattle.hx_law_chains.proofs.Lemmas.{named}
+use Rattle.hx_law_epochs.proofs.Lemmas.{IsKnown}
 use Rattle.hx_law_lemmas.specs.Facts.{Tells}
-use Rattle.hx_law_searches.proofs.CallsKept.{calls_kept, step_is, turn_is}
-use Rattle.hx_law_searches.proofs.FromChains.{facts}
+use Rattle.hx_law_searches.proofs.Lemmas.{calls_kept, step_is, turn_is, facts}
 use Rattle.hx_law_causes.proofs.Administered.{OutcomeCause, administers-run}
 use Rattle.hx_law_causes.proofs.Answered.{began-once, began-part, ended-part, given-there, rows-found, run-part, the_call}
 use Rattle.hx_law_causes.proofs.Causes.{key-lost, outcome-has, plan-lost, same-op}

@@ -13,3 +13,4 @@ pub mod Headline
 pub mod Replaying
 mod Example
 mod PresentExample
+pub mod Lemmas

@@ -28,12 +28,10 @@ use Rattle.hx_model.specs.Places.{declared_subspaces, placed_after, places_of, r
 use Rattle.hx_model.specs.Regions.{key_region}
 use Rattle.hx_model.specs.Runs.{IsRun}
 use Rattle.hx_model.specs.Slots.{top_above, touches_after}
-use Rattle.hx_region.proofs.Planned.{lowest}
-use Rattle.hx_region.proofs.Subspaces.{within}
-use Rattle.hx_law_posts.proofs.Runs.{kept-run}
-use Rattle.hx_law_lemmas.proofs.Lists.{in-below, in-flat_map, in-map, in-provided}
-use Rattle.hx_law_lemmas.proofs.Regions.{between-places, place-region}
-use Rattle.hx_law_chains.proofs.Doubts.{lost-place}
+use Rattle.hx_region.proofs.Lemmas.{lowest, within}
+use Rattle.hx_law_posts.proofs.Lemmas.{kept-run}
+use Rattle.hx_law_lemmas.proofs.Lemmas.{in-below, in-flat_map, in-map, in-provided, between-places, place-region}
+use Rattle.hx_law_chains.proofs.Lemmas.{lost-place}
 
 -- a key's region
 pub key-real : (space : Space) → IsSpace space → (key : List ℕ) → IsRegionOf space (key_region space key)

@@ -16,8 +16,8 @@ use Rattle.hx_types.specs.Words.{IsIn, same_server, server_in}
 use Rattle.hx_types.specs.Configs.{any_ready, is_lost, lists_joining, lists_ready, members_of}
 use Rattle.hx_model.specs.Causes.{is_fulfilled}
 use Rattle.hx_model.specs.CoordinatorSteps.{Answered, CoordinatorState, Issuing, Task, adds_by, any_joining, answers_with, appended, config_without, does, does_all, issuing, judged, leaves}
-use Rattle.hx_law_lemmas.proofs.Lists.{any-in, in-append, in_left, in_right}
-use Rattle.hx_law_epochs.proofs.Next.{Grown, MayJoin, any-of, appended-here, grown-more, joiner, judged-may}
+use Rattle.hx_law_lemmas.proofs.Lemmas.{any-in, in-append, in_left, in_right}
+use Rattle.hx_law_epochs.proofs.Lemmas.{Grown, MayJoin, any-of, appended-here, grown-more, joiner, judged-may}
 
 -- a test of the server and the region that an administrative call names
 abbrev pub administers_to : (ServerId → RegionId → Bool) → (ServerId → Bool) → Op → Bool

@@ -22,11 +22,10 @@ use Rattle.hx_model.specs.Causes.{AnsweredCall, HasCause, HasCauses, IsLostIn, c
 use Rattle.hx_model.specs.Histories.{begin_of}
 use Rattle.hx_model.specs.Runs.{IsRun}
 use Rattle.hx_model.specs.Runs.{session_of}
-use Rattle.hx_law_lemmas.proofs.Traces.{BeganAt, begin_is}
-use Rattle.hx_law_lemmas.proofs.SessionNotes.{ends_now, may_start}
-use Rattle.hx_law_chains.proofs.Named.{named}
-use Rattle.hx_law_epochs.proofs.Runs.{IsKnown, epochs-run, known-still}
-use Rattle.hx_law_searches.proofs.CallsKept.{step_is, turn_is}
+use Rattle.hx_law_lemmas.proofs.Lemmas.{BeganAt, begin_is, ends_now, may_start}
+use Rattle.hx_law_chains.proofs.Lemmas.{named}
+use Rattle.hx_law_epochs.proofs.Lemmas.{IsKnown, epochs-run, known-still}
+use Rattle.hx_law_searches.proofs.Lemmas.{step_is, turn_is}
 use Rattle.hx_law_causes.specs.Causes.{AnswersAll, LosesNothing}
 use Rattle.hx_law_causes.proofs.Administered.{administers-run}
 use Rattle.hx_law_causes.proofs.Answered.{run-part}

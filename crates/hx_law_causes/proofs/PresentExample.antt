@@ -23,8 +23,7 @@ use Rattle.hx_model.specs.Causes.{config_of}
 use Rattle.hx_model.specs.Histories.{line_of, records_of}
 use Rattle.hx_model.specs.Runs.{IsRun}
 use Rattle.hx_model.specs.Schedule.{next_entry, scheduled, stepped}
-use Rattle.hx_law_lemmas.proofs.Regions.{not-lost}
-use Rattle.hx_law_lemmas.proofs.SmallBooks.{small_books_are}
+use Rattle.hx_law_lemmas.proofs.Lemmas.{not-lost, small_books_are}
 use Rattle.hx_law_causes.specs.Causes.{AnswersAll, LosesNothing}
 use Rattle.hx_law_causes.proofs.Example.{sets, sets_fit, space}
 use Rattle.hx_law_causes.proofs.Headline.{runs_answer_all}

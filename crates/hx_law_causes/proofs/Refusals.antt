@@ -20,13 +20,10 @@ use Rattle.hx_model.specs.Causes.{carries_call, was_sent}
 use Rattle.hx_model.specs.Runs.{IsRun, MayTake, session_after, session_of}
 use Rattle.hx_model.specs.SessionSteps.{SessionState, session_step}
 use Rattle.hx_law_lemmas.specs.Words.{posts_of}
-use Rattle.hx_law_lemmas.proofs.Lists.{any-in, in-append, in_left, in_right}
-use Rattle.hx_law_lemmas.proofs.Traces.{arrived}
-use Rattle.hx_law_epochs.proofs.Next.{any-of}
-use Rattle.hx_law_epochs.proofs.Runs.{IsKnown, epochs-run}
-use Rattle.hx_law_epochs.proofs.Sessions.{session-config}
-use Rattle.hx_law_searches.proofs.CallsKept.{step_is}
-use Rattle.hx_law_chains.proofs.Named.{named}
+use Rattle.hx_law_lemmas.proofs.Lemmas.{any-in, in-append, in_left, in_right, arrived}
+use Rattle.hx_law_epochs.proofs.Lemmas.{any-of, IsKnown, epochs-run, session-config}
+use Rattle.hx_law_searches.proofs.Lemmas.{step_is}
+use Rattle.hx_law_chains.proofs.Lemmas.{named}
 use Rattle.hx_law_causes.proofs.Sessions.{SessionDoes, Starts, session-does}
 
 -- ---- whether a call was sent

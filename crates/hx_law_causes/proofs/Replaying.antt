@@ -17,10 +17,9 @@ use Rattle.hx_types.specs.Posts.{ActorExists}
 use Rattle.hx_model.specs.Runs.{IsRun, MayTake, has_halted, is_actor, is_empty, made_of, does_something, post_named, session_of}
 use Rattle.hx_model.specs.Schedule.{Next, delivery_of, entry_by, first_delivery, idle_among, is_idle, next_input, scheduled, undelivered, with_entry}
 use Rattle.hx_model.specs.SessionSteps.{SessionState, SessionStep, begin, session_tick, staying}
-use Rattle.hx_law_lemmas.proofs.Lists.{in-below, when_some_both}
-use Rattle.hx_law_posts.proofs.Bounds.{bounds}
-use Rattle.hx_law_posts.proofs.Runs.{posts_stay_sound}
-use Rattle.hx_law_epochs.proofs.Positions.{index-some}
+use Rattle.hx_law_lemmas.proofs.Lemmas.{in-below, when_some_both}
+use Rattle.hx_law_posts.proofs.Lemmas.{bounds, posts_stay_sound}
+use Rattle.hx_law_epochs.proofs.Lemmas.{index-some}
 
 -- an input that may come next
 record MayCome (script : Script) (older : List Entry) (next : Next) : Type 0 where

@@ -35,8 +35,8 @@ use Rattle.hx_types.specs.Fitting.{numbered}
 use Rattle.hx_model.specs.Planning.{plan_of}
 use Rattle.hx_model.specs.Regions.{key_region}
 use Rattle.hx_model.specs.SessionSteps.{SessionState, SessionStep, all_parts, ask_regions, ask_to, awaits, begin, call_to, call_under_way, end_with_parts, ending, found_step, is_administrative, is_key_call, is_search, lacks_part, lost_answer, merged_parts, send, send_to, session_install, session_message, session_step, session_tick, staying, with_part, with_poll}
-use Rattle.hx_law_lemmas.proofs.Lists.{in-append, in-flat_map, in-provided, in_left}
-use Rattle.hx_law_epochs.proofs.Members.{head-some}
+use Rattle.hx_law_lemmas.proofs.Lemmas.{in-append, in-flat_map, in-provided, in_left}
+use Rattle.hx_law_epochs.proofs.Lemmas.{head-some}
 
 -- the operation of the call under way
 abbrev pub Called : SessionState → Op → Type 0

@@ -24,15 +24,9 @@ use Rattle.hx_model.specs.Lines.{line_object, upto}
 use Rattle.hx_model.specs.Places.{places_of}
 use Rattle.hx_model.specs.Runs.{IsRun}
 use Rattle.hx_model.specs.Slots.{top_above, touches_after}
-use Rattle.hx_law_lemmas.proofs.Effects.{effect_well}
-use Rattle.hx_law_lemmas.proofs.Numbered.{in-below, upto_past}
-use Rattle.hx_law_lemmas.proofs.Lines.{top-numbered, upto_all}
-use Rattle.hx_law_epochs.proofs.Runs.{IsKnown}
-use Rattle.hx_law_chains.proofs.Doubts.{lost-place}
-use Rattle.hx_law_chains.proofs.DoubtsTold.{doubts-told}
-use Rattle.hx_law_chains.proofs.Runs.{chained-run, scene}
-use Rattle.hx_law_chains.proofs.Serving.{world}
-use Rattle.hx_law_chains.proofs.World.{Law, Lawful, Told, lawful-numbered}
+use Rattle.hx_law_lemmas.proofs.Lemmas.{effect_well, numbered-within as in-below, upto_past, top-numbered, upto_all}
+use Rattle.hx_law_epochs.proofs.Lemmas.{IsKnown}
+use Rattle.hx_law_chains.proofs.Lemmas.{lost-place, doubts-told, chained-run, scene, world, Law, Lawful, Told, lawful-numbered}
 use Rattle.hx_law_causes.proofs.Law.{DoubtsAreTold, RefusalsAreNamed}
 
 -- an update where it stands: the older ones are those up to the version before it

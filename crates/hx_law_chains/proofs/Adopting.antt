@@ -18,18 +18,12 @@ use Rattle.hx_model.specs.Holders.{snap_state}
 use Rattle.hx_model.specs.Leading.{StuckAt, stuck_of}
 use Rattle.hx_model.specs.ServerSteps.{Replica, ServerState, SlotContext, adopted, adopted_posts, adopted_replica, adopted_state, doubt_in, doubts_from, is_active, leader_doubts, listed_regions, move_posts, passed_on, ready_post, replica_of, replica_or_new, resumed, resumed_posts, snap_posts, state_in, with_config}
 use Rattle.hx_model.specs.Slots.{Forget, KeyState, Move, moved, moved_all, new_state, pending_of, pending_of_all, snapshot_of, state_among}
-use Rattle.hx_model.proofs.Laws.{base-moved_all}
-use Rattle.hx_law_lemmas.proofs.LeaderLines.{pending-in}
-use Rattle.hx_law_lemmas.proofs.Lists.{in-append, in-filter, in-flat_map, in-map, in-provided, when_some_both}
-use Rattle.hx_law_lemmas.proofs.Replicas.{replica-found}
-use Rattle.hx_law_lemmas.proofs.Chains.{Differ}
-use Rattle.hx_law_lemmas.proofs.Texts.{state-there}
+use Rattle.hx_model.proofs.Lemmas.{base-moved_all}
+use Rattle.hx_law_lemmas.proofs.Lemmas.{pending-in, in-append, in-filter, in-flat_map, in-map, in-provided, when_some_both, replica-found, Differ, state-there}
+use Rattle.hx_law_lemmas.proofs.Lemmas.{more_same, which-server, listed-there, made-found, made-in, mapped-found, mapped-from}
 use Rattle.hx_law_lemmas.specs.Words.{standing, view}
-use Rattle.hx_law_lemmas.proofs.Cuts.{more_same}
-use Rattle.hx_law_lemmas.proofs.Cases.{which-server}
-use Rattle.hx_law_lemmas.proofs.ReplicaLists.{listed-there, made-found, made-in, mapped-found, mapped-from}
 use Rattle.hx_law_folds.specs.Folding.{IsJoinableServer}
-use Rattle.hx_law_epochs.proofs.Facts.{Installed}
+use Rattle.hx_law_epochs.proofs.Lemmas.{Installed}
 use Rattle.hx_law_chains.proofs.Holders.{Live, Up, live-of, seat-of, state-here, state-off, with_state_of}
 use Rattle.hx_law_chains.proofs.Joining.{Twin, key_joined}
 use Rattle.hx_law_chains.proofs.Keys.{Moved, below-all, following, low-in, turn_promise}

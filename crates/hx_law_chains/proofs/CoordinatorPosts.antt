@@ -24,7 +24,7 @@ use Rattle.hx_types.specs.declared.traces.Note.TheVariants as a_note
 use Rattle.hx_types.specs.Words.{IsIn, below, post, provided, server_in, without_server}
 use Rattle.hx_types.specs.Configs.{is_lost, lists_joining}
 use Rattle.hx_model.specs.CoordinatorSteps.{Answered, CoordinatorState, CoordinatorStep, Newest, Phase, Sealing, Steady, Task, add_step, adds, adds_steady, administers, again, by_number, coordinator_message, coordinator_step, coordinator_tick, die_for, die_posts, goes, gone_step, is_out, issue, issuing, judged, newest_of, outcome, poll_step, ready_now, ready_step, remaining, resting, seal, sealed_now, sealed_step, sealing_or_issue, session_posts, still_sealing, stop_step, stops, telling, to_server, waits_less, with_number, with_server, with_task}
-use Rattle.hx_law_lemmas.proofs.Lists.{in-append, in-flat_map, in-map, in-provided}
+use Rattle.hx_law_lemmas.proofs.Lemmas.{in-append, in-flat_map, in-map, in-provided}
 
 -- what the coordinator posts
 abbrev pub OfCoordinator : Message → Type 0

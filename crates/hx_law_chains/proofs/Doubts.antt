@@ -37,11 +37,7 @@ use Rattle.hx_model.specs.Regions.{key_region}
 use Rattle.hx_model.specs.ServerSteps.{ServerState, SlotContext, ack_to, get_answer, move_posts, next_at, passed_on, prev_at, reply, told_to, update_to}
 use Rattle.hx_model.specs.Slots.{Acknowledge, Commit, Forget, Hold, KeyState, Move, Take, has_place, mark_of}
 use Rattle.hx_types.specs.declared.outcomes.Effect.{Effect}
-use Rattle.hx_law_lemmas.proofs.Edits.{atomic-both}
-use Rattle.hx_law_lemmas.proofs.Chains.{place-in}
-use Rattle.hx_law_lemmas.proofs.Lists.{in-flat_map, when_some_both}
-use Rattle.hx_law_lemmas.proofs.HeldUpdates.{AllKnown, Known}
-use Rattle.hx_law_lemmas.proofs.Lawful.{at_session}
+use Rattle.hx_law_lemmas.proofs.Lemmas.{atomic-both, place-in, in-flat_map, when_some_both, AllKnown, Known, at_session}
 use Rattle.hx_law_chains.proofs.World.{Law}
 
 -- a pending version of the key is held up by the lost region at the leader, and isn't above the version named, unless that is 0

@@ -23,10 +23,8 @@ use Rattle.hx_model.specs.Causes.{AnsweredCall, IsDoubtTold}
 use Rattle.hx_model.specs.Runs.{IsRun, Output, MayTake, coordinator_of, has_halted, is_actor, made_of, server_after, server_of, session_of}
 use Rattle.hx_model.specs.ServerSteps.{ServerState, server_step}
 use Rattle.hx_law_lemmas.specs.Words.{posts_of}
-use Rattle.hx_law_lemmas.proofs.Lists.{in-append}
-use Rattle.hx_law_lemmas.proofs.Traces.{arrived}
-use Rattle.hx_law_lemmas.proofs.SessionMessages.{session_turn}
-use Rattle.hx_law_epochs.proofs.Runs.{IsKnown, epochs-run, known-still, server-does-well}
+use Rattle.hx_law_lemmas.proofs.Lemmas.{in-append, arrived, session_turn}
+use Rattle.hx_law_epochs.proofs.Lemmas.{IsKnown, epochs-run, known-still, server-does-well}
 use Rattle.hx_law_chains.proofs.CoordinatorPosts.{coordinator-plain}
 use Rattle.hx_law_chains.proofs.Doubts.{HeldUp, Says}
 use Rattle.hx_law_chains.proofs.Runs.{chained-run, scene}

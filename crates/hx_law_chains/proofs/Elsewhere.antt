@@ -27,16 +27,9 @@ use Rattle.hx_model.specs.ServerSteps.{ServerState, state_in}
 use Rattle.hx_model.specs.SessionSteps.{SessionState, session_step}
 use Rattle.hx_model.specs.Slots.{Forget, KeyState, moved}
 use Rattle.hx_law_lemmas.specs.Words.{noted, posts_of, view}
-use Rattle.hx_law_lemmas.proofs.Lists.{in-append}
-use Rattle.hx_law_lemmas.proofs.CallEnds.{started, started_same}
-use Rattle.hx_law_lemmas.proofs.Cuts.{more_same}
-use Rattle.hx_law_lemmas.proofs.Order.{in-listed, listed-in}
-use Rattle.hx_law_lemmas.proofs.SessionMessages.{session_turn}
-use Rattle.hx_law_lemmas.proofs.SessionNotes.{keeps_lines}
-use Rattle.hx_law_lemmas.proofs.SessionTurns.{SaysOf}
+use Rattle.hx_law_lemmas.proofs.Lemmas.{in-append, started, started_same, more_same, in-listed, listed-in, session_turn, keeps_lines, SaysOf}
 use Rattle.hx_law_epochs.specs.Epochs.{FollowsOn}
-use Rattle.hx_law_epochs.proofs.Facts.{Says}
-use Rattle.hx_law_epochs.proofs.Runs.{EpochsRun, IsKnown, Keeps, Real, keeps-entry, known-still}
+use Rattle.hx_law_epochs.proofs.Lemmas.{Says, EpochsRun, IsKnown, Keeps, Real, keeps-entry, known-still}
 use Rattle.hx_law_chains.proofs.CoordinatorPosts.{Issues, OfCoordinator, coordinator-plain}
 use Rattle.hx_law_chains.proofs.Holders.{Up, world_of}
 use Rattle.hx_law_chains.proofs.Issuing.{Issue, fixed_issued, key_issued, valid_issued}

@@ -31,17 +31,11 @@ use Rattle.hx_model.specs.CoordinatorSteps.{Joined, Phase}
 use Rattle.hx_model.specs.Regions.{key_region}
 use Rattle.hx_model.specs.ServerSteps.{Replica, ServerState, ServerStep, acked, adopted, asked, at_slot, call_at, call_step, called, called_by, halting, replica_in_epoch, if_installed, input_step, install_at, message_step, replica_of, replica_tick, saying, seal_at, server_step, snapped, context_of, state_in, tick_step, unmoved, updated, with_config}
 use Rattle.hx_model.specs.Slots.{Forget, KeyState, found_in, moved}
-use Rattle.hx_law_lemmas.proofs.Lists.{in-provided, when_some_both}
-use Rattle.hx_law_lemmas.proofs.Replicas.{replica-found}
-use Rattle.hx_law_lemmas.proofs.Chains.{Differ, server-same}
+use Rattle.hx_law_lemmas.proofs.Lemmas.{in-provided, when_some_both, replica-found, Differ, server-same, more_same}
 use Rattle.hx_law_lemmas.specs.Words.{standing, view}
-use Rattle.hx_law_lemmas.proofs.Cuts.{more_same}
 use Rattle.hx_law_folds.specs.Folding.{IsJoinableServer}
 use Rattle.hx_law_epochs.specs.Epochs.{FollowsOn}
-use Rattle.hx_law_epochs.proofs.Facts.{EpochsKept, Installed}
-use Rattle.hx_law_epochs.proofs.Follows.{member-ready}
-use Rattle.hx_law_epochs.proofs.Next.{IsOrderly}
-use Rattle.hx_law_epochs.proofs.Replicas.{Shaped, replica_in_epoch-is, installed-is}
+use Rattle.hx_law_epochs.proofs.Lemmas.{EpochsKept, Installed, member-ready, IsOrderly, Shaped, replica_in_epoch-is, installed-is}
 use Rattle.hx_law_chains.proofs.Adopting.{adopted-served}
 use Rattle.hx_law_chains.proofs.Holders.{Up, live-of}
 use Rattle.hx_law_chains.proofs.Joining.{Twin, key_joined}

@@ -16,9 +16,7 @@ use Rattle.hx_model.specs.Runs.{IsRun, coordinator_of, server_of}
 use Rattle.hx_model.specs.ServerSteps.{Replica, if_installed, replica_of, state_in}
 use Rattle.hx_model.specs.Slots.{Forget, KeyState, has_place, moved, top_of}
 use Rattle.hx_law_lemmas.specs.Words.{posts_of, view}
-use Rattle.hx_law_epochs.proofs.Positions.{PrecedesInChain, placed-number}
-use Rattle.hx_law_epochs.proofs.Replicas.{installed-is}
-use Rattle.hx_law_epochs.proofs.Runs.{IsKnown, Real}
+use Rattle.hx_law_epochs.proofs.Lemmas.{PrecedesInChain, placed-number, installed-is, IsKnown, Real}
 use Rattle.hx_law_chains.specs.Chains.{AreAssigned, InOrder, IsHeld, IsUp, RunsAnswerCommitted, RunsAssignUpdates, RunsHoldParts, RunsKeepOrder, RunsSendParts, StandsEarlier}
 use Rattle.hx_law_chains.proofs.Holders.{live-of}
 use Rattle.hx_law_chains.proofs.Runs.{chained-run, scene}

@@ -18,7 +18,7 @@ use Rattle.hx_model.specs.Holders.{snap_state}
 use Rattle.hx_model.specs.ServerSteps.{Replica, ServerState, state_in}
 use Rattle.hx_model.specs.Slots.{KeyState}
 use Rattle.hx_law_lemmas.specs.Words.{view}
-use Rattle.hx_law_epochs.proofs.Facts.{Installed}
+use Rattle.hx_law_epochs.proofs.Lemmas.{Installed}
 use Rattle.hx_law_chains.proofs.Posts.{Seat}
 use Rattle.hx_law_chains.proofs.World.{World}
 

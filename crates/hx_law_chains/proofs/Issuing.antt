@@ -10,8 +10,8 @@ use Rattle.hx_types.specs.Words.{IsBefore, IsIn}
 use Rattle.hx_model.specs.Regions.{key_region}
 use Rattle.hx_model.specs.Slots.{Forget, KeyState, moved, top_of}
 use Rattle.hx_law_epochs.specs.Epochs.{order}
-use Rattle.hx_law_lemmas.proofs.Cuts.{More, more_same}
-use Rattle.hx_law_epochs.proofs.Positions.{PrecedesInChain}
+use Rattle.hx_law_lemmas.proofs.Lemmas.{More, more_same}
+use Rattle.hx_law_epochs.proofs.Lemmas.{PrecedesInChain}
 use Rattle.hx_law_chains.proofs.Keys.{told_up, valid_up}
 use Rattle.hx_law_chains.proofs.Moves.{Own, own_forget}
 use Rattle.hx_law_chains.proofs.World.{Along, Fixed, KeyOk, Lawful, Valid, World, around, lawful-known}

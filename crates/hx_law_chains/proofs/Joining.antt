@@ -15,13 +15,10 @@ use Rattle.hx_model.specs.Neighbours.{member_after, place_number}
 use Rattle.hx_model.specs.Regions.{key_region}
 use Rattle.hx_model.specs.Slots.{Forget, KeyState, has_place, moved, top_of}
 use Rattle.hx_law_epochs.specs.Epochs.{order}
-use Rattle.hx_law_lemmas.proofs.Chains.{Apart, Differ, region-is}
-use Rattle.hx_law_lemmas.proofs.UpdatesApart.{places-apart}
+use Rattle.hx_law_lemmas.proofs.Lemmas.{Apart, Differ, region-is, places-apart, after-order, before-in}
 use Rattle.hx_law_folds.specs.Folding.{IsSlotOf, folded}
-use Rattle.hx_law_folds.proofs.Folds.{top-folded}
-use Rattle.hx_law_folds.proofs.Prefixes.{prefix-folded}
-use Rattle.hx_law_lemmas.proofs.Order.{after-order, before-in}
-use Rattle.hx_law_epochs.proofs.Positions.{Adjacent, HasPlace, PrecedesInChain, adjacent-within, next-within, place-at, placed-number, stands-trans}
+use Rattle.hx_law_folds.proofs.Lemmas.{top-folded, prefix-folded}
+use Rattle.hx_law_epochs.proofs.Lemmas.{Adjacent, HasPlace, PrecedesInChain, adjacent-within, next-within, place-at, placed-number, stands-trans}
 use Rattle.hx_law_chains.proofs.Lines.{sorted-descends}
 use Rattle.hx_law_chains.proofs.Moves.{Own}
 use Rattle.hx_law_chains.proofs.Keys.{Change, changed}

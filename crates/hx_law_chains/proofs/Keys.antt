@@ -22,14 +22,9 @@ use Rattle.hx_model.specs.Regions.{key_region}
 use Rattle.hx_model.specs.ServerSteps.{get_answer}
 use Rattle.hx_model.specs.Slots.{Acknowledge, Commit, Forget, Hold, KeyState, Move, Take, after_at, has_place, moved_all, top_of}
 use Rattle.hx_law_epochs.specs.Epochs.{order}
-use Rattle.hx_law_lemmas.proofs.Numbered.{in-below}
-use Rattle.hx_law_lemmas.proofs.Chains.{Differ}
-use Rattle.hx_law_lemmas.proofs.UpdatesApart.{places-apart}
-use Rattle.hx_law_lemmas.proofs.Passing.{Following, follows-line, passes-key}
-use Rattle.hx_law_lemmas.proofs.Cuts.{More, more_same, version-there}
-use Rattle.hx_law_lemmas.proofs.Lawful.{at_server-map, at_session-map}
-use Rattle.hx_law_epochs.proofs.Neighbours.{leader-stands}
-use Rattle.hx_law_epochs.proofs.Positions.{placed-number}
+use Rattle.hx_law_lemmas.proofs.Lemmas.{numbered-within as in-below, Differ, places-apart, Following, following-line as follows-line, passes-key, More}
+use Rattle.hx_law_lemmas.proofs.Lemmas.{more_same, version-there, at_server-map, at_session-map}
+use Rattle.hx_law_epochs.proofs.Lemmas.{leader-stands, placed-number}
 use Rattle.hx_law_chains.proofs.Moves.{AllAllowed, Kept, Later, Own, Promise, kept_same, later-all, own_rely, promised}
 use Rattle.hx_law_chains.proofs.World.{AckOk, Acking, After, Ahead, Along, Before, Closed, Filled, Fixed, Here, KeyOk, Lawful, ReplyOk, Sending, Told, UpdateOk, Valid, World, around, law-of, lawful-made, lawful-numbered, lawful-sorted}
 use Rattle.hx_law_chains.proofs.Places.{key-first}

@@ -24,8 +24,7 @@ use Rattle.hx_types.specs.Fitting.{call_of}
 use Rattle.hx_types.specs.Spaces.{IsSpace}
 use Rattle.hx_model.specs.ServerSteps.{SlotContext, ack_to, doubt_in, move_posts, next_at, passed_on, prev_at, reply, told_to, update_to}
 use Rattle.hx_model.specs.Slots.{Acknowledge, Commit, Forget, Hold, Move, Take}
-use Rattle.hx_law_lemmas.proofs.Lists.{in-flat_map}
-use Rattle.hx_law_lemmas.proofs.Chains.{Differ}
+use Rattle.hx_law_lemmas.proofs.Lemmas.{in-flat_map, Differ}
 use Rattle.hx_law_chains.proofs.Posts.{Committed, MoveOk, Seat, law}
 use Rattle.hx_law_chains.proofs.Serving.{Asked, Late, Scene}
 use Rattle.hx_law_chains.proofs.World.{KeyOk, Valid, World, context}

@@ -24,15 +24,9 @@ use Rattle.hx_model.specs.Regions.{key_region}
 use Rattle.hx_model.specs.Places.{places_of}
 use Rattle.hx_model.specs.Slots.{KeyState, latest_of, mark_of, top_of, touches_after, touches_of}
 use Rattle.hx_model.specs.Leading.{StuckAt, assigned, by_mark, decide, first_lost, fresh, granted, refusal, stuck_of, with_places}
-use Rattle.hx_law_lemmas.proofs.Effects.{effect-done, effect-same}
-use Rattle.hx_law_lemmas.proofs.LeaderLines as leader_lines
-use Rattle.hx_law_lemmas.proofs.Lists.{all-in, when_some_both}
-use Rattle.hx_law_lemmas.proofs.Regions.{places-not-lost}
-use Rattle.hx_law_lemmas.proofs.Chains.{Apart}
-use Rattle.hx_law_lemmas.proofs.UpdatesApart.{places-apart}
-use Rattle.hx_law_lemmas.proofs.Leader.{IsNewer, decide-decided, slot_of}
-use Rattle.hx_law_lemmas.proofs.Lawful as script_lines
-use Rattle.hx_law_lemmas.proofs.Placed.{Made}
+use Rattle.hx_law_lemmas.proofs.Lemmas.{effect-done, effect-same, all-in, when_some_both, places-not-lost, Apart, places-apart, IsNewer, decide-decided}
+use Rattle.hx_law_lemmas.proofs.Lemmas.{slot_of, Made}
+use Rattle.hx_law_lemmas.proofs.Lemmas as law_lemmas
 use Rattle.hx_law_chains.proofs.World.{Effected, Law, Lawful, lawful-made}
 
 -- a decision to assign is for what the leader assigns
@@ -63,7 +57,7 @@ number-in (q ∷ rest) p (inl e) = inl (ap (λ (x : Place). x.region.0) e)
 number-in (q ∷ rest) p (inr i) = inr (number-in rest p i)
 
 -- the law of a line in one configuration follows
-steady-law : (script : Script) → IsSpace script.space → (known : Config → Type 0) (key : List ℕ) (older : List Update) (u : Update) → Lawful script known key older → Law script known key older u → script_lines.Law script key older u
+steady-law : (script : Script) → IsSpace script.space → (known : Config → Type 0) (key : List ℕ) (older : List Update) (u : Update) → Lawful script known key older → Law script known key older u → law_lemmas.Law script key older u
 steady-law script valid known key older u all law = record {
   lawful = record {
     version = law.made.version;
@@ -84,7 +78,7 @@ steady-law script valid known key older u all law = record {
 }
 
 -- so it follows of each update
-pub steady-lawful : (script : Script) → IsSpace script.space → (known : Config → Type 0) (key : List ℕ) (us : List Update) → Lawful script known key us → script_lines.Lawful script key us
+pub steady-lawful : (script : Script) → IsSpace script.space → (known : Config → Type 0) (key : List ℕ) (us : List Update) → Lawful script known key us → law_lemmas.Lawful script key us
 steady-lawful script valid known key [] h = tt
 steady-lawful script valid known key (u ∷ us) h = (steady-law script valid known key us u h.1 h.0, steady-lawful script valid known key us h.1)
 
@@ -95,12 +89,12 @@ module _ (script : Script) (valid : IsSpace script.space) (known : Config → Ty
   here = slot_of marks key us floor acked early
 
   -- the line has the law of one configuration
-  abbrev plain : script_lines.Lawful script key us
+  abbrev plain : law_lemmas.Lawful script key us
   plain = steady-lawful script valid known key us lawful
 
   -- its top is the length of the line
   top-is : top_of here ≡ length us
-  top-is = leader_lines.top-line script.space key us (script_lines.lawful-steady script key us plain)
+  top-is = law_lemmas.top-line script.space key us (law_lemmas.lawful-steady script key us plain)
 
   -- what is assigned is the effect, or refused
   effected : (old : Option (List Value)) → old ≡ line_object us → Effected script.space known key us (with_places script.space config here caller old (effect_of script.space old op)) op
@@ -169,12 +163,12 @@ module _ (script : Script) (valid : IsSpace script.space) (known : Config → Ty
   assigned-law u newer is =
       let c : u.caller ≡ caller = ap (λ (x : Update). x.caller) is ∙ granted-caller (latest_of (key_region script.space key) here) in
       record {
-        made = subst (Made script.space key us) (sym is) (made (latest_of (key_region script.space key) here) (leader_lines.kept-line script.space key us (script_lines.lawful-steady script key us plain)));
+        made = subst (Made script.space key us) (sym is) (made (latest_of (key_region script.space key) here) (law_lemmas.kept-line script.space key us (law_lemmas.lawful-steady script key us plain)));
         op = op;
         called = ap (call_of script) c ∙ called;
         writes = writes;
         on_key = on_key;
-        effect = subst (λ (x : Update). Effected script.space known key us x op) (sym is) (effected (latest_of (key_region script.space key) here) (leader_lines.kept-line script.space key us (script_lines.lawful-steady script key us plain)));
+        effect = subst (λ (x : Update). Effected script.space known key us x op) (sym is) (effected (latest_of (key_region script.space key) here) (law_lemmas.kept-line script.space key us (law_lemmas.lawful-steady script key us plain)));
         newer = newer;
       }
 

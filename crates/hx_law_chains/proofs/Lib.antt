@@ -31,3 +31,4 @@ pub mod Telling
 pub mod TellingRows
 pub mod DoubtsTold
 pub mod Headline
+pub mod Lemmas

@@ -26,23 +26,14 @@ use Rattle.hx_model.specs.Neighbours.{place_number}
 use Rattle.hx_model.specs.Regions.{key_region}
 use Rattle.hx_model.specs.ServerSteps.{Replica, ServerState, SlotStep, SlotContext, accepting, ack_step, ack_to, at_slot, by_moves, by_posts, call_step, decided, doubt_in, get_answer, get_step, known_to, move_posts, prev_at, replica_of, reply, state_in, update_step, waiting_doubt, write_step}
 use Rattle.hx_model.specs.Slots.{KeyState, Move, acknowledged, follows, has_place, object_in, object_of, offered, top_of}
-use Rattle.hx_model.proofs.States.{same_text_self}
-use Rattle.hx_law_lemmas.proofs.LeaderLines as leader_lines
-use Rattle.hx_law_lemmas.proofs.Lists.{in-provided}
-use Rattle.hx_law_lemmas.proofs.Replicas.{state-key}
+use Rattle.hx_model.proofs.Lemmas.{same_text_self}
+use Rattle.hx_law_lemmas.proofs.Lemmas as law_lemmas
+use Rattle.hx_law_lemmas.proofs.Lemmas.{in-provided, state-key, Differ, in-upto, passes-key, places-apart, More, length-upto, more_cut, version-there, slot_of}
+use Rattle.hx_law_lemmas.proofs.Lemmas.{same-key}
 use Rattle.hx_law_lemmas.specs.Words.{noted, standing}
-use Rattle.hx_law_lemmas.proofs.Chains.{Differ}
-use Rattle.hx_law_lemmas.proofs.Lines.{in-upto}
-use Rattle.hx_law_lemmas.proofs.Passing.{passes-key}
-use Rattle.hx_law_lemmas.proofs.UpdatesApart.{places-apart}
-use Rattle.hx_law_lemmas.proofs.Cuts.{More, length-upto, more_cut, version-there}
-use Rattle.hx_law_lemmas.proofs.Leader.{slot_of}
-use Rattle.hx_law_lemmas.proofs.Cases.{same-key}
-use Rattle.hx_law_lemmas.proofs.Lawful as script_lines
 use Rattle.hx_law_folds.specs.Folding.{IsSlotOf}
-use Rattle.hx_law_folds.proofs.Deciding.{decide-same}
-use Rattle.hx_law_epochs.proofs.Facts.{Installed}
-use Rattle.hx_law_epochs.proofs.Neighbours.{leader-first}
+use Rattle.hx_law_folds.proofs.Lemmas.{decide-same}
+use Rattle.hx_law_epochs.proofs.Lemmas.{Installed, leader-first}
 use Rattle.hx_law_chains.proofs.Holders.{Up}
 use Rattle.hx_law_chains.proofs.Joining.{acking_joined, fixed_joined, sending_joined}
 use Rattle.hx_law_chains.proofs.Keys.{Below, below-lead, following, low-in}
@@ -204,8 +195,8 @@ module _ (e : Scene) (asked : Asked) (valid : IsSpace e.script.space) (ok : (key
         answer =
             ap (λ (g : RegionId). get_answer (object_in (object_of g (t key)))) leads
             ∙ ap (λ o. get_answer (object_in o)) (object-same e.script.space key line (lawful-made e.script e.known key line law) (around e.script (world e) key r.region i) (t key) own1 (subst (λ (g : RegionId). IsSlotOf g (t key)) leads slot) marks key-is)
-            ∙ ap get_answer (leader_lines.kept-line e.script.space key (upto (t key).floor us)
-            (script_lines.lawful-steady e.script key (upto (t key).floor us) (steady-lawful e.script valid e.known key (upto (t key).floor us) (lawful-upto e.script e.known key (t key).floor us us-law))))
+            ∙ ap get_answer (law_lemmas.kept-line e.script.space key (upto (t key).floor us)
+            (law_lemmas.lawful-steady e.script key (upto (t key).floor us) (steady-lawful e.script valid e.known key (upto (t key).floor us) (lawful-upto e.script e.known key (t key).floor us us-law))))
             ∙ ap (λ (l : List Update). get_answer (line_object l)) (floor-part e.script.space key line (lawful-made e.script e.known key line law) (around e.script (world e) key r.region i) (t key) own1 (subst (λ (g : RegionId). IsSlotOf g (t key)) leads slot) marks key-is)
 
         told : (op' : Op) (key' : List ℕ) → call_of e.script caller ≡ Some op' → key_of op' ≡ Some key' → Told e.script (world e) key' caller (record { 0 = (t key).floor }) (get_answer (object_in (object_of r.region (t key)))) op'
@@ -323,7 +314,7 @@ module _ (e : Scene) (asked : Asked) (valid : IsSpace e.script.space) (ok : (key
       follow : follows r.region n u ≡ true
       follow =
           ap (λ (g : RegionId). follows g n u) leads ∙ ap (λ m. follows (key_region e.script.space key) m u) (sym count)
-          ∙ leader_lines.follows-line e.script.space key us u (steady-lawful e.script valid e.known key line1 law1).0.lawful
+          ∙ law_lemmas.follows-line e.script.space key us u (steady-lawful e.script valid e.known key line1 law1).0.lawful
 
       allowed1 : AllAllowed line1 r.region near1 (t key) ms
       allowed1 =

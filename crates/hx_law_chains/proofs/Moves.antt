@@ -11,10 +11,8 @@ use Rattle.hx_model.specs.Holders.{IsPrefix, only_in}
 use Rattle.hx_model.specs.Neighbours.{is_end}
 use Rattle.hx_model.specs.Slots.{Acknowledge, Commit, Forget, Hold, KeyState, Move, Take, acknowledged, after_at, commits, follows, has_place, is_pending, marks_after, moved, moved_all, offered, other_version, pending_above, pending_of, settled, taken, top_of, touches_after, turns, kept_row, waits_below}
 use Rattle.hx_model.specs.ServerSteps.{SlotContext, accepting, tail_acks, next_at, resumed, with_commits}
-use Rattle.hx_law_lemmas.proofs.Lists.{any-in, in-append, in-filter, in-find, in_left, in_right, when_some_both}
-use Rattle.hx_law_lemmas.proofs.Lines.{Sorted, in-only, in-upto, in-upto_from, only-in, only-sorted, same_version, upto-low, upto-sorted}
-use Rattle.hx_law_lemmas.proofs.Passing.{Following}
-use Rattle.hx_law_lemmas.proofs.Cuts.{More}
+use Rattle.hx_law_lemmas.proofs.Lemmas.{any-in, in-append, in-filter, in-find, in_left, in_right, when_some_both, Sorted, in-only, in-upto, in-upto_from}
+use Rattle.hx_law_lemmas.proofs.Lemmas.{only-in, only-sorted, same_version, upto-low, upto-sorted, Following, More}
 use Rattle.hx_law_chains.proofs.Lines.{front-above, only-next, sorted-front}
 
 -- what is said of an update at a position: that a holder may keep it early, that each holder before has accepted it, that each after has committed it, and that no holder can come in between

@@ -9,8 +9,7 @@ use Rattle.hx_types.specs.declared.ids.Actor.TheVariants.{Coordinator, Server, S
 use Rattle.hx_types.specs.Fitting.{calls_of}
 use Rattle.hx_model.specs.Runs.{session_after, session_of}
 use Rattle.hx_model.specs.SessionSteps.{SessionState, session_step}
-use Rattle.hx_law_lemmas.proofs.CallEnds.{started_same}
-use Rattle.hx_law_lemmas.proofs.SessionMessages.{session_turn}
+use Rattle.hx_law_lemmas.proofs.Lemmas.{started_same, session_turn}
 
 -- each session has its name and its calls
 abbrev pub AreNamed : Script → List Entry → Type 0

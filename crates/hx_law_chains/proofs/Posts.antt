@@ -18,13 +18,9 @@ use Rattle.hx_model.specs.Regions.{key_region}
 use Rattle.hx_model.specs.Slots.{Acknowledge, Commit, Forget, Hold, KeyState, Move, Take, has_place, top_of}
 use Rattle.hx_model.specs.ServerSteps.{ack_to, move_posts, next_at, passed_on, prev_at, reply, told_to, update_to}
 use Rattle.hx_law_epochs.specs.Epochs.{order}
-use Rattle.hx_law_lemmas.proofs.Lists.{in-flat_map}
-use Rattle.hx_law_lemmas.proofs.Chains.{Apart, Differ, region-is}
-use Rattle.hx_law_lemmas.proofs.Passing.{passes-key}
-use Rattle.hx_law_lemmas.proofs.UpdatesApart.{places-apart}
-use Rattle.hx_law_lemmas.proofs.Cases.{same-key}
-use Rattle.hx_law_epochs.proofs.Neighbours.{leader-first, leader-stands, next-is, previous-is, previous-none}
-use Rattle.hx_law_epochs.proofs.Positions.{HasPlace, number-placed, number-region, place-at, placed-number, stands-trans}
+use Rattle.hx_law_lemmas.proofs.Lemmas.{in-flat_map, Apart, Differ, region-is, passes-key, places-apart, same-key}
+use Rattle.hx_law_epochs.proofs.Lemmas.{leader-first, leader-stands, next-is, previous-is, previous-none, HasPlace, number-placed, number-region, place-at}
+use Rattle.hx_law_epochs.proofs.Lemmas.{placed-number, stands-trans}
 use Rattle.hx_law_chains.proofs.Moves.{Promise}
 use Rattle.hx_law_chains.proofs.Places.{key-first}
 use Rattle.hx_law_chains.proofs.World.{Acking, After, Along, Before, Closed, Filled, Here, KeyOk, Law, Sending, Told, Valid, World, around, law-of, lawful-made, context}

@@ -11,10 +11,9 @@ use Rattle.hx_types.specs.Configs.{is_lost, members_of}
 use Rattle.hx_types.specs.Spaces.{IsSpace}
 use Rattle.hx_model.specs.ServerSteps.{Replica, ServerState, SlotContext, move_posts, replica_of, state_in, with_slot}
 use Rattle.hx_model.specs.Slots.{KeyState, Move, moved_all}
-use Rattle.hx_model.proofs.States.{eq_of_same_text}
+use Rattle.hx_model.proofs.Lemmas.{eq_of_same_text}
 use Rattle.hx_law_lemmas.specs.Words.{noted, standing}
-use Rattle.hx_law_lemmas.proofs.Chains.{Differ}
-use Rattle.hx_law_lemmas.proofs.Cuts.{more_same}
+use Rattle.hx_law_lemmas.proofs.Lemmas.{Differ, more_same}
 use Rattle.hx_law_chains.proofs.Holders.{Up, seat-of, state-here, with_state_of}
 use Rattle.hx_law_chains.proofs.Keys.{below-all, turn_promise}
 use Rattle.hx_law_chains.proofs.Late.{NoSnap, SlotLate, moves-late, moves-nosnap}

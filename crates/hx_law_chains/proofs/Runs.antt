@@ -26,12 +26,9 @@ use Rattle.hx_model.specs.ServerSteps.{Replica, ServerState, ServerStep, listed_
 use Rattle.hx_model.specs.Slots.{Forget, KeyState, moved, new_state, state_among}
 use Rattle.hx_law_epochs.specs.Epochs.{order}
 use Rattle.hx_law_lemmas.specs.Words.{noted, posts_of, view}
-use Rattle.hx_law_lemmas.proofs.Lists.{in-append, in-map}
-use Rattle.hx_law_lemmas.proofs.Replicas.{replica-found}
-use Rattle.hx_law_lemmas.proofs.Order.{listed-in}
+use Rattle.hx_law_lemmas.proofs.Lemmas.{in-append, in-map, replica-found, listed-in, arrived}
 use Rattle.hx_law_lemmas.specs.Facts.{DeliversCall}
-use Rattle.hx_law_epochs.proofs.Runs.{EpochsRun, IsKnown, Real, epochs-run, known-still}
-use Rattle.hx_law_lemmas.proofs.Traces.{arrived}
+use Rattle.hx_law_epochs.proofs.Lemmas.{EpochsRun, IsKnown, Real, epochs-run, known-still}
 use Rattle.hx_law_chains.proofs.Entries.{input-served}
 use Rattle.hx_law_chains.proofs.Snapshots.{snapshots-kept}
 use Rattle.hx_law_chains.proofs.Elsewhere.{KeptAfter, calm-key, calm-valid, elsewhere-kept}

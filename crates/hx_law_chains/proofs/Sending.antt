@@ -16,11 +16,10 @@ use Rattle.hx_model.specs.Holders.{snap_state}
 use Rattle.hx_model.specs.Neighbours.{member_after}
 use Rattle.hx_model.specs.ServerSteps.{Replica, ServerState, snap_posts, snap_to, state_in}
 use Rattle.hx_model.specs.Slots.{Forget, KeyState, moved, pending_of_all, snapshot_of, state_among}
-use Rattle.hx_law_lemmas.proofs.Replicas.{replica-found}
-use Rattle.hx_law_lemmas.proofs.Chains.{Differ, server-other, server-same}
+use Rattle.hx_law_lemmas.proofs.Lemmas.{replica-found, Differ, server-other, server-same}
 use Rattle.hx_law_lemmas.specs.Words.{view}
 use Rattle.hx_law_folds.specs.Folding.{IsJoinableServer, IsSlotOf, folded}
-use Rattle.hx_law_epochs.proofs.Facts.{Installed}
+use Rattle.hx_law_epochs.proofs.Lemmas.{Installed}
 use Rattle.hx_law_chains.proofs.Holders.{Up, live-of, live-only}
 use Rattle.hx_law_chains.proofs.Joining.{Twin}
 use Rattle.hx_law_chains.proofs.Serving.{Scene, world}

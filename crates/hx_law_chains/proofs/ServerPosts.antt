@@ -35,8 +35,7 @@ use Rattle.hx_model.specs.Leading.{StuckAt, decide, stuck_of}
 use Rattle.hx_model.specs.Neighbours.{region_at}
 use Rattle.hx_model.specs.Slots.{Acknowledge, Commit, Forget, Hold, KeyState, Move, Take, acknowledged, found_in, moved_all, offered, pending_of, pending_of_all, snapshot_of, state_among, top_of}
 use Rattle.hx_model.specs.ServerSteps.{Replica, ServerState, ServerStep, SlotStep, Slots, SlotContext, accepting, ack_step, ack_to, acked, adopted, adopted_posts, asked, at_slot, by_moves, by_posts, call_at, call_step, called, called_by, decided, doubt_in, doubts_from, halting, replica_in_epoch, if_installed, input_step, install_at, installed_slots, is_active, join_keys, join_slot, keys_of, known_to, leader_doubts, listed_regions, message_step, move_posts, next_at, offered_all, passed_on, pending_posts, ready_post, replica_of, replica_or_new, replica_tick, reply, resumed, resumed_posts, saying, seal_at, server_step, snap_posts, snap_to, snapped, context_of, state_from, state_in, tick_step, told_to, unmoved, update_step, update_to, updated, waiting_doubt, with_config, with_slots, write_step}
-use Rattle.hx_law_lemmas.proofs.Lists.{in-append, in-flat_map, in-map, in-provided, when_some_both}
-use Rattle.hx_law_lemmas.proofs.Replicas.{replica-found}
+use Rattle.hx_law_lemmas.proofs.Lemmas.{in-append, in-flat_map, in-map, in-provided, when_some_both, replica-found}
 
 -- what servers post, and of which snapshots
 abbrev pub OfServer : (RegionId → List Kept → List Update → Type 0) → Message → Type 0

@@ -25,13 +25,9 @@ use Rattle.hx_types.specs.Spaces.{IsSpace}
 use Rattle.hx_model.specs.Holders.{snap_state}
 use Rattle.hx_model.specs.ServerSteps.{Replica, ServerState, replica_in_epoch, if_installed, state_in}
 use Rattle.hx_model.specs.Slots.{KeyState, found_in}
-use Rattle.hx_law_lemmas.proofs.Lists.{in-append}
+use Rattle.hx_law_lemmas.proofs.Lemmas.{in-append, Differ, More, which-server, at_session}
 use Rattle.hx_law_lemmas.specs.Words.{noted, view}
-use Rattle.hx_law_lemmas.proofs.Chains.{Differ}
-use Rattle.hx_law_lemmas.proofs.Cuts.{More}
-use Rattle.hx_law_lemmas.proofs.Cases.{which-server}
-use Rattle.hx_law_lemmas.proofs.Lawful.{at_session}
-use Rattle.hx_law_epochs.proofs.Facts.{Installed}
+use Rattle.hx_law_epochs.proofs.Lemmas.{Installed}
 use Rattle.hx_law_chains.proofs.Holders.{Live, Up, state-here, state-off, with_state_of, world_of}
 use Rattle.hx_law_chains.proofs.Joining.{Twin, acking_joined, along_joined, fixed_joined, joined, key_joined, sending_joined}
 use Rattle.hx_law_chains.proofs.Keys.{Below, Change, Moved, Turn, acking_up, along_up, changed, fixed_up, key_after, sending_up, told_up, valid_up}

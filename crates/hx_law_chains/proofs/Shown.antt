@@ -9,13 +9,10 @@ use Rattle.hx_types.specs.Words.{IsIn, provided}
 use Rattle.hx_model.specs.Holders.{only_in}
 use Rattle.hx_model.specs.Regions.{key_region}
 use Rattle.hx_model.specs.Slots.{KeyState, kept_of, kept_row, latest_of, mark_among, marks_after, object_in, object_of, pending_above, top_above, top_of, touches_after}
-use Rattle.hx_law_lemmas.proofs.Lines.{only-in, top-numbered, upto-low, upto_upto}
-use Rattle.hx_law_lemmas.proofs.Passing.{only-key}
-use Rattle.hx_law_lemmas.proofs.Placed.{AllMade, made-numbered, made-sorted, made-upto}
-use Rattle.hx_law_lemmas.proofs.Leader.{slot_of}
-use Rattle.hx_law_lemmas.proofs.Cuts.{length-upto}
+use Rattle.hx_law_lemmas.proofs.Lemmas.{only-in, top-numbered, upto-low, upto_upto, only-key, AllMade, made-numbered, made-sorted, made-upto, slot_of}
+use Rattle.hx_law_lemmas.proofs.Lemmas.{length-upto}
 use Rattle.hx_law_folds.specs.Folding.{IsSlotOf, ShowSame}
-use Rattle.hx_law_folds.proofs.Prefixes.{kept-marks-line, kept-touches-line, latest-line, marks-line, object-line, touches-line}
+use Rattle.hx_law_folds.proofs.Lemmas.{kept-marks-line, kept-touches-line, latest-line, marks-line, object-line, touches-line}
 use Rattle.hx_law_chains.proofs.Lines.{sorted-descends}
 use Rattle.hx_law_chains.proofs.Moves.{Around, Own}
 

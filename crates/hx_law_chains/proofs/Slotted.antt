@@ -16,17 +16,11 @@ use Rattle.hx_types.specs.Spaces.{IsSpace}
 use Rattle.hx_model.specs.Neighbours.{is_end}
 use Rattle.hx_model.specs.ServerSteps.{Replica, ServerState, next_at, replica_of, state_in, with_slot}
 use Rattle.hx_model.specs.Slots.{Forget, KeyState, Move, has_place, moved, moved_all}
-use Rattle.hx_model.proofs.Laws.{base-moved_all}
-use Rattle.hx_model.proofs.States.{eq_of_same_text}
+use Rattle.hx_model.proofs.Lemmas.{base-moved_all, eq_of_same_text}
 use Rattle.hx_law_lemmas.specs.Words.{noted, slot_in, standing, view}
-use Rattle.hx_law_lemmas.proofs.Replicas.{replica-here, replica-other, slot-found, slot-here, slot-other_key, slot-other_region, state-key, with_slot_at}
-use Rattle.hx_law_lemmas.proofs.Chains.{Differ}
-use Rattle.hx_law_lemmas.proofs.UpdatesApart.{places-apart}
-use Rattle.hx_law_lemmas.proofs.Cuts.{More, more_same}
-use Rattle.hx_law_lemmas.proofs.Cases.{which-region}
-use Rattle.hx_law_epochs.proofs.Facts.{Installed}
-use Rattle.hx_law_epochs.proofs.Neighbours.{next-none}
-use Rattle.hx_law_epochs.proofs.Positions.{placed-number}
+use Rattle.hx_law_lemmas.proofs.Lemmas.{replica-here, replica-other, slot-found, slot-here, slot-other_key, slot-other_region, state-key, with_slot_at, Differ}
+use Rattle.hx_law_lemmas.proofs.Lemmas.{places-apart, More, more_same, which-region}
+use Rattle.hx_law_epochs.proofs.Lemmas.{Installed, next-none, placed-number}
 use Rattle.hx_law_chains.proofs.Holders.{Live, Up, live-of, live-only}
 use Rattle.hx_law_chains.proofs.Joining.{Twin, key_joined}
 use Rattle.hx_law_chains.proofs.Keys.{Below, Moved, below-all}

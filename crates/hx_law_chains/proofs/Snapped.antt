@@ -16,13 +16,9 @@ use Rattle.hx_types.specs.Spaces.{IsSpace}
 use Rattle.hx_model.specs.Holders.{snap_state}
 use Rattle.hx_model.specs.ServerSteps.{Replica, ServerState, ServerStep, SlotContext, installed_slots, move_posts, passed_on, ready_post, replica_of, resumed, saying, snapped, state_in, with_replica, with_slots}
 use Rattle.hx_model.specs.Slots.{KeyState, Move, Take, moved_all, pending_of, top_of}
-use Rattle.hx_law_lemmas.proofs.LeaderLines.{pending-in}
-use Rattle.hx_law_lemmas.proofs.Lists.{in-append, in-flat_map, in-provided, in_left}
-use Rattle.hx_law_lemmas.proofs.Replicas.{replica-here, replica-other}
-use Rattle.hx_law_lemmas.proofs.Chains.{Differ}
+use Rattle.hx_law_lemmas.proofs.Lemmas.{pending-in, in-append, in-flat_map, in-provided, in_left, replica-here, replica-other, Differ, which-region}
 use Rattle.hx_law_lemmas.specs.Words.{standing, view}
-use Rattle.hx_law_lemmas.proofs.Cases.{which-region}
-use Rattle.hx_law_epochs.proofs.Facts.{Installed}
+use Rattle.hx_law_epochs.proofs.Lemmas.{Installed}
 use Rattle.hx_law_chains.proofs.Holders.{Up, live-of, live-only, state-here, with_state_of}
 use Rattle.hx_law_chains.proofs.Joining.{Twin}
 use Rattle.hx_law_chains.proofs.Keys.{Moved, following, low-in, turn_promise}

@@ -26,20 +26,12 @@ use Rattle.hx_model.specs.ServerSteps.{Replica, ServerState, server_step}
 use Rattle.hx_model.specs.SessionSteps.{SessionState}
 use Rattle.hx_model.specs.Slots.{Forget, KeyState, moved, pending_of_all, snapshot_of, state_among}
 use Rattle.hx_law_lemmas.specs.Words.{posts_of}
-use Rattle.hx_law_lemmas.proofs.Lists.{in-append}
-use Rattle.hx_law_lemmas.proofs.Traces.{arrived}
-use Rattle.hx_law_lemmas.proofs.CallEnds.{started}
-use Rattle.hx_law_lemmas.proofs.SessionMessages.{session_turn}
-use Rattle.hx_law_lemmas.proofs.SessionTurns.{SaysOf}
-use Rattle.hx_law_lemmas.proofs.Texts.{Ascend, state_key}
-use Rattle.hx_law_posts.proofs.Runs.{posts_stay_sound}
+use Rattle.hx_law_lemmas.proofs.Lemmas.{in-append, arrived, started, session_turn, SaysOf, Ascend, state_key}
+use Rattle.hx_law_posts.proofs.Lemmas.{posts_stay_sound}
 use Rattle.hx_law_folds.specs.Folding.{CanBeSent, CanJoin, HasFloors, InputJoins, IsJoinableReplica, IsJoinableServer, IsSlotOf, KeysAscend, folded}
 use Rattle.hx_law_folds.specs.Laws.{SendsJoin}
-use Rattle.hx_law_folds.proofs.Installing.{among-slot-turn}
-use Rattle.hx_law_folds.proofs.Joinable.{can-join, joinable-stays, keys-differ, sent-ascends, sent-floors, start-joinable}
-use Rattle.hx_law_folds.proofs.Slots.{all-weaker}
-use Rattle.hx_law_folds.proofs.Snapshots.{among-marks, sent}
-use Rattle.hx_law_folds.proofs.Sound.{sound-joins}
+use Rattle.hx_law_folds.proofs.Lemmas.{among-slot-turn, can-join, joinable-stays, keys-differ, sent-ascends, sent-floors, start-joinable, all-weaker}
+use Rattle.hx_law_folds.proofs.Lemmas.{among-marks, sent, sound-joins}
 use Rattle.hx_law_chains.proofs.CoordinatorPosts.{OfCoordinator, coordinator-plain}
 use Rattle.hx_law_chains.proofs.ServerPosts.{OfServer, server-plain}
 

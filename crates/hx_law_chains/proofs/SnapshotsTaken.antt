@@ -7,17 +7,15 @@ use Rattle.hx_types.specs.declared.snapshots.Kept.{Kept}
 use Rattle.hx_types.specs.declared.updates.Update.{Update}
 use Rattle.hx_types.specs.Words.{IsIn, same_text}
 use Rattle.hx_types.specs.Subspaces.{is_key_region}
-use Rattle.hx_model.proofs.States.{eq_of_same_text, same_text_self}
+use Rattle.hx_model.proofs.Lemmas.{eq_of_same_text, same_text_self}
 use Rattle.hx_model.specs.Holders.{kept_among, snap_state}
 use Rattle.hx_model.specs.ServerSteps.{Slots, SlotContext, accepting, installed_slots, join_keys, keys_of, move_posts, offered_all, passed_on, resumed, state_from}
 use Rattle.hx_model.specs.Slots.{Forget, KeyState, kept_of, moved, moved_all, pending_of, snapshot_of, state_among}
-use Rattle.hx_law_lemmas.proofs.Lists.{in-append}
+use Rattle.hx_law_lemmas.proofs.Lemmas.{in-append}
 use Rattle.hx_law_folds.specs.Folding.{CanBeSent, CanJoin, folded}
 use Rattle.hx_law_folds.specs.Laws.{over}
-use Rattle.hx_law_folds.proofs.Installing.{Once, after_join, among-slot-turn, ascend-once, from-kept, installed, keys-ascend, other, some}
-use Rattle.hx_law_folds.proofs.Joining.{joining-posts}
-use Rattle.hx_law_folds.proofs.Slots.{all-weaker}
-use Rattle.hx_law_folds.proofs.Snapshots.{among-marks, kept-sent, pending-sent, sent}
+use Rattle.hx_law_folds.proofs.Lemmas.{Once, after_join, among-slot-turn, ascend-once, from-kept, installed, keys-ascend, other, some, joining-posts}
+use Rattle.hx_law_folds.proofs.Lemmas.{all-weaker, among-marks, kept-sent, pending-sent, sent}
 use Rattle.hx_law_chains.proofs.Snapshots.{Carries}
 
 -- forgetting twice is forgetting once

@@ -31,16 +31,13 @@ use Rattle.hx_types.specs.declared.values.Value.{Value}
 use Rattle.hx_types.specs.Words.{below, same_region}
 use Rattle.hx_model.specs.Slots.{place_in, touches_after}
 use Rattle.hx_model.specs.Lines.{line_object}
-use Rattle.hx_law_lemmas.proofs.Chains.{Differ}
-use Rattle.hx_law_lemmas.proofs.Placed.{Made, place-found}
-use Rattle.hx_law_lemmas.proofs.Cases.{same-key}
+use Rattle.hx_law_lemmas.proofs.Lemmas.{Differ, Made, place-found, same-key, in-append, in-flat_map, in-map, in-provided, Held, accepting-known}
+use Rattle.hx_law_lemmas.proofs.Lemmas.{acknowledged-known, offered-known, resumed-known}
 use Rattle.hx_types.specs.Configs.{members_of}
 use Rattle.hx_law_chains.proofs.Keys.{following, low-in}
 use Rattle.hx_law_chains.proofs.Moves.{accepted-in}
 use Rattle.hx_law_chains.proofs.Serving.{Scene, world}
 use Rattle.hx_law_chains.proofs.World.{KeyOk, around, law-of, lawful-sorted}
-use Rattle.hx_law_lemmas.proofs.Lists.{in-append, in-flat_map, in-map, in-provided}
-use Rattle.hx_law_lemmas.proofs.HeldUpdates.{Held, accepting-known, acknowledged-known, offered-known, resumed-known}
 use Rattle.hx_law_chains.proofs.Doubts.{HeldUp, Says, Sure, acked-says, law-sure, moves-say, passed-says, stuck-is}
 
 -- ---- regions of keys among an update's places

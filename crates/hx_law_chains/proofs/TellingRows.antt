@@ -39,15 +39,12 @@ use Rattle.hx_model.specs.ServerSteps.{Replica, ServerState, ServerStep, SlotSte
 use Rattle.hx_model.specs.Slots.{Forget, KeyState, Move, has_place, moved, moved_all, offered, pending_of, top_of}
 use Rattle.hx_law_folds.specs.Folding.{IsJoinableServer}
 use Rattle.hx_types.specs.Words.{provided}
-use Rattle.hx_law_lemmas.proofs.LeaderLines.{pending-in}
-use Rattle.hx_law_lemmas.proofs.Replicas.{replica-found, replica-here, slot-found, slot-here, state-key, with_slot_at}
-use Rattle.hx_law_lemmas.proofs.Chains.{Differ, server-same}
-use Rattle.hx_law_lemmas.proofs.Lines.{in-upto}
-use Rattle.hx_law_lemmas.proofs.Texts.{state-there}
+use Rattle.hx_law_lemmas.proofs.Lemmas.{pending-in, replica-found, replica-here, slot-found, slot-here, state-key, with_slot_at, Differ, server-same, in-upto}
+use Rattle.hx_law_lemmas.proofs.Lemmas.{state-there, in-append, in-filter, in-flat_map, in-map, in-provided, when_some_both, Held, accepting-known}
+use Rattle.hx_law_lemmas.proofs.Lemmas.{offered-known}
 use Rattle.hx_law_lemmas.specs.Words.{standing, view}
 use Rattle.hx_types.specs.Configs.{members_of}
-use Rattle.hx_law_epochs.proofs.Facts.{EpochsKept, Installed}
-use Rattle.hx_law_epochs.proofs.Replicas.{Shaped, replica_in_epoch-is, installed-is}
+use Rattle.hx_law_epochs.proofs.Lemmas.{EpochsKept, Installed, Shaped, replica_in_epoch-is, installed-is}
 use Rattle.hx_law_chains.proofs.Holders.{Up, live-of}
 use Rattle.hx_law_chains.proofs.Keys.{following, low-in}
 use Rattle.hx_law_chains.proofs.Messages.{choice}
@@ -56,8 +53,6 @@ use Rattle.hx_law_chains.proofs.Serving.{Asked, Scene, world}
 use Rattle.hx_law_chains.proofs.Snapshots.{Carries, Sends, replica-ascends, replica-sent}
 use Rattle.hx_law_chains.proofs.SnapshotsTaken.{taken-posts}
 use Rattle.hx_law_chains.proofs.World.{KeyOk, Law, UpdateOk, Valid, around, law-of, lawful-sorted, context}
-use Rattle.hx_law_lemmas.proofs.Lists.{in-append, in-filter, in-flat_map, in-map, in-provided, when_some_both}
-use Rattle.hx_law_lemmas.proofs.HeldUpdates.{Held, accepting-known, offered-known}
 use Rattle.hx_law_chains.proofs.Doubts.{Sure, decide-stuck, get-sure, law-sure, moves-say, passed-says, sure-says}
 use Rattle.hx_law_chains.proofs.Telling.{Tells, ack-tells, held-sure, key-place-is, line-sure, pending-found, resumed-tells, stuck-tells, update-tells}
 use Rattle.hx_law_chains.proofs.Adopting.{found-done, poster, slot-moved}

@@ -20,15 +20,10 @@ use Rattle.hx_types.specs.Subspaces.{is_key_region}
 use Rattle.hx_model.specs.ServerSteps.{Replica, ServerState, SlotContext, is_active, next_at, passed_on, pending_posts, ready_post, replica_tick, snap_posts, state_in, update_to}
 use Rattle.hx_model.specs.Holders.{snap_state}
 use Rattle.hx_model.specs.Slots.{KeyState, pending_of, pending_of_all, snapshot_of, top_of}
-use Rattle.hx_law_lemmas.proofs.LeaderLines.{pending-in}
-use Rattle.hx_law_lemmas.proofs.Lists.{in-append, in-flat_map, in-provided}
-use Rattle.hx_law_lemmas.proofs.Chains.{Differ}
-use Rattle.hx_law_lemmas.proofs.Texts.{state-there}
-use Rattle.hx_law_lemmas.proofs.Cases.{which-server}
+use Rattle.hx_law_lemmas.proofs.Lemmas.{pending-in, in-append, in-flat_map, in-provided, Differ, state-there, which-server, Once, once-found}
 use Rattle.hx_law_lemmas.specs.Words.{standing}
-use Rattle.hx_law_lemmas.proofs.ReplicaLists.{Once, once-found}
 use Rattle.hx_law_folds.specs.Folding.{IsJoinableServer}
-use Rattle.hx_law_epochs.proofs.Facts.{Installed}
+use Rattle.hx_law_epochs.proofs.Lemmas.{Installed}
 use Rattle.hx_law_chains.proofs.Holders.{Up, state-here, state-off, with_state_of}
 use Rattle.hx_law_chains.proofs.Joining.{Twin}
 use Rattle.hx_law_chains.proofs.Keys.{following, low-in}

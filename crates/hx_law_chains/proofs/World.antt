@@ -33,11 +33,8 @@ use Rattle.hx_model.specs.Neighbours.{region_at}
 use Rattle.hx_model.specs.Slots.{KeyState, has_place, top_of, touches_after}
 use Rattle.hx_model.specs.ServerSteps.{SlotContext, get_answer, next_at}
 use Rattle.hx_law_epochs.specs.Epochs.{order}
-use Rattle.hx_law_lemmas.proofs.Numbered.{Numbered}
-use Rattle.hx_law_lemmas.proofs.Lines.{Sorted, numbered-sorted}
-use Rattle.hx_law_lemmas.proofs.Placed.{AllMade, Made}
-use Rattle.hx_law_lemmas.proofs.Lawful.{at_server, at_session}
-use Rattle.hx_law_epochs.proofs.Positions.{PrecedesInChain}
+use Rattle.hx_law_lemmas.proofs.Lemmas.{Numbered, Sorted, numbered-sorted, AllMade, Made, at_server, at_session}
+use Rattle.hx_law_epochs.proofs.Lemmas.{PrecedesInChain}
 use Rattle.hx_law_chains.proofs.Moves.{Around, Own}
 
 -- ---- lines

@@ -6,7 +6,7 @@ use Rattle.hx_types.specs.declared.ids.Actor.{Actor}
 use Rattle.hx_types.specs.declared.traces.Script.{Script}
 use Rattle.hx_types.specs.Words.{IsIn}
 use Rattle.hx_clock.specs.declared.parts.Stamped.{Stamped}
-use Rattle.hx_clock.proofs.Lists.{each_in, each_map, get-below}
+use Rattle.hx_clock.proofs.Lemmas.{each_in, each_map, get-below}
 use Rattle.hx_law_threads.specs.Cuts.{is_retry, is_waiting}
 use Rattle.hx_law_threads.specs.Pacing.{AreRising}
 use Rattle.hx_mail.specs.Boxes.{Boxed}

@@ -5,14 +5,12 @@ use Rattle.std.proofs.lemmas.Bool.{cond_both}
 use Rattle.hx_types.specs.declared.ids.Actor.{Actor}
 use Rattle.hx_types.specs.declared.traces.Script.{Script}
 use Rattle.hx_types.specs.Words.{same_actor, IsIn}
-use Rattle.hx_clock.proofs.Lists.{each_all, each_in}
+use Rattle.hx_clock.proofs.Lemmas.{each_all, each_in}
 use Rattle.hx_law_threads.specs.Merged.{actors_in, ActorPart}
 use Rattle.hx_law_threads.specs.PartPacing.{HasAllActors, HaveCut}
-use Rattle.hx_law_threads.proofs.Actors.{same_actor_is, same_as_itself}
-use Rattle.hx_law_threads.proofs.Lists.{in_map}
+use Rattle.hx_law_threads.proofs.Lemmas.{same_actor_is, same_as_itself, in_map}
 use Rattle.hx_outbox.specs.Zipped.{Both}
-use Rattle.hx_outbox.proofs.Lists.{begins-refl, begins-trans}
-use Rattle.hx_outbox.proofs.Outs.{more-refl, more-trans}
+use Rattle.hx_outbox.proofs.Lemmas.{begins-refl, begins-trans, more-refl, more-trans}
 use Rattle.hx_desk.specs.declared.desks.Desk.{Desk}
 use Rattle.hx_desk.specs.Inboxes.{ins_of}
 use Rattle.hx_desk.specs.Desks.{IsLater}

@@ -14,14 +14,11 @@ use Rattle.hx_model.specs.Histories.{note_of_end}
 use Rattle.hx_model.specs.Runs.{is_actor, session_of}
 use Rattle.hx_model.specs.Schedule.{is_idle}
 use Rattle.hx_clock.specs.declared.parts.Stamped.{Stamped}
-use Rattle.hx_clock.proofs.Lists.{each_in}
+use Rattle.hx_clock.proofs.Lemmas.{each_in}
 use Rattle.hx_law_threads.specs.Own.{own_entries, past_of}
 use Rattle.hx_law_threads.specs.Calls.{IsDone}
 use Rattle.hx_law_threads.specs.Merged.{parts_in, ActorPart, AreWholeParts, IsMerged}
-use Rattle.hx_law_threads.proofs.Lists.{in_map}
-use Rattle.hx_law_threads.proofs.Runs.{merged_run}
-use Rattle.hx_law_threads.proofs.Sessions.{done_ended}
-use Rattle.hx_law_threads.proofs.States.{by_own}
+use Rattle.hx_law_threads.proofs.Lemmas.{in_map, merged_run, done_ended, by_own}
 use Rattle.hx_machine.specs.Machines.{has_ended}
 use Rattle.hx_mail.specs.Boxes.{Boxed}
 use Rattle.hx_desk.specs.Desks.{entries_before}

@@ -11,3 +11,4 @@ pub mod Shown
 pub mod Same
 pub mod Next
 pub mod Puts
+pub mod Lemmas

@@ -4,8 +4,8 @@ use Rattle.std.specs.List.{AllByRecursion}
 use mathlib.Core.List.{IsPrefix}
 use Rattle.hx_types.specs.Words.{IsIn}
 use Rattle.hx_clock.specs.Views.{total}
-use Rattle.hx_clock.proofs.Lists.{in_left, in_right, total-append}
-use Rattle.hx_law_threads.proofs.Lists.{in_append}
+use Rattle.hx_clock.proofs.Lemmas.{in_left, in_right, total-append}
+use Rattle.hx_law_threads.proofs.Lemmas.{in_append}
 use Rattle.hx_outbox.specs.Zipped.{Both}
 
 pub lt_or_le : (m n : ℕ) → (m < n) ⊎ (n ≤ m)

@@ -13,13 +13,12 @@ use Rattle.hx_types.specs.Words.{same_actor, when_some, IsIn}
 use Rattle.hx_model.specs.Histories.{begin_of, note_of_end}
 use Rattle.hx_model.specs.Runs.{entry_at, post_named, IsRun}
 use Rattle.hx_model.specs.Schedule.{entries_of}
-use Rattle.hx_clock.proofs.Lists.{each_in, each_map}
+use Rattle.hx_clock.proofs.Lemmas.{each_in, each_map}
 use Rattle.hx_law_threads.specs.Own.{own_entries}
 use Rattle.hx_law_threads.specs.Counting.{total_at}
 use Rattle.hx_law_threads.specs.Cuts.{first_entries, is_in_cut, is_retry, is_waiting, next_at, open_at, own_at, whole_of, Cut, HasCallUnderWay}
 use Rattle.hx_law_threads.specs.Pacing.{earlier, retries_at, IsPacedBy, RetriesFollow, WaitersRetry}
-use Rattle.hx_law_threads.proofs.Actors.{same_actor_is, same_as_itself}
-use Rattle.hx_law_threads.proofs.Retries.{first_fewer, retriers_waited}
+use Rattle.hx_law_threads.proofs.Lemmas.{same_actor_is, same_as_itself, first_fewer, retriers_waited}
 use Rattle.hx_desk.specs.declared.desks.Desk.{Desk}
 use Rattle.hx_law_drivers.proofs.Lists.{bools_same}
 use Rattle.hx_law_drivers.proofs.Seen.{count_own, IsSeen}

@@ -11,13 +11,11 @@ use Rattle.hx_types.specs.Words.{post, IsIn}
 use Rattle.hx_model.specs.Runs.{entry_of, has_halted, made_of, post_named, IsStep, MayTake}
 use Rattle.hx_clock.specs.declared.parts.Stamped.{Stamped}
 use Rattle.hx_clock.specs.Views.{total}
-use Rattle.hx_clock.proofs.Lists.{each_in, in_right}
+use Rattle.hx_clock.proofs.Lemmas.{each_in, in_right}
 use Rattle.hx_law_threads.specs.Own.{own_entries, past_of}
 use Rattle.hx_law_threads.specs.Pacing.{IsPaced}
 use Rattle.hx_law_threads.specs.Merged.{parts_in, ActorPart, AreWholeParts, IsMerged}
-use Rattle.hx_law_threads.proofs.Runs.{merged_run}
-use Rattle.hx_law_threads.proofs.Lists.{in_map}
-use Rattle.hx_law_threads.proofs.States.{halted_own, made_own}
+use Rattle.hx_law_threads.proofs.Lemmas.{merged_run, in_map, halted_own, made_own}
 use Rattle.hx_mail.specs.declared.views.Mailed.{Mailed}
 use Rattle.hx_mail.specs.declared.views.Sent.{Sent}
 use Rattle.hx_mail.specs.Boxes.{Boxed}

@@ -15,23 +15,20 @@ use Rattle.hx_types.specs.Words.{same_actor, when_some, IsIn}
 use Rattle.hx_model.specs.Runs.{has_halted, is_actor, post_named}
 use Rattle.hx_model.specs.Schedule.{same_name}
 use Rattle.hx_clock.specs.Views.{one, total}
-use Rattle.hx_clock.proofs.Lists.{each_in}
+use Rattle.hx_clock.proofs.Lemmas.{each_in}
 use Rattle.hx_law_threads.specs.Cuts.{delivered_at, is_to_halted, open_at, own_at, posted_at, Cut}
-use Rattle.hx_law_threads.proofs.Actors.{same_actor_is, same_as_itself}
-use Rattle.hx_law_threads.proofs.Lists.{in_append}
-use Rattle.hx_law_threads.proofs.Weights.{open_counted, same_self}
+use Rattle.hx_law_threads.proofs.Lemmas.{same_actor_is, same_as_itself, in_append, open_counted, same_self}
 use Rattle.hx_mail.specs.declared.views.BoxNames.{BoxNames}
 use Rattle.hx_mail.specs.declared.views.Mailed.{Mailed}
 use Rattle.hx_mail.specs.declared.views.Sent.{Sent}
 use Rattle.hx_mail.specs.Boxes.{Boxed, Ported}
 use Rattle.hx_mail.specs.Ports.{put_by}
-use Rattle.hx_mail.proofs.Lists.{put_by-append}
+use Rattle.hx_mail.proofs.Lemmas.{put_by-append}
 use Rattle.hx_outbox.specs.Zipped.{Both}
 use Rattle.hx_outbox.specs.Places.{place_of, AreBoxes, Exists}
 use Rattle.hx_outbox.specs.Outboxes.{counts_of, kept_weight, out_weight, outs_of, IsOutPort, MorePut}
 use Rattle.hx_outbox.specs.Offers.{count_of, put_weight, Offer}
-use Rattle.hx_outbox.proofs.Lists.{begins-trans}
-use Rattle.hx_outbox.proofs.Outs.{both-long}
+use Rattle.hx_outbox.proofs.Lemmas.{begins-trans, both-long}
 use Rattle.hx_desk.specs.declared.desks.Desk.{Desk}
 use Rattle.hx_desk.specs.Inboxes.{ins_of, IsHeardFrom}
 use Rattle.hx_desk.specs.Desks.{entries_before, made_by, told, IsLater, IsWholeDesk}

@@ -12,18 +12,14 @@ use Rattle.hx_types.specs.Words.{same_actor, when_some, IsIn}
 use Rattle.hx_model.specs.Runs.{session_of, IsRun}
 use Rattle.hx_model.specs.Schedule.{entries_of}
 use Rattle.hx_clock.specs.declared.parts.Stamped.{Stamped}
-use Rattle.hx_clock.proofs.Lists.{each_all, each_in, each_map}
+use Rattle.hx_clock.proofs.Lemmas.{each_all, each_in, each_map}
 use Rattle.hx_law_threads.specs.Own.{own_entries, past_of, IsOwn}
 use Rattle.hx_law_threads.specs.Merged.{parts_in, ActorPart, AreOwnParts, AreWholeParts, IsMerged, IsOwnPart}
 use Rattle.hx_law_threads.specs.Cuts.{is_idle_actor, is_retry, is_waiting, open_at, whole_of, Cut, HasCallUnderWay}
 use Rattle.hx_law_threads.specs.Laws.{entry_in, IsReadInPart}
 use Rattle.hx_law_threads.specs.Pacing.{earlier, AreRepeatedAtMost, IsPacedBy, IsPaced, IsPacedToEnd, WaitersRetry}
 use Rattle.hx_law_threads.specs.PartPacing.{past_at, PartsFollow, TellPace}
-use Rattle.hx_law_threads.proofs.Lists.{in_map}
-use Rattle.hx_law_threads.proofs.PartPaces.{parts_tell}
-use Rattle.hx_law_threads.proofs.Reading.{read_in_parts}
-use Rattle.hx_law_threads.proofs.Retries.{retriers_waited}
-use Rattle.hx_law_threads.proofs.Runs.{merged_run}
+use Rattle.hx_law_threads.proofs.Lemmas.{in_map, parts_tell, read_in_parts, retriers_waited, merged_run}
 use Rattle.hx_machine.specs.Machines.{has_ended}
 use Rattle.hx_mail.specs.declared.views.Sent.{Sent}
 use Rattle.hx_mail.specs.Boxes.{Boxed}

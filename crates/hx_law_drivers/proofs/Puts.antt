@@ -14,14 +14,11 @@ use Rattle.hx_model.specs.Schedule.{same_name}
 use Rattle.hx_clock.specs.declared.parts.Stamped.{Stamped}
 use Rattle.hx_clock.specs.Parts.{all_of}
 use Rattle.hx_clock.specs.Views.{one, total}
-use Rattle.hx_clock.proofs.Lists.{each_in}
+use Rattle.hx_clock.proofs.Lemmas.{each_in}
 use Rattle.hx_law_threads.specs.Own.{past_of, IsOwn}
 use Rattle.hx_law_threads.specs.Merged.{parts_in, ActorPart, AreWholeParts, IsMerged}
 use Rattle.hx_law_threads.specs.Cuts.{posted_at, times_named, whole_of}
-use Rattle.hx_law_threads.proofs.Lists.{in_map, in_permuted, in_reverse}
-use Rattle.hx_law_threads.proofs.Places.{are_counted, counted_below, entries, length-entries, AreCounted}
-use Rattle.hx_law_threads.proofs.Runs.{past_is}
-use Rattle.hx_law_threads.proofs.Weights.{named_once}
+use Rattle.hx_law_threads.proofs.Lemmas.{in_map, in_permuted, in_reverse, are_counted, counted_below, entries, length-entries, AreCounted, past_is, named_once}
 use Rattle.hx_mail.specs.declared.views.Mailed.{Mailed}
 use Rattle.hx_mail.specs.Boxes.{Boxed}
 use Rattle.hx_outbox.specs.Offers.{put_weight, IsFair, Offer}

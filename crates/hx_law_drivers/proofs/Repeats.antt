@@ -9,13 +9,12 @@ use Rattle.hx_types.specs.declared.traces.Script.{Script}
 use Rattle.hx_types.specs.Words.{IsIn}
 use Rattle.hx_model.specs.Schedule.{names_from}
 use Rattle.hx_clock.specs.Views.{one, total}
-use Rattle.hx_clock.proofs.Lists.{each_all, each_append, each_in, each_map, total-append}
+use Rattle.hx_clock.proofs.Lemmas.{each_all, each_append, each_in, each_map, total-append}
 use Rattle.hx_law_threads.specs.Counting.{weight_delivered, weight_made}
 use Rattle.hx_law_threads.specs.Cuts.{whole_of}
 use Rattle.hx_law_threads.specs.Offers.{put_times, NoMoreCame, Offer as NamedOffer}
 use Rattle.hx_law_threads.specs.Pacing.{AreRepeatedAtMost}
-use Rattle.hx_law_threads.proofs.Offers.{repeats_put}
-use Rattle.hx_law_threads.proofs.Weights.{posts_weigh}
+use Rattle.hx_law_threads.proofs.Lemmas.{repeats_put, posts_weigh}
 use Rattle.hx_mail.specs.declared.views.Mailed.{Mailed}
 use Rattle.hx_mail.specs.declared.views.Sent.{Sent}
 use Rattle.hx_mail.specs.Boxes.{Boxed}

@@ -15,23 +15,18 @@ use Rattle.hx_model.specs.Schedule.{entries_of, names_from}
 use Rattle.hx_clock.specs.declared.parts.Stamped.{Stamped}
 use Rattle.hx_clock.specs.Parts.{Posted}
 use Rattle.hx_clock.specs.Views.{total}
-use Rattle.hx_clock.proofs.Lists.{each_in, prefix_in, total-append}
+use Rattle.hx_clock.proofs.Lemmas.{each_in, prefix_in, total-append}
 use Rattle.hx_law_threads.specs.Own.{own_entries, past_of}
 use Rattle.hx_law_threads.specs.Merged.{parts_in, ActorPart, AreOwnParts, AreWholeParts, HasOwnParts, IsMerged}
 use Rattle.hx_law_threads.specs.Cuts.{delivered_at, delivered_by, own_at, posted_at, whole_of, Cut}
 use Rattle.hx_law_threads.specs.Counting.{total_at, total_over, weight_delivered, weight_made}
 use Rattle.hx_law_threads.specs.Laws.{IsReadInPart}
-use Rattle.hx_law_threads.proofs.Lists.{in_append, in_map, map_reverse}
-use Rattle.hx_law_threads.proofs.PartPaces.{whole_adds_up}
-use Rattle.hx_law_threads.proofs.Reading.{read_in_parts}
-use Rattle.hx_law_threads.proofs.Retries.{first_all}
-use Rattle.hx_law_threads.proofs.Runs.{merged_run, posts_found}
-use Rattle.hx_law_threads.proofs.Totals.{cuts_add_up}
-use Rattle.hx_law_threads.proofs.Weights.{posts_weigh}
+use Rattle.hx_law_threads.proofs.Lemmas.{in_append, in_map, map_reverse, whole_adds_up, read_in_parts, first_all, merged_run, posts_found, cuts_add_up}
+use Rattle.hx_law_threads.proofs.Lemmas.{posts_weigh}
 use Rattle.hx_mail.specs.declared.views.Mailed.{Mailed}
 use Rattle.hx_outbox.specs.Offers.{named}
 use Rattle.hx_outbox.specs.Zipped.{Both}
-use Rattle.hx_outbox.proofs.Lists.{map-length}
+use Rattle.hx_outbox.proofs.Lemmas.{map-length}
 use Rattle.hx_desk.specs.declared.desks.Desk.{Desk}
 use Rattle.hx_desk.specs.Desks.{entries_before, made_by, told, IsLater}
 use Rattle.hx_desk.specs.Told.{told_by}

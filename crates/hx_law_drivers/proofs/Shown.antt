@@ -9,12 +9,11 @@ use Rattle.hx_types.specs.declared.traces.Input.{Input}
 use Rattle.hx_types.specs.declared.traces.Script.{Script}
 use Rattle.hx_types.specs.declared.traces.Input.TheVariants.{Halt}
 use Rattle.hx_clock.specs.declared.parts.Stamped.{Stamped}
-use Rattle.hx_clock.proofs.Lists.{each_all, each_in}
+use Rattle.hx_clock.proofs.Lemmas.{each_all, each_in}
 use Rattle.hx_law_threads.specs.Feeding.{IsFed, IsFedBy}
 use Rattle.hx_law_threads.specs.Own.{own_entries, past_of}
 use Rattle.hx_law_threads.specs.Merged.{parts_in, ActorPart, AreWholeParts, IsMerged}
-use Rattle.hx_law_threads.proofs.Lists.{in_map, in_reverse, of_map}
-use Rattle.hx_law_threads.proofs.Runs.{merged_run, of_parts}
+use Rattle.hx_law_threads.proofs.Lemmas.{in_map, in_reverse, of_map, merged_run, of_parts}
 use Rattle.hx_mail.specs.Boxes.{Boxed}
 use Rattle.hx_desk.specs.declared.desks.Desk.{Desk}
 use Rattle.hx_driver.specs.declared.crews.Crew.{Crew}

@@ -23,9 +23,7 @@ use Rattle.hx_types.specs.Words.{IsIn, below, post, provided, same_server, serve
 use Rattle.hx_types.specs.Configs.{is_lost, lists_joining}
 use Rattle.hx_model.specs.ServerSteps.{ServerState}
 use Rattle.hx_model.specs.CoordinatorSteps.{Answered, CoordinatorState, CoordinatorStep, Joined, Newest, Phase, Sealing, Steady, Task, add_step, adds, adds_steady, again, by_number, coordinator_message, coordinator_step, coordinator_tick, die_for, die_posts, gone_step, goes, is_out, issue, issuing, judged, newest_of, outcome, ready_now, ready_step, remaining, resting, seal, sealed_now, sealed_step, sealing_or_issue, session_posts, still_sealing, stop_step, stops, telling, to_server, waits_less, with_number, with_server, with_task}
-use Rattle.hx_law_lemmas.proofs.Lists.{in-append, in-flat_map, in-map, in-provided}
-use Rattle.hx_law_lemmas.proofs.Chains.{server-same}
-use Rattle.hx_law_lemmas.proofs.Cases.{server-in}
+use Rattle.hx_law_lemmas.proofs.Lemmas.{in-append, in-flat_map, in-map, in-provided, server-same, server-in}
 use Rattle.hx_law_epochs.specs.Epochs.{FollowsOn, IsSealedOrHalted}
 use Rattle.hx_law_epochs.proofs.Next.{filter-in}
 use Rattle.hx_law_epochs.proofs.Follows.{issuing-follows, issuing-orderly, issuing-ready, issuing-servers}

@@ -11,9 +11,8 @@ use Rattle.hx_types.specs.declared.ids.ServerId.{ServerId}
 use Rattle.hx_types.specs.Words.{IsBefore, IsIn, same_server, when_some}
 use Rattle.hx_types.specs.Configs.{any_ready, is_lost, lists, lists_joining, lists_ready, members_of}
 use Rattle.hx_model.specs.CoordinatorSteps.{CoordinatorState, Joined, config_without, is_joined, is_out, issuing, lists_without, made_ready}
-use Rattle.hx_law_lemmas.proofs.Lists.{any-in, in-append, in-filter, in-map, in_left, map-in}
-use Rattle.hx_law_lemmas.proofs.Chains.{Differ, server-same}
-use Rattle.hx_law_lemmas.proofs.Order.{before-in, fewer-before, fewer-differ, in-listed, listed-in, member-server, servers_of}
+use Rattle.hx_law_lemmas.proofs.Lemmas.{any-in, in-append, in-filter, in-map, in_left, map-in, Differ, server-same, before-in, fewer-before, fewer-differ}
+use Rattle.hx_law_lemmas.proofs.Lemmas.{in-listed, listed-in, member-server, servers_of}
 use Rattle.hx_law_epochs.specs.Epochs.{FollowsOn, order}
 use Rattle.hx_law_epochs.proofs.Members.{server-member}
 use Rattle.hx_law_epochs.proofs.Next.{Grown, IsOrderly, MayJoin, any-of, filter-in, issuing-grown, joiner}

@@ -16,7 +16,7 @@ use Rattle.hx_model.specs.Holders.{IsPosted}
 use Rattle.hx_model.specs.Runs.{coordinator_of, server_of}
 use Rattle.hx_model.specs.ServerSteps.{Replica, ServerState, if_installed}
 use Rattle.hx_law_lemmas.specs.Words.{posts_of}
-use Rattle.hx_law_lemmas.proofs.Lists.{in_left, in_right}
+use Rattle.hx_law_lemmas.proofs.Lemmas.{in_left, in_right}
 use Rattle.hx_law_epochs.specs.Epochs.{EpochsHold, HasTold, IsInstalled, OthersAreSealed, RunsKeepEpochs}
 use Rattle.hx_law_epochs.proofs.Facts.{Installed, Says, Waits}
 use Rattle.hx_law_epochs.proofs.Runs.{EpochsRun, epochs-run}

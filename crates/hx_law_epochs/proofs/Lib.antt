@@ -14,3 +14,4 @@ pub mod Sessions
 pub mod Runs
 pub mod Headline
 pub mod Losing
+pub mod Lemmas

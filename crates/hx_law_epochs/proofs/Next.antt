@@ -13,9 +13,7 @@ use Rattle.hx_types.specs.declared.calls.Op.TheVariants.{Stop, Add}
 use Rattle.hx_types.specs.Words.{IsBefore, IsIn, same_server, server_in, when_some}
 use Rattle.hx_types.specs.Configs.{any_ready, is_lost, lists_ready, members_of}
 use Rattle.hx_model.specs.CoordinatorSteps.{CoordinatorState, Issuing, Task, adds_by, answers_with, any_joining, appended, config_without, does, does_all, issuing, judged, leaves}
-use Rattle.hx_law_lemmas.proofs.Lists.{any-in, in_right}
-use Rattle.hx_law_lemmas.proofs.Chains.{Differ}
-use Rattle.hx_law_lemmas.proofs.Cases.{server-in}
+use Rattle.hx_law_lemmas.proofs.Lemmas.{any-in, in_right, Differ, server-in}
 
 -- a server that joins a region
 abbrev pub joiner : ServerId → Member

@@ -10,10 +10,8 @@ use Rattle.hx_types.specs.Words.{IsIn, when_some}
 use Rattle.hx_types.specs.Configs.{first_config, is_lost, lists}
 use Rattle.hx_model.specs.Slots.{KeyState}
 use Rattle.hx_model.specs.ServerSteps.{Replica, ServerState, adopted, adopted_replica, adopted_state, replica_in_epoch, if_installed, is_active, listed_regions, replica_of, replica_or_new, server_at_start, context_of, with_config, with_replica}
-use Rattle.hx_law_lemmas.proofs.Lists.{in-map}
-use Rattle.hx_law_lemmas.proofs.Replicas.{in-with_replica, replica-found, replica-here, replica-other}
-use Rattle.hx_law_lemmas.proofs.Cases.{which-region}
-use Rattle.hx_law_lemmas.proofs.ReplicaLists.{Once, listed-apart, listed-only, listed-there, made-found, made-in, made-once, mapped-found, mapped-from, mapped-once, once-replaced}
+use Rattle.hx_law_lemmas.proofs.Lemmas.{in-map, in-with_replica, replica-found, replica-here, replica-other, which-region, Once, listed-apart, listed-only}
+use Rattle.hx_law_lemmas.proofs.Lemmas.{listed-there, made-found, made-in, made-once, mapped-found, mapped-from, mapped-once, once-replaced}
 use Rattle.hx_law_epochs.proofs.Facts.{Installed}
 
 -- a server's replicas are those of the regions in which its configuration lists it, each once; one that isn't installed is empty

@@ -30,14 +30,9 @@ use Rattle.hx_model.specs.CoordinatorSteps.{CoordinatorState, coordinator_step}
 use Rattle.hx_model.specs.SessionSteps.{SessionState, session_step}
 use Rattle.hx_model.specs.Runs.{IsRun, IsStep, Output, MayTake, coordinator_after, coordinator_of, has_halted, is_actor, made_of, server_after, server_of, session_after, session_of}
 use Rattle.hx_law_lemmas.specs.Words.{posts_of}
-use Rattle.hx_law_lemmas.proofs.Lists.{in-append, in-below, in-map, in_left, in_right, map-in}
-use Rattle.hx_law_lemmas.proofs.FirstMembers.{all-ready}
-use Rattle.hx_law_lemmas.proofs.CallEnds.{started}
-use Rattle.hx_law_lemmas.proofs.Traces.{arrived}
-use Rattle.hx_law_lemmas.proofs.Chains.{members-differ}
-use Rattle.hx_law_lemmas.proofs.SessionMessages.{session_turn}
-use Rattle.hx_law_lemmas.proofs.SessionTurns.{SaysOf}
-use Rattle.hx_law_posts.proofs.Configs.{first-of_space, member-server}
+use Rattle.hx_law_lemmas.proofs.Lemmas.{in-append, in-below, in-map, in_left, in_right, map-in, all-ready, started, arrived, members-differ, session_turn}
+use Rattle.hx_law_lemmas.proofs.Lemmas.{SaysOf}
+use Rattle.hx_law_posts.proofs.Lemmas.{first-of_space, member-server}
 use Rattle.hx_law_epochs.specs.Epochs.{FollowsOn, IsSealedOrHalted, RunsOn, WasIssued}
 use Rattle.hx_law_epochs.proofs.Controls.{Controls}
 use Rattle.hx_law_epochs.proofs.Coordinator.{coordinates}

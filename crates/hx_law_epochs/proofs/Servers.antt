@@ -29,9 +29,7 @@ use Rattle.hx_model.specs.Causes.{config_noted}
 use Rattle.hx_model.specs.Regions.{key_region}
 use Rattle.hx_model.specs.Slots.{KeyState, moved_all, pending_of, pending_of_all, snapshot_of, state_among}
 use Rattle.hx_model.specs.ServerSteps.{Replica, ServerState, ServerStep, SlotStep, Slots, SlotContext, accepting, acked, ack_step, adopted, adopted_posts, asked, at_slot, call_at, call_step, called, called_by, halting, replica_in_epoch, if_installed, input_step, install_at, installed_slots, is_active, join_keys, join_slot, keys_of, message_step, move_posts, offered_all, passed_on, pending_posts, ready_post, replica_of, replica_tick, resumed_posts, saying, seal_at, server_step, snap_posts, snap_to, snapped, context_of, state_from, state_in, tick_step, unmoved, update_step, updated, with_config, with_slots}
-use Rattle.hx_law_lemmas.proofs.Lists.{in-append, in-flat_map, in-provided}
-use Rattle.hx_law_lemmas.proofs.Replicas.{replica-found, replica-here, with_slot_at}
-use Rattle.hx_law_lemmas.proofs.ReplicaLists.{once-found}
+use Rattle.hx_law_lemmas.proofs.Lemmas.{in-append, in-flat_map, in-provided, replica-found, replica-here, with_slot_at, once-found}
 use Rattle.hx_law_epochs.proofs.Facts.{FromServer, Installed, SendsSnapshot}
 use Rattle.hx_law_epochs.proofs.Replicas.{Shaped, done-installed, done-shaped, replica_in_epoch-is, installed-is, mid-installed, mid-shaped, replaced-installed, replaced-shaped}
 use Rattle.hx_law_epochs.proofs.SlotPosts.{OfSlot, SlotSays, SlotTells, ack-tells, call-tells, moves-of, pending-of, resumed-of, update-tells}

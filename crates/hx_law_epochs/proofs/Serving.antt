@@ -17,7 +17,7 @@ use Rattle.hx_types.specs.Configs.{any_ready, head_of, is_lost, is_server, leads
 use Rattle.hx_types.specs.Subspaces.{is_key_region}
 use Rattle.hx_model.specs.ServerSteps.{ServerState, ServerStep}
 use Rattle.hx_model.specs.CoordinatorSteps.{Joined, Phase, Sealing, Steady}
-use Rattle.hx_law_lemmas.proofs.Lists.{any-in, in-append}
+use Rattle.hx_law_lemmas.proofs.Lemmas.{any-in, in-append}
 use Rattle.hx_law_epochs.specs.Epochs.{FollowsOn, IsSealedOrHalted}
 use Rattle.hx_law_epochs.proofs.Next.{IsOrderly}
 use Rattle.hx_law_epochs.proofs.Follows.{joining-member, member-listed, member-ready, ready-member}

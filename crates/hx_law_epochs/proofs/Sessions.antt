@@ -28,10 +28,7 @@ use Rattle.hx_model.specs.Causes.{config_noted}
 use Rattle.hx_model.specs.Planning.{plan_of}
 use Rattle.hx_model.specs.Regions.{key_region}
 use Rattle.hx_model.specs.SessionSteps.{SessionState, SessionStep, all_parts, ask_regions, awaits, begin, call_under_way, end_with_parts, ending, found_step, is_administrative, is_key_call, is_search, lacks_part, merged_parts, send, send_to, session_message, session_step, staying, with_part, with_poll}
-use Rattle.hx_law_lemmas.proofs.CallEnds.{CallStop, began_notes, end_notes, started}
-use Rattle.hx_law_lemmas.proofs.SessionMessages.{session_turn}
-use Rattle.hx_law_lemmas.proofs.SessionNotes.{all_notes}
-use Rattle.hx_law_lemmas.proofs.SessionTurns.{SaysOf}
+use Rattle.hx_law_lemmas.proofs.Lemmas.{CallStop, began_notes, end_notes, started, session_turn, all_notes, SaysOf}
 use Rattle.hx_law_epochs.proofs.Facts.{Says}
 
 -- what a session posts says nothing of epochs

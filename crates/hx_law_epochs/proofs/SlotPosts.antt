@@ -24,7 +24,7 @@ use Rattle.hx_types.specs.declared.ids.Epoch.{Epoch}
 use Rattle.hx_model.specs.Leading.{StuckAt, decide, stuck_of}
 use Rattle.hx_model.specs.Slots.{Acknowledge, Commit, Forget, Hold, KeyState, Move, Take, moved_all, offered, pending_of}
 use Rattle.hx_model.specs.ServerSteps.{SlotStep, SlotContext, accepting, ack_step, ack_to, by_moves, by_posts, call_step, decided, doubt_in, doubts_from, get_step, known_to, leader_doubts, move_posts, next_at, passed_on, prev_at, resumed, resumed_posts, told_to, update_step, update_to, waiting_doubt, write_step}
-use Rattle.hx_law_lemmas.proofs.Lists.{in-append, in-flat_map, in-map, in-provided}
+use Rattle.hx_law_lemmas.proofs.Lemmas.{in-append, in-flat_map, in-map, in-provided}
 
 -- a message between replicas is of this epoch, and others are replies
 abbrev pub SlotSays : Config → Message → Type 0

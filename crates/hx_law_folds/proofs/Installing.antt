@@ -8,8 +8,7 @@ use Rattle.hx_types.specs.declared.snapshots.Kept.{Kept}
 use Rattle.hx_types.specs.declared.updates.Update.{Update}
 use Rattle.hx_types.specs.Subspaces.{is_key_region}
 use Rattle.hx_types.specs.Words.{same_text, text_below}
-use Rattle.hx_model.proofs.Laws.{base-moved_all}
-use Rattle.hx_model.proofs.States.{eq_of_same_text, found_same, others_stay, same_text_self}
+use Rattle.hx_model.proofs.Lemmas.{base-moved_all, eq_of_same_text, found_same, others_stay, same_text_self}
 use Rattle.hx_model.specs.Holders.{kept_among}
 use Rattle.hx_model.specs.ServerSteps.{Slots, SlotContext, accepting, installed_slots, join_keys, join_slot, keys_of, offered_all, resumed, state_from, with_key}
 use Rattle.hx_model.specs.Slots.{KeyState, kept_of, moved_all, new_state, no_kept, pending_of, pending_of_all, snapshot_of, state_among}

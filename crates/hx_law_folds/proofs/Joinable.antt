@@ -24,8 +24,7 @@ use Rattle.hx_types.specs.Configs.{first_config, is_lost, leads}
 use Rattle.hx_types.specs.Effects.{key_of}
 use Rattle.hx_types.specs.Subspaces.{is_key_region}
 use Rattle.hx_types.specs.Words.{same_region, same_text, text_below, when_some}
-use Rattle.hx_model.proofs.Laws.{base-moved_all}
-use Rattle.hx_model.proofs.States.{eq_of_same_text}
+use Rattle.hx_model.proofs.Lemmas.{base-moved_all, eq_of_same_text}
 use Rattle.hx_model.specs.Regions.{key_region}
 use Rattle.hx_model.specs.ServerSteps.{Replica, ServerState, ServerStep, SlotStep, Slots, SlotContext, accepting, ack_step, acked, adopted, adopted_replica, adopted_state, asked, at_slot, call_at, call_step, called, called_by, replica_in_epoch, if_installed, input_step, install_at, installed_slots, is_active, join_keys, join_slot, keys_of, listed_regions, message_step, offered_all, ready_post, replica_of, replica_or_new, resumed, saying, seal_at, server_at_start, server_step, snapped, context_of, state_from, state_in, unmoved, update_step, updated, with_config, with_slots}
 use Rattle.hx_model.specs.Slots.{KeyState, kept_of, snapshot_of, moved_all, state_among, with_state}

@@ -10,7 +10,7 @@ use Rattle.hx_types.specs.declared.ids.RegionId.{RegionId}
 use Rattle.hx_types.specs.declared.snapshots.Kept.{Kept}
 use Rattle.hx_types.specs.declared.updates.Update.{Update}
 use Rattle.hx_types.specs.Words.{provided}
-use Rattle.hx_model.proofs.Laws.{moved_all-++}
+use Rattle.hx_model.proofs.Lemmas.{moved_all-++}
 use Rattle.hx_model.specs.Neighbours.{is_end}
 use Rattle.hx_model.specs.ServerSteps.{SlotContext, accepting, tail_acks, move_posts, next_at, offered_all, passed_on, resumed, with_commits}
 use Rattle.hx_model.specs.Slots.{Acknowledge, Commit, Forget, Hold, KeyState, Move, Take, acknowledged, commits, follows, is_pending, kept_of, marks_after, moved, moved_all, offered, pending_above, pending_of, settled, taken, top_above, top_of, touches_after, turns, waits_below}

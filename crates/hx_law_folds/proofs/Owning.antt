@@ -13,8 +13,7 @@ use Rattle.hx_types.specs.declared.updates.Update.{Update}
 use Rattle.hx_types.specs.declared.outcomes.Decision.TheVariants as a_decision
 use Rattle.hx_types.specs.Effects.{is_write}
 use Rattle.hx_types.specs.Words.{provided, same_text}
-use Rattle.hx_model.proofs.Laws.{base-moved_all}
-use Rattle.hx_model.proofs.States.{same_text_self}
+use Rattle.hx_model.proofs.Lemmas.{base-moved_all, same_text_self}
 use Rattle.hx_model.specs.Leading.{decide}
 use Rattle.hx_model.specs.Neighbours.{is_end}
 use Rattle.hx_model.specs.Regions.{key_region}

@@ -7,7 +7,7 @@ use Rattle.hx_types.specs.declared.spaces.Space.{Space}
 use Rattle.hx_types.specs.declared.updates.Update.{Update}
 use Rattle.hx_types.specs.Subspaces.{is_key_region}
 use Rattle.hx_types.specs.Words.{same_text}
-use Rattle.hx_model.proofs.States.{eq_of_same_text}
+use Rattle.hx_model.proofs.Lemmas.{eq_of_same_text}
 use Rattle.hx_model.specs.Holders.{kept_among, snap_state}
 use Rattle.hx_model.specs.ServerSteps.{state_from}
 use Rattle.hx_model.specs.Slots.{Forget, KeyState, kept_of, moved, new_state, no_kept, pending_of, pending_of_all, snapshot_of, state_among}

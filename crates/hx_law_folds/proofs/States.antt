@@ -6,7 +6,7 @@ use Rattle.hx_types.specs.declared.calls.Row.{Row}
 use Rattle.hx_types.specs.declared.ids.RegionId.{RegionId}
 use Rattle.hx_types.specs.declared.values.Term.{Term}
 use Rattle.hx_types.specs.Words.{list_of, provided, same_text, text_below}
-use Rattle.hx_model.proofs.States.{eq_of_same_text}
+use Rattle.hx_model.proofs.Lemmas.{eq_of_same_text}
 use Rattle.hx_model.specs.Matching.{matches}
 use Rattle.hx_model.specs.ServerSteps.{SlotContext, adopted_state, passed_on, pending_posts, resumed, resumed_posts}
 use Rattle.hx_model.specs.Slots.{KeyState, Move, found_in, kept_of, moved, moved_all, new_state, pending_of_all, rows_of, snapshot_of, state_among, with_state}

@@ -7,3 +7,4 @@ pub mod Calls
 pub mod Agreeing
 pub mod Replays
 pub mod Rows
+pub mod Lemmas

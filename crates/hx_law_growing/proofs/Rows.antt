@@ -13,8 +13,7 @@ use Rattle.hx_types.specs.declared.ids.Actor.TheVariants.{Server, Session}
 use Rattle.hx_types.specs.declared.traces.Input.TheVariants.{Tick, Deliver}
 use Rattle.hx_model.specs.Runs.{entry_of, made_of}
 use Rattle.hx_model.specs.Schedule.{next_entry, scheduled}
-use Rattle.hx_model.proofs.HandMade.{called, never, put_color, the_key}
-use Rattle.hx_model.proofs.SmallSpace.{epoch, red, server, session}
+use Rattle.hx_model.proofs.Lemmas.{called, never, hand_made_put_color as put_color, hand_made_key as the_key, epoch, red, server, session}
 use Rattle.hx_types.specs.Fitting.{calls_of}
 use Rattle.hx_law_growing.specs.Alone.{IsNextCall, Made, script_made, trace_made}
 use Rattle.hx_law_growing.specs.Growing.{GrowsTo, calls_in, with_call_of}

@@ -7,13 +7,9 @@ use Rattle.hx_types.specs.declared.ids.Version.{Version}
 use Rattle.hx_types.specs.declared.traces.Entry.{Entry}
 use Rattle.hx_types.specs.declared.traces.Script.{Script}
 use Rattle.hx_model.specs.Runs.{IsRun, session_of}
-use Rattle.hx_law_lemmas.proofs.CallEnds.{started}
-use Rattle.hx_law_lemmas.proofs.Positions.{end-noted}
-use Rattle.hx_law_lemmas.proofs.SessionNotes.{begins_now, ends_now, may_start}
-use Rattle.hx_law_lemmas.proofs.Traces.{BeganAt, EndedAt, began_at, ended_at}
+use Rattle.hx_law_lemmas.proofs.Lemmas.{started, end-noted, begins_now, ends_now, may_start, BeganAt, EndedAt, began_at, ended_at}
 use Rattle.hx_law_lemmas.specs.Facts.{Facts}
-use Rattle.hx_law_searches.proofs.CallsKept.{calls_kept, turn_is}
-use Rattle.hx_law_searches.proofs.FromChains.{facts}
+use Rattle.hx_law_searches.proofs.Lemmas.{calls_kept, turn_is, facts}
 use Rattle.hx_law_order.specs.Headline.{RunsKeepTurns}
 
 module _ (script : Script) (known : Facts script) (u : SessionId) (i j : ℕ) (low : i < j) where

@@ -13,7 +13,7 @@ use Rattle.hx_types.specs.declared.ids.Actor.TheVariants.{Coordinator, Server, S
 use Rattle.hx_types.specs.Spaces.{IsConfigOf}
 use Rattle.hx_types.specs.Posts.{ActorExists, AnswerUpTo, Bounds, IsSessionOf, IsSoundAnswer, IsSoundKept, IsSoundUpdate, has_place_in}
 use Rattle.hx_types.specs.declared.configs.Config.{Config}
-use Rattle.hx_law_lemmas.proofs.Lists.{all-in, all-of}
+use Rattle.hx_law_lemmas.proofs.Lemmas.{all-in, all-of}
 
 -- what bounds the posts of an entry
 abbrev pub bounds : Space → ℕ → ℕ → Bounds

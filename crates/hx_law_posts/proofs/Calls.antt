@@ -25,11 +25,9 @@ use Rattle.hx_model.specs.Regions.{key_region}
 use Rattle.hx_model.specs.Slots.{KeyState, acknowledged, found_in, object_in, object_of, offered, top_of}
 use Rattle.hx_model.specs.Leading.{decide, stuck_of}
 use Rattle.hx_model.specs.ServerSteps.{Replica, ServerState, ServerStep, SlotStep, accepting, ack_step, acked, asked, at_slot, by_moves, by_posts, call_at, call_step, called, called_by, decided, doubt_in, get_answer, get_step, replica_in_epoch, known_to, replica_of, reply, context_of, state_in, unmoved, update_step, updated, waiting_doubt, write_step}
-use Rattle.hx_law_lemmas.proofs.Lists.{all-of, in-provided, when_some_both}
-use Rattle.hx_law_lemmas.proofs.KnownUpdates.{accepting-known, acknowledged-known, offered-known}
-use Rattle.hx_law_lemmas.proofs.Replicas.{replica-found, state-key}
-use Rattle.hx_law_lemmas.proofs.Objects.{fits-key, get-sound}
-use Rattle.hx_law_lemmas.proofs.FoundRows.{found-row}
+use Rattle.hx_law_lemmas.proofs.Lemmas.{all-of, in-provided, when_some_both, accepting-known-in_line as accepting-known}
+use Rattle.hx_law_lemmas.proofs.Lemmas.{acknowledged-known-in_line as acknowledged-known, offered-known-in_line as offered-known, replica-found, state-key}
+use Rattle.hx_law_lemmas.proofs.Lemmas.{fits-key, get-sound, found-row}
 use Rattle.hx_law_posts.proofs.Bounds.{IsSoundAt, bounds}
 use Rattle.hx_law_posts.proofs.Moves.{accepting-rise, acknowledged-rise, offered-rise}
 use Rattle.hx_law_posts.proofs.Slots.{IsSoundSlot, after-of, held-together, together, top-small}

@@ -12,7 +12,7 @@ use Rattle.hx_types.specs.Words.{IsIn, below}
 use Rattle.hx_types.specs.Subspaces.{region_count}
 use Rattle.hx_types.specs.Configs.{first_config, first_member, members_of}
 use Rattle.hx_types.specs.Spaces.{AllDiffer, IsConfigOf, IsListOf, IsServerOf, IsSpace}
-use Rattle.hx_law_lemmas.proofs.Lists.{all-in, all-of, differ-append, in-below, in-map, in-slice_get, when_some_both}
+use Rattle.hx_law_lemmas.proofs.Lemmas.{all-in, all-of, differ-append, in-below, in-map, in-slice_get, when_some_both}
 
 -- each member of a configuration of the space is a server of it
 pub member-server : (space : Space) (config : Config) → IsConfigOf space config → (g : RegionId) (m : Member) → IsIn m (members_of config g) → IsServerOf space m.server

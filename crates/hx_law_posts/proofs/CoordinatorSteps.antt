@@ -25,8 +25,7 @@ use Rattle.hx_types.specs.Configs.{is_lost, lists_joining}
 use Rattle.hx_types.specs.Spaces.{Fits, IsServerOf}
 use Rattle.hx_types.specs.Posts.{ActorExists, IsSessionOf, IsSoundAnswer, IsSoundMessage, IsSoundPost, goes_between, is_session_actor}
 use Rattle.hx_model.specs.CoordinatorSteps.{Answered, CoordinatorState, CoordinatorStep, Issuing, Newest, Phase, Sealing, Steady, Task, adds, adds_steady, administers, again, by_number, coordinator_message, coordinator_step, coordinator_tick, die_for, die_posts, gone_step, goes, is_out, issue, issued, issuing, judged, newest_answered, newest_of, outcome, poll_step, ready_now, ready_step, remaining, resting, seal, sealed_now, sealed_step, sealing_or_issue, session_posts, still_sealing, stops, telling, to_server, waits_less, with_newest, with_number, with_server, with_task, add_step, stop_step, is_newest_call, with_answer}
-use Rattle.hx_law_lemmas.proofs.Newest.{in-with_newest, newest-in}
-use Rattle.hx_law_lemmas.proofs.Lists.{all-in, in-append, in-below, in-filter, in-flat_map, in-map, in-provided}
+use Rattle.hx_law_lemmas.proofs.Lemmas.{in-with_newest, newest-in, all-in, in-append, in-below, in-filter, in-flat_map, in-map, in-provided}
 use Rattle.hx_law_posts.proofs.Bounds.{IsSoundConfig, bounds, config-up, exists-up, sound_answer-up}
 use Rattle.hx_law_posts.proofs.Issuing.{IsSoundAnswered, IsSoundIssuing, IsSoundTask, JudgedWell, issuing-sound, judged-sound}
 

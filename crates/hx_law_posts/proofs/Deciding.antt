@@ -22,9 +22,7 @@ use Rattle.hx_model.specs.Regions.{key_region}
 use Rattle.hx_model.specs.Places.{places_of}
 use Rattle.hx_model.specs.Slots.{KeyState, latest_of, mark_of, top_of, touches_of}
 use Rattle.hx_model.specs.Leading.{StuckAt, assigned, by_mark, decide, first_lost, fresh, granted, refusal, stuck_of}
-use Rattle.hx_law_lemmas.proofs.Lists.{all-in, when_some_both}
-use Rattle.hx_law_lemmas.proofs.Objects.{effect-sound}
-use Rattle.hx_law_lemmas.proofs.PlacesApart.{ArePlaced, placed}
+use Rattle.hx_law_lemmas.proofs.Lemmas.{all-in, when_some_both, effect-sound, ArePlaced, placed}
 use Rattle.hx_law_posts.proofs.Bounds.{IsSoundAt, IsSoundConfig, bounds}
 use Rattle.hx_law_posts.proofs.Slots.{IsSoundSlot}
 use Rattle.hx_law_posts.proofs.Kept.{latest-sound, mark-sound, touches-below}

@@ -18,7 +18,7 @@ use Rattle.hx_types.specs.Posts.{IsSessionOf, IsSoundPost}
 use Rattle.hx_model.specs.Slots.{KeyState, pending_of}
 use Rattle.hx_model.specs.Leading.{StuckAt, first_lost, stuck_among, stuck_of}
 use Rattle.hx_model.specs.ServerSteps.{SlotContext, doubt_in, doubts_from, leader_doubts, waiting_doubt}
-use Rattle.hx_law_lemmas.proofs.Lists.{all-in, in-filter, in-map, in-provided, when_some_both}
+use Rattle.hx_law_lemmas.proofs.Lemmas.{all-in, in-filter, in-map, in-provided, when_some_both}
 use Rattle.hx_law_posts.proofs.Slots.{IsSoundSlot, pending-sound}
 use Rattle.hx_law_posts.proofs.SlotPosts.{IsContext, reply-sound}
 

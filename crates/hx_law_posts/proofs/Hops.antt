@@ -15,7 +15,7 @@ use Rattle.hx_types.specs.Words.{IsIn, first_of_list, same_server, when_some}
 use Rattle.hx_types.specs.Configs.{head_of, is_lost, members_of}
 use Rattle.hx_types.specs.Spaces.{IsConfigOf, IsServerOf}
 use Rattle.hx_model.specs.Neighbours.{enters, enters_last, hop_at, last_member, member_after, member_before, members_at, next_of, preceding_place, prev_of}
-use Rattle.hx_law_lemmas.proofs.Lists.{when_some_both}
+use Rattle.hx_law_lemmas.proofs.Lemmas.{when_some_both}
 use Rattle.hx_law_posts.proofs.Configs.{member-server}
 
 -- the member of a list with this server

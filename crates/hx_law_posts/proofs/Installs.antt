@@ -15,11 +15,10 @@ use Rattle.hx_types.specs.Spaces.{IsRegionOf}
 use Rattle.hx_types.specs.Posts.{IsSoundPost}
 use Rattle.hx_model.specs.Slots.{Forget, KeyState, moved_all, pending_of}
 use Rattle.hx_model.specs.ServerSteps.{Replica, ServerState, SlotContext, adopted, adopted_posts, adopted_replica, adopted_state, tail_acks, install_at, is_active, leader_doubts, listed_regions, move_posts, passed_on, pending_posts, ready_post, replica_of, replica_or_new, replica_tick, resumed, resumed_posts, saying, snap_posts, context_of, tick_step, unmoved, with_config}
-use Rattle.hx_model.proofs.Laws.{base-moved_all}
-use Rattle.hx_law_lemmas.proofs.Lists.{in-append, in-below, in-filter, in-flat_map, in-map, in-provided, when_some_both}
-use Rattle.hx_law_lemmas.proofs.KnownUpdates.{AllKnown, Known, marks-known, with_commits-known}
-use Rattle.hx_law_lemmas.proofs.Replicas.{replica-found}
-use Rattle.hx_law_lemmas.proofs.Texts.{state_key}
+use Rattle.hx_model.proofs.Lemmas.{base-moved_all}
+use Rattle.hx_law_lemmas.proofs.Lemmas.{in-append, in-below, in-filter, in-flat_map, in-map, in-provided, when_some_both, AllKnownInLine as AllKnown}
+use Rattle.hx_law_lemmas.proofs.Lemmas.{KnownInLine as Known, marks-known-in_line as marks-known, with_commits-known-in_line as with_commits-known}
+use Rattle.hx_law_lemmas.proofs.Lemmas.{replica-found, state_key}
 use Rattle.hx_law_posts.proofs.Bounds.{IsSoundConfig}
 use Rattle.hx_law_posts.proofs.Moves.{resumed-rise}
 use Rattle.hx_law_posts.proofs.Slots.{IsSoundSlot, held-together, pending-sound, slot-moved, together, together-sound}

@@ -19,7 +19,7 @@ use Rattle.hx_types.specs.Configs.{is_lost, lists_ready, members_of}
 use Rattle.hx_types.specs.Spaces.{AllDiffer, Fits, IsConfigOf, IsListOf, IsServerOf}
 use Rattle.hx_types.specs.Posts.{IsSessionOf, IsSoundAnswer}
 use Rattle.hx_model.specs.CoordinatorSteps.{Answered, CoordinatorState, Issuing, Joined, Task, adds_by, answers_with, any_joining, appended, config_without, does, does_all, is_out, issuing, judged, leaves, lists_without, made_ready, remaining}
-use Rattle.hx_law_lemmas.proofs.Lists.{all-in, all-of, differ-append, in-append, in-filter, in-map, in-slice_get, map-in, when_some_both, in-slice_set}
+use Rattle.hx_law_lemmas.proofs.Lemmas.{all-in, all-of, differ-append, in-append, in-filter, in-map, in-slice_get, map-in, when_some_both, in-slice_set}
 use Rattle.hx_law_posts.proofs.Bounds.{IsSoundConfig, bounds}
 use Rattle.hx_law_posts.proofs.Configs.{server_number}
 use Rattle.hx_law_posts.proofs.SlotPosts.{any-of}

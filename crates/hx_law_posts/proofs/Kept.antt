@@ -18,9 +18,7 @@ use Rattle.hx_types.specs.Words.{IsIn, provided, same_region, same_session}
 use Rattle.hx_types.specs.Spaces.{IsAnswerOf, IsAscending, IsMaybeObjectOf, IsMaybeRowUpTo, IsRegionOf}
 use Rattle.hx_types.specs.Posts.{AnswerUpTo, IsSessionOf, IsSoundKept}
 use Rattle.hx_model.specs.Slots.{KeyState, keeps_at, kept_of, kept_row, latest_of, mark_among, mark_by, mark_of, marks_after, object_in, object_of, row_of, top_above, top_of, touches_after, touches_of, with_mark, with_touch, with_touches}
-use Rattle.hx_law_lemmas.proofs.Lists.{all-in, all-of, in-provided}
-use Rattle.hx_law_lemmas.proofs.FoundRows.{TouchedBy}
-use Rattle.hx_law_lemmas.proofs.Lines.{in-upto}
+use Rattle.hx_law_lemmas.proofs.Lemmas.{all-in, all-of, in-provided, TouchedBy, in-upto}
 use Rattle.hx_law_posts.proofs.Bounds.{IsSoundAt, bounds}
 use Rattle.hx_law_posts.proofs.Moves.{Descends}
 use Rattle.hx_law_posts.proofs.Slots.{IsSoundSlot, top-small}

@@ -17,3 +17,4 @@ pub mod SessionSteps
 pub mod Issuing
 pub mod CoordinatorSteps
 pub mod Runs
+pub mod Lemmas

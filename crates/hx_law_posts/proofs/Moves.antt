@@ -11,9 +11,8 @@ use Rattle.hx_types.specs.Words.{IsIn, provided, same_region, when_some}
 use Rattle.hx_model.specs.Neighbours.{is_end}
 use Rattle.hx_model.specs.Slots.{Acknowledge, Commit, Forget, Hold, KeyState, Move, Take, acknowledged, commits, follows, is_pending, moved, moved_all, offered, pending_of, place_in, settled, taken, top_above, top_of, turns, waits_below}
 use Rattle.hx_model.specs.ServerSteps.{SlotContext, accepting, tail_acks, next_at, offered_all, resumed, with_commits}
-use Rattle.hx_law_lemmas.proofs.Lists.{all-in, in-find, when_some_both}
-use Rattle.hx_law_lemmas.proofs.LeaderLines.{pending-in}
-use Rattle.hx_law_lemmas.proofs.KnownUpdates.{AllKnown, Held, held-moved_all, known-append, offered-known}
+use Rattle.hx_law_lemmas.proofs.Lemmas.{all-in, in-find, when_some_both, pending-in, AllKnownInLine as AllKnown, HeldInLine as Held}
+use Rattle.hx_law_lemmas.proofs.Lemmas.{held-moved_all-in_line as held-moved_all, known-append-in_line as known-append, offered-known-in_line as offered-known}
 
 -- each version is above the older ones, and the oldest above a base
 abbrev pub Descends : ℕ → List Update → Type 0

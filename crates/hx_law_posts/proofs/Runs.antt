@@ -22,7 +22,7 @@ use Rattle.hx_types.specs.Fitting.{IsScript}
 use Rattle.hx_model.specs.ServerSteps.{Replica, listed_regions, server_at_start, server_step}
 use Rattle.hx_model.specs.SessionSteps.{session_step}
 use Rattle.hx_model.specs.Runs.{IsRun, IsStep, MayTake, coordinator_of, entry_at, entry_of, is_actor, made_of, post_named, server_of, session_of}
-use Rattle.hx_law_lemmas.proofs.Lists.{in-below, in-filter, in-map, in-slice_get}
+use Rattle.hx_law_lemmas.proofs.Lemmas.{in-below, in-filter, in-map, in-slice_get}
 use Rattle.hx_law_posts.specs.Posts.{EpochsStaySmall, PostsStaySound, VersionsStaySmall}
 use Rattle.hx_law_posts.proofs.Bounds.{IsSoundConfig}
 use Rattle.hx_law_posts.proofs.Configs.{first-of_space}

@@ -16,7 +16,7 @@ use Rattle.hx_types.specs.declared.traces.Input.TheVariants.{Tick, Halt, Deliver
 use Rattle.hx_types.specs.Words.{IsIn, post}
 use Rattle.hx_types.specs.Posts.{IsSoundKept, IsSoundPost, IsSoundUpdate, has_place_in, is_session_actor}
 use Rattle.hx_model.specs.ServerSteps.{ServerState, ServerStep, halting, replica_in_epoch, if_installed, input_step, message_step, seal_at, server_step, unmoved}
-use Rattle.hx_law_lemmas.proofs.Lists.{all-in}
+use Rattle.hx_law_lemmas.proofs.Lemmas.{all-in}
 use Rattle.hx_law_posts.proofs.Bounds.{bounds, exists-up, received}
 use Rattle.hx_law_posts.proofs.Servers.{DoesWell, IsSoundServer, Relies, replica_in_epoch-found, installed-found, unmoved-good}
 use Rattle.hx_law_posts.proofs.Calls.{acked-good, asked-good, called_by-good, updated-good}

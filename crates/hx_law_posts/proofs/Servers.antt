@@ -14,9 +14,7 @@ use Rattle.hx_types.specs.Spaces.{IsRegionOf, IsServerOf, IsSpace, KeyFits}
 use Rattle.hx_types.specs.Posts.{IsSoundPost}
 use Rattle.hx_model.specs.Slots.{KeyState, Move, moved_all}
 use Rattle.hx_model.specs.ServerSteps.{Replica, ServerState, ServerStep, SlotStep, at_slot, by_moves, by_posts, replica_in_epoch, if_installed, replica_of, saying, context_of, state_in, unmoved, with_replica}
-use Rattle.hx_law_lemmas.proofs.KnownUpdates.{AllKnown}
-use Rattle.hx_law_lemmas.proofs.Replicas.{in-with_replica, in-with_state, state-from, with_slot_at}
-use Rattle.hx_law_lemmas.proofs.Texts.{Ascend, state_key}
+use Rattle.hx_law_lemmas.proofs.Lemmas.{AllKnownInLine as AllKnown, in-with_replica, in-with_state, state-from, with_slot_at, Ascend, state_key}
 use Rattle.hx_law_posts.proofs.Texts.{with_state-ascends}
 use Rattle.hx_law_posts.proofs.Bounds.{IsSoundAt, IsSoundConfig, config-up}
 use Rattle.hx_law_posts.proofs.Moves.{AllRise}

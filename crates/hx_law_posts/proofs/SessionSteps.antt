@@ -31,8 +31,7 @@ use Rattle.hx_types.specs.Posts.{IsSessionOf, IsSoundMessage, IsSoundPost, goes_
 use Rattle.hx_model.specs.Regions.{key_region}
 use Rattle.hx_model.specs.Planning.{plan_of}
 use Rattle.hx_model.specs.SessionSteps.{Part, SessionState, SessionStep, all_parts, ask_regions, ask_to, awaits, begin, call_to, call_under_way, end_with_parts, ending, is_administrative, is_key_call, lost_answer, send, send_to, session_install, session_message, session_step, session_tick, staying, to_coordinator, with_part, with_poll}
-use Rattle.hx_law_lemmas.proofs.Lists.{all-in, in-append, in-flat_map, in-provided, in-slice_get, when_some_both}
-use Rattle.hx_law_lemmas.proofs.Plans.{NamesRegions, plan-regions}
+use Rattle.hx_law_lemmas.proofs.Lemmas.{all-in, in-append, in-flat_map, in-provided, in-slice_get, when_some_both, NamesRegions, plan-regions}
 use Rattle.hx_law_posts.proofs.Bounds.{IsSoundConfig, bounds, config-up}
 use Rattle.hx_law_posts.proofs.Hops.{head-server}
 

@@ -19,8 +19,7 @@ use Rattle.hx_types.specs.Posts.{IsSessionOf, IsSoundAnswer, IsSoundPost, IsSoun
 use Rattle.hx_model.specs.Neighbours.{place_number, region_at}
 use Rattle.hx_model.specs.Slots.{Acknowledge, Commit, Forget, Hold, Move, Take}
 use Rattle.hx_model.specs.ServerSteps.{SlotContext, ack_to, move_posts, next_at, prev_at, reply, told_to, update_to}
-use Rattle.hx_law_lemmas.proofs.Lists.{all-in, in-flat_map, in-slice_get}
-use Rattle.hx_law_lemmas.proofs.KnownUpdates.{AllKnown, Known}
+use Rattle.hx_law_lemmas.proofs.Lemmas.{all-in, in-flat_map, in-slice_get, AllKnownInLine as AllKnown, KnownInLine as Known}
 use Rattle.hx_law_posts.proofs.Bounds.{IsSoundConfig, bounds}
 use Rattle.hx_law_posts.proofs.Hops.{Reaches, next-reaches, prev-reaches}
 

@@ -9,10 +9,9 @@ use Rattle.hx_types.specs.Words.{IsIn}
 use Rattle.hx_types.specs.Spaces.{KeyFits}
 use Rattle.hx_types.specs.Posts.{IsSoundKept}
 use Rattle.hx_model.specs.Slots.{Acknowledge, Commit, Forget, Hold, KeyState, Move, Take, moved, moved_all, new_state, pending_of, state_of_kept, top_above, top_of}
-use Rattle.hx_model.proofs.Laws.{base-moved_all}
-use Rattle.hx_law_lemmas.proofs.Lists.{in-append, in_left, in_right}
-use Rattle.hx_law_lemmas.proofs.LeaderLines.{pending-in}
-use Rattle.hx_law_lemmas.proofs.KnownUpdates.{AllKnown, Held, Known, held-moved_all}
+use Rattle.hx_model.proofs.Lemmas.{base-moved_all}
+use Rattle.hx_law_lemmas.proofs.Lemmas.{in-append, in_left, in_right, pending-in, AllKnownInLine as AllKnown, HeldInLine as Held, KnownInLine as Known}
+use Rattle.hx_law_lemmas.proofs.Lemmas.{held-moved_all-in_line as held-moved_all}
 use Rattle.hx_law_posts.proofs.Bounds.{IsSoundAt, at-up, bounds, kept-up}
 use Rattle.hx_law_posts.proofs.Moves.{AllRise, IsAfter, IsOrdered, ordered-moved_all}
 

@@ -17,10 +17,8 @@ use Rattle.hx_types.specs.Spaces.{IsServerOf, KeyFits}
 use Rattle.hx_types.specs.Posts.{IsSoundKept, IsSoundPost, IsSoundUpdate, has_place_in, keys_ascend}
 use Rattle.hx_model.specs.Slots.{KeyState, kept_of, moved_all, pending_of, pending_of_all, snapshot_of, state_among}
 use Rattle.hx_model.specs.ServerSteps.{Replica, ServerState, Slots, SlotContext, accepting, installed_slots, join_keys, join_slot, keys_of, offered_all, ready_post, replica_of, saying, snap_posts, snap_to, snapped, context_of, state_from, with_key, with_slots}
-use Rattle.hx_law_lemmas.proofs.Lists.{all-of, in-append, in-filter, in-flat_map, in-map, in-provided, in_left}
-use Rattle.hx_law_lemmas.proofs.KnownUpdates.{accepting-known}
-use Rattle.hx_law_lemmas.proofs.Replicas.{in-with_state, replica-found, state-from}
-use Rattle.hx_law_lemmas.proofs.Texts.{Ascend, ascend-test, state_key}
+use Rattle.hx_law_lemmas.proofs.Lemmas.{all-of, in-append, in-filter, in-flat_map, in-map, in-provided, in_left, accepting-known-in_line as accepting-known}
+use Rattle.hx_law_lemmas.proofs.Lemmas.{in-with_state, replica-found, state-from, Ascend, ascend-test, state_key}
 use Rattle.hx_law_posts.proofs.Texts.{with_state-ascends}
 use Rattle.hx_law_posts.proofs.Bounds.{IsSoundAt, bounds, kept-up, received}
 use Rattle.hx_law_posts.proofs.Configs.{member-server}

@@ -3,8 +3,8 @@ use Rattle.std.proofs.Common.{◌≡◌, ℕ, inl, inr, true, false, List, [], �
 use Rattle.std.proofs.lemmas.Bool.{cond_both, false≢true}
 use Rattle.hx_types.specs.Words.{IsIn, same_text, text_below}
 use Rattle.hx_model.specs.Slots.{KeyState, with_state}
-use Rattle.hx_model.proofs.States.{eq_of_same_text, same_text_self}
-use Rattle.hx_law_lemmas.proofs.Texts.{Ascend, below-other, below-trans, state_key}
+use Rattle.hx_model.proofs.Lemmas.{eq_of_same_text, same_text_self}
+use Rattle.hx_law_lemmas.proofs.Lemmas.{Ascend, below-other, below-trans, state_key}
 
 -- a text that tests neither the same nor below is above
 above : (a b : List ℕ) → same_text a b ≡ false → text_below b a ≡ false → text_below a b ≡ true

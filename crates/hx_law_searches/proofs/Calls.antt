@@ -21,7 +21,7 @@ use Rattle.hx_types.specs.Fitting.{call_of, is_doubt, is_refused}
 use Rattle.hx_model.specs.Runs.{session_of}
 use Rattle.hx_model.specs.Histories.{line_of}
 use Rattle.hx_law_lemmas.specs.Words.{posts_of}
-use Rattle.hx_law_lemmas.proofs.Traces.{BeganAt, EndedAt}
+use Rattle.hx_law_lemmas.proofs.Lemmas.{BeganAt, EndedAt}
 use Rattle.hx_law_lemmas.specs.Facts.{WasTold}
 
 -- call a was ended with this version and answer before call b began

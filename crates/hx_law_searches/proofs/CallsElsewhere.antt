@@ -20,8 +20,7 @@ use Rattle.hx_model.specs.SessionSteps.{SessionState}
 use Rattle.hx_model.specs.Runs.{session_of}
 use Rattle.hx_model.specs.Histories.{line_of}
 use Rattle.hx_law_lemmas.specs.Words.{posts_of}
-use Rattle.hx_law_lemmas.proofs.Lists.{in-append, in_right}
-use Rattle.hx_law_lemmas.proofs.Traces.{BeganAt, EndedAt}
+use Rattle.hx_law_lemmas.proofs.Lemmas.{in-append, in_right, BeganAt, EndedAt}
 use Rattle.hx_law_searches.proofs.Calls.{Calls, EndedFirst, IsKnown, WasPosted, ended-known}
 
 -- ---- an entry of no session

@@ -16,20 +16,13 @@ use Rattle.hx_types.specs.Words.{IsIn, post}
 use Rattle.hx_model.specs.SessionSteps.{session_step}
 use Rattle.hx_model.specs.Runs.{IsRun, IsStep, Output, MayTake, coordinator_of, made_of, server_of, session_after, session_of}
 use Rattle.hx_model.specs.Histories.{line_notes, line_of}
-use Rattle.hx_law_lemmas.proofs.Traces.{arrived}
-use Rattle.hx_law_lemmas.proofs.Lines.{in-upto}
-use Rattle.hx_law_lemmas.proofs.SessionMessages.{SessionTurn, session_turn}
+use Rattle.hx_law_lemmas.proofs.Lemmas.{arrived, in-upto, SessionTurn, session_turn, line-numbered, numbered-within as in-below}
 use Rattle.hx_model.specs.CoordinatorSteps.{coordinator_step}
 use Rattle.hx_law_lemmas.specs.Facts.{DeliversCall, Facts}
-use Rattle.hx_law_lemmas.proofs.FactLines.{line-numbered}
-use Rattle.hx_law_lemmas.proofs.Numbered.{in-below}
-use Rattle.hx_law_chains.proofs.Elsewhere.{issued-line}
-use Rattle.hx_law_chains.proofs.Named.{named}
+use Rattle.hx_law_chains.proofs.Lemmas.{issued-line, named, OfCoordinator, coordinator-plain, AnySnapshot, OfServer, server-plain}
 use Rattle.hx_law_searches.proofs.Calls.{Calls, IsKnown, WasPosted}
 use Rattle.hx_law_searches.proofs.CallsElsewhere.{other_calls}
 use Rattle.hx_law_searches.proofs.CallsOfSessions.{session_calls}
-use Rattle.hx_law_chains.proofs.CoordinatorPosts.{OfCoordinator, coordinator-plain}
-use Rattle.hx_law_chains.proofs.ServerPosts.{AnySnapshot, OfServer, server-plain}
 
 -- a session's state after its entry, with what it posts and notes, is that of its step
 pub step_is : (script : Script) (older : List Entry) (x : Entry) (u : SessionId) → IsStep script older x → x.actor ≡ Session u

@@ -25,12 +25,9 @@ use Rattle.hx_model.specs.SessionSteps.{SessionState}
 use Rattle.hx_model.specs.Runs.{MayTake, session_after, session_of}
 use Rattle.hx_model.specs.Histories.{line_of}
 use Rattle.hx_law_lemmas.specs.Words.{posts_of}
-use Rattle.hx_law_lemmas.proofs.Lists.{in-append, in_right}
-use Rattle.hx_law_lemmas.proofs.CallEnds.{CallStop, EndsNow, goes_on, started, started_same, was_running}
-use Rattle.hx_law_lemmas.proofs.Traces.{BeganAt, EndedAt, arrived}
-use Rattle.hx_law_lemmas.proofs.SessionMessages.{SessionTurn}
-use Rattle.hx_law_lemmas.proofs.SessionNotes.{begins_now, ends_now, keeps_lines, may_start}
-use Rattle.hx_law_chains.proofs.Named.{AreNamed}
+use Rattle.hx_law_lemmas.proofs.Lemmas.{in-append, in_right, CallStop, EndsNow, goes_on, started, started_same, was_running, BeganAt, EndedAt, arrived}
+use Rattle.hx_law_lemmas.proofs.Lemmas.{SessionTurn, begins_now, ends_now, keeps_lines, may_start}
+use Rattle.hx_law_chains.proofs.Lemmas.{AreNamed}
 use Rattle.hx_law_searches.proofs.Calls.{CallSent, Calls, EndedFirst, Ends, LaterThan, NoCall, WasPosted}
 
 -- ---- an entry of a session

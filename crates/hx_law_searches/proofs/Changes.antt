@@ -12,10 +12,8 @@ use Rattle.hx_types.specs.Fitting.{is_done}
 use Rattle.hx_model.specs.Runs.{IsRun}
 use Rattle.hx_model.specs.Histories.{history_of, line_of}
 use Rattle.hx_model.specs.Searching.{changes_object}
-use Rattle.hx_law_lemmas.proofs.Lines.{Sorted}
-use Rattle.hx_law_lemmas.proofs.Placed.{AllMade}
+use Rattle.hx_law_lemmas.proofs.Lemmas.{Sorted, AllMade, line-made, line-sorted, update-at}
 use Rattle.hx_law_lemmas.specs.Facts.{Facts}
-use Rattle.hx_law_lemmas.proofs.FactLines.{line-made, line-sorted, update-at}
 use Rattle.hx_law_searches.proofs.Histories.{write_of}
 use Rattle.hx_law_searches.proofs.Items.{done-stands, item-there}
 use Rattle.hx_law_searches.proofs.Orders.{Wrote, item-wrote}

@@ -23,23 +23,16 @@ use Rattle.hx_types.specs.declared.traces.Note.TheVariants as a_note
 use Rattle.hx_types.specs.Words.{IsIn, same_actor, same_session, same_text, when_some}
 use Rattle.hx_types.specs.Effects.{changed_to, effect_of, is_write, key_of, left_as, tests_hold, written}
 use Rattle.hx_types.specs.Fitting.{Noted, assigns_well, call_of, ends_well, has_begun, has_ended, is_begin_of, is_cmp_fail, is_overflow, is_too_long, is_done, is_end_of, is_found, is_not_found, is_refused, noted_in, notes_fit, numbered, other_note_fits}
-use Rattle.hx_model.proofs.States.{same_text_self}
+use Rattle.hx_model.proofs.Lemmas.{same_text_self}
 use Rattle.hx_model.specs.Histories.{line_notes, line_of}
 use Rattle.hx_model.specs.Runs.{IsRun, Output, coordinator_of, made_of, server_of, session_of}
 use Rattle.hx_model.specs.ServerSteps.{get_answer}
 use Rattle.hx_types.specs.declared.outcomes.Effect.{Effect}
-use Rattle.hx_law_lemmas.proofs.Edits.{atomic-both}
-use Rattle.hx_law_lemmas.proofs.Lists.{any-in, in-append, in-map, in-reverse, in_left, in_right, of-reverse}
-use Rattle.hx_law_posts.proofs.SlotPosts.{any-of}
-use Rattle.hx_law_lemmas.proofs.CallEnds.{CallStop, began_notes, end_notes, started}
-use Rattle.hx_law_lemmas.proofs.Traces.{BeganAt, EndedAt, of_session, session_self}
-use Rattle.hx_law_lemmas.proofs.SessionMessages.{SessionTurn}
-use Rattle.hx_law_lemmas.proofs.SessionNotes.{all_notes}
-use Rattle.hx_law_chains.proofs.CoordinatorPosts.{Issues, coordinator-plain}
-use Rattle.hx_law_chains.proofs.Named.{named}
-use Rattle.hx_law_chains.proofs.ServerPosts.{AnySnapshot, AssignsOne, server-plain}
+use Rattle.hx_law_lemmas.proofs.Lemmas.{atomic-both, any-in, in-append, in-map, in-reverse, in_left, in_right, of-reverse, CallStop, began_notes, end_notes}
+use Rattle.hx_law_lemmas.proofs.Lemmas.{started, BeganAt, EndedAt, of_session, session_self, SessionTurn, all_notes, update-at}
+use Rattle.hx_law_posts.proofs.Lemmas.{any-of}
+use Rattle.hx_law_chains.proofs.Lemmas.{Issues, coordinator-plain, named, AnySnapshot, AssignsOne, server-plain}
 use Rattle.hx_law_lemmas.specs.Facts.{Facts, Tells}
-use Rattle.hx_law_lemmas.proofs.FactLines.{update-at}
 use Rattle.hx_law_searches.proofs.Calls.{Calls}
 use Rattle.hx_law_searches.proofs.CallsKept.{calls_kept, step_is, turn_is}
 use Rattle.hx_law_searches.proofs.Items as items

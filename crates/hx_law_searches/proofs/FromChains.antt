@@ -32,23 +32,13 @@ use Rattle.hx_model.specs.ServerSteps.{Replica, ServerState, replica_in_epoch, i
 use Rattle.hx_model.specs.Slots.{KeyState, found_in, kept_row, object_of}
 use Rattle.hx_model.specs.Histories.{line_of}
 use Rattle.hx_law_lemmas.specs.Words.{posts_of, view}
-use Rattle.hx_law_lemmas.proofs.Replicas.{replica-found}
-use Rattle.hx_law_lemmas.proofs.Texts.{state-there}
-use Rattle.hx_law_lemmas.proofs.Placed.{AllMade}
+use Rattle.hx_law_lemmas.proofs.Lemmas.{replica-found, state-there, AllMade, replica_in_epoch-found, replica_in_epoch-open, installed-found, rows-full}
+use Rattle.hx_law_lemmas.proofs.Lemmas.{rows-sound, stays-by, numbered-within as in-below}
 use Rattle.hx_law_folds.specs.Folding.{IsSlotOf}
-use Rattle.hx_law_lemmas.proofs.Hearing.{replica_in_epoch-found, replica_in_epoch-open, installed-found}
-use Rattle.hx_law_chains.proofs.Holders.{seat-of}
-use Rattle.hx_law_chains.proofs.Keys.{along-fixed}
-use Rattle.hx_law_chains.proofs.Posts.{Seat}
-use Rattle.hx_law_chains.proofs.Serving.{Scene, world}
-use Rattle.hx_law_chains.proofs.Runs.{chained-run, fixed-run, late-run, lines-run, scene}
-use Rattle.hx_law_epochs.proofs.Runs.{IsKnown, Real, epochs-run}
-use Rattle.hx_law_chains.proofs.Snapshots.{replica-ascends, replica-sent, snapshots-kept}
-use Rattle.hx_law_chains.proofs.World.{Along, Fixed, KeyOk, Law, Lawful, Told, lawful-made, lawful-numbered}
+use Rattle.hx_law_chains.proofs.Lemmas.{seat-of, along-fixed, Seat, Scene, world, chained-run, fixed-run, late-run, lines-run, scene, replica-ascends}
+use Rattle.hx_law_chains.proofs.Lemmas.{replica-sent, snapshots-kept, Along, Fixed, KeyOk, Law, Lawful, Told, lawful-made, lawful-numbered}
+use Rattle.hx_law_epochs.proofs.Lemmas.{IsKnown, Real, epochs-run}
 use Rattle.hx_law_lemmas.specs.Facts.{AnswersGet, AssignsNext, Facts, IsLine, IsUpdateAfter, ShowsRows, StaysUpTo, Tells, WasTold, part_at}
-use Rattle.hx_law_lemmas.proofs.Showing.{rows-full, rows-sound}
-use Rattle.hx_law_lemmas.proofs.Staying.{stays-by}
-use Rattle.hx_law_lemmas.proofs.Numbered.{in-below}
 use Rattle.hx_law_searches.proofs.Fronts.{front, front-fixed, front-kept, front-reaches, front-within}
 
 -- an update with the law stands so

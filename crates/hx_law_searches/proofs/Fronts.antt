@@ -11,18 +11,12 @@ use Rattle.hx_types.specs.Configs.{members_of}
 use Rattle.hx_types.specs.Spaces.{IsSpace}
 use Rattle.hx_model.specs.Regions.{key_region}
 use Rattle.hx_model.specs.Slots.{KeyState, has_place, kept_row, object_of, top_above, top_of}
-use Rattle.hx_law_lemmas.proofs.Numbered.{upto_here, upto_past}
-use Rattle.hx_law_lemmas.proofs.Chains.{Differ}
-use Rattle.hx_law_lemmas.proofs.Lines.{Sorted, in-only, in-top, in-upto, in-upto_from, only, only-in, only-sorted, top-least, upto-low, upto-sorted}
-use Rattle.hx_law_lemmas.proofs.Passing.{passes-key}
-use Rattle.hx_law_lemmas.proofs.UpdatesApart.{places-apart}
+use Rattle.hx_law_lemmas.proofs.Lemmas.{upto_here, upto_past, Differ, Sorted, in-only, in-top, in-upto, in-upto_from, only, only-in, only-sorted, top-least}
+use Rattle.hx_law_lemmas.proofs.Lemmas.{upto-low, upto-sorted, passes-key, places-apart}
 use Rattle.hx_law_folds.specs.Folding.{IsSlotOf}
-use Rattle.hx_law_folds.proofs.Prefixes.{object-line}
-use Rattle.hx_law_epochs.proofs.Positions.{placed-number, stands-cases}
-use Rattle.hx_law_chains.proofs.Lines.{only-upto, sorted-descends}
-use Rattle.hx_law_chains.proofs.Moves.{Own}
-use Rattle.hx_law_chains.proofs.Posts.{Seat}
-use Rattle.hx_law_chains.proofs.World.{Along, Fixed, KeyOk, World, around, law-of, lawful-made, lawful-sorted}
+use Rattle.hx_law_folds.proofs.Lemmas.{object-line}
+use Rattle.hx_law_epochs.proofs.Lemmas.{placed-number, stands-cases}
+use Rattle.hx_law_chains.proofs.Lemmas.{only-upto, sorted-descends, Own, Seat, Along, Fixed, KeyOk, World, around, law-of, lawful-made, lawful-sorted}
 
 -- up to the top of a part up to a version it is that part
 upto-top : (v : ℕ) (us : List Update) → Sorted us → upto (top_above 0 (upto v us)) us ≡ upto v us

@@ -17,11 +17,9 @@ use Rattle.hx_types.specs.Fitting.{call_of, numbered}
 use Rattle.hx_model.specs.Runs.{IsRun}
 use Rattle.hx_model.specs.Histories.{CallEnd, begin_of, end_of}
 use Rattle.hx_model.specs.Searching.{FinishedSearch, rows_in, search_of, terms_of, with_rows}
-use Rattle.hx_law_lemmas.proofs.Traces.{BeganAt, EndedAt, began_at, ended_at}
-use Rattle.hx_law_lemmas.proofs.Positions.{end-noted}
-use Rattle.hx_law_lemmas.proofs.Asking.{Gathered}
+use Rattle.hx_law_lemmas.proofs.Lemmas.{BeganAt, EndedAt, began_at, ended_at, end-noted, Gathered}
 use Rattle.hx_law_lemmas.specs.Facts.{Facts}
-use Rattle.hx_law_chains.proofs.Named.{named}
+use Rattle.hx_law_chains.proofs.Lemmas.{named}
 use Rattle.hx_law_searches.proofs.Moments.{part-length}
 use Rattle.hx_law_searches.proofs.Searched.{WasShown, searched-run, shown-up, turn-of}
 

@@ -27,18 +27,13 @@ use Rattle.hx_model.specs.ServerSteps.{get_answer}
 use Rattle.hx_model.specs.Histories.{CallEnd, begin_of, end_of, get_item, get_items, gets_of, history_of, history_on, in_place, is_get_of, line_of, not_refused, note_of_end}
 use Rattle.hx_model.specs.Legal.{IsEffect, IsLegal, object_now}
 use Rattle.hx_model.specs.Linear.{EachOnce, IsCall, IsLinear, ended_before, was_refused}
-use Rattle.hx_law_lemmas.proofs.Effects.{get-of, get_effect, get_leaves}
-use Rattle.hx_law_lemmas.proofs.Lists.{Pairwise, in-append, in-flat_map, in-provided, in_left, in_right, pairwise-append, stands_before}
-use Rattle.hx_law_lemmas.proofs.Numbered.{in-below, upto_past}
-use Rattle.hx_law_lemmas.proofs.Gets.{GetEnd, GetNote, entry_got, entry_short, gets-in, in-gets}
-use Rattle.hx_law_lemmas.proofs.CallEnds.{began_notes, end_notes}
-use Rattle.hx_law_lemmas.proofs.Traces.{BeganAt, EndedAt, began_at, begin_is, ended_at}
-use Rattle.hx_law_lemmas.proofs.Lines.{Sorted, numbered-sorted, upto_all, upto_upto}
+use Rattle.hx_law_lemmas.proofs.Lemmas.{get-of, get_effect, get_leaves, Pairwise, in-append, in-flat_map, in-provided, in_left, in_right, pairwise-append}
+use Rattle.hx_law_lemmas.proofs.Lemmas.{stands_before, numbered-within as in-below, upto_past, GetEnd, GetNote, entry_got, entry_short, gets-in, in-gets}
+use Rattle.hx_law_lemmas.proofs.Lemmas.{began_notes, end_notes, BeganAt, EndedAt, began_at, begin_is, ended_at, Sorted, numbered-sorted, upto_all, upto_upto}
+use Rattle.hx_law_lemmas.proofs.Lemmas.{caller-once, line-numbered, update-at, all_notes}
 use Rattle.hx_law_lemmas.specs.Facts.{Facts, IsLine, Tells}
-use Rattle.hx_law_lemmas.proofs.FactLines.{caller-once, line-numbered, update-at}
 use Rattle.hx_law_searches.proofs.Calls.{Calls, LaterThan, NoCall}
 use Rattle.hx_law_searches.proofs.CallsKept.{calls_kept, turn_is}
-use Rattle.hx_law_lemmas.proofs.SessionNotes.{all_notes}
 use Rattle.hx_law_searches.proofs.Times.{begins_first, ended_unique, first_of, not_again}
 use Rattle.hx_law_searches.proofs.Writes.{Write, Writes, in-not_refused, not_refused-in, not_refused-sorted, object-after, writes}
 

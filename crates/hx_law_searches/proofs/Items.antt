@@ -13,11 +13,9 @@ use Rattle.hx_types.specs.Fitting.{call_of, is_done, is_refused}
 use Rattle.hx_model.specs.Runs.{IsRun}
 use Rattle.hx_model.specs.Histories.{begin_of, gets_of, history_of, history_on, line_of, not_refused, write_item}
 use Rattle.hx_model.specs.Linear.{began_before}
-use Rattle.hx_law_lemmas.proofs.Lists.{in_left, in_right}
-use Rattle.hx_law_lemmas.proofs.Traces.{BeganAt, began_at, begin_is}
+use Rattle.hx_law_lemmas.proofs.Lemmas.{in_left, in_right, BeganAt, began_at, begin_is, begins_now}
 use Rattle.hx_types.specs.declared.traces.Note.TheVariants as a_note
 use Rattle.hx_types.specs.declared.ids.Actor.TheVariants.{Session}
-use Rattle.hx_law_lemmas.proofs.SessionNotes.{begins_now}
 use Rattle.hx_law_lemmas.specs.Facts.{Facts}
 use Rattle.hx_law_searches.proofs.CallsKept.{calls_kept, turn_is}
 use Rattle.hx_law_searches.proofs.Histories.{write_of}

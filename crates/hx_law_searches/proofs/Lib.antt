@@ -20,3 +20,4 @@ pub mod Headline
 pub mod SessionEnds
 pub mod Fitting
 pub mod Staying
+pub mod Lemmas

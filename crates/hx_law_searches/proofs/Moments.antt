@@ -9,8 +9,7 @@ use Rattle.hx_types.specs.declared.traces.Script.{Script}
 use Rattle.hx_types.specs.Words.{IsIn}
 use Rattle.hx_model.specs.Runs.{IsRun}
 use Rattle.hx_law_lemmas.specs.Words.{posts_of}
-use Rattle.hx_law_lemmas.proofs.Lists.{in-append}
-use Rattle.hx_law_lemmas.proofs.Traces.{BeganAt, EndedAt}
+use Rattle.hx_law_lemmas.proofs.Lemmas.{in-append, BeganAt, EndedAt}
 use Rattle.hx_law_lemmas.specs.Facts.{IsPartOf}
 
 -- a part of a run is a run

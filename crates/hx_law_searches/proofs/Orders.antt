@@ -17,13 +17,8 @@ use Rattle.hx_types.specs.Fitting.{call_of, is_doubt}
 use Rattle.hx_model.specs.Runs.{IsRun}
 use Rattle.hx_model.specs.Histories.{CallEnd, end_of, gets_of, history_of, history_on, in_place, line_of, not_refused, note_of_end, write_item}
 use Rattle.hx_model.specs.Linear.{EachOnce, ended_before}
-use Rattle.hx_law_lemmas.proofs.Lists.{in-append}
-use Rattle.hx_law_lemmas.proofs.Gets.{gets-in}
-use Rattle.hx_law_lemmas.proofs.Traces.{EndedAt, ended_at}
-use Rattle.hx_law_lemmas.proofs.Positions.{end-noted}
-use Rattle.hx_law_lemmas.proofs.Lines.{Sorted, numbered-sorted}
+use Rattle.hx_law_lemmas.proofs.Lemmas.{in-append, gets-in, EndedAt, ended_at, end-noted, Sorted, numbered-sorted, caller-once, line-numbered, update-at}
 use Rattle.hx_law_lemmas.specs.Facts.{Facts, IsLine}
-use Rattle.hx_law_lemmas.proofs.FactLines.{caller-once, line-numbered, update-at}
 use Rattle.hx_law_searches.proofs.Calls.{Calls}
 use Rattle.hx_law_searches.proofs.CallsKept.{calls_kept}
 use Rattle.hx_law_searches.proofs.Histories.{ended-told, linear, write_of}

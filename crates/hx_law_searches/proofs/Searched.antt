@@ -23,15 +23,11 @@ use Rattle.hx_types.specs.Fitting.{call_of, numbered}
 use Rattle.hx_model.specs.SessionSteps.{SessionState, session_step}
 use Rattle.hx_model.specs.Runs.{IsRun, Output, MayTake, coordinator_of, made_of, server_of, session_after, session_of}
 use Rattle.hx_law_lemmas.specs.Words.{posts_of}
-use Rattle.hx_law_lemmas.proofs.Lists.{in-append}
-use Rattle.hx_law_lemmas.proofs.Traces.{BeganAt, arrived}
-use Rattle.hx_law_lemmas.proofs.Asking.{Asks, HasParts, SearchTurn, search-turn}
+use Rattle.hx_law_lemmas.proofs.Lemmas.{in-append, BeganAt, arrived, Asks, HasParts, SearchTurn, search-turn}
 use Rattle.hx_law_lemmas.specs.Facts.{Facts, IsPartOf, ShowsRows}
 use Rattle.hx_law_searches.proofs.Calls.{Calls}
 use Rattle.hx_law_searches.proofs.CallsKept.{calls_kept, step_is}
-use Rattle.hx_law_chains.proofs.Named.{named}
-use Rattle.hx_law_chains.proofs.CoordinatorPosts.{OfCoordinator, coordinator-plain}
-use Rattle.hx_law_chains.proofs.ServerPosts.{AnySnapshot, OfServer, server-plain}
+use Rattle.hx_law_chains.proofs.Lemmas.{named, OfCoordinator, coordinator-plain, AnySnapshot, OfServer, server-plain}
 
 -- who asks is a session whose search has begun
 abbrev pub AskedBy : Script → List Entry → Actor → ℕ → List Term → Type 0

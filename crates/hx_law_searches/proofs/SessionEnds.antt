@@ -28,8 +28,7 @@ use Rattle.hx_types.specs.Fitting.{is_refused, is_rows, numbered}
 use Rattle.hx_model.specs.Planning.{plan_of}
 use Rattle.hx_model.specs.Regions.{key_region}
 use Rattle.hx_model.specs.SessionSteps.{SessionState, SessionStep, all_parts, ask_regions, awaits, begin, call_to, call_under_way, end_with_parts, ending, found_step, is_administrative, is_key_call, is_search, lacks_part, lost_answer, merged_parts, send, send_to, session_install, session_message, session_step, session_tick, staying, with_part, with_poll}
-use Rattle.hx_law_lemmas.proofs.Lists.{when_some_both}
-use Rattle.hx_law_lemmas.proofs.CallEnds.{awaited}
+use Rattle.hx_law_lemmas.proofs.Lemmas.{when_some_both, awaited}
 
 -- a search ends with rows or refused
 abbrev pub SearchEnds : Op → Answer → Type 0

@@ -20,11 +20,9 @@ use Rattle.hx_model.specs.Matching.{matches}
 use Rattle.hx_model.specs.Slots.{has_place, kept_row}
 use Rattle.hx_model.specs.Runs.{IsRun}
 use Rattle.hx_model.specs.Histories.{line_of}
-use Rattle.hx_law_lemmas.proofs.Numbered.{in-below, upto_past}
-use Rattle.hx_law_lemmas.proofs.Traces.{BeganAt, EndedAt}
-use Rattle.hx_law_lemmas.proofs.Lines.{Sorted, in-upto, in-upto_from, only-in, top-least, upto_all}
+use Rattle.hx_law_lemmas.proofs.Lemmas.{numbered-within as in-below, upto_past, BeganAt, EndedAt, Sorted, in-upto, in-upto_from, only-in, top-least, upto_all}
+use Rattle.hx_law_lemmas.proofs.Lemmas.{line-numbered, line-sorted}
 use Rattle.hx_law_lemmas.specs.Facts.{Facts, IsPartOf, ShowsRows, part_at}
-use Rattle.hx_law_lemmas.proofs.FactLines.{line-numbered, line-sorted}
 use Rattle.hx_law_searches.proofs.Calls.{IsKnown, ended-known}
 use Rattle.hx_law_searches.proofs.CallsKept.{calls_kept}
 use Rattle.hx_law_searches.proofs.Items.{began-unique}

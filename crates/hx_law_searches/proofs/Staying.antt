@@ -10,10 +10,8 @@ use Rattle.hx_types.specs.Words.{IsIn}
 use Rattle.hx_model.specs.Lines.{upto}
 use Rattle.hx_model.specs.Runs.{IsRun}
 use Rattle.hx_model.specs.Histories.{line_of}
-use Rattle.hx_law_lemmas.proofs.Lines.{Sorted, in-upto, in-upto_from, only-in, only-sorted, upto-low, upto-sorted}
-use Rattle.hx_law_lemmas.proofs.Rows.{kept-is}
+use Rattle.hx_law_lemmas.proofs.Lemmas.{Sorted, in-upto, in-upto_from, only-in, only-sorted, upto-low, upto-sorted, kept-is, line-sorted}
 use Rattle.hx_law_lemmas.specs.Facts.{Facts, part_at}
-use Rattle.hx_law_lemmas.proofs.FactLines.{line-sorted}
 use Rattle.hx_law_searches.specs.Headline.{IsRowOfLine, RunsKeepRows, RunsServeCalls}
 use Rattle.hx_law_searches.proofs.FromChains.{facts}
 use Rattle.hx_law_searches.proofs.Moments.{part-before, part-run}

@@ -9,12 +9,10 @@ use Rattle.hx_types.specs.declared.ids.Actor.TheVariants.{Session}
 use Rattle.hx_types.specs.declared.traces.Note.TheVariants as a_note
 use Rattle.hx_types.specs.Words.{IsIn}
 use Rattle.hx_model.specs.Runs.{IsRun}
-use Rattle.hx_law_lemmas.proofs.CallEnds.{CallStop}
-use Rattle.hx_law_lemmas.proofs.Traces.{BeganAt, EndedAt}
+use Rattle.hx_law_lemmas.proofs.Lemmas.{CallStop, BeganAt, EndedAt, begins_now, ends_now, may_start}
 use Rattle.hx_law_lemmas.specs.Facts.{Facts}
 use Rattle.hx_law_searches.proofs.Calls.{Calls, EndedFirst}
 use Rattle.hx_law_searches.proofs.CallsKept.{calls_kept, turn_is}
-use Rattle.hx_law_lemmas.proofs.SessionNotes.{begins_now, ends_now, may_start}
 
 module _ (script : Script) (facts : Facts script) where
   -- what is said of calls

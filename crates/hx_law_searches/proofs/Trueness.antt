@@ -24,14 +24,9 @@ use Rattle.hx_model.specs.Runs.{IsRun}
 use Rattle.hx_model.specs.Histories.{history_of, line_of}
 use Rattle.hx_model.specs.Linear.{began_before, ended_before}
 use Rattle.hx_model.specs.Searching.{FinishedSearch, IsSearchTrue, IsTrueRow, changes_object, no_change_before}
-use Rattle.hx_law_lemmas.proofs.Lists.{any-in, before-first}
-use Rattle.hx_law_lemmas.proofs.Traces.{BeganAt}
-use Rattle.hx_law_lemmas.proofs.Positions.{cut-at}
-use Rattle.hx_law_lemmas.proofs.Joins.{merged-ascends, merged-in, part_rows, row_key}
-use Rattle.hx_law_lemmas.proofs.Lines.{Sorted, in-only, in-upto, in-upto_from, only-in, only-sorted, same_version, upto-low, upto-sorted}
-use Rattle.hx_law_lemmas.proofs.Passing.{Lies, keeps-where, passes-key, passes-old}
-use Rattle.hx_law_lemmas.proofs.Rows.{Changed, Kept, Stands, kept-is, next-change, stands}
-use Rattle.hx_law_lemmas.proofs.Texts.{ascend-test}
+use Rattle.hx_law_lemmas.proofs.Lemmas.{any-in, before-first, BeganAt, cut-at, merged-ascends, merged-in, part_rows, row_key, Sorted, in-only, in-upto}
+use Rattle.hx_law_lemmas.proofs.Lemmas.{in-upto_from, only-in, only-sorted, same_version, upto-low, upto-sorted, Lies, keeps-where, passes-key, passes-old}
+use Rattle.hx_law_lemmas.proofs.Lemmas.{Changed, Kept, Stands, kept-is, next-change, stands, ascend-test}
 use Rattle.hx_law_lemmas.specs.Facts.{Facts, part_at}
 use Rattle.hx_law_searches.proofs.Changes.{change-item, item-change, made, sorted}
 use Rattle.hx_law_searches.proofs.Gathering.{Finished, ShownBefore}

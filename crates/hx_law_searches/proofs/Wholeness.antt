@@ -26,17 +26,10 @@ use Rattle.hx_model.specs.Runs.{IsRun}
 use Rattle.hx_model.specs.Histories.{history_of, line_of}
 use Rattle.hx_model.specs.Linear.{began_before, ended_before}
 use Rattle.hx_model.specs.Searching.{ItemWithNewer, FinishedSearch, IsChangeShown, IsSearchWhole, IsShown, changes_object, last_change}
-use Rattle.hx_region.proofs.Listing.{Contains-below}
-use Rattle.hx_region.proofs.Planned.{all_asked, asked}
+use Rattle.hx_region.proofs.Lemmas.{Contains-below, all_asked, asked}
 use Rattle.hx_region.specs.Spans.{subspace_count}
-use Rattle.hx_law_lemmas.proofs.Lists.{any-in, before-first, in-map}
-use Rattle.hx_law_lemmas.proofs.Traces.{BeganAt}
-use Rattle.hx_law_lemmas.proofs.Positions.{LastChange, last-is}
-use Rattle.hx_law_lemmas.proofs.Joins.{IsCovered, merged-covers, merged-in, part_rows}
-use Rattle.hx_law_lemmas.proofs.Lines.{same_version}
-use Rattle.hx_law_lemmas.proofs.Passing.{keeps-key, keeps-new, passes-key}
-use Rattle.hx_law_lemmas.proofs.Placed.{Made}
-use Rattle.hx_law_lemmas.proofs.Rows.{kept-newest, row_with, stands}
+use Rattle.hx_law_lemmas.proofs.Lemmas.{any-in, before-first, in-map, BeganAt, LastChange, last-is, IsCovered, merged-covers, merged-in, part_rows}
+use Rattle.hx_law_lemmas.proofs.Lemmas.{same_version, keeps-key, keeps-new, passes-key, Made, kept-newest, row_with, stands}
 use Rattle.hx_law_lemmas.specs.Facts.{Facts}
 use Rattle.hx_law_searches.proofs.Changes.{change-item, item-change, made, sorted}
 use Rattle.hx_law_searches.proofs.Gathering.{Finished, ShownBefore}

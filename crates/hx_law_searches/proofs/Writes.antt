@@ -9,12 +9,9 @@ use Rattle.hx_types.specs.Words.{IsIn}
 use Rattle.hx_types.specs.Effects.{effect_of, is_write, key_of}
 use Rattle.hx_types.specs.Fitting.{call_of, is_refused}
 use Rattle.hx_model.specs.Histories.{not_refused}
-use Rattle.hx_law_lemmas.proofs.Lists.{in-filter}
-use Rattle.hx_law_lemmas.proofs.Effects.{effect_well}
-use Rattle.hx_law_lemmas.proofs.Numbered.{in-below, upto_past}
-use Rattle.hx_law_lemmas.proofs.Lines.{Sorted, numbered-sorted, top-least, upto_all}
+use Rattle.hx_law_lemmas.proofs.Lemmas.{in-filter, effect_well, numbered-within as in-below, upto_past, Sorted, numbered-sorted, top-least, upto_all}
+use Rattle.hx_law_lemmas.proofs.Lemmas.{line-numbered, line-upto}
 use Rattle.hx_law_lemmas.specs.Facts.{IsLine, IsUpdateAfter}
-use Rattle.hx_law_lemmas.proofs.FactLines.{line-numbered, line-upto}
 
 -- an update that wasn't refused, after the older ones that weren't
 pub record Write (script : Script) (key : List ℕ) (us : List Update) (u : Update) : Type 0 where

@@ -16,9 +16,9 @@ use Rattle.hx_report.specs.Reporting.{object_text}
 use Rattle.hx_model.specs.Histories.{note_of_end}
 use Rattle.hx_model.specs.Runs.{IsRun}
 use Rattle.hx_model.specs.Schedule.{next_entry, scheduled}
-use Rattle.hx_law_causes.proofs.Replaying.{scheduled-run}
+use Rattle.hx_law_causes.proofs.Lemmas.{scheduled-run}
 use Rattle.hx_soak.specs.Soaking.{script_drawn, soak}
-use Rattle.hx_soak.proofs.Fitting.{is_script}
+use Rattle.hx_soak.proofs.Lemmas.{is_script}
 use Rattle.hx_soak.specs.Summing.{IsSummary, count_line, counts_text, digest_line, object_line, objects_text, tally_text}
 use Rattle.hx_law_soak.specs.Sequence.{tally_in_order}
 use Rattle.hx_law_soak.specs.Soaks.{IsSoak, NoHalts}

@@ -22,11 +22,9 @@ use Rattle.hx_model.specs.Causes.{AnsweredCall, HasCause, is_fulfilled, server_n
 use Rattle.hx_model.specs.Histories.{begin_of}
 use Rattle.hx_model.specs.Runs.{IsRun}
 use Rattle.hx_model.specs.SessionSteps.{is_administrative}
-use Rattle.hx_law_lemmas.proofs.Lists.{in_right}
-use Rattle.hx_law_lemmas.proofs.Regions.{not-lost}
-use Rattle.hx_law_lemmas.proofs.Traces.{EndedAt}
+use Rattle.hx_law_lemmas.proofs.Lemmas.{in_right, not-lost, EndedAt}
 use Rattle.hx_law_causes.specs.Causes.{LosesNothing}
-use Rattle.hx_law_causes.proofs.Headline.{runs_answer_all, runs_have_causes}
+use Rattle.hx_law_causes.proofs.Lemmas.{runs_answer_all, runs_have_causes}
 use Rattle.hx_law_soak.specs.Soaks.{NoHalts}
 use Rattle.hx_law_soak.proofs.Quiet.{NoneAdministers, only-first}
 

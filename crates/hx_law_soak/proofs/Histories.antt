@@ -18,17 +18,14 @@ use Rattle.hx_model.specs.Histories.{CallEnd, begin_of, end_of, history_of, note
 use Rattle.hx_model.specs.Legal.{IsEffect, object_now}
 use Rattle.hx_model.specs.Linear.{IsLinear}
 use Rattle.hx_model.specs.SessionSteps.{is_administrative}
-use Rattle.hx_model.proofs.States.{eq_of_same_text}
-use Rattle.hx_law_lemmas.proofs.Lists.{in-slice_get}
-use Rattle.hx_law_lemmas.proofs.Traces.{BeganAt, EndedAt, began_at, begin_is, ended_at}
+use Rattle.hx_model.proofs.Lemmas.{eq_of_same_text}
+use Rattle.hx_law_lemmas.proofs.Lemmas.{in-slice_get, BeganAt, EndedAt, began_at, begin_is, ended_at}
 use Rattle.hx_law_lemmas.specs.Facts.{Facts}
-use Rattle.hx_law_searches.proofs.FromChains.{facts}
-use Rattle.hx_law_searches.proofs.Headline.{runs_are_linear}
+use Rattle.hx_law_searches.proofs.Lemmas.{facts, runs_are_linear}
 use Rattle.hx_soak.specs.Calling.{call_of_kind}
 use Rattle.hx_soak.specs.Drawing.{draw_of}
 use Rattle.hx_soak.specs.Soaking.{script_drawn, session_at, soak}
-use Rattle.hx_soak.proofs.Fitting.{is_script}
-use Rattle.hx_soak.proofs.Owners.{keys_are_owned}
+use Rattle.hx_soak.proofs.Lemmas.{is_script, keys_are_owned}
 use Rattle.hx_soak.specs.Tallying.{Tally}
 use Rattle.hx_law_soak.specs.Sequence.{no_calls, object_at, op_at, ops_drawn, taken, tally_in_order, with_effect, with_search}
 use Rattle.hx_law_soak.specs.Soaks.{IsSoak}

@@ -3,8 +3,8 @@ use Rattle.std.proofs.Common.{◌≡◌, ℕ, ◌⊎◌, inl, inr, true, false, 
 use Rattle.std.proofs.lemmas.Bool.{cases_Bool, cond_both, cond-true, cond-false, false_from_ne_true, false≢true}
 use Rattle.hx_types.specs.declared.values.Value.{Value}
 use Rattle.hx_types.specs.Words.{IsIn, same_text, text_below}
-use Rattle.hx_model.proofs.States.{eq_of_same_text, same_text_self}
-use Rattle.hx_law_lemmas.proofs.Texts.{Ascend, below-differs, below-other, below-trans}
+use Rattle.hx_model.proofs.Lemmas.{eq_of_same_text, same_text_self}
+use Rattle.hx_law_lemmas.proofs.Lemmas.{Ascend, below-differs, below-other, below-trans}
 use Rattle.hx_soak.specs.Tallying.{KeyObject}
 use Rattle.hx_law_soak.specs.Sequence.{keyed, object_at, with_object}
 

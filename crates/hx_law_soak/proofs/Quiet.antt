@@ -31,14 +31,11 @@ use Rattle.hx_model.specs.Causes.{config_of}
 use Rattle.hx_model.specs.Regions.{key_region}
 use Rattle.hx_model.specs.Runs.{IsRun, Output, MayTake, coordinator_after, coordinator_of, is_actor, made_of, server_after, server_of, session_of}
 use Rattle.hx_law_lemmas.specs.Words.{posts_of}
-use Rattle.hx_law_lemmas.proofs.FirstMembers.{all-ready}
-use Rattle.hx_law_lemmas.proofs.Lists.{any-in, in-append}
-use Rattle.hx_law_lemmas.proofs.Traces.{arrived}
-use Rattle.hx_law_epochs.proofs.Runs.{epochs-run, server-does-well}
-use Rattle.hx_law_epochs.proofs.Servers.{Tells}
-use Rattle.hx_law_chains.proofs.Named.{named}
-use Rattle.hx_law_searches.proofs.CallsKept.{step_is}
-use Rattle.hx_law_causes.proofs.Sessions.{Asks, SessionDoes, session-does}
+use Rattle.hx_law_lemmas.proofs.Lemmas.{all-ready, any-in, in-append, arrived}
+use Rattle.hx_law_epochs.proofs.Lemmas.{epochs-run, server-does-well, Tells}
+use Rattle.hx_law_chains.proofs.Lemmas.{named}
+use Rattle.hx_law_searches.proofs.Lemmas.{step_is}
+use Rattle.hx_law_causes.proofs.Lemmas.{Asks, SessionDoes, session-does}
 use Rattle.hx_law_soak.specs.Soaks.{NoHalts}
 
 -- no call asks for another configuration

@@ -11,7 +11,7 @@ use Rattle.hx_types.specs.Words.{below}
 use Rattle.hx_soak.specs.Calling.{call_drawn}
 use Rattle.hx_soak.specs.Drawing.{draw_of}
 use Rattle.hx_soak.specs.Soaking.{script_drawn, session_at, turns_of}
-use Rattle.hx_soak.proofs.Dealing.{one_more}
+use Rattle.hx_soak.proofs.Lemmas.{one_more}
 use Rattle.hx_model.specs.Histories.{callers_of}
 use Rattle.hx_law_soak.proofs.Turns.{caller_at, calls-of, dealt_out}
 

@@ -26,9 +26,7 @@ use Rattle.hx_model.specs.Histories.{CallEnd, callers_of, history_of, record_at,
 use Rattle.hx_model.specs.Legal.{object_now}
 use Rattle.hx_history.specs.declared.key_histories.KeyHistory.{KeyHistory}
 use Rattle.hx_history.specs.Listed.{AreHistories, IsHistory, keys_of_histories}
-use Rattle.hx_law_lemmas.proofs.Edits.{atomic-both}
-use Rattle.hx_law_lemmas.proofs.Lists.{all-in}
-use Rattle.hx_law_lemmas.proofs.Texts.{Ascend, below-differs}
+use Rattle.hx_law_lemmas.proofs.Lemmas.{atomic-both, all-in, Ascend, below-differs}
 use Rattle.hx_soak.specs.Soaking.{script_drawn, soak}
 use Rattle.hx_soak.specs.declared.counting.Counted.{Counted}
 use Rattle.hx_soak.specs.declared.counting.Counted.TheVariants as a_count

@@ -8,12 +8,9 @@ use Rattle.hx_types.specs.declared.traces.Script.{Script}
 use Rattle.hx_types.specs.declared.traces.Note.TheVariants as a_note
 use Rattle.hx_types.specs.Words.{IsIn}
 use Rattle.hx_model.specs.Runs.{IsRun, session_of}
-use Rattle.hx_law_lemmas.proofs.CallEnds.{started}
-use Rattle.hx_law_lemmas.proofs.SessionNotes.{begins_now, ends_now, may_start}
-use Rattle.hx_law_lemmas.proofs.Traces.{BeganAt, EndedAt}
+use Rattle.hx_law_lemmas.proofs.Lemmas.{started, begins_now, ends_now, may_start, BeganAt, EndedAt}
 use Rattle.hx_law_lemmas.specs.Facts.{Facts}
-use Rattle.hx_law_searches.proofs.Calls.{Calls}
-use Rattle.hx_law_searches.proofs.CallsKept.{calls_kept, turn_is}
+use Rattle.hx_law_searches.proofs.Lemmas.{Calls, calls_kept, turn_is}
 
 module _ (script : Script) (facts : Facts script) where
   -- what is said of calls

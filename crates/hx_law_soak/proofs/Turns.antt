@@ -10,7 +10,7 @@ use Rattle.hx_types.specs.Fitting.{call_of, calls_of, numbered}
 use Rattle.hx_soak.specs.Calling.{call_drawn}
 use Rattle.hx_soak.specs.Drawing.{draw_of}
 use Rattle.hx_soak.specs.Soaking.{calls_drawn, script_drawn, session_at, turns_of}
-use Rattle.hx_soak.proofs.Dealing.{one_more}
+use Rattle.hx_soak.proofs.Lemmas.{one_more}
 use Rattle.hx_law_soak.specs.Sequence.{op_at}
 
 -- the caller of a turn

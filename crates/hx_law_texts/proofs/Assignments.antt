@@ -24,7 +24,7 @@ use Rattle.hx_script.specs.Readers.{is_at, repeat}
 use Rattle.hx_script.specs.Toks.{Tok, Word, Number, Text, Sign}
 use Rattle.hx_script.specs.Values.{is_of, is_short, value, has_assign, free_attribute, assign, one_more, some_assigns}
 use Rattle.hx_script.specs.Words.{named}
-use Rattle.hx_script.proofs.Assigning.{assigns_go_on, assigns_end}
+use Rattle.hx_script.proofs.Lemmas.{assigns_go_on, assigns_end}
 use Rattle.hx_law_texts.specs.Sayable.{IsSayable, ValuesAreSayable}
 use Rattle.hx_law_texts.proofs.Names.{IsNamed, not_zero, none_before, IsAt, IsDeclaredAs, declared}
 use Rattle.hx_law_texts.proofs.Numbers.{signed_says}

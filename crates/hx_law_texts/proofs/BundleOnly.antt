@@ -8,7 +8,7 @@ use Rattle.hx_bundle.specs.Bundles.{IsBundle, IsStepIn}
 use Rattle.hx_types.specs.declared.limits.TheConstants.{MOST_STEPS}
 use Rattle.hx_print.specs.BundlePrinting.{bundle_text}
 use Rattle.hx_script.specs.BundleTexts.{bundle_of}
-use Rattle.hx_script.proofs.OneSpace.{bundle_sound}
+use Rattle.hx_script.proofs.Lemmas.{bundle_sound}
 use Rattle.hx_law_texts.specs.SayableBundles.{IsSayableBundle, PostIsSayable, bundle_steps_from, first_bundle_step_line, on_printed_bundle_lines}
 use Rattle.hx_law_texts.proofs.BundleTold.{bundle_told}
 

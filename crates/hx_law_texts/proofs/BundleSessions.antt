@@ -24,7 +24,7 @@ use Rattle.hx_script.specs.BundleGrammar.{behind_keys, bundle_command, bundle_li
 use Rattle.hx_script.specs.BundleTexts.{script_so_far}
 use Rattle.hx_script.specs.Readers.{number_in}
 use Rattle.hx_script.specs.Toks.{Word, Number}
-use Rattle.hx_script.proofs.BundleLists.{all_at, placed_all, placed_map}
+use Rattle.hx_script.proofs.Lemmas.{all_at, placed_all, placed_map}
 use Rattle.hx_law_texts.specs.Sayable.{CallIsSayable}
 use Rattle.hx_law_texts.proofs.BundleReading.{ReadsAll, all_line_reads}
 use Rattle.hx_law_texts.proofs.BundleTurns.{Hand, IsPlayed, MayPlay, called, draft_of, hand_name, left_of, script_of_hand, turns_read}

@@ -35,9 +35,7 @@ use Rattle.hx_script.specs.Keywords.{keyword_of}
 use Rattle.hx_script.specs.Readers.{Reader}
 use Rattle.hx_script.specs.Texts.{lines_of, script_of}
 use Rattle.hx_script.specs.Toks.{Tok}
-use Rattle.hx_script.proofs.BundleLists.{all_at}
-use Rattle.hx_script.proofs.BundleValid.{then_ok}
-use Rattle.hx_script.proofs.Takes.{on_ok_ok, ok_is}
+use Rattle.hx_script.proofs.Lemmas.{all_at, then_ok, on_ok_ok, ok_is}
 use Rattle.hx_law_texts.specs.Sayable.{BoundsAreSayable, CallIsSayable, IsSayableScript, StepIsSayable}
 use Rattle.hx_law_texts.specs.SayableBundles.{IsSayableBundle, PostIsSayable}
 use Rattle.hx_law_texts.proofs.Told.{AllTold, Any, Tells, tells_check, tells_end, tells_give, tells_judged, tells_number_in, tells_refuse, tells_then, tells_word}

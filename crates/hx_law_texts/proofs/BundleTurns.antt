@@ -30,8 +30,7 @@ use Rattle.hx_script.specs.Grammar.{call_line}
 use Rattle.hx_script.specs.Keywords.{keyword_of}
 use Rattle.hx_script.specs.Toks.{Tok, Word}
 use Rattle.hx_script.specs.Words.{named}
-use Rattle.hx_script.proofs.BundleLists.{all_at, if_some_at, map_set_same, placed_all, placed_set, some_here}
-use Rattle.hx_script.proofs.Lists.{push_to_last_is}
+use Rattle.hx_script.proofs.Lemmas.{all_at, if_some_at, map_set_same, placed_all, placed_set, some_here, push_to_last_is}
 use Rattle.hx_law_texts.specs.Sayable.{CallIsSayable}
 use Rattle.hx_law_texts.proofs.BundleCalls.{rest_again, rest_says, rest_toks, word_of}
 use Rattle.hx_law_texts.proofs.BundleReading.{ReadsAll, all_line_reads}

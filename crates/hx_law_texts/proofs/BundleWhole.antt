@@ -25,7 +25,7 @@ use Rattle.hx_script.specs.declared.bundle_draft.BundleSection.TheVariants as st
 use Rattle.hx_script.specs.declared.draft.Draft.{Draft}
 use Rattle.hx_script.specs.BundleGrammar.{with_session}
 use Rattle.hx_script.specs.BundleTexts.{bundle_of, empty_bundle_draft, read_bundle_lines, script_so_far, version_from, version_line, version_of}
-use Rattle.hx_script.proofs.BundleLists.{all_at, dealt_long, if_some_at, placed_all, some_here}
+use Rattle.hx_script.proofs.Lemmas.{all_at, dealt_long, if_some_at, placed_all, some_here}
 use Rattle.hx_script.specs.Readers.{number_in}
 use Rattle.hx_script.specs.Texts.{lines_of}
 use Rattle.hx_script.specs.Toks.{Word, Number}

@@ -29,8 +29,7 @@ use Rattle.hx_script.specs.LoneCalls.{lone_call, op_of_toks, op_of_line}
 use Rattle.hx_script.specs.Readers.{number_in}
 use Rattle.hx_script.specs.Toks.{Tok, Word, Number, Text}
 use Rattle.hx_script.specs.Values.{short_text}
-use Rattle.hx_script.proofs.Lists.{push_to_last_is}
-use Rattle.hx_script.proofs.LoneCalls.{toks_take}
+use Rattle.hx_script.proofs.Lemmas.{push_to_last_is, toks_take}
 use Rattle.hx_law_texts.specs.Sayable.{ValuesAreSayable, EditsAreSayable, TermIsSayable, CallIsSayable}
 use Rattle.hx_law_texts.proofs.Assignments.{assigns_toks, all_left, assigns_say, assigns_again, some_again, goes_no_further}
 use Rattle.hx_law_texts.proofs.Drafts.{calling}

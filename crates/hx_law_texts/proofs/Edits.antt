@@ -24,7 +24,7 @@ use Rattle.hx_script.specs.Readers.{repeat}
 use Rattle.hx_script.specs.Toks.{Tok, Word, Sign}
 use Rattle.hx_script.specs.Values.{is_of, is_short}
 use Rattle.hx_script.specs.Words.{named}
-use Rattle.hx_script.proofs.Editing.{edits_go_on, edits_end}
+use Rattle.hx_script.proofs.Lemmas.{edits_go_on, edits_end}
 use Rattle.hx_law_texts.specs.Sayable.{IsSayable, EditsAreSayable}
 use Rattle.hx_law_texts.proofs.Assignments.{tok_of_value, named_toks, named_says, of_kind, below}
 use Rattle.hx_law_texts.proofs.Names.{not_zero, none_before, IsAt, IsDeclaredAs, declared}

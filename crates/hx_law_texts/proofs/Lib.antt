@@ -30,3 +30,4 @@ mod BundleSteps
 mod BundleWhole
 mod BundleTold
 mod BundleOnly
+pub mod Lemmas

@@ -13,8 +13,7 @@ use Rattle.hx_script.specs.Grammar.{toks_from}
 use Rattle.hx_script.specs.Keywords.{keyword_of}
 use Rattle.hx_script.specs.LoneCalls.{call_by, lone_call, op_of_toks, op_of_line}
 use Rattle.hx_script.specs.Toks.{Tok}
-use Rattle.hx_script.proofs.LoneCalls.{lone_fits}
-use Rattle.hx_script.proofs.Takes.{on_ok_ok, ok_is}
+use Rattle.hx_script.proofs.Lemmas.{lone_fits, on_ok_ok, ok_is}
 use Rattle.hx_law_texts.specs.Sayable.{CallIsSayable}
 use Rattle.hx_law_texts.proofs.Calls.{lone_reads}
 use Rattle.hx_law_texts.proofs.Told.{Tells, Any, tells_then, tells_refuse, tells_word}

@@ -7,7 +7,7 @@ use Rattle.std.proofs.lemmas.Bool.{ne_eqb, le-leb, lt-ltb}
 use Rattle.std.proofs.lemmas.List.Elements.{All-head, All-tail}
 use Rattle.std.proofs.lemmas.Slice.Eq.{bytes_eq-Decides}
 use Rattle.hx_lex.specs.Letters.{is_lower, is_word_part, IsWord}
-use Rattle.hx_lex.proofs.Content.{and_left, and_right}
+use Rattle.hx_lex.proofs.Lemmas.{and_left, and_right}
 use Rattle.hx_types.specs.declared.spaces.Attribute.{Attribute}
 use Rattle.hx_types.specs.declared.spaces.Space.{Space}
 use Rattle.hx_types.specs.Spaces.{AllDiffer, NamesDiffer, is_word, IsName, IsKind, IsSpace}

@@ -15,7 +15,7 @@ use Rattle.hx_lex.specs.declared.token.TokenKind.TheVariants as kinds
 use Rattle.hx_lex.specs.Letters.{is_digit, begins_with}
 use Rattle.hx_lex.specs.Numbers.{value, value_from, minus, token_piece, number_at}
 use Rattle.hx_lex.specs.Pieces.{piece_at}
-use Rattle.hx_lex.proofs.Content.{and_left, and_right}
+use Rattle.hx_lex.proofs.Lemmas.{and_left, and_right}
 use Rattle.hx_script.specs.Toks.{Tok, Number}
 use Rattle.hx_law_texts.proofs.Says.{Says, IsClean, says, says_piece, both_clean, clean_by, whole_run}
 

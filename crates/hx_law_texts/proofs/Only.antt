@@ -7,7 +7,7 @@ use Rattle.hx_types.specs.declared.traces.Step.{Step}
 use Rattle.hx_types.specs.Fitting.{IsScript}
 use Rattle.hx_print.specs.Printing.{script_text}
 use Rattle.hx_script.specs.Texts.{script_of}
-use Rattle.hx_script.proofs.SoundTexts.{text_sound}
+use Rattle.hx_script.proofs.Lemmas.{text_sound}
 use Rattle.hx_law_texts.specs.Again.{on_lines_from, first_step_line, on_printed_lines}
 use Rattle.hx_law_texts.specs.Sayable.{StepIsSayable, IsSayableScript}
 use Rattle.hx_law_texts.proofs.ToldTexts.{text_told}

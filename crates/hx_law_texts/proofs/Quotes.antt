@@ -18,7 +18,7 @@ use Rattle.hx_lex.specs.Numbers.{token_piece}
 use Rattle.hx_lex.specs.Pieces.{piece_at}
 use Rattle.hx_lex.specs.Quotes.{inside_len, content, followed_by, inside_at, text_at}
 use Rattle.hx_lex.specs.Spelling.{is_plain, IsText}
-use Rattle.hx_lex.proofs.Content.{and_left, and_right}
+use Rattle.hx_lex.proofs.Lemmas.{and_left, and_right}
 use Rattle.hx_print.specs.Printing.{escape, quoted}
 use Rattle.hx_script.specs.Toks.{Tok, Text}
 use Rattle.hx_law_texts.proofs.Says.{Says, IsClean, says, says_piece, both_clean, on_line}

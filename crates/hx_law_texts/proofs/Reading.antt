@@ -1,7 +1,7 @@
 -- A text, read a line at a time.
 use Rattle.std.proofs.Common.{◌≡◌, ℕ, ◌+◌, true, false, cond, eqb, not, Bool, List, [], ◌∷◌, ◌++◌, Ok, refl, subst, sym}
 use Rattle.std.specs.List.{list_all}
-use Rattle.hx_lex.proofs.Content.{and_left, and_right}
+use Rattle.hx_lex.proofs.Lemmas.{and_left, and_right}
 use Rattle.hx_types.specs.declared.traces.Script.{Script}
 use Rattle.hx_script.specs.declared.draft.Draft.{Draft}
 use Rattle.hx_script.specs.Grammar.{line_of, line_of_toks}

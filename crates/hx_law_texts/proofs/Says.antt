@@ -15,7 +15,7 @@ use Rattle.hx_lex.specs.Letters.{is_lower, is_word_part, begins_with, IsWord}
 use Rattle.hx_lex.specs.Lines.{before, token_of, tokens_from, tokens_of}
 use Rattle.hx_lex.specs.Numbers.{token_piece}
 use Rattle.hx_lex.specs.Pieces.{piece_at}
-use Rattle.hx_lex.proofs.Content.{and_left, and_right}
+use Rattle.hx_lex.proofs.Lemmas.{and_left, and_right}
 use Rattle.hx_script.specs.declared.draft.Draft.{Draft}
 use Rattle.hx_script.specs.Grammar.{toks_from, line_of, line_of_toks}
 use Rattle.hx_script.specs.Toks.{Tok, Word, Sign, tok_of, meaning}

@@ -25,7 +25,7 @@ use Rattle.hx_script.specs.Grammar.{line_of_toks, command, subspace_line}
 use Rattle.hx_script.specs.Readers.{number_in, repeat}
 use Rattle.hx_script.specs.Toks.{Tok, Word, Number, Sign}
 use Rattle.hx_script.specs.Words.{named, declared_number}
-use Rattle.hx_script.proofs.MoreAxes.{axes_go_on, axes_end}
+use Rattle.hx_script.proofs.Lemmas.{axes_go_on, axes_end}
 use Rattle.hx_law_texts.proofs.Drafts.{cutting}
 use Rattle.hx_law_texts.proofs.Names.{IsNamed, all_here, none_before, IsDeclaredAs, declared}
 use Rattle.hx_law_texts.proofs.Numbers.{number_says}

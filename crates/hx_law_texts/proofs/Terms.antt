@@ -22,7 +22,7 @@ use Rattle.hx_script.specs.Readers.{number_from, is_at, repeat}
 use Rattle.hx_script.specs.Toks.{Tok, Word, Number, Sign}
 use Rattle.hx_script.specs.Values.{is_of, value, has_term, free_known, range, is_dots, term, one_more_term}
 use Rattle.hx_script.specs.Words.{named}
-use Rattle.hx_script.proofs.Asking.{terms_go_on, terms_end}
+use Rattle.hx_script.proofs.Lemmas.{terms_go_on, terms_end}
 use Rattle.hx_law_texts.specs.Sayable.{TermIsSayable}
 use Rattle.hx_law_texts.proofs.Assignments.{named_toks, named_says, of_kind}
 use Rattle.hx_law_texts.proofs.Attributes.{in_order}

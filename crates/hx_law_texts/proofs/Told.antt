@@ -4,13 +4,13 @@ use Rattle.std.specs.Prelude.{nat_le, int_le, FitsSigned}
 use Rattle.std.specs.Int.{w64}
 use Rattle.std.proofs.lemmas.Bool.{leb-true}
 use Rattle.hx_lex.specs.Spelling.{IsText}
-use Rattle.hx_lex.proofs.Content.{and_right}
+use Rattle.hx_lex.proofs.Lemmas.{and_right}
 use Rattle.hx_script.specs.declared.errors.Reason.{Reason}
 use Rattle.hx_script.specs.declared.errors.Reason.TheVariants.{Order, Bounds}
 use Rattle.hx_script.specs.declared.line.Until.{Until}
 use Rattle.hx_script.specs.Readers.{◌>>=◌, Reader, give, refuse, judged, check, word, number, text, end, sign, fixed, is_between, nat_of, number_in, natural, number_from, is_at, steps, repeat}
 use Rattle.hx_script.specs.Toks.{Tok, Word, Number, Text, Sign}
-use Rattle.hx_script.proofs.Takes.{on_ok_ok, ok_is}
+use Rattle.hx_script.proofs.Lemmas.{on_ok_ok, ok_is}
 
 -- each text is one, and each number is of 64 bits
 abbrev pub AllTold : List Tok → Type 0

@@ -7,7 +7,7 @@ use Rattle.std.proofs.lemmas.Bool.{leb-true}
 use Rattle.std.proofs.lemmas.List.Elements.{All-nil, All-push}
 use Rattle.hx_lex.specs.Numbers.{value as value_of}
 use Rattle.hx_lex.specs.Spelling.{IsText}
-use Rattle.hx_lex.proofs.Content.{and_left, and_right}
+use Rattle.hx_lex.proofs.Lemmas.{and_left, and_right}
 use Rattle.hx_types.specs.declared.calls.Op.TheVariants.{Put, Get, Del, Cput, Search, Stop, Add, Atomic}
 use Rattle.hx_types.specs.declared.ids.Actor.{Actor}
 use Rattle.hx_types.specs.declared.ids.Actor.TheVariants.{Coordinator, Server, Session}
@@ -37,7 +37,7 @@ use Rattle.hx_script.specs.Readers.{on_ok}
 use Rattle.hx_script.specs.Toks.{Tok, Word, Number, Text, Sign}
 use Rattle.hx_script.specs.Values.{short_text, is_of, is_short, any_value, value, has_assign, free_attribute, assign, one_more, more_assigns, some_assigns, has_term, free_known, range, is_dots, range_or_equal, rest_of_term, term, one_more_term, all_terms}
 use Rattle.hx_script.specs.Words.{may_name, named, declared_number, known_number}
-use Rattle.hx_script.proofs.Takes.{on_ok_ok, ok_is}
+use Rattle.hx_script.proofs.Lemmas.{on_ok_ok, ok_is}
 use Rattle.hx_law_texts.specs.Sayable.{IsSayable, ValuesAreSayable, EditsAreSayable, TermIsSayable, CallIsSayable, IsUpTo, IsActorOf, StepIsSayable}
 use Rattle.hx_law_texts.proofs.Told.{AllTold, Tells, Any, tells_then, tells_give, tells_check, tells_judged, tells_word, tells_text, tells_end, tells_sign, tells_fixed, tells_number_in, tells_natural, tells_number_from, tells_repeat}
 

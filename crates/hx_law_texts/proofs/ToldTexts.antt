@@ -9,7 +9,7 @@ use Rattle.hx_lex.specs.declared.token.TokenKind.{TokenKind}
 use Rattle.hx_lex.specs.declared.token.TokenKind.TheVariants as token_kinds
 use Rattle.hx_lex.specs.Lines.{tokens_of}
 use Rattle.hx_lex.specs.Spelling.{IsSpelled, IsTokenOf}
-use Rattle.hx_lex.proofs.Parts.{tokens_spelled}
+use Rattle.hx_lex.proofs.Lemmas.{tokens_spelled}
 use Rattle.hx_types.specs.declared.spaces.Attribute.{Attribute}
 use Rattle.hx_types.specs.declared.traces.Script.{Script}
 use Rattle.hx_types.specs.declared.traces.Step.{Step}
@@ -23,7 +23,7 @@ use Rattle.hx_script.specs.declared.errors.ScriptError.TheVariants as errors
 use Rattle.hx_script.specs.Grammar.{command, toks_from, line_of_toks, line_of}
 use Rattle.hx_script.specs.Texts.{empty_draft, may_end, lines_of, at_line, read_lines, script_of}
 use Rattle.hx_script.specs.Toks.{Tok, tok_of, meaning}
-use Rattle.hx_script.proofs.Takes.{on_ok_ok, ok_is}
+use Rattle.hx_script.proofs.Lemmas.{on_ok_ok, ok_is}
 use Rattle.hx_law_texts.specs.Sayable.{BoundsAreSayable, CallIsSayable, StepIsSayable, IsSayableScript}
 use Rattle.hx_law_texts.proofs.Told.{AllTold}
 use Rattle.hx_law_texts.proofs.ToldLines.{Said, tells_command}

@@ -21,12 +21,8 @@ use Rattle.hx_model.specs.SessionSteps.{SessionState, session_step}
 use Rattle.hx_model.specs.Runs.{Output, coordinator_after, coordinator_of, is_actor, server_after, server_of, session_after, session_of}
 use Rattle.hx_clock.specs.declared.parts.Stamped.{Stamped}
 use Rattle.hx_law_threads.specs.Own.{IsOwn}
-use Rattle.hx_law_posts.proofs.Runs.{kept-run}
-use Rattle.hx_law_posts.proofs.Servers.{IsSoundServer, server-up}
-use Rattle.hx_law_posts.proofs.ServerSteps.{server-good}
-use Rattle.hx_law_posts.proofs.Slots.{top-small}
-use Rattle.hx_law_posts.proofs.SessionSteps as session
-use Rattle.hx_law_posts.proofs.CoordinatorSteps as coordinator
+use Rattle.hx_law_posts.proofs.Lemmas.{kept-run, IsSoundServer, server-up, server-good, top-small}
+use Rattle.hx_law_posts.proofs.Lemmas as law_posts
 use Rattle.hx_law_threads.specs.Feeding.{entries_in, latest, ActorsStaySound, IsFed, IsFedBy}
 
 server-exists : (script : Script) (s : ServerId) → is_actor script (Server s) ≡ true → IsServerOf script.space s
@@ -76,36 +72,36 @@ module _ (script : Script) (valid : IsScript script) where
   -- a session
   module _ (u : SessionId) (exists : is_actor script (Session u) ≡ true) where
     pub session-own : (xs : List Stamped) → IsOwn script (Session u) (entries_in xs) → IsFed script xs
-        → session.IsOwn script (latest xs) u (session_of script u (entries_in xs)) × AreSound script xs
+        → law_posts.IsOwn script (latest xs) u (session_of script u (entries_in xs)) × AreSound script xs
     session-own [] own f = ((kept-run script valid [] tt).own u, λ x i. absurd i)
     session-own (x ∷ older) own f =
         let before = session-own older own.1 f.2 in
         let st : SessionState = session_of script u (entries_in older) in
         let low = f.0 in
-        let up = session.own-up script (latest older) (x.stamp.0 + 1) (omega (arith, low)) u st before.0 in
-        let well = session.session-good script valid (x.stamp.0 + 1) u (session-exists script u exists) st up x.entry.input
+        let up = law_posts.own-up script (latest older) (x.stamp.0 + 1) (omega (arith, low)) u st before.0 in
+        let well = law_posts.session-good script valid (x.stamp.0 + 1) u (session-exists script u exists) st up x.entry.input
         (λ id from m e. let d = fed script x.stamp.0 x.entry.actor (Session u) x.entry.input own.0.actor f.1 id from m e in let l = d.1 in (d.0, omega (arith, l), d.2.message)) in
         let self : same_session u u ≡ true = eq-eqb u.0 u.0 refl in
         let after : session_of script u (entries_in (x ∷ older)) ≡ (session_step script.space st x.entry.input).state =
         ap (λ (z : Actor). session_after script.space u z x.entry.input st) own.0.actor ∙ cond-true (same_session u u) (session_step script.space st x.entry.input).state st self in (
-          subst (session.IsOwn script (x.stamp.0 + 1) u) (sym after) well.own,
+          subst (law_posts.IsOwn script (x.stamp.0 + 1) u) (sym after) well.own,
           more-sound script x older _ (ap (λ (m : Output). m.posts) own.0.made) well.posts before.1,
         )
 
   -- the coordinator
   pub coordinator-own : (xs : List Stamped) → IsOwn script Coordinator (entries_in xs) → IsFed script xs
-      → coordinator.IsSoundCoordinator script.space (length script.sessions) (latest xs) (coordinator_of script (entries_in xs)) × AreSound script xs
+      → law_posts.IsSoundCoordinator script.space (length script.sessions) (latest xs) (coordinator_of script (entries_in xs)) × AreSound script xs
   coordinator-own [] own f = ((kept-run script valid [] tt).coordinator, λ x i. absurd i)
   coordinator-own (x ∷ older) own f =
       let before = coordinator-own older own.1 f.2 in
       let c : CoordinatorState = coordinator_of script (entries_in older) in
       let low = f.0 in
-      let up = coordinator.coordinator-up script.space (length script.sessions) (latest older) (x.stamp.0 + 1) (omega (arith, low)) c before.0 in
+      let up = law_posts.coordinator-up script.space (length script.sessions) (latest older) (x.stamp.0 + 1) (omega (arith, low)) c before.0 in
       let epoch = before.0.config.epoch in
-      let well = coordinator.coordinator-good script.space (length script.sessions) (x.stamp.0 + 1) c (record { sound = up; low = omega (arith, epoch, low) }) x.entry.input
+      let well = law_posts.coordinator-good script.space (length script.sessions) (x.stamp.0 + 1) c (record { sound = up; low = omega (arith, epoch, low) }) x.entry.input
       (λ id from m e. let d = fed script x.stamp.0 x.entry.actor Coordinator x.entry.input own.0.actor f.1 id from m e in (d.0, d.2)) in
       let after : coordinator_of script (entries_in (x ∷ older)) ≡ (coordinator_step c x.entry.input).state = ap (λ (z : Actor). coordinator_after z x.entry.input c) own.0.actor in (
-        subst (coordinator.IsSoundCoordinator script.space (length script.sessions) (x.stamp.0 + 1)) (sym after) well.state,
+        subst (law_posts.IsSoundCoordinator script.space (length script.sessions) (x.stamp.0 + 1)) (sym after) well.state,
         more-sound script x older _ (ap (λ (m : Output). m.posts) own.0.made) well.posts before.1,
       )
 

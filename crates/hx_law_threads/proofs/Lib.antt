@@ -14,3 +14,4 @@ pub mod Reading
 pub mod PartPaces
 pub mod Example
 pub mod Feeding
+pub mod Lemmas

@@ -7,7 +7,7 @@ use Rattle.std.proofs.lemmas.Bool.{cond_both, true≢false}
 use Rattle.std.proofs.lemmas.List.{reverse-append}
 use Rattle.std.proofs.lemmas.List.Sorted.{Contains-permutation}
 use Rattle.hx_types.specs.Words.{IsIn, below}
-use Rattle.hx_clock.proofs.Lists.{in_left, in_right}
+use Rattle.hx_clock.proofs.Lemmas.{in_left, in_right}
 
 pub in_append : {A : Type 0} (xs ys : List A) (z : A) → IsIn z (xs ++ ys) → IsIn z xs ⊎ IsIn z ys
 in_append [] ys z i = inr i

@@ -7,7 +7,7 @@ use Rattle.hx_types.specs.declared.traces.Script.{Script}
 use Rattle.hx_types.specs.Words.{IsIn}
 use Rattle.hx_model.specs.Schedule.{same_name}
 use Rattle.hx_clock.specs.Views.{one, total}
-use Rattle.hx_clock.proofs.Lists.{each_in}
+use Rattle.hx_clock.proofs.Lemmas.{each_in}
 use Rattle.hx_law_threads.specs.Cuts.{delivered_at, open_at, posted_at, times_named, whole_of, Cut}
 use Rattle.hx_law_threads.specs.Offers.{put_times, AllCame, NoMoreCame, Offer}
 use Rattle.hx_law_threads.specs.Pacing.{AreRepeatedAtMost}

@@ -13,7 +13,7 @@ use Rattle.hx_types.specs.Words.{same_actor, when_some, IsIn}
 use Rattle.hx_model.specs.Runs.{entry_at, session_of}
 use Rattle.hx_model.specs.Schedule.{entries_of}
 use Rattle.hx_clock.specs.declared.parts.Stamped.{Stamped}
-use Rattle.hx_clock.proofs.Lists.{each_in, each_map}
+use Rattle.hx_clock.proofs.Lemmas.{each_in, each_map}
 use Rattle.hx_law_threads.specs.Own.{own_entries, past_of, IsOwn}
 use Rattle.hx_law_threads.specs.Merged.{parts_in, ActorPart, AreOwnParts, AreWholeParts, HasOwnParts, IsMerged}
 use Rattle.hx_law_threads.specs.Calls.{last_call}

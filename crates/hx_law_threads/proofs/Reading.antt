@@ -6,7 +6,7 @@ use Rattle.std.proofs.lemmas.Bool.{cond_both, eq-eqb, eqb-true, ltb-false, ltb-t
 use Rattle.hx_types.specs.declared.traces.Entry.{Entry}
 use Rattle.hx_model.specs.Runs.{entry_at}
 use Rattle.hx_clock.specs.declared.parts.Stamped.{Stamped}
-use Rattle.hx_clock.proofs.Lists.{each_all, each_in}
+use Rattle.hx_clock.proofs.Lemmas.{each_all, each_in}
 use Rattle.hx_law_threads.specs.Own.{own_entries, past_of}
 use Rattle.hx_law_threads.specs.Merged.{ActorPart, HasOwnParts}
 use Rattle.hx_law_threads.specs.Cuts.{first_entries}

@@ -17,8 +17,7 @@ use Rattle.hx_types.specs.Words.{same_actor, IsIn}
 use Rattle.hx_model.specs.Runs.{has_halted, is_actor, made_of, post_named, IsRun, IsStep, MayTake}
 use Rattle.hx_clock.specs.declared.parts.Stamped.{Stamped}
 use Rattle.hx_clock.specs.Parts.{all_of, stamps_of, DeliveryMeets, InputMeets, IsPostedBefore, Posted}
-use Rattle.hx_clock.proofs.Lists.{each_all, each_in, in_left, in_right}
-use Rattle.hx_clock.proofs.Histories.{meets_more}
+use Rattle.hx_clock.proofs.Lemmas.{each_all, each_in, in_left, in_right, meets_more}
 use Rattle.hx_law_threads.specs.Own.{own_entries, past_of, IsOwn, IsOwnStep, MayHalt}
 use Rattle.hx_law_threads.specs.Merged.{actors_in, parts_in, ActorPart, AreOwnParts, AreWholeParts, IsMerged, IsOwnPart}
 use Rattle.hx_law_threads.specs.Laws.{IsRunOfParts}

@@ -15,9 +15,7 @@ use Rattle.hx_types.specs.Words.{first_some, same_actor}
 use Rattle.hx_model.specs.Histories.{CallEnd, begin_of, begins_in, ends_in, is_session, note_of_end}
 use Rattle.hx_model.specs.Runs.{made_of, session_after, session_of, IsRun, Output}
 use Rattle.hx_model.specs.SessionSteps.{SessionState, session_step}
-use Rattle.hx_law_lemmas.proofs.CallEnds.{CallStop, began_notes, end_notes, goes_on, started, started_same}
-use Rattle.hx_law_lemmas.proofs.SessionMessages.{session_turn}
-use Rattle.hx_law_lemmas.proofs.SessionNotes.{all_notes}
+use Rattle.hx_law_lemmas.proofs.Lemmas.{CallStop, began_notes, end_notes, goes_on, started, started_same, session_turn, all_notes}
 use Rattle.hx_law_threads.specs.Own.{IsOwn}
 use Rattle.hx_law_threads.specs.Calls.{caller_of, last_call, IsDone}
 use Rattle.hx_law_threads.proofs.Actors.{same_actor_is}

@@ -10,7 +10,7 @@ use Rattle.hx_types.specs.Words.{same_actor, IsIn}
 use Rattle.hx_model.specs.Schedule.{entries_of}
 use Rattle.hx_clock.specs.declared.parts.Stamped.{Stamped}
 use Rattle.hx_clock.specs.Views.{total}
-use Rattle.hx_clock.proofs.Lists.{each_in}
+use Rattle.hx_clock.proofs.Lemmas.{each_in}
 use Rattle.hx_law_threads.specs.Own.{past_of}
 use Rattle.hx_law_threads.specs.Merged.{actors_in, parts_in, ActorPart, AreOwnParts, AreWholeParts, IsMerged}
 use Rattle.hx_law_threads.specs.Cuts.{Cut}

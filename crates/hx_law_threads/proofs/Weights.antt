@@ -11,7 +11,7 @@ use Rattle.hx_types.specs.declared.traces.Script.{Script}
 use Rattle.hx_types.specs.Words.{provided, IsIn}
 use Rattle.hx_model.specs.Schedule.{names_from, same_name}
 use Rattle.hx_clock.specs.Views.{one, total}
-use Rattle.hx_clock.proofs.Lists.{total-append}
+use Rattle.hx_clock.proofs.Lemmas.{total-append}
 use Rattle.hx_law_threads.specs.Cuts.{delivered_at, delivered_by, is_in_cut, is_to_halted, open_at, posted_at, times_named, Cut}
 use Rattle.hx_law_threads.specs.Counting.{total_at, weight_delivered, weight_made, AtMostUndelivered, PostsWeigh}
 

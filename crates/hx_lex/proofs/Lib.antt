@@ -8,3 +8,4 @@ pub mod Numerals
 pub mod Standing
 pub mod Parts
 pub mod Examples
+pub mod Lemmas

@@ -15,8 +15,7 @@ use Rattle.hx_model.specs.ServerSteps.{ServerState, ServerStep, server_step}
 use Rattle.hx_model.specs.SessionSteps.{SessionState, session_step}
 use Rattle.hx_clock.specs.declared.parts.Stamped.{Stamped}
 use Rattle.hx_law_folds.specs.Folding.{IsServerOf as AreInOrder, folded_server}
-use Rattle.hx_law_folds.proofs.Servers.{server-folds}
-use Rattle.hx_law_folds.proofs.Staying.{server-stays}
+use Rattle.hx_law_folds.proofs.Lemmas.{server-folds, server-stays}
 use Rattle.hx_law_threads.specs.Feeding.{entries_in}
 use Rattle.hx_coord.specs.Coordinators as coordinator
 use Rattle.hx_coord.specs.Changes as coordinator_plan

@@ -13,7 +13,7 @@ use Rattle.hx_types.specs.Fitting.{calls_of, numbered}
 use Rattle.hx_types.specs.Posts.{IsSessionOf}
 use Rattle.hx_types.specs.Words.{when_some}
 use Rattle.hx_model.specs.Runs.{is_actor}
-use Rattle.hx_law_folds.proofs.Runs.{lean-of, server-of}
+use Rattle.hx_law_folds.proofs.Lemmas.{lean-of, server-of}
 use Rattle.hx_model.specs.ServerSteps.{server_at_start}
 use Rattle.hx_model.specs.SessionSteps.{session_at_start}
 use Rattle.hx_replica.specs.Servers.{ServerValue}

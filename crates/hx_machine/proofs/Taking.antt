@@ -18,11 +18,10 @@ use Rattle.hx_model.specs.SessionSteps.{SessionState}
 use Rattle.hx_model.specs.Slots.{top_of}
 use Rattle.hx_clock.specs.declared.parts.Stamped.{Stamped}
 use Rattle.hx_law_folds.specs.Folding.{InputFits, IsReplicaOf, IsServerOf as AreInOrder, IsSlotIn, folded, folded_replica, folded_server}
-use Rattle.hx_law_folds.proofs.Folds.{top-folded}
-use Rattle.hx_law_folds.proofs.Sound.{sound-fits}
-use Rattle.hx_law_lemmas.proofs.Lists.{in-map}
+use Rattle.hx_law_folds.proofs.Lemmas.{top-folded, sound-fits}
+use Rattle.hx_law_lemmas.proofs.Lemmas.{in-map}
 use Rattle.hx_law_threads.specs.Feeding.{IsFedBy, IsSoundAfter, entries_in, latest}
-use Rattle.hx_law_threads.proofs.Feeding.{actors_stay_sound}
+use Rattle.hx_law_threads.proofs.Lemmas.{actors_stay_sound}
 use Rattle.hx_coord.specs.Coordinators as coordinator
 use Rattle.hx_replica.specs.Servers as server
 use Rattle.hx_session.specs.Sessions as session

@@ -3,7 +3,7 @@ use Rattle.std.proofs.Common.{◌≡◌, ℕ, ◌≤◌, eqb, List, ◌++◌, ma
 use Rattle.std.specs.Prelude.{Option, None, MatchOption}
 use Rattle.crossbeam_queue.specs.Fifo.{Forks}
 use Rattle.hx_clock.specs.Views.{either_count, one}
-use Rattle.hx_clock.proofs.Lists.{total-append}
+use Rattle.hx_clock.proofs.Lemmas.{total-append}
 use Rattle.hx_mail.specs.declared.envelopes.Letter.{Letter}
 use Rattle.hx_mail.specs.declared.views.BoxNames.{BoxNames}
 use Rattle.hx_mail.specs.declared.views.Mailed.{Mailed}

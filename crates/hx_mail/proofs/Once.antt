@@ -7,7 +7,7 @@ use Rattle.crossbeam_queue.specs.Fifo.{Learns}
 use Rattle.hx_mail.specs.declared.views.Mailed.{Mailed}
 use Rattle.std.specs.List.{AllByRecursion}
 use Rattle.hx_clock.specs.Views.{one}
-use Rattle.hx_clock.proofs.Lists.{each_map, total-at}
+use Rattle.hx_clock.proofs.Lemmas.{each_map, total-at}
 use Rattle.hx_mail.specs.declared.views.PortLists.{PortLists}
 use Rattle.hx_mail.specs.declared.views.PortView.{PortView}
 use Rattle.hx_mail.specs.declared.views.Sent.{Sent}

@@ -10,7 +10,7 @@ use Rattle.std.specs.List.{AllByRecursion}
 use Rattle.hx_types.specs.Words.{IsIn}
 use Rattle.hx_clock.specs.Views.{either_count, one, total}
 use Rattle.hx_clock.specs.Rule.{counts}
-use Rattle.hx_clock.proofs.Lists.{each_in, each_append, each_map, total-append, total-set, total-at, total-two, all_set, all_snoc}
+use Rattle.hx_clock.proofs.Lemmas.{each_in, each_append, each_map, total-append, total-set, total-at, total-two, all_set, all_snoc}
 use Rattle.hx_mail.specs.declared.envelopes.Letter.{Letter}
 use Rattle.hx_mail.specs.declared.views.PortLists.{PortLists}
 use Rattle.hx_mail.specs.declared.views.BoxNames.{BoxNames}

@@ -5,7 +5,7 @@ use Rattle.std.specs.List.{AllByRecursion}
 use Rattle.hx_types.specs.declared.messages.Post.{Post}
 use Rattle.hx_types.specs.declared.totals.Totals.{Totals}
 use Rattle.hx_clock.specs.Views.{one, total}
-use Rattle.hx_clock.proofs.Lists.{each_append, total-append}
+use Rattle.hx_clock.proofs.Lemmas.{each_append, total-append}
 use Rattle.hx_fate.specs.declared.fates.Choice.{Choice}
 use Rattle.hx_fate.specs.declared.fates.Choice.TheVariants.{Deliver, Lose, Twice}
 use Rattle.hx_fate.specs.declared.fates.FateState.{FateState}

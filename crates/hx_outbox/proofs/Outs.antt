@@ -4,7 +4,7 @@ use Rattle.std.specs.List.{AllByRecursion}
 use Rattle.std.proofs.lemmas.Bool.Decides.{eqb_tells}
 use mathlib.Core.List.{IsPrefix}
 use Rattle.hx_clock.specs.Views.{total}
-use Rattle.hx_clock.proofs.Lists.{each_append, total-append}
+use Rattle.hx_clock.proofs.Lemmas.{each_append, total-append}
 use Rattle.hx_mail.specs.declared.views.BoxNames.{BoxNames}
 use Rattle.hx_mail.specs.declared.views.Mailed.{Mailed}
 use Rattle.hx_mail.specs.declared.views.PortView.{PortView}

@@ -2,7 +2,7 @@
 use Rattle.std.proofs.Common.{◌≡◌, ℕ, ◌+◌, List, [], ◌∷◌, ◌++◌, map, Option, None, refl, ap, ◌∙◌}
 use Rattle.hx_types.specs.declared.configs.Config.{Config}
 use Rattle.hx_types.specs.Words.{below}
-use Rattle.hx_types.proofs.Counting.{map_below_next}
+use Rattle.hx_types.proofs.Lemmas.{map_below_next}
 use Rattle.hx_model.specs.Planning.{QueryRegions, chosen, fewer_of}
 
 -- the last candidate is compared with the best of those before it

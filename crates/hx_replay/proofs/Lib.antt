@@ -12,3 +12,4 @@ mod WornCourses
 pub mod Wearing
 pub mod Verdicts
 mod Stopping
+pub mod Lemmas

@@ -5,7 +5,7 @@ use Rattle.hx_types.specs.declared.ids.RegionId.{RegionId}
 use Rattle.hx_types.specs.declared.spaces.Space.{Space}
 use Rattle.hx_model.specs.ServerSteps.{Replica as ReplicaState, ServerState, listed_regions, replica_or_new}
 use Rattle.hx_law_folds.specs.Folding.{folded_replica, folded_server}
-use Rattle.hx_law_folds.proofs.Servers.{folded-server-twice}
+use Rattle.hx_law_folds.proofs.Lemmas.{folded-server-twice}
 use Rattle.hx_replica.specs.declared.servers.Server.TheInside.{Inside}
 use Rattle.hx_replica.specs.Invariant.{IsServer, value_of}
 use Rattle.hx_replica.specs.Adopting.{lean_replica, lean_with_config}

@@ -8,7 +8,7 @@ use Rattle.hx_types.specs.declared.updates.Update.{Update}
 use Rattle.hx_types.specs.Words.{provided}
 use Rattle.hx_model.specs.Slots.{Commit, KeyState, commits, moved, moved_all, pending_above, pending_of, top_above}
 use Rattle.hx_law_folds.specs.Folding.{Descends, Stands}
-use Rattle.hx_law_folds.proofs.Slots.{all-pending, all-stand}
+use Rattle.hx_law_folds.proofs.Lemmas.{all-pending, all-stand}
 use Rattle.hx_replica.specs.Outputs.{ended_count, settles}
 use Rattle.hx_replica.proofs.Walking.{drop_at}
 

@@ -21,10 +21,7 @@ use Rattle.hx_model.specs.Neighbours.{place_number}
 use Rattle.hx_model.specs.Places.{places_of}
 use Rattle.hx_model.specs.Regions.{key_region}
 use Rattle.hx_model.specs.Slots.{KeyState, latest_of, top_of, touches_of}
-use Rattle.hx_law_lemmas.proofs.Lists.{when_some_both}
-use Rattle.hx_law_lemmas.proofs.Decisions.{decides}
-use Rattle.hx_law_lemmas.proofs.PlacesApart.{placed}
-use Rattle.hx_law_lemmas.proofs.FoundRows.{TouchedBy}
+use Rattle.hx_law_lemmas.proofs.Lemmas.{when_some_both, decides, placed, TouchedBy}
 use Rattle.hx_replica.specs.Outputs.{IsComing}
 
 touched_by : (n : ℕ) (touches : List Touch) → All (λ (t : Touch). t.version.0 ≤ n) touches → TouchedBy n touches

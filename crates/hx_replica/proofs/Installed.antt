@@ -12,8 +12,7 @@ use Rattle.hx_types.specs.Words.{provided}
 use Rattle.hx_model.specs.ServerSteps.{Replica as ReplicaState, ServerState, ServerStep, SlotContext, adopted, adopted_posts, adopted_replica, adopted_state, install_at, is_active, listed_regions, ready_post, replica_or_new, resumed_posts, context_of, unmoved, with_config}
 use Rattle.hx_model.specs.Slots.{Forget, KeyState, moved}
 use Rattle.hx_law_folds.specs.Folding.{folded, folded_replica, folded_server}
-use Rattle.hx_law_folds.proofs.Folds.{folded-twice}
-use Rattle.hx_law_folds.proofs.Servers.{new-folded}
+use Rattle.hx_law_folds.proofs.Lemmas.{folded-twice, new-folded}
 use Rattle.hx_replica.specs.declared.prepared.Change.{Change}
 use Rattle.hx_replica.specs.declared.prepared.Change.TheVariants as a_change
 use Rattle.hx_replica.specs.declared.replicas.Replica.{Replica}

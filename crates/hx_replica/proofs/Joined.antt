@@ -13,16 +13,14 @@ use Rattle.hx_types.specs.declared.snapshots.Kept.{Kept}
 use Rattle.hx_types.specs.declared.updates.Update.{Update}
 use Rattle.hx_types.specs.Subspaces.{is_key_region}
 use Rattle.hx_types.specs.Words.{same_text}
-use Rattle.hx_model.proofs.Laws.{base-moved_all}
-use Rattle.hx_model.proofs.States.{others_stay}
+use Rattle.hx_model.proofs.Lemmas.{base-moved_all, others_stay}
 use Rattle.hx_model.specs.ServerSteps.{Slots, SlotContext as ModelContext, accepting, tail_acks, join_keys, join_slot, move_posts, offered_all, passed_on, resumed, state_from}
 use Rattle.hx_model.specs.Slots.{Acknowledge, Commit, Forget, Hold, KeyState, Move, Take, follows, moved, moved_all, new_state, offered, pending_above, pending_of, settled, state_among, taken, top_above, top_of, turns, with_state}
 use Rattle.hx_law_folds.specs.Folding.{Descends, IsLater, IsSlotOf, folded}
-use Rattle.hx_law_folds.proofs.Bare.{bare-folded, bare-from}
-use Rattle.hx_law_folds.proofs.Slots.{AllFit, all-filter, later-of, offered_all-fit, when_some_both}
-use Rattle.hx_law_folds.proofs.States.{among-key, folded-among, folded-new, folded-with}
+use Rattle.hx_law_folds.proofs.Lemmas.{bare-folded, bare-from, AllFit, all-filter, later-of, offered_all-fit, when_some_both, among-key, folded-among}
+use Rattle.hx_law_folds.proofs.Lemmas.{folded-new, folded-with}
 use Rattle.hx_store.specs.Stores.{acknowledging}
-use Rattle.hx_store.proofs.Moves.{moved_all_append}
+use Rattle.hx_store.proofs.Lemmas.{moved_all_append}
 use Rattle.hx_replica.specs.Installing.{CanCome, IsFresh, TextsAscend, joined_slots, joining, of_key, own_offer}
 use Rattle.hx_replica.proofs.Asking.{state_marks}
 use Rattle.hx_replica.proofs.Changing.{marks_stay, with_marked}

@@ -18,14 +18,13 @@ use Rattle.hx_types.specs.Configs.{lists}
 use Rattle.hx_types.specs.Spaces.{IsAscending}
 use Rattle.hx_types.specs.Subspaces.{is_key_region}
 use Rattle.hx_types.specs.Words.{list_of, provided, same_region, same_text, text_below, when_some}
-use Rattle.hx_model.proofs.States.{same_text_self}
+use Rattle.hx_model.proofs.Lemmas.{same_text_self}
 use Rattle.hx_model.specs.Neighbours.{is_end}
 use Rattle.hx_model.specs.ServerSteps.{Replica as ReplicaState, SlotContext as ModelContext, tail_acks, is_active, listed_regions, next_at, replica_of, replica_or_new, resumed, with_replica}
 use Rattle.hx_model.specs.Slots.{Forget, KeyState, Move, is_pending, moved, moved_all, pending_of, settled, with_state}
 use Rattle.hx_law_folds.specs.Folding.{KeysAscend, folded}
 use Rattle.hx_store.specs.Stores.{StoreState, acknowledging, after_step, key_at, settled_at, state_at}
-use Rattle.hx_store.proofs.Lists.{at-within}
-use Rattle.hx_store.proofs.Moves.{moved_all_append, moved_all_parts}
+use Rattle.hx_store.proofs.Lemmas.{at-within, moved_all_append, moved_all_parts}
 use Rattle.hx_replica.specs.declared.replicas.Replica.{Replica}
 use Rattle.hx_replica.specs.Adopting.{IsPendingAt, changed_at, lean_adopted, lean_replica, marked_end}
 use Rattle.hx_replica.specs.Outputs.{tail_version}

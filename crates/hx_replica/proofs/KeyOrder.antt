@@ -7,11 +7,10 @@ use Rattle.std.proofs.lemmas.List.{take-append-drop}
 use Rattle.std.proofs.lemmas.Option.{same_Some}
 use Rattle.hx_types.specs.declared.updates.Update.{Update}
 use Rattle.hx_types.specs.Words.{same_text, text_below}
-use Rattle.hx_model.proofs.States.{eq_of_same_text, same_text_self}
+use Rattle.hx_model.proofs.Lemmas.{eq_of_same_text, same_text_self}
 use Rattle.hx_model.specs.ServerSteps.{keys_of, with_key}
-use Rattle.hx_law_folds.proofs.Slots.{all-weaker}
-use Rattle.hx_law_folds.proofs.Texts.{above, below-trans}
-use Rattle.hx_store.proofs.Lists.{at-map}
+use Rattle.hx_law_folds.proofs.Lemmas.{all-weaker, above, below-trans}
+use Rattle.hx_store.proofs.Lemmas.{at-map}
 use Rattle.hx_replica.specs.Installing.{TextsAscend, texts}
 use Rattle.hx_replica.proofs.Turns.{at_item, take_next}
 use Rattle.hx_replica.proofs.Walking.{lower_differs}

@@ -7,7 +7,7 @@ use Rattle.hx_types.specs.declared.messages.Post.{Post}
 use Rattle.hx_types.specs.Posted.{NameOnly, NamesOnly, actors_of_message}
 use Rattle.hx_types.specs.Words.{IsIn, post}
 use Rattle.hx_model.specs.ServerSteps.{server_at_start}
-use Rattle.hx_law_lemmas.proofs.Lists.{all-in}
+use Rattle.hx_law_lemmas.proofs.Lemmas.{all-in}
 use Rattle.hx_replica.specs.Examples.{ask_of, first, small}
 use Rattle.hx_replica.specs.Named.{known_to}
 

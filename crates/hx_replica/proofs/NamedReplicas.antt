@@ -15,11 +15,10 @@ use Rattle.hx_types.specs.Subspaces.{is_key_region}
 use Rattle.hx_types.specs.Words.{IsIn, same_text}
 use Rattle.hx_model.specs.ServerSteps.{Replica, ServerState, Slots, SlotContext, accepting, adopted_posts, tail_acks, installed_slots, is_active, join_keys, join_slot, keys_of, leader_doubts, move_posts, offered_all, passed_on, pending_posts, ready_post, replica_tick, resumed, resumed_posts, snap_posts, snap_to, context_of, state_from}
 use Rattle.hx_model.specs.Slots.{Forget, KeyState, kept_of, moved_all, pending_of, pending_of_all, snapshot_of, state_among}
-use Rattle.hx_law_lemmas.proofs.KnownUpdates.{AllKnown, Known as IsMoveKnown, accepting-known, marks-known, with_commits-known}
-use Rattle.hx_law_lemmas.proofs.Lists.{in-append, in-filter, in-flat_map, in-map, in_left}
-use Rattle.hx_law_lemmas.proofs.Replicas.{in-with_state}
-use Rattle.hx_law_posts.proofs.Moves.{offered_all-known}
-use Rattle.hx_law_posts.proofs.Slots.{held-together, together}
+use Rattle.hx_law_lemmas.proofs.Lemmas.{AllKnownInLine as AllKnown, KnownInLine as IsMoveKnown, accepting-known-in_line as accepting-known}
+use Rattle.hx_law_lemmas.proofs.Lemmas.{marks-known-in_line as marks-known, with_commits-known-in_line as with_commits-known, in-append, in-filter, in-flat_map}
+use Rattle.hx_law_lemmas.proofs.Lemmas.{in-map, in_left, in-with_state}
+use Rattle.hx_law_posts.proofs.Lemmas.{offered_all-known, held-together, together}
 use Rattle.hx_replica.proofs.NamedMembers.{IsMaybeKnown, KnowsMembers, joiner-known}
 use Rattle.hx_replica.proofs.NamedSlots.{AreGood, KnowsCaller, KnowsSlot, among-known, both-good, each-good, kept-known, moved-known, moves-good, none-good, one-good, pending-good, pending-known, provided-good, together-known}
 use Rattle.hx_replica.proofs.NamedSteps.{leader-good}

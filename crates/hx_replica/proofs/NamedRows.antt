@@ -29,9 +29,8 @@ use Rattle.hx_types.specs.Words.{IsIn, post, when_some}
 use Rattle.hx_model.specs.Regions.{key_region}
 use Rattle.hx_model.specs.ServerSteps.{Replica, ServerState, ServerStep, acked, adopted, adopted_posts, asked, call_at, called, called_by, halting, replica_in_epoch, if_installed, input_step, install_at, installed_slots, listed_regions, message_step, ready_post, replica_of, replica_or_new, replica_tick, saying, seal_at, server_step, snapped, context_of, state_in, tick_step, unmoved, updated, with_config}
 use Rattle.hx_model.specs.Slots.{KeyState}
-use Rattle.hx_law_lemmas.proofs.Lists.{in-flat, in-map, in-slice_get, in_left, in_right, map-in, when_some_both}
-use Rattle.hx_law_lemmas.proofs.Replicas.{replica-found}
-use Rattle.hx_law_posts.proofs.Servers.{replica_in_epoch-found, installed-found}
+use Rattle.hx_law_lemmas.proofs.Lemmas.{in-flat, in-map, in-slice_get, in_left, in_right, map-in, when_some_both, replica-found}
+use Rattle.hx_law_posts.proofs.Lemmas.{replica_in_epoch-found, installed-found}
 use Rattle.hx_replica.proofs.NamedReplicas.{Knows, adopted-good, installed-good, ready-good, tick-good}
 use Rattle.hx_replica.proofs.NamedSlots.{AreGood, KnowsSlot, among-known, both-good, each-good, none-good, one-good, provided-good}
 use Rattle.hx_replica.proofs.NamedSteps.{ack-good, call-good, update-good}

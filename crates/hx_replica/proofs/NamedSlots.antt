@@ -20,13 +20,10 @@ use Rattle.hx_model.specs.Neighbours.{place_number}
 use Rattle.hx_model.specs.Lines.{upto}
 use Rattle.hx_model.specs.Slots.{Acknowledge, Commit, Forget, Hold, KeyState, Move, Take, kept_of, marks_after, mark_by, moved_all, new_state, pending_of, state_among, with_mark}
 use Rattle.hx_model.specs.ServerSteps.{SlotContext, ack_to, move_posts, next_at, passed_on, prev_at, reply, told_to, update_to}
-use Rattle.hx_model.proofs.Laws.{base-moved_all}
-use Rattle.hx_law_lemmas.proofs.KnownUpdates.{AllKnown, Known as IsMoveKnown, held-moved_all}
-use Rattle.hx_law_lemmas.proofs.LeaderLines.{pending-in}
-use Rattle.hx_law_lemmas.proofs.Lines.{in-upto}
-use Rattle.hx_law_lemmas.proofs.Lists.{in-append, in-flat_map, in-map, in-provided}
-use Rattle.hx_law_lemmas.proofs.Replicas.{state-from}
-use Rattle.hx_law_posts.proofs.Slots.{held-together, together}
+use Rattle.hx_model.proofs.Lemmas.{base-moved_all}
+use Rattle.hx_law_lemmas.proofs.Lemmas.{AllKnownInLine as AllKnown, KnownInLine as IsMoveKnown, held-moved_all-in_line as held-moved_all, pending-in, in-upto}
+use Rattle.hx_law_lemmas.proofs.Lemmas.{in-append, in-flat_map, in-map, in-provided, state-from}
+use Rattle.hx_law_posts.proofs.Lemmas.{held-together, together}
 use Rattle.hx_replica.proofs.NamedMembers.{GoesToKnown, KnowsMembers, next-known, prev-known}
 
 -- a mark of a changed list is the new one or an old one

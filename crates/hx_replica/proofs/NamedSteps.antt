@@ -20,10 +20,9 @@ use Rattle.hx_model.specs.Leading.{StuckAt, assigned, decide, first_lost, grante
 use Rattle.hx_model.specs.Places.{places_of}
 use Rattle.hx_model.specs.ServerSteps.{SlotStep, SlotContext, accepting, ack_step, by_moves, by_posts, call_step, decided, doubt_in, doubts_from, get_answer, get_step, known_to, leader_doubts, update_step, waiting_doubt, write_step}
 use Rattle.hx_model.specs.Slots.{KeyState, acknowledged, latest_of, object_in, object_of, offered, pending_of, top_of, touches_of}
-use Rattle.hx_law_lemmas.proofs.Decisions.{decides}
-use Rattle.hx_law_lemmas.proofs.KnownUpdates.{accepting-known, acknowledged-known, offered-known}
-use Rattle.hx_law_lemmas.proofs.Lists.{in-filter, when_some_both}
-use Rattle.hx_law_posts.proofs.Slots.{held-together, together}
+use Rattle.hx_law_lemmas.proofs.Lemmas.{decides, accepting-known-in_line as accepting-known, acknowledged-known-in_line as acknowledged-known}
+use Rattle.hx_law_lemmas.proofs.Lemmas.{offered-known-in_line as offered-known, in-filter, when_some_both}
+use Rattle.hx_law_posts.proofs.Lemmas.{held-together, together}
 use Rattle.hx_replica.proofs.NamedMembers.{KnowsMembers}
 use Rattle.hx_replica.proofs.NamedSlots.{AreGood, IsGood, KnowsCaller, KnowsSlot, ack_to-good, mapped-good, moves-good, none-good, one-good, pending-known, provided-good, reply-good, together-known}
 

@@ -15,7 +15,7 @@ use Rattle.hx_types.specs.Posted.{NameOnly, NamesOnly, actors_of_config, actors_
 use Rattle.hx_types.specs.Words.{IsIn}
 use Rattle.hx_model.specs.ServerSteps.{Replica, ServerState, ServerStep, message_step, server_step}
 use Rattle.hx_model.specs.Slots.{KeyState}
-use Rattle.hx_law_lemmas.proofs.Lists.{all-of, in-flat, in_left, in_right, map-in}
+use Rattle.hx_law_lemmas.proofs.Lemmas.{all-of, in-flat, in_left, in_right, map-in}
 use Rattle.hx_replica.specs.Plans.{CanHear}
 use Rattle.hx_replica.specs.Servers.{ServerValue, server_entry}
 use Rattle.hx_replica.specs.Named.{known_to, session_of, sessions_of_replica, sessions_of_slot}

@@ -20,7 +20,7 @@ use Rattle.hx_model.specs.Neighbours.{is_end, place_number}
 use Rattle.hx_model.specs.ServerSteps.{SlotContext as ModelContext, tail_acks, move_posts, next_at, passed_on}
 use Rattle.hx_model.specs.Slots.{Acknowledge, Commit, Hold, KeyState, Move, Take, commits, follows, moved, moved_all, offered, pending_above, pending_of, place_in, settled, taken, top_of, turns}
 use Rattle.hx_store.specs.Stores.{ArePending, acknowledging}
-use Rattle.hx_store.proofs.Moves.{moved_all_append}
+use Rattle.hx_store.proofs.Lemmas.{moved_all_append}
 use Rattle.hx_replica.specs.Outputs.{AreEnds, IsNew, accepting_posts, tail_version, seen, settled_among, settles, told_of}
 
 -- the place in a region is that of its number

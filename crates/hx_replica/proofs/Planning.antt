@@ -22,7 +22,7 @@ use Rattle.hx_model.specs.ServerSteps.{Replica, ServerState, ServerStep, asked, 
 use Rattle.hx_model.specs.Slots.{KeyState, Move, moved_all}
 use Rattle.hx_store.specs.Stores.{Room}
 use Rattle.hx_law_folds.specs.Folding.{folded, folded_server}
-use Rattle.hx_law_folds.proofs.Servers.{found-lean, state-lean, with-slot-lean}
+use Rattle.hx_law_folds.proofs.Lemmas.{found-lean, state-lean, with-slot-lean}
 use Rattle.hx_replica.specs.declared.outputs.SlotChange.TheVariants.{Open, Accept, Acknowledge}
 use Rattle.hx_replica.specs.declared.outputs.SlotChange.{SlotChange}
 use Rattle.hx_replica.specs.declared.prepared.Change.{Change}

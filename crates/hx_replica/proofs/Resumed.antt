@@ -15,7 +15,7 @@ use Rattle.hx_model.specs.ServerSteps.{SlotContext as ModelContext, doubt_in, do
 use Rattle.hx_model.specs.Slots.{Acknowledge, Forget, KeyState, Move, commits, moved, moved_all, pending_of, settled}
 use Rattle.hx_law_folds.specs.Folding.{Descends, IsSlotOf}
 use Rattle.hx_store.specs.Stores.{ArePending, acknowledging}
-use Rattle.hx_store.proofs.Moves.{moved_all_append}
+use Rattle.hx_store.proofs.Lemmas.{moved_all_append}
 use Rattle.hx_replica.specs.Adopting.{IsCarriedOn, doubt_of, doubts_among, doubts_on}
 use Rattle.hx_replica.specs.Outputs.{tail_version, ended_count, told_of}
 use Rattle.hx_replica.proofs.Acked.{told_first}

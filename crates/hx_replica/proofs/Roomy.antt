@@ -9,7 +9,7 @@ use Rattle.hx_types.specs.declared.ids.RegionId.{RegionId}
 use Rattle.hx_types.specs.Words.{same_region}
 use Rattle.hx_model.specs.ServerSteps.{Replica as ReplicaState, replica_of}
 use Rattle.hx_store.specs.Stores.{KeepsRooms, Room, UsesRoom}
-use Rattle.hx_store.proofs.Showing.{keeps-same, keeps-trans}
+use Rattle.hx_store.proofs.Lemmas.{keeps-same, keeps-trans}
 use Rattle.hx_replica.specs.declared.replicas.Replica.{Replica}
 use Rattle.hx_replica.specs.declared.outputs.SlotChange.{SlotChange}
 use Rattle.hx_replica.specs.declared.prepared.Change.{Change}

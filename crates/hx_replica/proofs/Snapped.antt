@@ -25,7 +25,7 @@ use Rattle.hx_types.specs.Words.{text_below}
 use Rattle.hx_model.specs.ServerSteps.{Replica as ReplicaState, ServerState, ServerStep, Slots, replica_in_epoch, installed_slots, keys_of, ready_post, saying, snapped, context_of, state_from, with_replica, with_slots}
 use Rattle.hx_model.specs.Slots.{KeyState}
 use Rattle.hx_law_folds.specs.Folding.{KeptsAscend, folded, folded_replica, folded_server}
-use Rattle.hx_law_folds.proofs.Servers.{with-replica-folded}
+use Rattle.hx_law_folds.proofs.Lemmas.{with-replica-folded}
 use Rattle.hx_slot.specs.States.{IsOrderly, IsRowUpTo}
 use Rattle.hx_store.specs.Stores.{StoreState}
 use Rattle.hx_replica.specs.declared.prepared.Change.TheVariants as a_change

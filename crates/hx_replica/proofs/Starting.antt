@@ -12,7 +12,7 @@ use Rattle.hx_types.specs.Configs.{first_config, lists}
 use Rattle.hx_types.specs.Spaces.{IsAscending}
 use Rattle.hx_types.specs.Subspaces.{region_count}
 use Rattle.hx_types.specs.Words.{below}
-use Rattle.hx_types.proofs.Counting.{map_below_next}
+use Rattle.hx_types.proofs.Lemmas.{map_below_next}
 use Rattle.hx_model.specs.ServerSteps.{Replica as ReplicaState, ServerState, listed_regions, server_at_start}
 use Rattle.hx_replica.specs.declared.replicas.Replica.{Replica}
 use Rattle.hx_replica.specs.Replicas.{AreReplicas, IsReplicaIn, first_replica, views_of}

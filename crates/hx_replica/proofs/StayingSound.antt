@@ -13,15 +13,10 @@ use Rattle.hx_types.specs.declared.ids.ServerId.{ServerId}
 use Rattle.hx_model.specs.ServerSteps.{Replica, ServerState, listed_regions, server_at_start, server_step}
 use Rattle.hx_model.specs.Slots.{KeyState, top_above}
 use Rattle.hx_law_folds.specs.Folding.{Descends, KeysAscend, above, folded, folded_replica, folded_server}
-use Rattle.hx_law_lemmas.proofs.Lists.{in-below, in-filter, in-map}
-use Rattle.hx_law_lemmas.proofs.Texts as a_text
-use Rattle.hx_law_posts.proofs.Bounds as a_bound
-use Rattle.hx_law_posts.proofs.Configs.{first-of_space}
-use Rattle.hx_law_posts.proofs.Kept.{kept_of-sound}
-use Rattle.hx_law_posts.proofs.Moves as a_move
-use Rattle.hx_law_posts.proofs.Servers as a_server
-use Rattle.hx_law_posts.proofs.ServerSteps.{server-good}
-use Rattle.hx_law_posts.proofs.Slots as a_slot
+use Rattle.hx_law_lemmas.proofs.Lemmas.{in-below, in-filter, in-map}
+use Rattle.hx_law_lemmas.proofs.Lemmas as law_lemmas
+use Rattle.hx_law_posts.proofs.Lemmas as law_posts
+use Rattle.hx_law_posts.proofs.Lemmas.{first-of_space, kept_of-sound, server-good}
 use Rattle.hx_replica.specs.Servers.{ServerValue}
 use Rattle.hx_replica.specs.Sound.{IsSoundAt, IsSoundInput, IsSoundReplica, IsSoundServer, IsSoundSlot}
 use Rattle.hx_replica.proofs.Sounding.{given, server}
@@ -31,7 +26,7 @@ below_next : (b v : ℕ) (u : Update) (us : List Update) → top_above b us < u.
 below_next b v u [] l m = m
 below_next b v u (w ∷ ws) l m = cond_both (leb w.version.0 v) [] (w ∷ above v ws) (λ (xs : List Update). top_above v xs < u.version.0) (λ t. m) (λ f. l)
 
-descends_above : (b v : ℕ) (us : List Update) → a_move.Descends b us → Descends v (above v us)
+descends_above : (b v : ℕ) (us : List Update) → law_posts.Descends b us → Descends v (above v us)
 descends_above b v [] h = tt
 descends_above b v (u ∷ us) h =
     cond_both (leb u.version.0 v) [] (u ∷ above v us) (Descends v)
@@ -48,11 +43,11 @@ in_above v (u ∷ us) x =
     (λ f i. elim i [ inl e ↦ inl e | inr j ↦ inr (in_above v us x j) ])
 
 module _ (space : Space) (sessions n : ℕ) where
-  at : (g : RegionId) (u : Update) → a_bound.IsSoundAt space sessions n g u → IsSoundAt space sessions n g u
+  at : (g : RegionId) (u : Update) → law_posts.IsSoundAt space sessions n g u → IsSoundAt space sessions n g u
   at g u h = record { sound = h.sound; version = h.version; place = h.place }
 
   -- a slot without its past
-  slot : (g : RegionId) (t : KeyState) → a_slot.IsSoundSlot space sessions n g t → IsSoundSlot space sessions n g (folded g t)
+  slot : (g : RegionId) (t : KeyState) → law_posts.IsSoundSlot space sessions n g t → IsSoundSlot space sessions n g (folded g t)
   slot g t h = record {
     base = kept_of-sound space sessions n g t h;
     descends = descends_above t.base.floor.0 t.floor t.accepted h.ordered.descends;
@@ -66,26 +61,26 @@ module _ (space : Space) (sessions n : ℕ) where
   each g x [] f = tt
   each g x (y ∷ ys) f = (f y (inl refl), each g x ys (λ z i. f z (inr i)))
 
-  ascend : (g : RegionId) (xs : List KeyState) → a_text.Ascend a_text.state_key xs → KeysAscend (map (folded g) xs)
+  ascend : (g : RegionId) (xs : List KeyState) → law_lemmas.Ascend law_lemmas.state_key xs → KeysAscend (map (folded g) xs)
   ascend g [] h = tt
   ascend g (x ∷ xs) h = (each g x xs h.0, ascend g xs h.1)
 
-  replica : (r : Replica) → a_server.IsSoundReplica space sessions n r → IsSoundReplica space sessions n (folded_replica r)
+  replica : (r : Replica) → law_posts.IsSoundReplica space sessions n r → IsSoundReplica space sessions n (folded_replica r)
   replica r h = record {
     region = h.region;
     slots = λ t i. (let from = in-map (folded r.region) r.states t i in subst (IsSoundSlot space sessions n r.region) (sym from.2) (slot r.region from.0 (h.slots from.0 from.1)));
     ascend = ascend r.region r.states h.ascend;
   }
 
-  replicas : (s : ServerState) → ((r : Replica) → IsIn r s.replicas → a_server.IsSoundReplica space sessions n r) → (r : Replica) → IsIn r (folded_server s).replicas → IsSoundReplica space sessions n r
+  replicas : (s : ServerState) → ((r : Replica) → IsIn r s.replicas → law_posts.IsSoundReplica space sessions n r) → (r : Replica) → IsIn r (folded_server s).replicas → IsSoundReplica space sessions n r
   replicas s h r i = (let from = in-map folded_replica s.replicas r i in subst (IsSoundReplica space sessions n) (sym from.2) (replica from.0 (h from.0 from.1)))
 
 -- what the step leaves
 pub stays_sound : (space : Space) (sessions n : ℕ) (s : ServerState) (input : Input) → IsSoundServer space sessions n s → IsSoundInput space sessions n s.id input → IsSoundServer space sessions (n + 1) (folded_server (server_step space s input).state)
 stays_sound space sessions n s input h k =
     let now = server space sessions n s h in
-    let later = a_server.server-up space sessions n (n + 1) (omega arith) s.id s now in
-    let relies : a_server.Relies space sessions (n + 1) s.id s = record { valid = h.valid; exists = h.exists; sound = later } in
+    let later = law_posts.server-up space sessions n (n + 1) (omega arith) s.id s now in
+    let relies : law_posts.Relies space sessions (n + 1) s.id s = record { valid = h.valid; exists = h.exists; sound = later } in
     let next = (server-good space sessions (n + 1) s.id s relies n now (omega arith) input (given space sessions n s input k)).state in
     record {
       valid = h.valid;

@@ -5,8 +5,8 @@ use Rattle.std.proofs.lemmas.Bool.{false_from_ne_true, false≢true}
 use Rattle.std.proofs.lemmas.Grind.{flat_map-append}
 use Rattle.std.proofs.lemmas.Option.{same_Some}
 use Rattle.hx_types.specs.Words.{same_text, text_below}
-use Rattle.hx_model.proofs.States.{eq_of_same_text, same_text_self}
-use Rattle.hx_law_folds.proofs.Texts.{below-differs, below-trans}
+use Rattle.hx_model.proofs.Lemmas.{eq_of_same_text, same_text_self}
+use Rattle.hx_law_folds.proofs.Lemmas.{below-differs, below-trans}
 use Rattle.hx_replica.proofs.Turns.{take_next}
 
 -- what is posted of one item more

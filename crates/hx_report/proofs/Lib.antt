@@ -8,3 +8,4 @@ pub mod NoneIssued
 pub mod Ranges
 pub mod Reports
 pub mod Traces
+pub mod Lemmas

@@ -19,7 +19,7 @@ use Rattle.hx_types.specs.declared.values.Value.{Value}
 use Rattle.hx_types.specs.Spaces.{Fits, IsObjectOf, IsSpace}
 use Rattle.hx_types.specs.Subspaces.{region_count}
 use Rattle.hx_law_texts.specs.Sayable.{CallIsSayable}
-use Rattle.hx_law_texts.proofs.Numbers.{decimal_digits}
+use Rattle.hx_law_texts.proofs.Lemmas.{decimal_digits}
 use Rattle.hx_print.specs.Printing.{caller_text, named_text, op_text, quoted}
 use Rattle.hx_report.specs.Reporting.{answer_lines, end_text, found_line, in_epoch_line, maybe_answer_lines, object_text, region_line, row_line, version_line, version_text}
 use Rattle.hx_report_lines.specs.declared.answers.Answered.{Answered}

@@ -9,13 +9,13 @@ use Rattle.std.proofs.lemmas.Fmt.{decimal_nonempty}
 use Rattle.std.proofs.lemmas.List.{append_assoc, append-nil, length-append}
 use Rattle.std.proofs.lemmas.List.Elements.{All-cons, All-head, All-nil, All-tail}
 use Rattle.hx_lex.specs.Letters.{begins_with, is_digit}
-use Rattle.hx_lex.proofs.Content.{and_left}
+use Rattle.hx_lex.proofs.Lemmas.{and_left}
 use Rattle.hx_types.specs.declared.ids.RegionId.{RegionId}
 use Rattle.hx_types.specs.declared.ids.ServerId.{ServerId}
 use Rattle.hx_types.specs.declared.spaces.Space.{Space}
 use Rattle.hx_types.specs.Spaces.{IsRegionOf, IsServerOf, IsSpace}
 use Rattle.hx_types.specs.Subspaces.{region_count}
-use Rattle.hx_law_texts.proofs.Numbers.{decimal_digits}
+use Rattle.hx_law_texts.proofs.Lemmas.{decimal_digits}
 use Rattle.hx_print.specs.Printing.{next_number_text, numbers_text}
 use Rattle.hx_report_lines.specs.declared.epochs.EpochLine.{EpochLine}
 use Rattle.hx_report_lines.specs.Parts.{if_same}

@@ -3,7 +3,7 @@ use Rattle.std.proofs.Common.{◌≡◌, ◌≢◌, ℕ, ◌+◌, Bool, true, fa
 use Rattle.std.specs.List.{All}
 use Rattle.std.proofs.lemmas.Bool.{eqb-false}
 use Rattle.std.proofs.lemmas.List.Elements.{All-cons, All-head, All-nil, All-tail}
-use Rattle.hx_lex.proofs.Content.{and_left}
+use Rattle.hx_lex.proofs.Lemmas.{and_left}
 use Rattle.hx_script.specs.Texts.{lines_of, onto_first}
 use Rattle.hx_report_lines.specs.declared.drafts.Draft.{Draft}
 use Rattle.hx_report_lines.specs.Drafts.{after_line, finished, is_over, read_lines}

@@ -19,7 +19,7 @@ use Rattle.hx_types.specs.declared.values.Value.{Value}
 use Rattle.hx_types.specs.Spaces.{IsKind, IsName, IsSpace}
 use Rattle.hx_types.specs.Subspaces.{region_count}
 use Rattle.hx_law_texts.specs.Sayable.{IsSayable}
-use Rattle.hx_law_texts.proofs.Says.{IsClean, both_clean}
+use Rattle.hx_law_texts.proofs.Lemmas.{IsClean, both_clean}
 use Rattle.hx_print.specs.Printing.{caller_text, named_text, next_number_text, numbers_text, op_text, quoted}
 use Rattle.hx_report.specs.Driving.{totals_text}
 use Rattle.hx_report.specs.Reporting.{end_text, object_text, state_text, version_text}

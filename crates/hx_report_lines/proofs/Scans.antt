@@ -10,7 +10,7 @@ use Rattle.std.proofs.lemmas.List.Elements.{All-cons, All-head, All-nil, All-tai
 use Rattle.std.proofs.lemmas.List.Folds.{list_all-append}
 use Rattle.hx_lex.specs.Letters.{is_digit, is_word_part}
 use Rattle.hx_lex.specs.Spelling.{IsText}
-use Rattle.hx_lex.proofs.Content.{and_left, and_right}
+use Rattle.hx_lex.proofs.Lemmas.{and_left, and_right}
 use Rattle.hx_types.specs.declared.calls.Op.{Op}
 use Rattle.hx_types.specs.declared.calls.Op.TheVariants as ops
 use Rattle.hx_types.specs.declared.spaces.Attribute.{Attribute}
@@ -27,10 +27,7 @@ use Rattle.hx_types.specs.Spaces.{Fits, IsKind, IsName, IsSpace}
 use Rattle.hx_types.specs.Words.{when_some}
 use Rattle.hx_print.specs.Printing.{add_text, assign_text, cput_text, edit_text, edit_word, escape, name_of, named_text, op_text, quoted, range_text, term_text, value_text}
 use Rattle.hx_law_texts.specs.Sayable.{CallIsSayable, EditsAreSayable, IsSayable, TermIsSayable, ValuesAreSayable}
-use Rattle.hx_law_texts.proofs.Names.{a_name}
-use Rattle.hx_law_texts.proofs.Numbers.{decimal_digits}
-use Rattle.hx_law_texts.proofs.Quotes.{text_says}
-use Rattle.hx_law_texts.proofs.Says.{IsClean, both_clean, clean_by, nil_says, on_line}
+use Rattle.hx_law_texts.proofs.Lemmas.{a_name, decimal_digits, text_says, IsClean, both_clean, clean_by, nil_says, on_line}
 use Rattle.hx_report_lines.specs.declared.cursor.Place.{Place}
 use Rattle.hx_report_lines.specs.declared.cursor.Place.TheVariants.{Outside, Inside, Escaped}
 use Rattle.hx_report_lines.specs.Readers.{is_outside, next_place, outside_from}

@@ -17,8 +17,7 @@ use Rattle.hx_types.specs.declared.traces.Script.{Script}
 use Rattle.hx_types.specs.Spaces.{ArePart, IsKind, IsName, IsSpace, IsSubspaceOf, NamesDiffer}
 use Rattle.hx_types.specs.Subspaces.{region_count, size_of, sizes_sum}
 use Rattle.hx_law_texts.specs.Sayable.{BoundsAreSayable}
-use Rattle.hx_law_texts.proofs.Names.{all_here}
-use Rattle.hx_law_texts.proofs.Whole.{reads_back}
+use Rattle.hx_law_texts.proofs.Lemmas.{all_here, reads_back}
 use Rattle.hx_print.specs.Printing.{attribute_line, axes_text, axis_text, bounds_text, int_line, key_line, name_of, next_axis_text, script_text, servers_line, sessions_text, space_line, space_text, steps_text, string_line, subspace_line, tolerate_line}
 use Rattle.hx_script.specs.Texts.{script_of}
 use Rattle.hx_report_lines.specs.declared.blocks.Block.{Block}

@@ -8,7 +8,7 @@ use Rattle.std.proofs.lemmas.List.Elements.{All-cons, All-nil, All-map}
 use Rattle.std.proofs.lemmas.List.{take-append-drop}
 use Rattle.std.proofs.lemmas.Slice.Eq.{bytes_eq-Decides}
 use Rattle.std.proofs.lemmas.Str.{IsUtf8-from_is_utf8}
-use Rattle.hx_lex.proofs.Content.{and_left, and_right}
+use Rattle.hx_lex.proofs.Lemmas.{and_left, and_right}
 use Rattle.hx_types.specs.declared.ids.ServerId.{ServerId}
 use Rattle.hx_types.specs.declared.spaces.Space.{Space}
 use Rattle.hx_types.specs.declared.traces.Script.{Script}
@@ -17,8 +17,8 @@ use Rattle.hx_types.specs.Subspaces.{region_count}
 use Rattle.hx_print.specs.Printing.{space_text}
 use Rattle.hx_script.specs.declared.errors.ScriptError.{ScriptError}
 use Rattle.hx_script.specs.Texts.{script_of}
-use Rattle.hx_script.proofs.SoundTexts.{text_sound}
-use Rattle.hx_law_texts.proofs.ToldTexts.{text_told}
+use Rattle.hx_script.proofs.Lemmas.{text_sound}
+use Rattle.hx_law_texts.proofs.Lemmas.{text_told}
 use Rattle.hx_report_lines.specs.declared.blocks.DriverLine.{DriverLine}
 use Rattle.hx_report_lines.specs.declared.epochs.EpochLine.{EpochLine}
 use Rattle.hx_report_lines.specs.Parts.{if_same}

@@ -11,8 +11,7 @@ use Rattle.hx_lex.specs.Letters.{begins_with, is_digit}
 use Rattle.hx_lex.specs.Numbers.{digits_len, value}
 use Rattle.hx_types.specs.declared.calls.Caller.{Caller}
 use Rattle.hx_print.specs.Printing.{caller_text}
-use Rattle.hx_law_texts.proofs.Numbers.{decimal_digits, decimal_value}
-use Rattle.hx_law_texts.proofs.Says.{whole_run}
+use Rattle.hx_law_texts.proofs.Lemmas.{decimal_digits, decimal_value, whole_run}
 use Rattle.hx_report_lines.specs.Parts.{caller, if_same}
 use Rattle.hx_report_lines.specs.Readers.{◌>>=◌, Reader, check, found, give, number, on_some, piece, short_number, word}
 use Rattle.hx_report_lines.specs.Values.{Is32, Is64, IsCaller}

@@ -8,7 +8,7 @@ use Rattle.std.proofs.lemmas.List.{append_assoc, length-append}
 use Rattle.std.proofs.lemmas.List.Elements.{All-head, All-tail, All-map}
 use Rattle.std.proofs.lemmas.Bool.{eqb-true}
 use Rattle.hx_lex.specs.Spelling.{IsText}
-use Rattle.hx_lex.proofs.Content.{and_left, and_right}
+use Rattle.hx_lex.proofs.Lemmas.{and_left, and_right}
 use Rattle.hx_types.specs.declared.calls.Op.{Op}
 use Rattle.hx_types.specs.declared.calls.Op.TheVariants as ops
 use Rattle.hx_types.specs.declared.spaces.Attribute.{Attribute}
@@ -18,9 +18,9 @@ use Rattle.hx_types.specs.declared.values.Value.{Value}
 use Rattle.hx_types.specs.Spaces.{AssignsFit, Fits, IsMaybeObjectOf, IsObjectOf, IsOfKind, IsSpace, KeyFits}
 use Rattle.hx_script.specs.declared.errors.Reason.{Reason}
 use Rattle.hx_script.specs.LoneCalls.{op_of_line}
-use Rattle.hx_script.proofs.LoneCalls.{lone_fits}
+use Rattle.hx_script.proofs.Lemmas.{lone_fits}
 use Rattle.hx_law_texts.specs.Sayable.{CallIsSayable, IsSayable, ValuesAreSayable}
-use Rattle.hx_law_texts.proofs.LoneCalls.{lone_told}
+use Rattle.hx_law_texts.proofs.Lemmas.{lone_told}
 use Rattle.hx_report_lines.specs.Parts.{got_key, in_order, object_in, op_in, put_values, read_ok, state_in, text_in, values_in}
 use Rattle.hx_report_lines.specs.Readers.{on_some, word}
 use Rattle.hx_report_lines.specs.Values.{MaybeObjectIsSayable, ObjectIsSayable}

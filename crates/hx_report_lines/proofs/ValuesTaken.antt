@@ -21,7 +21,7 @@ use Rattle.hx_print.specs.Printing.{assigns_text, name_of, named_text, op_text, 
 use Rattle.hx_report.specs.Reporting.{object_text, state_text}
 use Rattle.hx_script.specs.LoneCalls.{op_of_line}
 use Rattle.hx_law_texts.specs.Sayable.{CallIsSayable, IsSayable}
-use Rattle.hx_law_texts.proofs.Calls.{lone_reads}
+use Rattle.hx_law_texts.proofs.Lemmas.{lone_reads}
 use Rattle.hx_report_lines.specs.Parts.{got_key, in_order, object_in, op_in, put_values, read_ok, state_in, text_in, values_in}
 use Rattle.hx_report_lines.specs.Readers.{on_some, word}
 use Rattle.hx_report_lines.specs.Values.{MaybeObjectIsSayable, ObjectIsSayable}

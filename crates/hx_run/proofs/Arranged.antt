@@ -12,7 +12,7 @@ use Rattle.hx_types.specs.declared.ids.SessionId.{SessionId}
 use Rattle.hx_types.specs.declared.traces.Script.{Script}
 use Rattle.hx_types.specs.Words.{same_actor, IsIn}
 use Rattle.hx_model.specs.Runs.{is_actor}
-use Rattle.hx_law_threads.proofs.Actors.{same_as_itself}
+use Rattle.hx_law_threads.proofs.Lemmas.{same_as_itself}
 use Rattle.hx_outbox.specs.Places.{place_of, Exists}
 use Rattle.hx_run.specs.declared.joining.Taker.{Taker}
 use Rattle.hx_run.specs.Joined.{place_at, AreInPlaces}

@@ -12,17 +12,15 @@ use Rattle.hx_types.specs.Words.{same_actor, IsIn}
 use Rattle.hx_clock.specs.declared.parts.Stamped.{Stamped}
 use Rattle.hx_clock.specs.Parts.{all_of}
 use Rattle.hx_clock.specs.Views.{one, total}
-use Rattle.hx_clock.proofs.Lists.{each_in, total-append}
+use Rattle.hx_clock.proofs.Lemmas.{each_in, total-append}
 use Rattle.hx_law_threads.specs.Merged.{parts_in, IsMerged}
 use Rattle.hx_law_threads.specs.Own.{IsOwn}
-use Rattle.hx_law_threads.proofs.Lists.{in_map, in_reverse, of_filter, of_map}
-use Rattle.hx_law_threads.proofs.Totals.{total_same}
+use Rattle.hx_law_threads.proofs.Lemmas.{in_map, in_reverse, of_filter, of_map, total_same}
 use Rattle.hx_mail.specs.declared.views.Mailed.{Mailed}
 use Rattle.hx_fate.specs.declared.fates.FateState.{FateState}
 use Rattle.hx_outbox.specs.Offers.{asked_of, count_of, is_gone, named, raised_by, Offer}
 use Rattle.hx_outbox.specs.Places.{place_of}
-use Rattle.hx_outbox.proofs.Lists.{total-one}
-use Rattle.hx_outbox.proofs.Offering.{offered-long}
+use Rattle.hx_outbox.proofs.Lemmas.{total-one, offered-long}
 use Rattle.hx_desk.specs.declared.desks.Desk.{Desk}
 use Rattle.hx_desk.specs.Desks.{entries_before, made_by}
 use Rattle.hx_driver.specs.declared.crews.Crew.{Crew}

@@ -8,15 +8,13 @@ use Rattle.atomic_table.specs.Seated.{TableId}
 use Rattle.hx_types.specs.declared.traces.Script.{Script}
 use Rattle.hx_clock.specs.declared.parts.Stamped.{Stamped}
 use Rattle.hx_clock.specs.Views.{total}
-use Rattle.hx_clock.proofs.Lists.{each_in, get-front, total-append}
+use Rattle.hx_clock.proofs.Lemmas.{each_in, get-front, total-append}
 use Rattle.hx_law_threads.specs.Cuts.{is_retry}
 use Rattle.hx_mail.specs.declared.views.Mailed.{Mailed}
 use Rattle.hx_mail.specs.Boxes.{Boxed}
 use Rattle.hx_fate.specs.declared.fates.FateState.{FateState}
 use Rattle.hx_outbox.specs.Zipped.{Both}
-use Rattle.hx_outbox.proofs.Lists.{begins-refl, begins-trans}
-use Rattle.hx_outbox.proofs.Outs.{more-refl, more-trans}
-use Rattle.hx_outbox.proofs.Offering.{offered-both, offered-none}
+use Rattle.hx_outbox.proofs.Lemmas.{begins-refl, begins-trans, more-refl, more-trans, offered-both, offered-none}
 use Rattle.hx_desk.specs.declared.desks.Desk.{Desk}
 use Rattle.hx_desk.specs.declared.faults.Fault.{Fault}
 use Rattle.hx_desk.specs.declared.faults.Fault.TheVariants.{Memory, Worn}

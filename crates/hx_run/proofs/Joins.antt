@@ -5,9 +5,8 @@ use mathlib.Core.List.{IsPrefix}
 use Rattle.hx_types.specs.declared.traces.Script.{Script}
 use Rattle.hx_types.specs.Words.{IsIn}
 use Rattle.hx_clock.specs.Views.{one}
-use Rattle.hx_clock.proofs.Histories.{one-same}
-use Rattle.hx_clock.proofs.Lists.{each_all, in_left, in_right}
-use Rattle.hx_law_threads.proofs.Lists.{in_append}
+use Rattle.hx_clock.proofs.Lemmas.{one-same, each_all, in_left, in_right}
+use Rattle.hx_law_threads.proofs.Lemmas.{in_append}
 use Rattle.hx_mail.specs.declared.views.BoxNames.{BoxNames}
 use Rattle.hx_mail.specs.declared.views.PortLists.{PortLists}
 use Rattle.hx_mail.specs.declared.views.PortView.{PortView}
@@ -18,7 +17,7 @@ use Rattle.hx_outbox.specs.declared.outboxes.Outbox.{Outbox}
 use Rattle.hx_outbox.specs.Outboxes.{outs_of, IsOutbox, IsOutPort}
 use Rattle.hx_outbox.specs.Places.{place_of}
 use Rattle.hx_outbox.specs.Zipped.{Both}
-use Rattle.hx_outbox.proofs.Outs.{both-at, both-long}
+use Rattle.hx_outbox.proofs.Lemmas.{both-at, both-long}
 use Rattle.hx_run.specs.declared.joining.Taker.{Taker}
 use Rattle.hx_desk.specs.Inboxes.{ins_of}
 use Rattle.hx_law_drivers.specs.Joined.{outs_at}

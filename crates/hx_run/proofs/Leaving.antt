@@ -15,10 +15,9 @@ use Rattle.hx_types.specs.declared.traces.Script.{Script}
 use Rattle.hx_types.specs.Words.{below, same_actor, IsIn}
 use Rattle.hx_model.specs.Runs.{is_actor}
 use Rattle.hx_clock.specs.Views.{total, Owns}
-use Rattle.hx_clock.proofs.Lists.{each_all, each_append, each_in, each_map, in_left, in_right}
+use Rattle.hx_clock.proofs.Lemmas.{each_all, each_append, each_in, each_map, in_left, in_right}
 use Rattle.hx_law_threads.specs.Merged.{ActorPart}
-use Rattle.hx_law_threads.proofs.Actors.{same_actor_is, same_as_itself}
-use Rattle.hx_law_threads.proofs.Lists.{in_map, in_permuted, of_below, of_map}
+use Rattle.hx_law_threads.proofs.Lemmas.{same_actor_is, same_as_itself, in_map, in_permuted, of_below, of_map}
 use Rattle.hx_mail.specs.declared.views.BoxNames.{BoxNames}
 use Rattle.hx_mail.specs.declared.views.Mailed.{Mailed}
 use Rattle.hx_mail.specs.declared.views.PortLists.{PortLists}
@@ -30,9 +29,7 @@ use Rattle.hx_outbox.specs.declared.outboxes.Outbox.{Outbox}
 use Rattle.hx_outbox.specs.Outboxes.{out_weight, IsOutbox}
 use Rattle.hx_outbox.specs.Places.{names_for, place_of, AreBoxes, Exists}
 use Rattle.hx_outbox.specs.Zipped.{Both}
-use Rattle.hx_outbox.proofs.Lists.{map-length}
-use Rattle.hx_outbox.proofs.Outs.{both-long}
-use Rattle.hx_outbox.proofs.Places.{place-below}
+use Rattle.hx_outbox.proofs.Lemmas.{map-length, both-long, place-below}
 use Rattle.hx_desk.specs.declared.desks.Desk.{Desk}
 use Rattle.hx_desk.specs.Desks.{IsDesk}
 use Rattle.hx_desk.specs.Inboxes.{ins_of}
@@ -40,7 +37,7 @@ use Rattle.hx_driver.specs.declared.crews.Crew.{Crew}
 use Rattle.hx_driver.specs.Crews.{IsCrew, IsDeskOf}
 use Rattle.hx_law_drivers.specs.Crews.{desks_of, part_of, parts_of, AreNumbered, HaveAllActors}
 use Rattle.hx_law_drivers.specs.Joined.{outs_at, put_total, taken_weight, AreInOrder, AreOnce, IsInOrderOf}
-use Rattle.hx_law_drivers.proofs.Opens.{outs_owned}
+use Rattle.hx_law_drivers.proofs.Lemmas.{outs_owned}
 use Rattle.hx_cluster.specs.Everyone.{actors_of}
 use Rattle.hx_gather.specs.declared.gathering.SeatedPart.{SeatedPart}
 use Rattle.hx_gather.specs.Gathered.{part_by, parts_by, HasNumber, IsSeated}

@@ -11,3 +11,4 @@ pub mod Traces
 pub mod Starts
 pub mod Closes
 pub mod Ends
+pub mod Lemmas

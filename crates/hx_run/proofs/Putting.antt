@@ -8,9 +8,9 @@ use Rattle.hx_types.specs.declared.traces.Entry.{Entry}
 use Rattle.hx_types.specs.declared.traces.Script.{Script}
 use Rattle.hx_types.specs.Words.{below, IsIn}
 use Rattle.hx_model.specs.Runs.{entry_at}
-use Rattle.hx_clock.proofs.Lists.{each_all, each_in, get-front}
+use Rattle.hx_clock.proofs.Lemmas.{each_all, each_in, get-front}
 use Rattle.hx_law_threads.specs.Cuts.{times_named}
-use Rattle.hx_law_threads.proofs.Lists.{reverse_snoc}
+use Rattle.hx_law_threads.proofs.Lemmas.{reverse_snoc}
 use Rattle.hx_mail.specs.declared.views.Mailed.{Mailed}
 use Rattle.hx_mail.specs.declared.views.PortLists.{PortLists}
 use Rattle.hx_outbox.specs.Places.{place_of}

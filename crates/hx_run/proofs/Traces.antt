@@ -24,14 +24,12 @@ use Rattle.hx_clock.specs.declared.parts.Stamped.{Stamped}
 use Rattle.hx_clock.specs.Parts.{all_of}
 use Rattle.hx_clock.specs.Seats.{Seated}
 use Rattle.hx_clock.specs.Views.{total}
-use Rattle.hx_clock.proofs.Lists.{each_all, each_in, each_map}
+use Rattle.hx_clock.proofs.Lemmas.{each_all, each_in, each_map}
 use Rattle.hx_law_threads.specs.Own.{own_entries, past_of, IsOwn}
 use Rattle.hx_law_threads.specs.Merged.{parts_in, ActorPart, AreOwnParts, AreWholeParts, HasOwnParts, IsMerged}
 use Rattle.hx_law_threads.specs.Laws.{IsRunOfParts}
 use Rattle.hx_law_threads.specs.Pacing.{IsPaced, IsPacedToEnd}
-use Rattle.hx_law_threads.proofs.Actors.{same_actor_is}
-use Rattle.hx_law_threads.proofs.Lists.{in_append, in_permuted, in_map, in_reverse, map_reverse, of_map, reverse_cons, reverse_snoc}
-use Rattle.hx_law_threads.proofs.Runs.{merged_run}
+use Rattle.hx_law_threads.proofs.Lemmas.{same_actor_is, in_append, in_permuted, in_map, in_reverse, map_reverse, of_map, reverse_cons, reverse_snoc, merged_run}
 use Rattle.hx_law_threads.specs.Feeding.{IsFed, IsFedBy}
 use Rattle.hx_mail.specs.declared.views.Mailed.{Mailed}
 use Rattle.hx_mail.specs.declared.views.Sent.{Sent}
@@ -39,8 +37,7 @@ use Rattle.hx_mail.specs.Boxes.{Boxed, Ported}
 use Rattle.hx_fate.specs.declared.fates.FateState.{FateState}
 use Rattle.hx_outbox.specs.Places.{place_of}
 use Rattle.hx_outbox.specs.Zipped.{Both}
-use Rattle.hx_outbox.proofs.Lists.{map-length}
-use Rattle.hx_outbox.proofs.Outs.{both-long}
+use Rattle.hx_outbox.proofs.Lemmas.{map-length, both-long}
 use Rattle.hx_desk.specs.declared.desks.Desk.{Desk}
 use Rattle.hx_desk.specs.declared.faults.Fault.{Fault}
 use Rattle.hx_desk.specs.declared.faults.Fault.TheVariants.{Memory, Worn}
@@ -52,8 +49,7 @@ use Rattle.hx_driver.specs.Crews.{IsCrew}
 use Rattle.hx_law_drivers.specs.Crews.{desks_of, doubled_by, lost_by, part_of, parts_of, AreNumbered}
 use Rattle.hx_law_drivers.specs.Joined.{outs_at}
 use Rattle.hx_law_drivers.specs.Laws.{ArePostsBy, EndedRunsEndCalls, HaveRun, IsTraceOf, IsWornAt, MayComeNext, PartsAreOwn, PutsArePosts, RestedRunsArePacedToEnd, RunsArePaced, TracesGoOn, WornActorsAreDue}
-use Rattle.hx_law_drivers.proofs.Desks.{one_desk}
-use Rattle.hx_law_drivers.proofs.Paced.{actors_now}
+use Rattle.hx_law_drivers.proofs.Lemmas.{one_desk, actors_now}
 use Rattle.hx_cluster.specs.Everyone.{actors_of}
 use Rattle.hx_gather.specs.Gathered.{IsDrawn}
 use Rattle.hx_run.specs.Closed.{fault_of, worn_in, AreClosed, HasPosted, IsFirstPort, IsLeft}

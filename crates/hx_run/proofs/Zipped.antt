@@ -4,7 +4,7 @@ use Rattle.std.specs.Prelude.{flat_map}
 use Rattle.std.proofs.lemmas.Bool.Decides.{eqb_tells}
 use Rattle.std.specs.List.{AllByRecursion}
 use Rattle.hx_types.specs.Words.{IsIn}
-use Rattle.hx_clock.proofs.Lists.{each_append}
+use Rattle.hx_clock.proofs.Lemmas.{each_append}
 use Rattle.hx_outbox.specs.Zipped.{Both}
 
 pub some-same : {A : Type 0} (u v : A) → Some u ≡ Some v → u ≡ v

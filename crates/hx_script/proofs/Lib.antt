@@ -26,3 +26,4 @@ pub mod BundleValid
 pub mod OneSpace
 mod OfBundle
 mod BundleExamples
+pub mod Lemmas

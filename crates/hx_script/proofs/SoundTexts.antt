@@ -9,7 +9,7 @@ use Rattle.hx_lex.specs.declared.token.TokenKind.{TokenKind}
 use Rattle.hx_lex.specs.declared.token.TokenKind.TheVariants as token_kinds
 use Rattle.hx_lex.specs.Lines.{tokens_of}
 use Rattle.hx_lex.specs.Spelling.{IsSpelled, IsTokenOf}
-use Rattle.hx_lex.proofs.Parts.{tokens_spelled}
+use Rattle.hx_lex.proofs.Lemmas.{tokens_spelled}
 use Rattle.hx_types.specs.declared.spaces.Attribute.{Attribute}
 use Rattle.hx_types.specs.declared.traces.Script.{Script}
 use Rattle.hx_types.specs.Fitting.{IsScript}

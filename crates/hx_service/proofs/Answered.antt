@@ -16,8 +16,7 @@ use Rattle.hx_types.specs.Words.{IsIn, below}
 use Rattle.hx_model.specs.Histories.{CallEnd, note_of_end}
 use Rattle.hx_model.specs.Runs.{IsRun, session_of}
 use Rattle.hx_model.specs.Schedule.{next_entry, scheduled, with_entry}
-use Rattle.hx_law_lemmas.proofs.FoundRows.{filter-in}
-use Rattle.hx_law_lemmas.proofs.Lists.{in-append, in_right}
+use Rattle.hx_law_lemmas.proofs.Lemmas.{filter-in, in-append, in_right}
 use Rattle.hx_service.specs.declared.receipts.Receipt.{Receipt}
 use Rattle.hx_service.specs.Laws.{ended_count, numbers_to}
 use Rattle.hx_service.specs.Receipts.{IsFree, caller_of, is_by, receipts_by, receipts_now, receipts_of}

@@ -16,7 +16,7 @@ use Rattle.hx_types.specs.Words.{first_some, same_session}
 use Rattle.hx_model.specs.Runs.{session_after, session_of}
 use Rattle.hx_model.specs.SessionSteps.{SessionState, session_step}
 use Rattle.hx_model.specs.Histories.{begin_of, begins_in, ends_in, is_session, note_of_end}
-use Rattle.hx_law_lemmas.proofs.Traces.{of_session}
+use Rattle.hx_law_lemmas.proofs.Lemmas.{of_session}
 use Rattle.hx_service.specs.declared.receipts.Receipt.{Receipt}
 use Rattle.hx_service.specs.Progress.{after_notes, progress_of}
 use Rattle.hx_service.specs.Receipts.{caller_of, is_by, receipt_at, receipts_among, receipts_now}

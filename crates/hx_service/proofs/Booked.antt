@@ -19,13 +19,10 @@ use Rattle.hx_types.specs.Words.{IsIn, first_some}
 use Rattle.hx_model.specs.Runs.{IsRun, IsStep, session_of}
 use Rattle.hx_model.specs.SessionSteps.{SessionState}
 use Rattle.hx_model.specs.Histories.{CallEnd, begin_of, ends_in, is_session, note_of_end}
-use Rattle.hx_law_lemmas.proofs.CallEnds.{CallStop}
-use Rattle.hx_law_lemmas.proofs.FoundRows.{filter-in}
-use Rattle.hx_law_lemmas.proofs.Lists.{in-append, in_left, in_right, map-in}
+use Rattle.hx_law_lemmas.proofs.Lemmas.{CallStop, filter-in, in-append, in_left, in_right, map-in, EndedAt, ended_at}
 use Rattle.hx_service.specs.declared.receipts.Receipt.{Receipt}
 use Rattle.hx_service.specs.Laws.{RunsAreBooked, ended_count, numbers_to, progress_by}
 use Rattle.hx_service.specs.Progress.{after_notes, progress_of}
-use Rattle.hx_law_lemmas.proofs.Traces.{EndedAt, ended_at}
 use Rattle.hx_service.specs.Receipts.{IsReceiptOf, caller_of, is_by, receipt_at, receipts_among, receipts_by, receipts_now, receipts_of}
 use Rattle.hx_service.proofs.Apart.{acts_or, begin-apart, begin-own, end-apart, end-own, now-apart, now-is, now-own, progress-apart, progress-own, state-apart}
 use Rattle.hx_service.proofs.Moves.{Begins, BeginsAndEnds, Ends, Rests, move}

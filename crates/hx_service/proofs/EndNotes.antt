@@ -5,7 +5,7 @@ use Rattle.std.proofs.lemmas.Bool.{cond-false, cond-true, cond_both, eq-eqb, eqb
 use Rattle.hx_types.specs.declared.calls.Caller.{Caller}
 use Rattle.hx_types.specs.declared.traces.Entry.{Entry}
 use Rattle.hx_types.specs.Words.{first_some}
-use Rattle.hx_trace.proofs.Numbering.{entry_is}
+use Rattle.hx_trace.proofs.Lemmas.{entry_is}
 use Rattle.hx_model.specs.Histories.{CallEnd, ends_in, is_session, note_of_end}
 use Rattle.hx_model.specs.Runs.{entry_at}
 use Rattle.hx_types.specs.declared.traces.Note.{Note}

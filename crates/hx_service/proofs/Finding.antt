@@ -10,7 +10,7 @@ use Rattle.hx_types.specs.declared.ids.Version.{Version}
 use Rattle.hx_types.specs.declared.traces.Entry.{Entry}
 use Rattle.hx_types.specs.declared.traces.Script.{Script}
 use Rattle.hx_types.specs.Words.{IsIn}
-use Rattle.hx_law_lemmas.proofs.Lists.{in-find, in-map, in-slice_get, map-in}
+use Rattle.hx_law_lemmas.proofs.Lemmas.{in-find, in-map, in-slice_get, map-in}
 use Rattle.hx_model.specs.Histories.{CallEnd, note_of_end}
 use Rattle.hx_model.specs.Runs.{IsRun}
 use Rattle.hx_service.specs.declared.receipts.Booked.{Booked}

@@ -13,12 +13,10 @@ use Rattle.hx_types.specs.Words.{IsIn, same_session}
 use Rattle.hx_model.specs.Histories.{CallEnd, note_of_end}
 use Rattle.hx_model.specs.Runs.{IsRun, session_after, session_of}
 use Rattle.hx_model.specs.SessionSteps.{SessionState, session_step}
-use Rattle.hx_law_growing.proofs.Kept.{Within, steps}
-use Rattle.hx_law_lemmas.proofs.Lists.{in-filter, in-map}
-use Rattle.hx_law_lemmas.proofs.Traces.{ended_at}
+use Rattle.hx_law_growing.proofs.Lemmas.{Within, steps, numbered_from_1, same_session as one_session}
+use Rattle.hx_law_lemmas.proofs.Lemmas.{in-filter, in-map, ended_at}
 use Rattle.hx_model.specs.Histories.{begin_of}
 use Rattle.hx_model.specs.Runs.{is_actor}
-use Rattle.hx_law_growing.proofs.Calls.{numbered_from_1, same_session as one_session}
 use Rattle.hx_service.specs.declared.progress.Progress.{Progress}
 use Rattle.hx_service.specs.Booking.{AreProgress, session_at}
 use Rattle.hx_service.specs.Progress.{is_resting, progress_of}

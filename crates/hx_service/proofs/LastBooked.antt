@@ -9,11 +9,11 @@ use Rattle.hx_types.specs.declared.traces.Entry.{Entry}
 use Rattle.hx_types.specs.declared.traces.Note.{Note}
 use Rattle.hx_types.specs.declared.traces.Script.{Script}
 use Rattle.hx_types.specs.declared.ids.Actor.TheVariants.{Coordinator, Server, Session}
-use Rattle.hx_trace.proofs.Spans.{get_end}
+use Rattle.hx_trace.proofs.Lemmas.{get_end}
 use Rattle.hx_model.specs.Histories.{begin_of, is_session}
 use Rattle.hx_model.specs.Runs.{IsRun, is_actor, session_of}
 use Rattle.hx_model.specs.SessionSteps.{SessionState}
-use Rattle.hx_law_growing.proofs.Calls.{numbered_from_1, same_session}
+use Rattle.hx_law_growing.proofs.Lemmas.{numbered_from_1, same_session}
 use Rattle.hx_service.specs.declared.progress.Progress.{Progress}
 use Rattle.hx_service.specs.declared.receipts.Booked.{Booked}
 use Rattle.hx_service.specs.Booking.{AreProgress, LacksLast, booked_among, booked_as, session_at}

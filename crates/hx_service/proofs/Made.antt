@@ -14,7 +14,7 @@ use Rattle.hx_types.specs.Fitting.{IsScript, call_of, calls_of, is_done, numbere
 use Rattle.hx_model.specs.Runs.{IsRun, is_actor, session_of}
 use Rattle.hx_model.specs.Histories.{note_of_end}
 use Rattle.hx_law_growing.specs.Growing.{GrowsTo, calls_in}
-use Rattle.hx_law_growing.proofs.Calls.{calls_grow, few_calls_of}
+use Rattle.hx_law_growing.proofs.Lemmas.{calls_grow, few_calls_of}
 use Rattle.hx_service.specs.declared.receipts.Receipt.{Receipt}
 use Rattle.hx_service.specs.Groups.{HasMade, done_in, left_in}
 use Rattle.hx_service.specs.Laws.{ended_count}

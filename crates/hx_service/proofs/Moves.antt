@@ -11,9 +11,7 @@ use Rattle.hx_types.specs.declared.ids.Actor.TheVariants.{Session}
 use Rattle.hx_types.specs.declared.traces.Note.TheVariants as a_note
 use Rattle.hx_model.specs.Runs.{IsStep, made_of, session_after, session_of}
 use Rattle.hx_model.specs.SessionSteps.{SessionState, session_step}
-use Rattle.hx_law_lemmas.proofs.CallEnds.{CallStop, began_notes, end_notes, goes_on, started}
-use Rattle.hx_law_lemmas.proofs.SessionMessages.{SessionTurn, session_turn}
-use Rattle.hx_law_lemmas.proofs.SessionNotes.{all_notes}
+use Rattle.hx_law_lemmas.proofs.Lemmas.{CallStop, began_notes, end_notes, goes_on, started, SessionTurn, session_turn, all_notes}
 
 -- nothing is noted
 pub record Rests (s t : SessionState) (notes : List Note) : Type 0 where

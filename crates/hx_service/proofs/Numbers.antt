@@ -3,7 +3,7 @@ use Rattle.std.proofs.Common.{◌≡◌, ℕ, ◌+◌, ◌-◌, ◌<◌, ◌≤�
 use Rattle.std.proofs.lemmas.List.{map-append}
 use Rattle.hx_types.specs.Words.{IsIn, below}
 use Rattle.hx_model.specs.SessionSteps.{SessionState}
-use Rattle.hx_law_lemmas.proofs.Lists.{in-append, in_left, in_right}
+use Rattle.hx_law_lemmas.proofs.Lemmas.{in-append, in_left, in_right}
 use Rattle.hx_service.specs.Laws.{ended_count, numbers_to}
 
 -- one more

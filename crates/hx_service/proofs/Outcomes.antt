@@ -13,7 +13,7 @@ use Rattle.hx_model.specs.Histories.{note_of_end}
 use Rattle.hx_model.specs.Runs.{is_actor}
 use Rattle.hx_model.specs.Schedule.{next_entry}
 use Rattle.hx_law_growing.specs.Growing.{GrowsTo, calls_in, with_call_of}
-use Rattle.hx_law_growing.proofs.Calls.{calls_grow}
+use Rattle.hx_law_growing.proofs.Lemmas.{calls_grow}
 use Rattle.hx_service.specs.declared.errors.ServiceError.{ServiceError}
 use Rattle.hx_service.specs.declared.errors.ServiceError.TheVariants as an_error
 use Rattle.hx_service.specs.declared.receipts.Receipt.{Receipt}

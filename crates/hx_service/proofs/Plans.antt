@@ -17,8 +17,8 @@ use Rattle.hx_types.specs.Words.{IsIn, when_some}
 use Rattle.std.specs.List.{All}
 use Rattle.hx_model.specs.Runs.{is_actor}
 use Rattle.hx_law_growing.specs.Growing.{GrowsTo, calls_in, with_call_of}
-use Rattle.hx_law_growing.proofs.Calls.{calls_grow, numbered_from_1, own_calls, same_session}
-use Rattle.hx_law_lemmas.proofs.Lists.{all-in, in-slice_get}
+use Rattle.hx_law_growing.proofs.Lemmas.{calls_grow, numbered_from_1, own_calls, same_session}
+use Rattle.hx_law_lemmas.proofs.Lemmas.{all-in, in-slice_get}
 use Rattle.hx_service.specs.declared.errors.ServiceError.{ServiceError}
 use Rattle.hx_service.specs.declared.receipts.Receipt.{Receipt}
 use Rattle.hx_service.specs.Receipts.{next_caller}

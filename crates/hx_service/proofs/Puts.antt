@@ -19,7 +19,7 @@ use Rattle.hx_types.specs.Spaces.{AssignsFit, Fits, IsRowOf}
 use Rattle.hx_types.specs.Words.{when_some}
 use Rattle.hx_model.specs.Runs.{IsRun, is_actor}
 use Rattle.hx_model.specs.Searching.{rows_in}
-use Rattle.hx_law_lemmas.proofs.Lists.{all-in, in_right}
+use Rattle.hx_law_lemmas.proofs.Lemmas.{all-in, in_right}
 use Rattle.hx_service.specs.declared.errors.ServiceError.{ServiceError}
 use Rattle.hx_service.specs.declared.putting.Grouped.{Grouped}
 use Rattle.hx_service.specs.declared.receipts.Receipt.{Receipt}

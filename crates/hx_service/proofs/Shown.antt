@@ -18,8 +18,7 @@ use Rattle.hx_types.specs.Words.{IsIn}
 use Rattle.hx_model.specs.Histories.{history_of}
 use Rattle.hx_model.specs.Legal.{IsLegal, object_now}
 use Rattle.hx_model.specs.Searching.{FinishedSearch, IsTrueRow, ItemWithNewer, items_with_newer, search_of}
-use Rattle.hx_law_lemmas.proofs.Lists.{all-in, in-slice_get, when_some_both}
-use Rattle.hx_law_lemmas.proofs.Objects.{effect-sound, fits-key}
+use Rattle.hx_law_lemmas.proofs.Lemmas.{all-in, in-slice_get, when_some_both, effect-sound, fits-key}
 use Rattle.hx_service.specs.declared.receipts.Receipt.{Receipt}
 use Rattle.hx_service.specs.Lawful.{IsLawful}
 use Rattle.hx_service.specs.Receipts.{IsReceiptOf}

@@ -27,7 +27,7 @@ use Rattle.hx_types.specs.Words.{when_some}
 use Rattle.hx_model.specs.Planning.{plan_of}
 use Rattle.hx_model.specs.Regions.{key_region}
 use Rattle.hx_model.specs.SessionSteps.{Part as PartSeen, SessionState, SessionStep, all_parts, ask_regions, awaits, begin, call_under_way, end_with_parts, ending, is_administrative, is_key_call, send, send_to, session_message, session_step, staying, with_part, with_poll}
-use Rattle.hx_region.proofs.Planned.{asked}
+use Rattle.hx_region.proofs.Lemmas.{asked}
 use Rattle.hx_session.specs.declared.parts.Part.{Part}
 use Rattle.hx_session.specs.declared.prepared.Change.{Change}
 use Rattle.hx_session.specs.declared.sessions.Session.TheInside.{Inside}

@@ -21,8 +21,8 @@ use Rattle.hx_types.specs.Posts.{IsSoundMessage}
 use Rattle.hx_types.specs.Spaces.{Fits, IsConfigOf}
 use Rattle.hx_types.specs.Words.{IsIn, first_of_list, post, when_some}
 use Rattle.hx_model.specs.SessionSteps.{SessionState, session_step}
-use Rattle.hx_law_lemmas.proofs.Lists.{all-in, all-of, in-flat, in-slice_get, in_left, in_right}
-use Rattle.hx_law_posts.proofs.Hops.{head-server}
+use Rattle.hx_law_lemmas.proofs.Lemmas.{all-in, all-of, in-flat, in-slice_get, in_left, in_right}
+use Rattle.hx_law_posts.proofs.Lemmas.{head-server}
 use Rattle.hx_session.specs.Invariant.{IsStateOf}
 use Rattle.hx_types.specs.Posted.{ArePostsOf, InputUpTo, IsPostOf, MessageUpTo, NameOnly, NamesOnly, PostsUpTo, actors_of_config, actors_of_input, actors_of_message, actors_of_op, servers_among}
 use Rattle.hx_session.specs.Sessions.{CanTake, SessionUpTo, known_to}

@@ -21,7 +21,7 @@ use Rattle.hx_types.specs.Words.{when_some}
 use Rattle.hx_model.specs.Planning.{plan_of}
 use Rattle.hx_model.specs.Regions.{key_region}
 use Rattle.hx_model.specs.SessionSteps.{Part, SessionState, SessionStep, all_parts, ask_regions, awaits, begin, call_under_way, end_with_parts, ending, is_administrative, is_key_call, send, send_to, session_install, session_message, session_step, session_tick, staying, with_part, with_poll}
-use Rattle.hx_law_lemmas.proofs.Lists.{when_some_both}
+use Rattle.hx_law_lemmas.proofs.Lemmas.{when_some_both}
 use Rattle.hx_session.specs.Invariant.{IsStateOf}
 use Rattle.hx_session.specs.Sessions.{CanTake}
 use Rattle.hx_session.proofs.Posted.{given_of_space}

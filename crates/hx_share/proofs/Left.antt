@@ -15,9 +15,7 @@ use Rattle.hx_model.specs.Runs.{IsRun, is_actor, session_of}
 use Rattle.hx_model.specs.Schedule.{IsQuiet, Next, entry_by, first_delivery, idle_among, is_idle, undelivered}
 use Rattle.hx_model.specs.SessionSteps.{SessionState}
 use Rattle.hx_law_growing.specs.Growing.{GrowsTo, IsMade, QuietStays}
-use Rattle.hx_law_growing.proofs.Calls.{numbered_from_1}
-use Rattle.hx_law_growing.proofs.Kept.{Within}
-use Rattle.hx_law_growing.proofs.Runs.{within}
+use Rattle.hx_law_growing.proofs.Lemmas.{numbered_from_1, Within, within}
 use Rattle.hx_service.specs.Laws.{FreeSessionsRest, IsAtRest}
 use Rattle.hx_service.specs.Receipts.{IsFree}
 use Rattle.hx_service.specs.Services.{ServiceState}

@@ -18,9 +18,8 @@ use Rattle.hx_types.specs.Words.{provided}
 use Rattle.hx_model.specs.Places.{touched_in}
 use Rattle.hx_model.specs.Slots.{Acknowledge, Forget, Hold, KeyState, Move, Take, acknowledged, is_pending, kept_of, kept_row, latest_of, mark_among, mark_of, marks_after, moved, moved_all, object_in, object_of, pending_of, settled, top_above, top_of, touches_after, touches_of, waits_below}
 use Rattle.hx_law_folds.specs.Folding.{Descends, IsSlotOf, ShowSame, above, folded}
-use Rattle.hx_law_folds.proofs.Folds.{folded-twice, kept-folded, mark-folded, touches-folded}
-use Rattle.hx_law_folds.proofs.Shown.{acknowledged-settled, alike-folded, alike-show, settled-same}
-use Rattle.hx_law_folds.proofs.Slots.{alike-moved_all, settled-fit, slot-folded, AllFit}
+use Rattle.hx_law_folds.proofs.Lemmas.{folded-twice, kept-folded, mark-folded, touches-folded, acknowledged-settled, alike-folded, alike-show, settled-same}
+use Rattle.hx_law_folds.proofs.Lemmas.{alike-moved_all, settled-fit, slot-folded, AllFit}
 use Rattle.hx_slot.specs.declared.updates.PlacedUpdate.{PlacedUpdate}
 use Rattle.hx_slot.specs.declared.ack_order.AckOrder.{AckOrder}
 use Rattle.hx_slot.specs.declared.updates.AcceptedUpdate.{AcceptedUpdate}

@@ -4,8 +4,7 @@ use Rattle.hx_types.specs.declared.ids.RegionId.{RegionId}
 use Rattle.hx_types.specs.declared.updates.Update.{Update}
 use Rattle.hx_model.specs.Slots.{Acknowledge, Forget, KeyState, acknowledged, moved, moved_all, offered, settled}
 use Rattle.hx_law_folds.specs.Folding.{IsAfter, StandsFor, folded}
-use Rattle.hx_law_folds.proofs.Slots.{later-of}
-use Rattle.hx_law_folds.proofs.Standing.{stands-acknowledged, stands-forgotten, stands-marked, stands-offered, stands-settled}
+use Rattle.hx_law_folds.proofs.Lemmas.{later-of, stands-acknowledged, stands-forgotten, stands-marked, stands-offered, stands-settled}
 
 module _ (g h : RegionId) (v new s : KeyState) where
   at : (t : KeyState) → h ≡ g → {w : KeyState} → new ≡ w → StandsFor g w t → StandsFor h new t

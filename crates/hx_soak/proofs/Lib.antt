@@ -2,3 +2,4 @@ mod Examples
 pub mod Dealing
 pub mod Fitting
 pub mod Owners
+pub mod Lemmas

@@ -5,7 +5,7 @@ use Rattle.std.proofs.lemmas.List.Elements.{recursion_from_All}
 use Rattle.std.specs.Prelude.{◌==◌, IfSome}
 use Rattle.std.specs.List.{AllByRecursion}
 use Rattle.hx_world.specs.Worlds.{WorldState, most_entries}
-use Rattle.hx_world.proofs.Tallies.{sum_more, sum_most, sum_to}
+use Rattle.hx_world.proofs.Lemmas.{sum_more, sum_most, sum_to}
 use Rattle.hx_bundle.specs.Bundles.{times}
 use Rattle.hx_spaces.specs.Courses.{Course}
 use Rattle.hx_spaces.specs.Draining.{most_in_all}

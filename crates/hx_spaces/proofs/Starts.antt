@@ -31,9 +31,7 @@ use Rattle.hx_model.specs.Regions.{key_region}
 use Rattle.hx_model.specs.Runs.{session_after, session_of}
 use Rattle.hx_model.specs.Schedule.{Next, entry_by, is_idle}
 use Rattle.hx_model.specs.SessionSteps.{SessionState, SessionStep, all_parts, ask_regions, awaits, begin, call_to, call_under_way, end_with_parts, ending, is_administrative, is_key_call, is_search, lacks_part, lost_answer, merged_parts, send, with_part, send_to, session_install, session_message, session_step, session_tick, staying, with_poll}
-use Rattle.hx_law_lemmas.proofs.CallEnds.{started, started_same}
-use Rattle.hx_law_lemmas.proofs.SessionMessages.{SessionTurn, session_turn}
-use Rattle.hx_law_lemmas.proofs.SessionNotes.{begins_now}
+use Rattle.hx_law_lemmas.proofs.Lemmas.{started, started_same, SessionTurn, session_turn, begins_now}
 use Rattle.hx_world.specs.Worlds.{WorldState}
 use Rattle.hx_spaces.specs.Begins.{BeginsCallOf}
 use Rattle.hx_spaces.specs.Courses.{session_at}

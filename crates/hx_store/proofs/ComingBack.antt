@@ -6,8 +6,8 @@ use Rattle.hx_types.specs.declared.ids.RegionId.{RegionId}
 use Rattle.hx_types.specs.declared.snapshots.Kept.{Kept}
 use Rattle.hx_types.specs.Words.{same_text, text_below, when_some}
 use Rattle.hx_law_folds.specs.Folding.{KeysAscend}
-use Rattle.hx_law_folds.proofs.Texts.{below-differs}
-use Rattle.hx_model.proofs.States.{eq_of_same_text}
+use Rattle.hx_law_folds.proofs.Lemmas.{below-differs}
+use Rattle.hx_model.proofs.Lemmas.{eq_of_same_text}
 use Rattle.hx_model.specs.ServerSteps.{state_from}
 use Rattle.hx_model.specs.Slots.{KeyState, kept_of, new_state, snapshot_of, state_among}
 use Rattle.hx_store.specs.Reading.{come_back}

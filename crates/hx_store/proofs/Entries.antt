@@ -12,7 +12,7 @@ use Rattle.hx_types.specs.Words.{same_text, when_some}
 use Rattle.hx_model.specs.Slots.{KeyState, object_of}
 use Rattle.hx_slot.specs.States.{SlotState}
 use Rattle.hx_index.specs.Orders.{rows_at}
-use Rattle.hx_index.proofs.Looping.{set-elsewhere, set-here, set-length}
+use Rattle.hx_index.proofs.Lemmas.{set-elsewhere, set-here, set-length}
 use Rattle.hx_store.specs.Indexed.{IndexedState, is_marked, kept_at}
 use Rattle.hx_store.specs.Invariant.{HasMoved, is_listed, key_in, stored_at}
 use Rattle.hx_types.specs.Prefixes.{IsPrefixOf}

@@ -6,8 +6,8 @@ use Rattle.std.proofs.lemmas.Bool.{cond_both, cond-false, false≢true, false_fr
 use Rattle.std.proofs.lemmas.List.Quantifiers.{position-Some}
 use Rattle.std.proofs.lemmas.Option.{same_Some, slice_get-get_or}
 use Rattle.hx_types.specs.Words.{same_text, text_below, when_some}
-use Rattle.hx_model.proofs.States.{eq_of_same_text}
-use Rattle.hx_law_folds.proofs.Texts.{below-trans}
+use Rattle.hx_model.proofs.Lemmas.{eq_of_same_text}
+use Rattle.hx_law_folds.proofs.Lemmas.{below-trans}
 use Rattle.hx_store.specs.Invariant.{AscendAt, IsSplit, key_in}
 use Rattle.hx_store.specs.Slots.{Entry}
 use Rattle.hx_store.proofs.Lists.{at-map, at-within, length-of-map}

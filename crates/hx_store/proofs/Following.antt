@@ -8,9 +8,7 @@ use Rattle.hx_types.specs.declared.calls.Row.{Row}
 use Rattle.hx_types.specs.Words.{when_some}
 use Rattle.hx_slot.specs.States.{SlotState}
 use Rattle.hx_index.specs.Orders.{IndexState, IsIndexOf, count_of, rows_at, rows_with, rows_without}
-use Rattle.hx_index.proofs.Looping.{set-elsewhere, set-here, set-length}
-use Rattle.hx_index.proofs.Pairs.{same-orders}
-use Rattle.hx_index.proofs.Standing.{with-own}
+use Rattle.hx_index.proofs.Lemmas.{set-elsewhere, set-here, set-length, same-orders, with-own}
 use Rattle.hx_store.specs.Indexed.{AreIndexed, IndexedState, IsKept, IsKeptAs, IsOf, IsWider, is_marked, kept_at, marked_count, one_if, one_kept, row_count, times}
 
 -- the item at a place

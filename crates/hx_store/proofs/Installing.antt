@@ -5,7 +5,7 @@ use Rattle.std.proofs.lemmas.Bool.{false≢true, false_from_ne_true, or_cases, o
 use Rattle.std.proofs.lemmas.List.{append_assoc, map_push}
 use Rattle.hx_types.specs.declared.snapshots.Kept.{Kept}
 use Rattle.hx_types.specs.Words.{same_text, text_below, when_some}
-use Rattle.hx_model.proofs.States.{eq_of_same_text, same_text_self}
+use Rattle.hx_model.proofs.Lemmas.{eq_of_same_text, same_text_self}
 use Rattle.hx_model.specs.ServerSteps.{state_from}
 use Rattle.hx_model.specs.Slots.{KeyState, with_state}
 use Rattle.hx_law_folds.specs.Folding.{KeptsAscend, KeysAscend}

@@ -16,3 +16,4 @@ pub mod OwnKeys
 pub mod Installing
 pub mod Prefixes
 pub mod Walking
+pub mod Lemmas

@@ -4,8 +4,7 @@ use Rattle.std.specs.List.{AllByRecursion, IsDistinct, filter, flat_map, slice_g
 use Rattle.std.specs.List.Sorted.{IsStrictlySortedBy}
 use Rattle.std.specs.declared.cmp.Ordering.TheVariants.{Less}
 use Rattle.std.proofs.lemmas.List.Kept.{IsStrictlySortedBy-filter}
-use Rattle.hx_index.proofs.Inserting.{less-differs}
-use Rattle.hx_index.proofs.Totals.{slots-exact, slots-total}
+use Rattle.hx_index.proofs.Lemmas.{less-differs, slots-exact, slots-total}
 use Rattle.std.proofs.lemmas.Bool.{and_right, cond-false, cond-true, cond_both, eq-eqb, eqb-true, false≢true, false_from_ne_true, ltb-true, or_left, or_right}
 use Rattle.std.proofs.lemmas.List.Elements.{filter-append}
 use Rattle.std.proofs.lemmas.List.{length-append}

@@ -6,10 +6,10 @@ use Rattle.std.proofs.lemmas.Option.{same_Some}
 use Rattle.indexmap.specs.IndexMap.{set_value_at}
 use Rattle.hx_types.specs.declared.ids.RegionId.{RegionId}
 use Rattle.hx_types.specs.Words.{same_text, text_below, when_some}
-use Rattle.hx_model.proofs.States.{eq_of_same_text, same_text_self}
+use Rattle.hx_model.proofs.Lemmas.{eq_of_same_text, same_text_self}
 use Rattle.hx_model.specs.Slots.{KeyState, new_state, state_among, with_state}
 use Rattle.hx_law_folds.specs.Folding.{KeysAscend}
-use Rattle.hx_law_folds.proofs.Texts.{above, below-differs, below-trans}
+use Rattle.hx_law_folds.proofs.Lemmas.{above, below-differs, below-trans}
 use Rattle.hx_store.specs.Slots.{StoreSlot}
 use Rattle.hx_store.specs.Invariant.{IsSplit, IsStoreSlot, KeysApart, is_listed, is_place, key_in, state_in, states_in}
 use Rattle.hx_store.specs.Slots.{Entry}

@@ -5,7 +5,7 @@ use Rattle.std.specs.Ordering.{is_lt}
 use Rattle.indexmap.specs.IndexMap.{set_value_at}
 use Rattle.hx_types.specs.Words.{text_below, when_some}
 use Rattle.hx_types.specs.Prefixes.{IsPrefixOf}
-use Rattle.hx_types.proofs.Prefixed.{higher-cmp, lower-cmp}
+use Rattle.hx_types.proofs.Lemmas.{higher-cmp, lower-cmp}
 use Rattle.hx_store.specs.Prefixes.{ArePrefixes}
 use Rattle.hx_store.proofs.Texts.{below_is}
 

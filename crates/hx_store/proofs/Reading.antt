@@ -10,7 +10,7 @@ use Rattle.hx_types.specs.Words.{list_of, same_text, text_below}
 use Rattle.hx_law_folds.specs.Folding.{KeptsAscend, KeysAscend}
 use Rattle.hx_model.specs.ServerSteps.{state_from}
 use Rattle.hx_model.specs.Slots.{KeyState, kept_of, pending_of, pending_of_all, snapshot_of, with_state}
-use Rattle.hx_law_folds.proofs.Texts.{below-differs}
+use Rattle.hx_law_folds.proofs.Lemmas.{below-differs}
 use Rattle.hx_slot.specs.States.{SlotState}
 use Rattle.hx_store.specs.Reading.{committed_of}
 use Rattle.hx_store.proofs.Lists.{all-at, take_next}

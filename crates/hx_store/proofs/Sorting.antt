@@ -15,7 +15,7 @@ use Rattle.std.proofs.lemmas.Bool.{cases_eq, cond_both, eq-eqb, eqb-true, falseâ
 use Rattle.std.proofs.lemmas.List.Sums.{sum_by-cons}
 use Rattle.std.proofs.lemmas.List.Sorted.{ranks_by, sum_by-IsPermutation}
 use Rattle.hx_types.specs.Words.{same_text, text_below, when_some}
-use Rattle.hx_law_folds.proofs.Texts.{above, below-trans}
+use Rattle.hx_law_folds.proofs.Lemmas.{above, below-trans}
 use Rattle.hx_index.specs.Orders.{stands_in}
 use Rattle.hx_store.specs.Invariant.{AscendAt, KeysApart, key_in}
 use Rattle.hx_store.specs.Indexed.{one_if, times}

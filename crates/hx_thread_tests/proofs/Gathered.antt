@@ -12,7 +12,7 @@ use Rattle.hx_clock.specs.declared.parts.Stamped.{Stamped}
 use Rattle.hx_clock.specs.declared.view.View.{View}
 use Rattle.hx_clock.specs.Parts.{stamped, IsCausal, Posted}
 use Rattle.hx_clock.specs.Views.{numbered, Carries, Knows, Owns}
-use Rattle.hx_clock.proofs.Lists.{in_right}
+use Rattle.hx_clock.proofs.Lemmas.{in_right}
 use Rattle.hx_gather.specs.declared.gathering.SeatedPart.{SeatedPart}
 use Rattle.hx_gather.specs.Gathered.{parts_by}
 use Rattle.hx_types.specs.declared.ids.Actor.{Actor}

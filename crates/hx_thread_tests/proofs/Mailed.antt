@@ -5,11 +5,11 @@ use Rattle.hx_types.specs.Words.{IsIn}
 use Rattle.hx_clock.specs.declared.parts.Stamped.{Stamped}
 use Rattle.hx_clock.specs.declared.view.View.{View}
 use Rattle.hx_clock.specs.Views.{numbered, one, Carries, Owns}
-use Rattle.hx_clock.proofs.Lists.{in_right}
+use Rattle.hx_clock.proofs.Lemmas.{in_right}
 use Rattle.hx_mail.specs.declared.views.Mailed.{Mailed}
 use Rattle.hx_mail.specs.declared.views.PortView.{PortView}
 use Rattle.hx_mail.specs.Ports.{after_put, lists_of, next_name, port, put_in, split_off, CarriesName}
-use Rattle.hx_mail.proofs.Lists.{put_in-name, times-map}
+use Rattle.hx_mail.proofs.Lemmas.{put_in-name, times-map}
 
 -- the last entry of a seat is carried
 pub asked : (v : View) (k : ℕ) (part : List Stamped) (x : Stamped) → Owns v k (part ++ x ∷ []) → Carries v x

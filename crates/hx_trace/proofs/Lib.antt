@@ -3,3 +3,4 @@ pub mod Longer
 pub mod Naming
 pub mod Numbering
 pub mod Noted
+pub mod Lemmas

@@ -23,8 +23,8 @@ use Rattle.hx_model.specs.Histories.{line_of}
 use Rattle.hx_model.specs.Lines.{upto}
 use Rattle.hx_model.specs.Runs.{server_of}
 use Rattle.hx_model.specs.Slots.{has_place}
-use Rattle.hx_model.proofs.SmallSpace.{blue, caller, configured, epoch, from_session, ready, red, region, server, session, shop, version}
-use Rattle.hx_model.proofs.HandMade.{assigned, began, called, ended, never, put_color, the_key}
+use Rattle.hx_model.proofs.Lemmas.{blue, caller, configured, epoch, from_session, ready, red, region, server, session, shop, version, assigned, began, called}
+use Rattle.hx_model.proofs.Lemmas.{ended, never, hand_made_put_color as put_color, hand_made_key as the_key}
 
 -- two sessions put one object after another
 abbrev script : Script

@@ -10,9 +10,9 @@ use Rattle.hx_model.specs.Holders.{IsPrefix, snap_state}
 use Rattle.hx_model.specs.Runs.{coordinator_of}
 use Rattle.hx_model.specs.ServerSteps.{Replica}
 use Rattle.hx_model.specs.Slots.{KeyState, has_place, top_of}
-use Rattle.hx_model.proofs.SmallSpace.{caller, first_update, key_slot, put_color, red, region, replica, second_update, server, shop, the_key, version}
+use Rattle.hx_model.proofs.Lemmas.{caller, first_update, key_slot, put_color, red, region, replica, second_update, server, shop, the_key, version}
 use Rattle.hx_law_chains.specs.Chains.{InOrder, IsComing, IsHeld, IsUp, StandsEarlier}
-use Rattle.hx_law_chains.proofs.Headline.{runs_answer_committed, runs_keep_order, runs_send_parts}
+use Rattle.hx_law_chains.proofs.Lemmas.{runs_answer_committed, runs_keep_order, runs_send_parts}
 use Rattle.hx_value_tests.proofs.SnapshotRun.{its_empty, its_line, its_post, its_red_replica, its_reply, its_run, its_script, its_sender, pending, red_kept, red_slot, script, sent_slot, snapshot, trace}
 
 none_is_some : {A : Type 0} (x : A) → None ≡ Some x → ⊥

@@ -27,9 +27,10 @@ use Rattle.hx_model.specs.Runs.{IsRun, coordinator_of, post_named, server_of}
 use Rattle.hx_model.specs.Schedule.{stepped}
 use Rattle.hx_model.specs.Slots.{KeyState}
 use Rattle.hx_model.specs.ServerSteps.{if_installed, replica_of}
-use Rattle.hx_model.proofs.SmallSpace.{blue, epoch, first_update, key_slot, mark, not_installed, other_slot, put_color, red, region, replica, row, second_update, server, session, shop, the_key, touch, version}
+use Rattle.hx_model.proofs.Lemmas.{blue, epoch, first_update, key_slot, mark, not_installed, other_slot, put_color, red, region, replica, row, second_update}
+use Rattle.hx_model.proofs.Lemmas.{server, session, shop, the_key, touch, version}
 use Rattle.hx_law_lemmas.specs.Words.{posts_of}
-use Rattle.hx_law_lemmas.proofs.Traces.{arrived}
+use Rattle.hx_law_lemmas.proofs.Lemmas.{arrived}
 use Rattle.hx_value_tests.proofs.Stepped.{go_on, stepped_run}
 
 -- two sessions put one color after another, and a third adds server 3 to the key's region

@@ -15,13 +15,12 @@ use Rattle.hx_model.specs.Runs.{MayTake, entry_of, has_halted, is_actor, made_of
 use Rattle.hx_model.specs.Schedule.{Next, entries_of, entry_by}
 use Rattle.hx_model.specs.ServerSteps.{ServerStep, server_step}
 use Rattle.hx_model.specs.SessionSteps.{session_step}
-use Rattle.hx_model.proofs.Replays.{entry_by_step}
+use Rattle.hx_model.proofs.Lemmas.{entry_by_step}
 use Rattle.hx_replica.specs.Servers.{server_entry}
 use Rattle.hx_session.specs.Sessions.{session_entry}
 use Rattle.hx_coord.specs.Coordinators.{coordinator_entry}
 use Rattle.hx_law_folds.specs.Folding.{InputFits, IsServerOf as AreInOrder, folded_server}
-use Rattle.hx_law_folds.proofs.Servers.{server-folds}
-use Rattle.hx_law_folds.proofs.Staying.{server-stays}
+use Rattle.hx_law_folds.proofs.Lemmas.{server-folds, server-stays}
 use Rattle.hx_world.specs.declared.servers.CountedServer.{CountedServer}
 use Rattle.hx_world.specs.declared.sessions.CountedSession.{CountedSession}
 use Rattle.hx_world.specs.Servers as counted_server

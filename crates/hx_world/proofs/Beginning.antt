@@ -8,8 +8,8 @@ use Rattle.hx_types.specs.Fitting.{IsScript, calls_of, numbered}
 use Rattle.hx_types.specs.Spaces.{Fits}
 use Rattle.hx_types.specs.Words.{when_some}
 use Rattle.hx_law_posts.specs.Posts.{EpochsStaySmall, PostsStaySound, VersionsStaySmall}
-use Rattle.hx_law_lemmas.proofs.Lists.{all-in, in-slice_get}
-use Rattle.hx_law_folds.proofs.Runs.{lean-of, server-of}
+use Rattle.hx_law_lemmas.proofs.Lemmas.{all-in, in-slice_get}
+use Rattle.hx_law_folds.proofs.Lemmas.{lean-of, server-of}
 use Rattle.hx_world.specs.declared.actors.Actors.{Actors}
 use Rattle.hx_world.specs.declared.logs.Log.{Log}
 use Rattle.hx_world.specs.Invariant.{IsServerAt, IsSessionAt, IsWorldOf, IsWorldOn, server_at, session_at}

@@ -15,3 +15,4 @@ pub mod Beginning
 pub mod Spending
 pub mod Submitted
 pub mod Resting
+pub mod Lemmas

@@ -11,7 +11,7 @@ use Rattle.hx_types.specs.declared.traces.Input.TheVariants.{Tick, Halt, Deliver
 use Rattle.hx_types.specs.Words.{IsIn, when_some}
 use Rattle.hx_model.specs.Runs.{entry_at, post_named}
 use Rattle.hx_model.specs.Schedule.{names_from, same_name, undelivered, without_delivered}
-use Rattle.hx_law_lemmas.proofs.Lists.{in-append, in-filter}
+use Rattle.hx_law_lemmas.proofs.Lemmas.{in-append, in-filter}
 use Rattle.hx_world.specs.Names.{AreAscending, is_before}
 
 -- no entry has a number past the end

@@ -16,7 +16,7 @@ use Rattle.hx_types.specs.Words.{IsIn, same_server, when_some}
 use Rattle.hx_model.specs.Runs.{has_halted, post_named, server_of}
 use Rattle.hx_model.specs.ServerSteps.{ServerState, server_step}
 use Rattle.hx_model.specs.Schedule.{Next, delivery_of, first_delivery, names_from, same_name, undelivered, without_delivered}
-use Rattle.hx_law_lemmas.proofs.Lists.{in-append}
+use Rattle.hx_law_lemmas.proofs.Lemmas.{in-append}
 use Rattle.hx_world.specs.declared.coordinators.CountedCoordinator.{CountedCoordinator}
 use Rattle.hx_world.specs.declared.servers.CountedServer.{CountedServer}
 use Rattle.hx_world.specs.declared.sessions.CountedSession.{CountedSession}

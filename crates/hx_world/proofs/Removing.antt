@@ -6,7 +6,7 @@ use Rattle.std.proofs.lemmas.Bool.{cond-true, cond-false, cases_Bool, eqb-true, 
 use Rattle.hx_types.specs.declared.messages.PostId.{PostId}
 use Rattle.hx_types.specs.Words.{IsIn, when_some}
 use Rattle.hx_model.specs.Schedule.{same_name}
-use Rattle.hx_law_lemmas.proofs.Lists.{in-slice_get}
+use Rattle.hx_law_lemmas.proofs.Lemmas.{in-slice_get}
 use Rattle.hx_world.specs.Names.{AreAscending, is_before, names_but}
 use Rattle.hx_world.proofs.Naming.{before_all, before_cases}
 

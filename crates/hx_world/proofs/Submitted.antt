@@ -22,7 +22,7 @@ use Rattle.hx_model.specs.SessionSteps.{SessionState}
 use Rattle.hx_law_folds.specs.Folding.{IsServerOf as AreInOrder, folded_server}
 use Rattle.hx_law_posts.specs.Posts.{EpochsStaySmall, PostsStaySound, VersionsStaySmall}
 use Rattle.hx_law_growing.specs.Growing.{AreStates, CallsGrow, HasCallMore, RunsGrow, ScriptsStay, StatesGrow, calls_in, with_call_of, with_calls}
-use Rattle.hx_law_growing.proofs.Calls.{few_calls_of, numbered_from_1, own_calls}
+use Rattle.hx_law_growing.proofs.Lemmas.{few_calls_of, numbered_from_1, own_calls}
 use Rattle.hx_session.specs.Sessions.{with_call}
 use Rattle.hx_world.specs.declared.actors.Actors.{Actors}
 use Rattle.hx_world.specs.declared.logs.Log.{Log}

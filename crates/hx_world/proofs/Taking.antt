@@ -26,13 +26,13 @@ use Rattle.hx_model.specs.SessionSteps.{SessionState}
 use Rattle.hx_replica.specs.Servers as server
 use Rattle.hx_session.specs.Sessions as session
 use Rattle.hx_coord.specs.Coordinators as coordinator
-use Rattle.hx_law_posts.proofs.Runs.{KeptSound, kept-run}
+use Rattle.hx_law_posts.proofs.Lemmas.{KeptSound, kept-run}
 use Rattle.hx_types.specs.declared.spaces.Space.{Space}
 use Rattle.hx_types.specs.Subspaces.{is_key_region}
 use Rattle.hx_model.specs.Slots.{top_of}
 use Rattle.hx_law_folds.specs.Folding.{InputFits, IsAfter, IsReplicaOf, IsServerOf as AreInOrder, IsSlotIn, MessageFits, folded, folded_replica, folded_server}
-use Rattle.hx_law_folds.proofs.Folds.{top-folded}
-use Rattle.hx_law_lemmas.proofs.Lists.{in-map}
+use Rattle.hx_law_folds.proofs.Lemmas.{top-folded}
+use Rattle.hx_law_lemmas.proofs.Lemmas.{in-map}
 use Rattle.hx_world.specs.Invariant.{IsFewRun}
 use Rattle.hx_world.proofs.Naming.{named_within}
 use Rattle.hx_world.proofs.Tallies.{few_in_all}

@@ -2,7 +2,7 @@ use Rattle.std.proofs.Common.{◌≡◌, ℕ, [], ◌∷◌, None, Option, Some,
 use Rattle.hx_types.specs.declared.calls.Row.{Row}
 use Rattle.hx_index.specs.Looks.{ViewState}
 use Rattle.hx_index.specs.Orders.{IsIndexOf, rows_at}
-use Rattle.hx_index.proofs.Pairs.{first-changes, first-comes, second-comes, without-length}
+use Rattle.hx_index.proofs.Lemmas.{first-changes, first-comes, second-comes, without-length}
 use Rattle.hx_actor_tests.proofs.index.a_row_goes_to_its_new_place.Goals as goal
 
 pub add-requires-clause-others : goal.add-requires-clause-others

@@ -1,5 +1,5 @@
 use Rattle.hx_index.specs.Orders.{no_rows}
-use Rattle.hx_index.proofs.Pairs.{same-orders}
+use Rattle.hx_index.proofs.Lemmas.{same-orders}
 use Rattle.hx_actor_tests.proofs.index.indexed.Goals as goal
 
 pub returns-clause-empty : goal.returns-clause-empty

@@ -1,7 +1,7 @@
 use Rattle.std.proofs.Common.{ℕ, true, false, [], None, Option, sym, ap, ◌∙◌}
 use Rattle.std.specs.List.{slice_get}
 use Rattle.hx_types.specs.Words.{same_text, text_below, when_some}
-use Rattle.hx_law_folds.proofs.Texts.{below-trans}
+use Rattle.hx_law_folds.proofs.Lemmas.{below-trans}
 use Rattle.hx_report_lines.specs.declared.histories.HistoryLines.{HistoryLines}
 use Rattle.hx_audit.proofs.Keys.{key_differs, one_key}
 use Rattle.hx_audit.proofs.Halving.{at_point, found_at_place}

@@ -2,7 +2,7 @@ use Rattle.std.proofs.Common.{rules, None}
 use Rattle.std.proofs.lemmas.List.Sorted.{IsPartitionPoint-from_clause}
 use Rattle.hx_types.specs.Words.{same_text, text_below}
 use Rattle.hx_report_lines.specs.declared.histories.HistoryLines.{HistoryLines}
-use Rattle.hx_law_folds.proofs.Texts.{below-trans}
+use Rattle.hx_law_folds.proofs.Lemmas.{below-trans}
 use Rattle.hx_audit.proofs.Keys.{key_differs, one_key}
 use Rattle.hx_audit.proofs.Halving.{parted}
 use Rattle.hx_audit.proofs.histories.lower_histories.Goals as goal

@@ -1,6 +1,5 @@
 use Rattle.std.proofs.Common.{arith, suc, ◌≡◌, ◌+◌, ◌∙◌, sym, ap, subst, length, take, ◌++◌, ◌∷◌, [], length-append}
-use Rattle.hx_outbox.proofs.Lists.{map-length}
-use Rattle.hx_outbox.proofs.Outs.{both-long}
+use Rattle.hx_outbox.proofs.Lemmas.{map-length, both-long}
 use Rattle.hx_cluster.specs.Dealt.{AreNewDesks, AtEach, IsNewOutbox}
 use Rattle.hx_cluster.specs.Opened.{AreNewPorts}
 use Rattle.hx_cluster.proofs.Boxing.{before-all, box-place, in-port-at, take-all}

@@ -1,6 +1,6 @@
 -- All that the laws say of what callers shared.
 use Rattle.std.proofs.Common.{refl}
-use Rattle.hx_replay.proofs.Lawful.{is_lawful}
+use Rattle.hx_replay.proofs.Lemmas.{is_lawful}
 use Rattle.hx_command.proofs.shared.share_script.Goals as goal
 
 pub returns : goal.returns

@@ -1,7 +1,7 @@
 -- All that the laws say of a run on threads, and how its fates were tuned.
 use Rattle.std.proofs.Common.{◌≡◌, get_or, slice_get, Some, arith}
 use Rattle.std.proofs.lemmas.Option.{slice_get_within, slice_get-get_or}
-use Rattle.hx_replay.proofs.Lawful.{is_lawful}
+use Rattle.hx_replay.proofs.Lemmas.{is_lawful}
 use Rattle.hx_command.proofs.Handing.{risen_from}
 use Rattle.hx_command.proofs.threads.run_threads.Goals as goal
 

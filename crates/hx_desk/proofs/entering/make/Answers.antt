@@ -9,7 +9,7 @@ use Rattle.hx_law_threads.specs.Feeding.{IsFed, entries_in}
 use Rattle.hx_law_threads.specs.Own.{IsOwn}
 use Rattle.hx_machine.specs.Machines.{IsMachine}
 use Rattle.hx_outbox.specs.declared.copies.Copies.{Copies}
-use Rattle.hx_outbox.proofs.Lists.{map-length}
+use Rattle.hx_outbox.proofs.Lemmas.{map-length}
 use Rattle.hx_outbox.specs.Offers.{firsts_of, IsOffered}
 use Rattle.hx_outbox.specs.Places.{place_of}
 use Rattle.hx_desk.specs.Desks.{past_of, told}

@@ -6,7 +6,7 @@ use Rattle.hx_clock.specs.Views.{Knows}
 use Rattle.hx_mail.specs.declared.views.PortView.{PortView}
 use Rattle.hx_mail.specs.Ports.{mailed_of, sent_of}
 use Rattle.hx_outbox.specs.Places.{place_of}
-use Rattle.hx_outbox.proofs.Lists.{begins-refl}
+use Rattle.hx_outbox.proofs.Lemmas.{begins-refl}
 use Rattle.hx_desk.specs.Inboxes.{ins_of, IsHeardFrom, taken_first}
 use Rattle.hx_desk.proofs.Taking.{actor-below, exists-of, post-to, sound-to, taken-ins, taken-port, told-next}
 use Rattle.hx_desk.proofs.receiving.receive.Goals as goal

@@ -1,6 +1,5 @@
 use Rattle.std.proofs.Common.{arith, refl, sym, append-nil}
-use Rattle.hx_outbox.proofs.Lists.{begins-refl}
-use Rattle.hx_outbox.proofs.Offering.{offered-none}
+use Rattle.hx_outbox.proofs.Lemmas.{begins-refl, offered-none}
 use Rattle.hx_desk.specs.Inboxes.{ins_of}
 use Rattle.hx_desk.proofs.turning.resend.Goals as goal
 

@@ -13,7 +13,7 @@ use Rattle.hx_history.specs.Issued.{issued_by}
 use Rattle.hx_history.proofs.Issuing.{issued_more, neither}
 use Rattle.hx_history.proofs.Rows.{spans_at_start, shape_at_start, spans_more}
 use Rattle.hx_history.proofs.Unnoted.{unsaid}
-use Rattle.hx_trace.proofs.Noted.{noted_at, unnoted_at}
+use Rattle.hx_trace.proofs.Lemmas.{noted_at, unnoted_at}
 use Rattle.hx_history.proofs.ByEvents.{events_more}
 use Rattle.hx_history.proofs.walking.gather.Goals as goal
 use Rattle.hx_history.proofs.walking.gather.Goals.{in-Some+in_ok-push_events, in_default}

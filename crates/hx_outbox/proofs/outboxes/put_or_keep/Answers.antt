@@ -1,6 +1,6 @@
 use Rattle.std.proofs.Common.{arith, ◌≡◌, ◌+◌, ◌^◌, ◌<◌, sym, ap, refl, subst, ◌∙◌, length, slice_index_or, [], ◌∷◌, ◌++◌, append-nil}
 use Rattle.std.proofs.Math.Facts.{Fits-of_lt}
-use Rattle.hx_clock.proofs.Lists.{total-append}
+use Rattle.hx_clock.proofs.Lemmas.{total-append}
 use Rattle.hx_mail.specs.Ports.{mailed_of}
 use Rattle.hx_outbox.specs.Outboxes.{kept_weight, outs_of, IsOutPort}
 use Rattle.hx_outbox.proofs.Lists.{map-length}

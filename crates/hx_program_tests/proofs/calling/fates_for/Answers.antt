@@ -2,7 +2,7 @@
 use Rattle.std.proofs.Common.{◌≡◌, ◌≤◌, ℕ, refl, sym, subst, arith}
 use Rattle.hx_words.specs.declared.commands.Run.{Run}
 use Rattle.hx_words.specs.declared.commands.Soak.{Soak}
-use Rattle.hx_command.proofs.Wording.{none_some, not_both, same_some}
+use Rattle.hx_command.proofs.Lemmas.{none_some, not_both, same_some}
 use Rattle.hx_program_tests.proofs.calling.fates_for.Goals as goal
 
 as_many_soak : (a b : Soak) (n : ℕ) → b ≡ a → n ≡ a.workers → b.workers ≤ n

@@ -1,7 +1,7 @@
 -- One more subspace is counted.
 use Rattle.std.proofs.Common.{◌≡◌, ℕ, [], ◌∷◌, ◌++◌, List, Option, Some, map, sym, ap, ◌∙◌, arith}
 use Rattle.hx_types.specs.Words.{below}
-use Rattle.hx_types.proofs.Counting.{map_below_next}
+use Rattle.hx_types.proofs.Lemmas.{map_below_next}
 use Rattle.hx_region.specs.Spans.{subspace_count}
 use Rattle.hx_region.specs.Plans.{query_size}
 use Rattle.hx_region.proofs.Trying.{few_counts}

@@ -2,7 +2,7 @@
 use Rattle.std.proofs.Common.{ℕ, ◌<◌, List, sym, ◌∙◌, subst, arith}
 use Rattle.std.specs.List.{All}
 use Rattle.hx_types.specs.Subspaces.{size_of}
-use Rattle.hx_types.proofs.Counting.{parts_of_rest, small_rest}
+use Rattle.hx_types.proofs.Lemmas.{parts_of_rest, small_rest}
 use Rattle.hx_region.proofs.Meetings.{no_rows, rows_gathered, rows_met-below}
 use Rattle.hx_region.proofs.meeting.+rows_meeting.Goals as goal
 

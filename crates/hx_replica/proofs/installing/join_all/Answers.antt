@@ -1,7 +1,7 @@
 use Rattle.std.proofs.Common.{List, ℕ, ap, refl, sym, ◌∙◌}
 use Rattle.std.specs.Borrow.{Bor}
 use Rattle.hx_model.specs.Slots.{KeyState}
-use Rattle.hx_store.proofs.Lists.{at-map}
+use Rattle.hx_store.proofs.Lemmas.{at-map}
 use Rattle.hx_replica.specs.Installing.{joining, texts}
 use Rattle.hx_replica.specs.Outputs.{context_seen}
 use Rattle.hx_replica.proofs.Changing.{marks_stay}

@@ -1,7 +1,7 @@
 use Rattle.std.proofs.Common.{List, ℕ, ap, sym, ◌∙◌}
 use Rattle.std.specs.Cmp.Lexicographic.{slice_cmp}
 use Rattle.std.specs.Ordering.{is_lt, nat_cmp}
-use Rattle.hx_store.proofs.Texts.{below_is}
+use Rattle.hx_store.proofs.Lemmas.{below_is}
 use Rattle.hx_replica.proofs.keys.is_below.Goals as goal
 
 pub returns : goal.returns

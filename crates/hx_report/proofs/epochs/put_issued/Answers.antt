@@ -4,7 +4,7 @@ use Rattle.std.specs.Option.{option_map}
 use Rattle.hx_types.specs.declared.traces.Entry.{Entry}
 use Rattle.hx_types.specs.declared.traces.Note.{Note}
 use Rattle.hx_trace.specs.Entries.{entry_seen}
-use Rattle.hx_trace.proofs.Noted.{noted_at, unnoted_at}
+use Rattle.hx_trace.proofs.Lemmas.{noted_at, unnoted_at}
 use Rattle.hx_report.specs.Reporting.{entry_lines, note_lines}
 use Rattle.hx_report.proofs.Appending.{one_more}
 use Rattle.hx_report.proofs.epochs.put_issued.Goals as goal

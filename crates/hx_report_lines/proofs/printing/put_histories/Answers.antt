@@ -1,5 +1,5 @@
 use Rattle.std.proofs.Common.{◌∙◌}
-use Rattle.hx_report.proofs.Appending.{one_more}
+use Rattle.hx_report.proofs.Lemmas.{one_more}
 use Rattle.hx_report_lines.specs.Printed.{history_text}
 use Rattle.hx_report_lines.proofs.printing.put_histories.Goals as goal
 

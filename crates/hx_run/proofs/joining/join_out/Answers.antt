@@ -1,6 +1,6 @@
 use Rattle.std.proofs.Common.{arith, ◌≡◌, ◌+◌, ◌≤◌, ◌∙◌, refl, [], length, append-nil}
 use Rattle.hx_outbox.specs.Outboxes.{IsOutPort}
-use Rattle.hx_outbox.proofs.Outs.{both-long}
+use Rattle.hx_outbox.proofs.Lemmas.{both-long}
 use Rattle.hx_run.specs.Joined.{IsKeptTaker}
 use Rattle.hx_run.proofs.Zipped.{both-refl, both-trans}
 use Rattle.hx_run.proofs.Joins.{joined-start, joined-end, kept-refl, kept-trans, places-kept}

@@ -1,7 +1,7 @@
 use Rattle.std.proofs.Common.{◌≡◌, ◌≤◌, ◌∙◌, length, arith, map, None, slice_index_or, subst, sym}
 use Rattle.std.specs.List.{AllByRecursion}
 use Rattle.hx_types.specs.Words.{IsIn}
-use Rattle.hx_clock.proofs.Lists.{each_all, each_in}
+use Rattle.hx_clock.proofs.Lemmas.{each_all, each_in}
 use Rattle.hx_driver.specs.declared.crews.Crew.{Crew}
 use Rattle.hx_law_drivers.specs.Crews.{desks_of}
 use Rattle.hx_law_drivers.specs.Rests.{IsRested}

@@ -1,5 +1,5 @@
 use Rattle.std.proofs.Common.{◌<◌, ◌∙◌, sym, length, arith}
-use Rattle.hx_clock.proofs.Lists.{each_in, in_left}
+use Rattle.hx_clock.proofs.Lemmas.{each_in, in_left}
 use Rattle.hx_desk.specs.Desks.{entries_before}
 use Rattle.hx_run.specs.Rounds.{HasMachine}
 use Rattle.hx_run.proofs.Zipped.{at-in}

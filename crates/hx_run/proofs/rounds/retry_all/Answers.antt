@@ -1,6 +1,6 @@
 use Rattle.std.proofs.Common.{◌≡◌, ◌<◌, ◌≤◌, ◌∙◌, length, map, refl, ap, sym, arith, slice_set}
 use Rattle.std.specs.Option.{is_some}
-use Rattle.hx_outbox.proofs.Lists.{map-length}
+use Rattle.hx_outbox.proofs.Lemmas.{map-length}
 use Rattle.hx_run.proofs.Zipped.{both-put-at, both-refl, both-trans, each-index, get-set, long-set}
 use Rattle.hx_run.proofs.Courses.{all-retried, no-fault, posted-refl, posted-trans, retried-next, retried-none, retried-part, some-fault, stay-each, stay-next, stay-refl}
 use Rattle.hx_driver.specs.Crews.{IsCrew}

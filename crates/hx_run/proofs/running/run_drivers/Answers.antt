@@ -1,6 +1,6 @@
 use Rattle.std.proofs.Common.{◌≡◌, ◌∙◌, ap, sym, subst, arith, length, map, drop}
 use Rattle.hx_outbox.specs.Places.{AreBoxes}
-use Rattle.hx_outbox.proofs.Outs.{both-long}
+use Rattle.hx_outbox.proofs.Lemmas.{both-long}
 use Rattle.hx_run.specs.Closed.{worn_in}
 use Rattle.hx_run.proofs.Ends.{actors-need, all-met, all-posted, closed-of, crews-need, how-long, left-same, lent-crews}
 use Rattle.hx_run.proofs.Starts.{cut-same}

@@ -2,7 +2,7 @@
 use Rattle.std.proofs.Common.{◌≡◌, ◌∙◌, ◌+◌, length, sym, subst, arith}
 use Rattle.std.proofs.lemmas.Result.{IfOk-at_ok}
 use Rattle.hx_cluster.specs.Clusters.{AreNewSeats}
-use Rattle.hx_run.proofs.Leaving.{how-many}
+use Rattle.hx_run.proofs.Lemmas.{how-many}
 use Rattle.hx_run_tests.proofs.dealing.three_actors_are_dealt_to_two_drivers.Goals as goal
 
 pub deal-dealt-requires-clause-seats : goal.deal-dealt-requires-clause-seats

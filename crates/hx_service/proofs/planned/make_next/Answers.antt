@@ -5,7 +5,7 @@ use Rattle.hx_types.specs.declared.limits.TheConstants.{MOST_CALLS}
 use Rattle.hx_types.specs.Fitting.{calls_of}
 use Rattle.hx_types.specs.Spaces.{Fits}
 use Rattle.hx_law_growing.specs.Growing.{calls_in}
-use Rattle.hx_law_growing.proofs.Calls.{few_calls_of}
+use Rattle.hx_law_growing.proofs.Lemmas.{few_calls_of}
 use Rattle.hx_service.specs.declared.errors.ServiceError.TheVariants as an_error
 use Rattle.hx_service.proofs.Plans.{actor-of, few-planned, follows-on, none-left, planned-fits, planned-is}
 use Rattle.hx_service.proofs.planned.make_next.Goals as goal

@@ -1,6 +1,6 @@
 use Rattle.std.proofs.Common.{◌<◌, arith, get_or, length, true, ◌∙◌}
 use Rattle.std.proofs.lemmas.Option.{slice_get-get_or}
-use Rattle.hx_index.proofs.Looping.{set-length}
+use Rattle.hx_index.proofs.Lemmas.{set-length}
 use Rattle.hx_store.proofs.Walking.{mark-more}
 use Rattle.hx_store.proofs.slots.marks_of.Goals as goal
 

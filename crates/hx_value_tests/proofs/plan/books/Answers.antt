@@ -1,5 +1,5 @@
 -- Its parts make a valid space.
-use Rattle.hx_law_lemmas.proofs.SmallBooks.{small_books_are}
+use Rattle.hx_law_lemmas.proofs.Lemmas.{small_books_are}
 use Rattle.hx_value_tests.proofs.plan.books.Goals as goal
 
 pub returns : goal.returns

@@ -1,7 +1,7 @@
 use Rattle.std.proofs.Common.{◌≡◌, ◌-◌, ℕ, ◌∙◌, ap, arith, length, nat_lt, subst}
 use Rattle.std.proofs.lemmas.Bool.Decides.{nat_tests}
 use Rattle.hx_law_folds.specs.Folding.{IsSlotOf}
-use Rattle.hx_law_folds.proofs.Slots.{slot-folded}
+use Rattle.hx_law_folds.proofs.Lemmas.{slot-folded}
 use Rattle.hx_model.specs.Slots.{pending_of}
 use Rattle.hx_slot.specs.States.{SlotState}
 use Rattle.hx_slot.proofs.Lean.{count-seen, slot-whole}

@@ -1,5 +1,5 @@
 use Rattle.std.proofs.Common.{[], ◌∙◌}
-use Rattle.hx_law_folds.proofs.Bare.{bare-folded}
+use Rattle.hx_law_folds.proofs.Lemmas.{bare-folded}
 use Rattle.hx_law_folds.specs.Folding.{folded}
 use Rattle.hx_slot.specs.Updates.{newest_first}
 use Rattle.hx_slot.specs.Invariant.{updates_of}

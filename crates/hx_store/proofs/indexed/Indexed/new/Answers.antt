@@ -1,5 +1,5 @@
 use Rattle.std.proofs.Common.{◌+◌, ℕ, List, ap, length, ◌∙◌}
-use Rattle.hx_index.proofs.Showing.{length-repeat}
+use Rattle.hx_index.proofs.Lemmas.{length-repeat}
 use Rattle.hx_store.proofs.indexed.Indexed.new.Goals as goal
 
 pub returns-clause-attributes : goal.returns-clause-attributes

@@ -1,6 +1,6 @@
 use Rattle.std.proofs.Common.{◌∙◌}
 use Rattle.hx_store.specs.Invariant.{key_in}
-use Rattle.hx_types.proofs.Prefixed.{apart-cmp}
+use Rattle.hx_types.proofs.Lemmas.{apart-cmp}
 use Rattle.hx_store.proofs.slots.Slots.compare_keys.Goals as goal
 
 pub returns-then-first-second : goal.returns-then-first-second

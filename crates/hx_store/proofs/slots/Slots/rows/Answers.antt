@@ -2,7 +2,7 @@ use Rattle.std.proofs.Common.{◌≡◌, ap, ◌∙◌}
 use Rattle.std.specs.List.{flat_map}
 use Rattle.hx_types.specs.Words.{list_of}
 use Rattle.hx_index.specs.Orders.{rows_at}
-use Rattle.hx_index.proofs.Matched.{if-ok}
+use Rattle.hx_index.proofs.Lemmas.{if-ok}
 use Rattle.hx_store.specs.Slots.{SlotsState, rows_in}
 use Rattle.hx_store.proofs.slots.Slots.rows.Goals as goal
 

@@ -3,7 +3,7 @@ use Rattle.std.specs.List.{flat_map}
 use Rattle.hx_types.specs.Words.{list_of}
 use Rattle.hx_law_folds.specs.Folding.{KeysAscend}
 use Rattle.hx_model.specs.Slots.{found_in, rows_of}
-use Rattle.hx_index.proofs.Matched.{if-ok}
+use Rattle.hx_index.proofs.Lemmas.{if-ok}
 use Rattle.hx_store.specs.Invariant.{HasAll, IsStore, rooms_in, states_in}
 use Rattle.hx_store.specs.Reading.{RowsAscend}
 use Rattle.hx_store.specs.Looks.{least_looks_at, most_looks_at}

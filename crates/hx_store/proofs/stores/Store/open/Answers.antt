@@ -1,5 +1,5 @@
 use Rattle.std.proofs.Common.{◌≡◌, ◌≤◌, ℕ, List, ap, arith, length, subst, sym, ◌∙◌, vec_capacity}
-use Rattle.hx_law_folds.proofs.States.{among-key}
+use Rattle.hx_law_folds.proofs.Lemmas.{among-key}
 use Rattle.hx_model.specs.Slots.{KeyState}
 use Rattle.hx_store.specs.Invariant.{AscendAt, IsSplit}
 use Rattle.hx_store.specs.Stores.{key_at}

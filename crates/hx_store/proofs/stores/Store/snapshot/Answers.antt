@@ -1,6 +1,6 @@
 use Rattle.std.proofs.Common.{sym, subst, take}
 use Rattle.hx_law_folds.specs.Folding.{KeptsAscend}
-use Rattle.hx_law_folds.proofs.Joinable.{sent-ascends}
+use Rattle.hx_law_folds.proofs.Lemmas.{sent-ascends}
 use Rattle.hx_store.proofs.Reading.{ascend-take, kept-next}
 use Rattle.hx_store.proofs.stores.Store.snapshot.Goals as goal
 
