@@ -16,7 +16,7 @@ use Rattle.hx_replica.specs.declared.outputs.SlotChange.{SlotChange}
 use Rattle.hx_replica.specs.declared.outputs.SlotChange.TheVariants.{Open, Accept, Acknowledge as AckChange}
 use Rattle.hx_replica.specs.declared.replicas.Replica.{Replica}
 use Rattle.hx_replica.specs.Outputs.{stepped}
-use Rattle.hx_replica.specs.Replicas.{AreReplicas, AscendByRegion, IsReplicaIn, view_of, views_of}
+use Rattle.hx_replica.specs.Replicas.{AreReplicas, AscendByRegion, IsReplicaIn, rooms_of, view_of, views_of}
 use Rattle.hx_replica.proofs.Asking.{state_marks}
 use Rattle.hx_replica.proofs.Finding.{higher}
 
@@ -125,6 +125,9 @@ module _ (space : Space) (rs : List Replica) (place : ℕ) (y : Replica) (store 
   reserved_views states =
       map_stays view_of rs place put
       (ap (λ (states : List KeyState). record { region = y.region; installed = y.installed; states = states }) states ∙ ap view_of here)
+
+  pub reserved_rooms : store.rooms ≡ y.store.rooms → rooms_of (set rs place put) ≡ rooms_of rs
+  reserved_rooms rooms = map_stays (λ (r : Replica). r.store.rooms) rs place put (rooms ∙ ap (λ (r : Replica). r.store.rooms) here)
 
   pub state_is : (key : List ℕ) → store.marks ≡ y.store.marks → state_at store key ≡ state_in space (view_of put) key
   state_is key marks = ap (λ (b : Bool). state_among b key store.states) (marks ∙ held.marks)

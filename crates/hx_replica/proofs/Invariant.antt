@@ -35,7 +35,7 @@ use Rattle.hx_replica.proofs.Planning.{found_there}
 pub marked_inside : (i : Inside) (v : ServerValue) → value_of i ≡ v → IsServer i → AreMarked v
 marked_inside i v seen is = subst AreMarked seen (λ place r e.
     let rs = i.replicas.items in
-    let d : Replica = record { region = r.region; installed = r.installed; store = record { region = r.region; marks = is_key_region i.space r.region; attributes = 0; states = []; rooms = [] } } in
+    let d : Replica = record { region = r.region; installed = r.installed; store = record { region = r.region; marks = is_key_region i.space r.region; attributes = 0; states = []; rooms = []; ordered = true } } in
     subst (λ (z : ReplicaState). AllByRecursion (λ (t : KeyState). t.marks ≡ is_key_region i.space z.region) z.states) (view_at rs place d r e)
     (replica_at i.space rs place d is.replicas_are.each (below_views rs place r e)).marked)
 

@@ -23,13 +23,14 @@ use Rattle.hx_model.specs.Neighbours.{is_end}
 use Rattle.hx_model.specs.ServerSteps.{Replica as ReplicaState, SlotContext as ModelContext, tail_acks, is_active, listed_regions, next_at, replica_of, replica_or_new, resumed, with_replica}
 use Rattle.hx_model.specs.Slots.{Forget, KeyState, Move, is_pending, moved, moved_all, pending_of, settled, with_state}
 use Rattle.hx_law_folds.specs.Folding.{KeysAscend, folded}
-use Rattle.hx_store.specs.Stores.{StoreState, acknowledging, after_step, key_at, settled_at, state_at}
+use Rattle.hx_store.specs.Stores.{StoreState, acknowledging, after_step, has_slot, key_at, settled_at, state_at}
 use Rattle.hx_store.proofs.Lemmas.{at-within, moved_all_append, moved_all_parts}
 use Rattle.hx_replica.specs.declared.replicas.Replica.{Replica}
 use Rattle.hx_replica.specs.Adopting.{IsPendingAt, changed_at, lean_adopted, lean_replica, marked_end}
 use Rattle.hx_replica.specs.Outputs.{tail_version}
 use Rattle.hx_replica.specs.Replicas.{AreReplicas, IsReplicaIn, new_replica, view_of, views_of}
 use Rattle.hx_replica.specs.Ticking.{standing}
+use Rattle.hx_replica.proofs.Asking.{state_key}
 use Rattle.hx_replica.proofs.Changing.{set_is_with, set_replicas, view_at}
 use Rattle.hx_replica.proofs.Hearing.{found_region}
 use Rattle.hx_replica.proofs.Offers.{acknowledging_append, marks_pending}
@@ -75,6 +76,23 @@ put_at f k (x ∷ xs) (suc i) t a e =
 pub step_at : (s : StoreState) (place i : ℕ) (step : RegionId → KeyState → KeyState) → ((t : KeyState) → (step s.region t).base.key ≡ t.base.key) → KeysAscend s.states → slice_get s.states i ≡ Some (state_at s (key_at s place))
     → after_step s (key_at s place) step ≡ changed_at (step s.region) i s.states
 step_at s place i step k a e = put_at (step s.region) k s.states i (state_at s (key_at s place)) a e
+
+-- the slot with a number is that of the key at its place
+pub slot_there : (s : StoreState) (place i : ℕ) → slice_get s.states i ≡ Some (state_at s (key_at s place)) → has_slot (key_at s place) s.states ≡ true
+slot_there s place i at = by s.states i at
+  where
+    or : (a b : Bool) → b ≡ true → (a || b) ≡ true
+    or true b e = refl
+    or false b e = e
+
+    by : (xs : List KeyState) (i : ℕ) → slice_get xs i ≡ Some (state_at s (key_at s place)) → has_slot (key_at s place) xs ≡ true
+    by [] i e = absurd cc
+    by (x ∷ xs) zero e =
+        let key = key_at s place in
+        ap (λ (t : KeyState). same_text t.base.key key || has_slot key xs) (same_Some x (state_at s key) e)
+        ∙ ap (λ (k : List ℕ). same_text k key || has_slot key xs) (state_key s.marks key s.states)
+        ∙ ap (λ b. b || has_slot key xs) (same_text_self key)
+    by (x ∷ xs) (suc i) e = or (same_text x.base.key (key_at s place)) (has_slot (key_at s place) xs) (by xs i e)
 
 pub settled_key : (g : RegionId) (s : KeyState) → (settled_at g s).base.key ≡ s.base.key
 settled_key g s = ap (λ (k : Kept). k.key) (moved_all_parts (settled s) s).0

@@ -13,6 +13,7 @@ pub mod Planning
 pub mod Asking
 pub mod Changing
 pub mod Invariant
+pub mod Ordered
 pub mod Sending
 pub mod Searching
 pub mod Committing

@@ -1,5 +1,5 @@
 -- What a server answers to a search in a region, where one of its replicas hears it.
-use Rattle.std.proofs.Common.{◌≡◌, ℕ, zero, suc, ◌<◌, true, false, List, [], ◌∷◌, get_or, length, set, IfOk, Option, Result, Ok, Err, Some, refl, ap, sym, ◌∙◌, subst, arith}
+use Rattle.std.proofs.Common.{◌≡◌, ℕ, zero, suc, ◌<◌, true, false, List, [], ◌∷◌, get_or, length, IfOk, Option, Result, Ok, Err, Some, ap, sym, ◌∙◌, subst, arith}
 use Rattle.std.specs.List.{slice_get}
 use Rattle.std.specs.Option.{IsSomeAnd, option_map}
 use Rattle.hx_types.specs.declared.calls.Row.{Row}
@@ -19,7 +19,6 @@ use Rattle.hx_replica.specs.declared.servers.Server.TheInside.{Inside}
 use Rattle.hx_replica.specs.Invariant.{IsServer, value_of}
 use Rattle.hx_replica.specs.Replicas.{IsReplicaIn, view_of, views_of}
 use Rattle.hx_replica.specs.Servers.{ServerValue}
-use Rattle.hx_store.specs.Stores.{StoreState}
 use Rattle.hx_replica.proofs.Changing.{replica_at}
 use Rattle.hx_replica.proofs.Hearing.{found_region, replica_in_epoch_found, installed_some}
 use Rattle.hx_replica.proofs.Planning.{IsFound, found_there}
@@ -73,9 +72,3 @@ rows_there i v place y terms rows seen is l at found =
     let holds : IsReplicaIn i.space y = subst (IsReplicaIn i.space) (sym at) (replica_at i.space rs place y is.replicas_are.each l) in
     subst (λ (o : Option ReplicaState). IsSomeAnd o (λ (r : ReplicaState). rows ≡ found_in r.region terms r.states)) (sym there ∙ ap (λ (x : ServerValue). slice_get x.state.replicas place) seen)
     (found ∙ ap (λ (x : RegionId). found_in x terms y.store.states) holds.region)
-
--- a replica that comes in its own place
-pub set_same : (rs : List Replica) (place : ℕ) (y : Replica) (store : StoreState) → place < length rs → y ≡ get_or rs place y → store ≡ y.store → set rs place (record { region = y.region; installed = y.installed; store = store }) ≡ rs
-set_same [] place y store l at e = refl
-set_same (r ∷ rs) zero y store l at e = ap (λ (x : StoreState). record { region = y.region; installed = y.installed; store = x } ∷ rs) e ∙ ap (λ (x : Replica). x ∷ rs) at
-set_same (r ∷ rs) (suc place) y store l at e = ap (λ (xs : List Replica). r ∷ xs) (set_same rs place y store (omega (arith, l)) at e)

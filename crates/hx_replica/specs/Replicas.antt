@@ -1,6 +1,6 @@
 -- The replicas of a server, in ascending order of regions.
 use Rattle.std.specs.Prelude.{◌≡◌, ◌+◌, true, false, ⊤, List, [], ◌∷◌, if◌then◌else◌, length, map}
-use Rattle.std.specs.List.{AllByRecursion}
+use Rattle.std.specs.List.{All, AllByRecursion}
 use Rattle.hx_types.specs.declared.ids.RegionId.{RegionId}
 use Rattle.hx_types.specs.declared.spaces.Space.{Space}
 use Rattle.hx_types.specs.Spaces.{IsAscending}
@@ -21,6 +21,14 @@ views_of rs = map view_of rs
 -- for how many more updates the slots of each replica have room
 abbrev pub rooms_of : List Replica → List (List Room)
 rooms_of rs = map (λ (r : Replica). r.store.rooms) rs
+
+-- the replica once its store has put its slots in byte order of keys
+abbrev pub in_order : Replica → Replica
+in_order r = record r { store = record r.store { ordered = true } }
+
+-- the stores have put their slots in byte order of keys
+abbrev pub AreOrdered : List Replica → Type 0
+AreOrdered rs = All (λ (r : Replica). r.store.ordered ≡ true) rs
 
 -- in each replica every key keeps its place, and no room falls
 abbrev pub KeepAllRooms : List (List Room) → List (List Room) → Type 0
@@ -67,8 +75,8 @@ pub record AreReplicas (space : Space) (rs : List Replica) : Type 0 where
 
 -- a replica at the start
 abbrev pub first_replica : Space → RegionId → Replica
-first_replica space g = record { region = g; installed = true; store = record { region = g; marks = is_key_region space g; attributes = length space.attributes + 1; states = []; rooms = [] } }
+first_replica space g = record { region = g; installed = true; store = record { region = g; marks = is_key_region space g; attributes = length space.attributes + 1; states = []; rooms = []; ordered = true } }
 
 -- a new replica: empty, and not installed
 abbrev pub new_replica : Space → RegionId → Replica
-new_replica space g = record { region = g; installed = false; store = record { region = g; marks = is_key_region space g; attributes = length space.attributes + 1; states = []; rooms = [] } }
+new_replica space g = record { region = g; installed = false; store = record { region = g; marks = is_key_region space g; attributes = length space.attributes + 1; states = []; rooms = []; ordered = true } }

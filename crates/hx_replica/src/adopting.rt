@@ -1,10 +1,10 @@
-ghost use Rattle.std.specs.Prelude.{◌≡◌, ◌++◌, OnOk, length};
+ghost use Rattle.std.specs.Prelude.{◌≡◌, ◌++◌, OnOk, length, true};
 ghost use Rattle.std.specs.List.{flat_map};
 ghost use Rattle.hx_types.specs.Subspaces.{region_count};
 ghost use Rattle.hx_types.specs.declared.ids.RegionId.{RegionId as Numbered};
 ghost use Rattle.hx_model.specs.ServerSteps.{adopted_posts, is_active, listed_regions, replica_or_new, resumed_posts};
 ghost use Rattle.hx_replica.specs.Outputs.{context_seen};
-ghost use Rattle.hx_replica.specs.Replicas.{AreReplicas, IsReplicaIn, view_of, views_of};
+ghost use Rattle.hx_replica.specs.Replicas.{AreOrdered, AreReplicas, IsReplicaIn, view_of, views_of};
 ghost use Rattle.hx_replica.specs.Ticking.{standing};
 
 use crate::contexts::SlotContext;
@@ -30,6 +30,7 @@ pub fn post_adoption(
     requires regions { map.now ≡ space.now }
     requires count { length config.now.regions ≡ region_count space.now }
     requires replicas { AreReplicas space.now replicas.now }
+    requires ordered { AreOrdered replicas.now }
     ensures { OnOk result (posts.new ≡ posts.old ++ flat_map (λ (g : Numbered). adopted_posts space.now (standing config.now server) (replica_or_new (views_of replicas.now) g)) (listed_regions config.now server)) }
 {
     for number in 0..map.regions() {
@@ -55,7 +56,8 @@ fn post_region(
     replicas: &[Replica],
     posts: &mut Posts,
 ) -> Result<(), Memory>
-    requires { AreReplicas context.now.space.now replicas.now }
+    requires replicas { AreReplicas context.now.space.now replicas.now }
+    requires ordered { AreOrdered replicas.now }
     ensures { OnOk result (posts.new ≡ posts.old ++ adopted_posts context.now.space.now (standing context.now.config.now context.now.server) (replica_or_new (views_of replicas.now) context.now.region)) }
 {
     match place_of(replicas, context.region) {
@@ -74,6 +76,7 @@ fn post_replica(
 ) -> Result<(), Memory>
     requires region { replica.now.region ≡ context.now.region }
     requires is { IsReplicaIn context.now.space.now replica.now }
+    requires ordered { replica.now.store.ordered ≡ true }
     ensures { OnOk result (posts.new ≡ posts.old ++ adopted_posts context.now.space.now (standing context.now.config.now context.now.server) (view_of replica.now)) }
 {
     if !is_active(context.config, replica) {
@@ -98,7 +101,8 @@ fn post_slots(
     store: &Store,
     posts: &mut Posts,
 ) -> Result<(), Memory>
-    requires { store.now.region ≡ context.now.region }
+    requires region { store.now.region ≡ context.now.region }
+    requires ordered { store.now.ordered ≡ true }
     ensures { OnOk result (posts.new ≡ posts.old ++ flat_map (resumed_posts (context_seen context.now)) store.now.states) }
 {
     for i in 0..store.len() {

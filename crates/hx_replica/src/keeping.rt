@@ -90,6 +90,7 @@ fn adopt_slots(context: &SlotContext, store: &mut Store, active: bool)
     ensures states { store.new.states ≡ map (lean_adopted (context_seen context.now) active) store.old.states }
     ensures rooms { KeepsRooms store.old.rooms store.new.rooms }
 {
+    store.sort_order();
     for i in 0..store.len() {
         adopt_slot(context, store, i, active);
     }
@@ -101,10 +102,12 @@ fn adopt_slots(context: &SlotContext, store: &mut Store, active: bool)
 fn adopt_slot(context: &SlotContext, store: &mut Store, i: usize, active: bool)
     requires region { store.old.region ≡ context.now.region }
     requires number { i < length store.old.states }
+    requires ordered { store.old.ordered ≡ true }
     ensures region { store.new.region ≡ store.old.region }
     ensures marks { store.new.marks ≡ store.old.marks }
     ensures states { store.new.states ≡ changed_at (lean_adopted (context_seen context.now) active) i store.old.states }
     ensures rooms { KeepsRooms store.old.rooms store.new.rooms }
+    ensures ordered { store.new.ordered ≡ true }
 {
     reset_acks(store, i);
     if active {
@@ -115,11 +118,13 @@ fn adopt_slot(context: &SlotContext, store: &mut Store, i: usize, active: bool)
 
 /// The slot with this number forgets its acknowledgements and early updates.
 fn reset_acks(store: &mut Store, i: usize)
-    requires { i < length store.old.states }
+    requires number { i < length store.old.states }
+    requires ordered { store.old.ordered ≡ true }
     ensures region { store.new.region ≡ store.old.region }
     ensures marks { store.new.marks ≡ store.old.marks }
     ensures states { store.new.states ≡ changed_at (moved Forget) i store.old.states }
     ensures rooms { KeepsRooms store.old.rooms store.new.rooms }
+    ensures ordered { store.new.ordered ≡ true }
 {
     let place = store.place_at(i);
     store.reset_acks(place);
@@ -127,11 +132,13 @@ fn reset_acks(store: &mut Store, i: usize)
 
 /// The slot with this number commits what it can.
 fn settle(store: &mut Store, i: usize)
-    requires { i < length store.old.states }
+    requires number { i < length store.old.states }
+    requires ordered { store.old.ordered ≡ true }
     ensures region { store.new.region ≡ store.old.region }
     ensures marks { store.new.marks ≡ store.old.marks }
     ensures states { store.new.states ≡ changed_at (settled_at store.old.region) i store.old.states }
     ensures rooms { KeepsRooms store.old.rooms store.new.rooms }
+    ensures ordered { store.new.ordered ≡ true }
 {
     let place = store.place_at(i);
     store.settle(place);
@@ -141,10 +148,12 @@ fn settle(store: &mut Store, i: usize)
 fn mark_ends(context: &SlotContext, store: &mut Store, i: usize)
     requires region { store.old.region ≡ context.now.region }
     requires number { i < length store.old.states }
+    requires ordered { store.old.ordered ≡ true }
     ensures region { store.new.region ≡ store.old.region }
     ensures marks { store.new.marks ≡ store.old.marks }
     ensures states { store.new.states ≡ changed_at (λ (s : KeyState). moved_all (tail_acks (context_seen context.now) (pending_of s)) s) i store.old.states }
     ensures rooms { KeepsRooms store.old.rooms store.new.rooms }
+    ensures ordered { store.new.ordered ≡ true }
 {
     for k in 0..pending_count(store, i) {
         mark_end(context, store, i, k);
@@ -153,6 +162,7 @@ fn mark_ends(context: &SlotContext, store: &mut Store, i: usize)
 
 /// How many updates of the slot with this number are pending.
 fn pending_count(store: &Store, i: usize) -> u32
+    requires { store.now.ordered ≡ true }
     ensures { result ≡ when_some (slice_get store.now.states i) 0 (λ (s : KeyState). length (pending_of s)) }
 {
     match store.nth(i) {
@@ -167,10 +177,12 @@ fn pending_count(store: &Store, i: usize) -> u32
 fn mark_end(context: &SlotContext, store: &mut Store, i: usize, k: u32)
     requires region { store.old.region ≡ context.now.region }
     requires number { i < length store.old.states }
+    requires ordered { store.old.ordered ≡ true }
     ensures region { store.new.region ≡ store.old.region }
     ensures marks { store.new.marks ≡ store.old.marks }
     ensures states { store.new.states ≡ changed_at (marked_end (context_seen context.now) k) i store.old.states }
     ensures rooms { KeepsRooms store.old.rooms store.new.rooms }
+    ensures ordered { store.new.ordered ≡ true }
 {
     if let Some(version) = end_at(context, store, i, k) {
         mark(store, i, version);
@@ -180,7 +192,8 @@ fn mark_end(context: &SlotContext, store: &mut Store, i: usize, k: u32)
 /// The version of the pending update with number k of the slot with number i, where its chain ends
 /// here.
 fn end_at(context: &SlotContext, store: &Store, i: usize, k: u32) -> Option<Version>
-    requires { store.now.region ≡ context.now.region }
+    requires region { store.now.region ≡ context.now.region }
+    requires ordered { store.now.ordered ≡ true }
     ensures { list_of result ≡ when_some (slice_get store.now.states i) [] (λ (s : KeyState). when_some (slice_get (pending_of s) k) [] (tail_version (context_seen context.now))) }
 {
     end_of_slot(context, store.nth(i)?, k)
@@ -197,10 +210,12 @@ fn end_of_slot(context: &SlotContext, slot: &Slot, k: u32) -> Option<Version>
 fn mark(store: &mut Store, i: usize, version: Version)
     requires number { i < length store.old.states }
     requires pending { IsPendingAt i version store.old.states }
+    requires ordered { store.old.ordered ≡ true }
     ensures region { store.new.region ≡ store.old.region }
     ensures marks { store.new.marks ≡ store.old.marks }
     ensures states { store.new.states ≡ changed_at (moved (Acknowledge version.0)) i store.old.states }
     ensures rooms { KeepsRooms store.old.rooms store.new.rooms }
+    ensures ordered { store.new.ordered ≡ true }
 {
     let place = store.place_at(i);
     store.mark(place, version);

@@ -6,7 +6,7 @@ ghost use Rattle.hx_types.specs.Subspaces.{region_count};
 ghost use Rattle.hx_model.specs.ServerSteps.{listed_regions, replica_of};
 ghost use Rattle.hx_store.specs.Stores.{UsesRoom, after_step, key_at, state_at};
 ghost use Rattle.hx_replica.specs.Outputs.{ChangeFits, HasRoomFor, room_of, stepped};
-ghost use Rattle.hx_replica.specs.Replicas.{AscendByRegion, first_replica, new_replica, views_of};
+ghost use Rattle.hx_replica.specs.Replicas.{AscendByRegion, first_replica, in_order, new_replica, views_of};
 
 use crate::outputs::SlotChange;
 use hx_store::Store;
@@ -106,6 +106,16 @@ pub fn place_of(replicas: &[Replica], region: RegionId) -> Option<usize>
     match replicas.binary_search_by_key(&region.0, |replica| replica.region.0) {
         Ok(place) => Some(place),
         Err(_) => None,
+    }
+}
+
+/// The stores put their slots in byte order of keys, where new ones have come since. It takes no
+/// memory.
+pub fn sort_orders(replicas: &mut Vec<Replica>)
+    ensures { replicas.new.items ≡ map in_order replicas.old.items }
+{
+    for place in 0..replicas.len() {
+        replicas[place].store.sort_order();
     }
 }
 

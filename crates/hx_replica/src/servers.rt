@@ -33,6 +33,7 @@ use crate::outputs::{SlotChange, room_by};
 use crate::prepared::{Change, Plan, post_to_coordinator};
 use crate::replicas::{
     Replica, change_slot, first_replicas, joined_replica, new_replicas, place_of, put_replica,
+    sort_orders,
 };
 use crate::slot_steps::step_slot;
 use crate::ticking::{post_ready, tick_all};
@@ -350,23 +351,26 @@ impl Server {
 
     /// What is pending is sent again; where the server is sealed, it says that instead.
     #[inline(never)]
-    fn tick(&self, alloc: Global, posts: &mut Posts) -> Result<Change, Memory>
-        requires { folded_server self.now.state ≡ self.now.state }
-        ensures posts { OnOk result (posts.new ≡ posts.old ++ (tick_step self.now.space self.now.state).posts) }
-        ensures change { IfOk result (IsChange self.now (tick_step self.now.space self.now.state).state) }
+    fn tick(&mut self, alloc: Global, posts: &mut Posts) -> Result<Change, Memory>
+        requires { folded_server self.old.state ≡ self.old.state }
+        ensures posts { OnOk result (posts.new ≡ posts.old ++ (tick_step self.old.space self.old.state).posts) }
+        ensures change { IfOk result (IsChange self.old (tick_step self.old.space self.old.state).state) }
+        ensures stays { self.new ≡ self.old }
     {
         self.send_again(alloc, posts)?;
         Ok(Change::Nothing)
     }
 
     /// Posts what a tick posts.
-    fn send_again(&self, alloc: Global, posts: &mut Posts) -> Result<(), Memory>
-        ensures { OnOk result (posts.new ≡ posts.old ++ (tick_step self.now.space self.now.state).posts) }
+    fn send_again(&mut self, alloc: Global, posts: &mut Posts) -> Result<(), Memory>
+        ensures posts { OnOk result (posts.new ≡ posts.old ++ (tick_step self.old.space self.old.state).posts) }
+        ensures stays { self.new ≡ self.old }
     {
         if self.sealed {
             let epoch = self.config.epoch;
             return post_to_coordinator(self.id, Message::Sealed { epoch }, posts);
         }
+        sort_orders(&mut self.replicas);
         tick_all(
             alloc,
             &self.space,
@@ -411,19 +415,21 @@ impl Server {
     #[cold]
     #[inline(never)]
     fn install(
-        &self,
+        &mut self,
         alloc: Global,
         config: &Shared<Config>,
         posts: &mut Posts,
     ) -> Result<Change, Memory>
-        requires config { IsConfigOf self.now.space config.now }
-        requires bare { folded_server self.now.state ≡ self.now.state }
-        ensures posts { OnOk result (posts.new ≡ posts.old ++ (install_at self.now.space self.now.state config.now).posts) }
-        ensures change { IfOk result (IsChange self.now (install_at self.now.space self.now.state config.now).state) }
+        requires config { IsConfigOf self.old.space config.now }
+        requires bare { folded_server self.old.state ≡ self.old.state }
+        ensures posts { OnOk result (posts.new ≡ posts.old ++ (install_at self.old.space self.old.state config.now).posts) }
+        ensures change { IfOk result (IsChange self.old (install_at self.old.space self.old.state config.now).state) }
+        ensures stays { self.new ≡ self.old }
     {
         if config.epoch.0 <= self.config.epoch.0 {
             return Ok(Change::Nothing);
         }
+        sort_orders(&mut self.replicas);
         post_adoption(
             alloc,
             &self.space,

@@ -1,10 +1,10 @@
-ghost use Rattle.std.specs.Prelude.{◌≡◌, ◌++◌, ◌∷◌, [], IfOk, OnOk, Some};
+ghost use Rattle.std.specs.Prelude.{◌≡◌, ◌++◌, ◌∷◌, [], IfOk, OnOk, Some, true};
 ghost use Rattle.std.specs.List.{All, flat_map};
 ghost use Rattle.hx_types.specs.Spaces.{IsSpace};
 ghost use Rattle.hx_model.specs.ServerSteps.{passed_on, pending_posts, ready_post, replica_tick, snap_posts, snap_to};
 ghost use Rattle.hx_model.specs.Slots.{pending_of};
 ghost use Rattle.hx_replica.specs.Outputs.{context_seen};
-ghost use Rattle.hx_replica.specs.Replicas.{view_of};
+ghost use Rattle.hx_replica.specs.Replicas.{AreOrdered, view_of};
 ghost use Rattle.hx_replica.specs.Ticking.{kept_here, standing};
 ghost use Rattle.hx_replica.specs.declared.replicas.Replica.{Replica as Held};
 
@@ -28,7 +28,8 @@ pub fn tick_all(
     replicas: &[Replica],
     posts: &mut Posts,
 ) -> Result<(), Memory>
-    requires { All (λ (r : Held). r.store.region ≡ r.region) replicas.now }
+    requires regions { All (λ (r : Held). r.store.region ≡ r.region) replicas.now }
+    requires ordered { AreOrdered replicas.now }
     ensures { OnOk result (posts.new ≡ posts.old ++ flat_map (λ (r : Held). replica_tick space.now (standing config.now server) (view_of r)) replicas.now) }
 {
     for replica in replicas {
@@ -54,6 +55,7 @@ fn tick_replica(
 ) -> Result<(), Memory>
     requires region { replica.now.region ≡ context.now.region }
     requires store { replica.now.store.region ≡ context.now.region }
+    requires ordered { replica.now.store.ordered ≡ true }
     ensures { OnOk result (posts.new ≡ posts.old ++ replica_tick context.now.space.now (standing context.now.config.now context.now.server) (view_of replica.now)) }
 {
     if !replica.installed || context.config.is_lost(replica.region) {
@@ -71,7 +73,8 @@ pub fn snap(
     store: &Store,
     posts: &mut Posts,
 ) -> Result<(), Memory>
-    requires { store.now.region ≡ context.now.region }
+    requires region { store.now.region ≡ context.now.region }
+    requires ordered { store.now.ordered ≡ true }
     ensures { OnOk result (posts.new ≡ posts.old ++ snap_posts (standing context.now.config.now context.now.server) (kept_here context.now.region store.now.states)) }
 {
     if let Some(joiner) = joiner_for(context.config, context.region, context.server) {
@@ -86,7 +89,8 @@ fn snap_post(
     store: &Store,
     joiner: ServerId,
 ) -> Result<Post, Memory>
-    requires { store.now.region ≡ context.now.region }
+    requires region { store.now.region ≡ context.now.region }
+    requires ordered { store.now.ordered ≡ true }
     ensures { IfOk result (λ post. post ∷ [] ≡ snap_to (standing context.now.config.now context.now.server) (kept_here context.now.region store.now.states) (Some joiner)) }
 {
     Ok(Post {
@@ -109,7 +113,8 @@ fn send_pending(
     store: &Store,
     posts: &mut Posts,
 ) -> Result<(), Memory>
-    requires { store.now.region ≡ context.now.region }
+    requires region { store.now.region ≡ context.now.region }
+    requires ordered { store.now.ordered ≡ true }
     ensures { OnOk result (posts.new ≡ posts.old ++ pending_posts (context_seen context.now) store.now.states) }
 {
     for i in 0..store.len() {

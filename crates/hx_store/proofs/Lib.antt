@@ -16,4 +16,5 @@ pub mod OwnKeys
 pub mod Installing
 pub mod Prefixes
 pub mod Walking
+pub mod Ordering
 pub mod Lemmas

@@ -1,23 +1,13 @@
--- Order of texts by their first bytes.
-use Rattle.std.proofs.Common.{◌≡◌, ℕ, zero, suc, ◌+◌, ◌<◌, Bool, true, false, List, [], ◌∷◌, ◌++◌, get_or, refl, ap, sym, ◌∙◌, subst}
+-- Prefixes of keys, by their places.
+use Rattle.std.proofs.Common.{◌≡◌, ℕ, zero, suc, ◌+◌, Bool, false, List, [], ◌∷◌, ◌++◌, get_or, refl, sym, subst}
 use Rattle.std.specs.List.{slice_get}
-use Rattle.std.specs.Ordering.{is_lt}
 use Rattle.indexmap.specs.IndexMap.{set_value_at}
-use Rattle.hx_types.specs.Words.{text_below, when_some}
+use Rattle.hx_types.specs.Words.{when_some}
 use Rattle.hx_types.specs.Prefixes.{IsPrefixOf}
-use Rattle.hx_types.proofs.Lemmas.{higher-cmp, lower-cmp}
 use Rattle.hx_store.specs.Prefixes.{ArePrefixes}
-use Rattle.hx_store.proofs.Texts.{below_is}
 
 abbrev Key : Type 0
 Key = List ℕ × Bool
-
-module _ (a b : List ℕ) (m n : ℕ) (h : IsPrefixOf a m) (g : IsPrefixOf b n) where
-  pub lower-below : m < n → text_below a b ≡ true
-  lower-below l = below_is a b ∙ ap is_lt (lower-cmp a b m n h g l)
-
-  pub higher-below : n < m → text_below a b ≡ false
-  higher-below l = below_is a b ∙ ap is_lt (higher-cmp a b m n h g l)
 
 -- the prefixes of keys, by their places
 prefix-seen : (ks : List Key) (ps : List ℕ) (i : ℕ) → ArePrefixes ks ps → IsPrefixOf (when_some (slice_get ks i) [] (λ (k : Key). k.0)) (get_or ps i 0)

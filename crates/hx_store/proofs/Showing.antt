@@ -132,7 +132,7 @@ pub opened-step : (old new : StoreState) (key : List ℕ) (step : RegionId → K
 opened-step old new key step after region before states e kind place b r a k is =
     sym is ∙ opened-put old new key after e k ∙ ap (λ (s : KeyState). with_state s old.states) (a ∙ (λ i. step ((r ∙ place) i) ((b ∙ opened-state old new key kind e) i)))
 
-module _ (g : RegionId) (marks : Bool) (es : List Entry) (order : List ℕ) (cap : ℕ) {attributes : ℕ} (self : StoreState) (view : record { region = g; marks = marks; attributes = attributes; states = states_in es order; rooms = rooms_in es } ≡ self) (h : IsStore g marks es order cap) where
+module _ (g : RegionId) (marks : Bool) (es : List Entry) (order : List ℕ) (cap : ℕ) {attributes : ℕ} {ordered : Bool} (self : StoreState) (view : record { region = g; marks = marks; attributes = attributes; states = states_in es order; rooms = rooms_in es; ordered = ordered } ≡ self) (h : IsStore g marks es order cap) where
   pub count-is : length self.rooms ≡ length es
   count-is = ap (λ (s : StoreState). length s.rooms) (sym view) ∙ length-of-map room_of es
 

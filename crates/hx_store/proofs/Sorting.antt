@@ -72,7 +72,7 @@ module _ (es : List Entry) where
   rises-from (x ∷ []) f = tt
   rises-from (x ∷ y ∷ rest) f = (f zero 0 (omega arith), rises-from (y ∷ rest) (λ k d l. f (suc k) d (omega (arith, l))))
 
-  differ : KeysApart es → (x y : ℕ) → x < length es → y < length es → (x ≡ y → ⊥) → same_text (key_in es x) (key_in es y) ≡ false
+  pub differ : KeysApart es → (x y : ℕ) → x < length es → y < length es → (x ≡ y → ⊥) → same_text (key_in es x) (key_in es y) ≡ false
   differ apart x y l m n = false_from_ne_true (same_text (key_in es x) (key_in es y)) (λ t.
       let f = at-within es x l in
       let e = at-within es y m in

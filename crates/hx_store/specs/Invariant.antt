@@ -1,6 +1,6 @@
 -- What a store keeps: the slot of each key by its place, and the places of the slots that are its own in byte order of keys.
-use Rattle.std.specs.Prelude.{◌≡◌, ℕ, zero, suc, ◌<◌, ◌≤◌, ◌+◌, ⊤, Bool, true, false, List, [], ◌∷◌, ◌++◌, map, length, if◌then◌else◌, ◌==◌, Option, Some}
-use Rattle.std.specs.List.{AllByRecursion, list_any, slice_get}
+use Rattle.std.specs.Prelude.{◌≡◌, ℕ, zero, suc, ◌<◌, ◌≤◌, ◌+◌, ⊤, Bool, true, false, List, [], ◌∷◌, ◌++◌, map, length, take, if◌then◌else◌, ◌==◌, Option, Some}
+use Rattle.std.specs.List.{AllByRecursion, filter, list_any, slice_get}
 use Rattle.std.specs.Option.{option_map}
 use Rattle.indexmap.specs.IndexMap.{set_value_at}
 use Rattle.hx_types.specs.declared.ids.RegionId.{RegionId}
@@ -8,6 +8,7 @@ use Rattle.hx_types.specs.Words.{same_text, text_below, when_some}
 use Rattle.hx_law_folds.specs.Folding.{KeysAscend}
 use Rattle.hx_model.specs.Slots.{KeyState, new_state}
 use Rattle.hx_slot.specs.States.{SlotState}
+use Rattle.hx_store.specs.Indexed.{one_if, times}
 use Rattle.hx_store.specs.Slots.{Entry, StoreSlot}
 use Rattle.hx_store.specs.Stores.{Room}
 
@@ -110,3 +111,29 @@ pub record HasMoved (i : ℕ) (step : RegionId → KeyState → KeyState) (fall 
   pub state : after.slot.state ≡ step before.slot.region before.slot.state
   pub region : after.slot.region ≡ before.slot.region
   pub spare : before.slot.spare ≤ after.slot.spare + fall
+
+-- the numbers below one
+abbrev pub below_from : ℕ → List ℕ
+below_from zero = []
+below_from (suc n) = n ∷ below_from n
+
+-- a place among places in byte order of keys, before the first whose key is higher
+abbrev pub put_place : List Entry → ℕ → List ℕ → List ℕ
+put_place es j [] = j ∷ []
+put_place es j (k ∷ rest) = if text_below (key_in es j) (key_in es k) then j ∷ k ∷ rest else k ∷ put_place es j rest
+
+abbrev pub in_order : List Entry → List ℕ → List ℕ
+in_order es [] = []
+in_order es (j ∷ rest) = put_place es j (in_order es rest)
+
+-- the places of the listed slots in byte order of keys
+abbrev pub order_of : List Entry → List ℕ
+order_of es = in_order es (filter (is_listed es) (below_from (length es)))
+
+-- a store whose list has the places of the listed slots, each once: so many of them from the first on in byte order of keys, and
+-- then those that came since
+pub record IsLateStore (g : RegionId) (marks : Bool) (es : List Entry) (places : List ℕ) (sorted capacity : ℕ) : Type 0 where
+  pub store : IsStore g marks es (order_of es) capacity
+  pub each : (i : ℕ) → times i places ≡ one_if (is_listed es i)
+  pub begun : sorted ≤ length places
+  pub ascend : AscendAt es (take sorted places)

@@ -19,13 +19,15 @@ pub record Room : Type 0 where
 
 -- marks: whether the slots keep marks and touches, as those of key regions do; attributes: how many an object has, the key
 -- among them; states: the slots in byte order of keys; rooms: by the places of their keys, which are the numbers in the order
--- of coming
+-- of coming; ordered: whether the places stand in byte order of keys in the store itself too, so that a slot can be found by its
+-- number in that order
 pub record StoreState : Type 0 where
   pub region : RegionId
   pub marks : Bool
   pub attributes : ℕ
   pub states : List KeyState
   pub rooms : List Room
+  pub ordered : Bool
 
 -- the key at a place, and the room at its slot
 abbrev pub key_at : StoreState → ℕ → List ℕ

@@ -4,13 +4,13 @@ ghost use Rattle.std.specs.List.{All, IsDistinct, filter, flat_map, list_any};
 ghost use Rattle.std.specs.Ordering.{nat_cmp};
 ghost use Rattle.hx_model.specs.Slots.{is_pending, moved_all, offered};
 ghost use Rattle.hx_types.specs.Prefixes.{IsPrefixOf};
-ghost use Rattle.hx_types.specs.Words.{list_of, same_text, text_below};
+ghost use Rattle.hx_types.specs.Words.{list_of, same_text};
 ghost use Rattle.hx_index.specs.Looks.{HaveCounted};
 ghost use Rattle.hx_index.specs.Orders.{IsIndexOf, count_of, stands_in};
 ghost use Rattle.hx_index.specs.Searches.{least_run, most_looks};
 ghost use Rattle.hx_index.specs.Sides.{matches_at};
-ghost use Rattle.hx_store.specs.Indexed.{is_marked};
-ghost use Rattle.hx_store.specs.Invariant.{AscendAt, HasAll, HasMoved, IsAdded, IsListedAt, IsReplacedAt, IsSplit, KeysApart, is_listed, key_in, stored_at};
+ghost use Rattle.hx_store.specs.Indexed.{is_marked, times};
+ghost use Rattle.hx_store.specs.Invariant.{AscendAt, HasAll, HasMoved, IsAdded, IsListedAt, IsReplacedAt, KeysApart, is_listed, key_in, stored_at};
 ghost use Rattle.hx_store.specs.Slots.{Entry, IsFresh, StoreSlot, rows_in};
 ghost use Rattle.hx_store.specs.Stores.{ArePending, CanBeOffered, accepted_at, acknowledged_at, forgotten_at, marked_at, no_moves, settled_at};
 
@@ -129,25 +129,6 @@ impl Slots {
             Some(prefix) => *prefix,
             None => 0,
         }
-    }
-
-    /// Whether the key at a place stands before another, of this prefix, in byte order.
-    fn is_below(&self, place: usize, prefix: u64, key: &Text) -> bool
-        requires { IsPrefixOf key.now prefix }
-        ensures { result ≡ text_below (key_in self.now.entries place) key.now }
-    {
-        let own = self.prefix_at(place);
-        own < prefix || (own == prefix && self.key_at(place) < key.as_str())
-    }
-
-    /// How many of these places, which stand in byte order of keys, are of lower keys.
-    pub fn lower_count(&self, order: &[usize], key: &Text) -> usize
-        requires { AscendAt self.now.entries order.now }
-        ensures split { IsSplit self.now.entries key.now result order.now }
-        ensures within { result ≤ length order.now }
-    {
-        let prefix = prefix_of(key.as_str());
-        order.partition_point(|place| self.is_below(*place, prefix, key))
     }
 
     /// The key of a place goes last, with an empty slot that isn't listed. The index gets a place
@@ -343,19 +324,31 @@ impl Slots {
         ensures same { (i : ℕ) → stands_in ids.new.items i ≡ stands_in ids.old.items i }
         ensures ascend { AscendAt self.now.entries ids.new.items }
     {
-        ids.sort_unstable_by(|one, other| self.compare_keys(*one, *other));
+        ids.sort_unstable_by(|one, other| self.compare_keys(*one as usize, *other as usize));
+    }
+
+    /// Puts places of slots into byte order of their keys. Each stands there once.
+    pub fn sort_places(&self, order: &mut Vec<usize>)
+        requires apart { KeysApart self.now.entries }
+        requires within { (i : ℕ) → stands_in order.old.items i ≡ true → i < length self.now.entries }
+        requires once { (i : ℕ) → times i order.old.items ≤ 1 }
+        ensures same { (i : ℕ) → times i order.new.items ≡ times i order.old.items }
+        ensures ascend { AscendAt self.now.entries order.new.items }
+        ensures capacity { vec_capacity order.new ≡ vec_capacity order.old }
+    {
+        order.sort_unstable_by(|one, other| self.compare_keys(*one, *other));
     }
 
     /// The keys at two places, by their bytes.
-    fn compare_keys(&self, one: u32, other: u32) -> Ordering
+    fn compare_keys(&self, one: usize, other: usize) -> Ordering
         ensures { result ≡ slice_cmp nat_cmp (key_in self.now.entries one) (key_in self.now.entries other) }
     {
-        let first = self.prefix_at(one as usize);
-        let second = self.prefix_at(other as usize);
+        let first = self.prefix_at(one);
+        let second = self.prefix_at(other);
         if first != second {
             return first.cmp(&second);
         }
-        self.key_at(one as usize).cmp(self.key_at(other as usize))
+        self.key_at(one).cmp(self.key_at(other))
     }
 }
 

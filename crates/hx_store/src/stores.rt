@@ -17,7 +17,6 @@ use crate::slots::Slots;
 use hx_slot::Slot;
 use hx_types::{
     Exact, Memory, RegionId, Rows, Shared, Snapshot, Space, Terms, Text, Update, Updates, Version,
-    insert_within,
 };
 use std::alloc::Global;
 use std::collections::VecDeque;
@@ -30,8 +29,11 @@ pub struct Store {
     region: RegionId,
     marks: bool,
     slots: Slots,
-    /// The places of the slots that are part of the store, in byte order of keys.
+    /// The places of the slots that are part of the store: some of them, from the first on, in byte
+    /// order of keys, and then those that came since.
     order: Vec<usize>,
+    /// How many of these, from the first on, stand in order.
+    sorted: usize,
 }
 
 /// The parts are let go here alone: who drops a store has nothing to prove of them.
@@ -42,20 +44,21 @@ impl Drop for Store {
             marks: _,
             slots: _,
             order: _,
+            sorted: _,
         } = self;
     }
 }
 
 impl Model for Store {
-    ghost use Rattle.std.specs.Prelude.{length, vec_capacity};
+    ghost use Rattle.std.specs.Prelude.{length, nat_eq, vec_capacity};
     ghost use Rattle.hx_store.specs.Stores.{StoreState};
-    ghost use Rattle.hx_store.specs.Invariant.{IsStore, rooms_in, states_in};
+    ghost use Rattle.hx_store.specs.Invariant.{IsLateStore, order_of, rooms_in, states_in};
 
     ghost Value = { StoreState };
 
-    ghost view = { λ s. record { region = s.region; marks = s.marks; attributes = length s.slots.index.orders; states = states_in s.slots.entries s.order.items; rooms = rooms_in s.slots.entries } };
+    ghost view = { λ s. record { region = s.region; marks = s.marks; attributes = length s.slots.index.orders; states = states_in s.slots.entries (order_of s.slots.entries); rooms = rooms_in s.slots.entries; ordered = nat_eq s.sorted (length s.order.items) } };
 
-    ghost invariant = { λ s. IsStore s.region s.marks s.slots.entries s.order.items (vec_capacity s.order) };
+    ghost invariant = { λ s. IsLateStore s.region s.marks s.slots.entries s.order.items s.sorted (vec_capacity s.order) };
 }
 
 impl Store {
@@ -63,7 +66,7 @@ impl Store {
     /// where `marks` says so, as those of key regions do.
     pub fn new(alloc: Global, space: &Space, region: RegionId, marks: bool) -> Result<Store, Memory>
         requires { length space.now.attributes ≤ MOST_ATTRIBUTES }
-        ensures { IfOk result (λ store. store ≡ record { region = region; marks = marks; attributes = length space.now.attributes + 1; states = []; rooms = [] }) }
+        ensures { IfOk result (λ store. store ≡ record { region = region; marks = marks; attributes = length space.now.attributes + 1; states = []; rooms = []; ordered = true }) }
     {
         let slots = Slots::new(alloc, space.attributes.len() as u32)?;
         Ok(Store {
@@ -71,6 +74,7 @@ impl Store {
             marks,
             slots,
             order: Vec::new(alloc),
+            sorted: 0,
         })
     }
 
@@ -118,6 +122,7 @@ impl Store {
 
     /// The slot with this number from 0, in byte order of keys.
     pub fn nth(&self, i: usize) -> Option<&Slot>
+        requires { self.now.ordered ≡ true }
         ensures state { option_map (λ (b : Bor SlotState). b.now.state) result ≡ slice_get self.now.states i }
         ensures region { IfSome result (λ slot. slot.now.region ≡ self.now.region) }
         ensures marks { IfSome result (λ slot. slot.now.state.marks ≡ self.now.marks) }
@@ -146,8 +151,9 @@ impl Store {
         ensures counted { looks.old ≤ looks.new }
         ensures looks { looks.new ≤ looks.old + most_looks_at self.old.attributes (rows_of self.old.region self.old.states) terms.now }
         ensures each { IfOk result (λ rows. 0 < self.old.attributes → HaveCounted (least_looks_at self.old.attributes (rows_of self.old.region self.old.states) terms.now) looks.old looks.new) }
-        ensures stays { self.new ≡ self.old }
+        ensures stays { self.new ≡ record self.old { ordered = true } }
     {
+        self.sort_order();
         self.slots.refresh(alloc)?;
         let places = self.slots.find(alloc, terms, looks, self.order.as_slice())?;
         self.slots.rows(alloc, places.as_slice())
@@ -156,6 +162,7 @@ impl Store {
     /// The committed state of each key of which something is committed, in byte order of keys. With
     /// the pending updates it is all that a joiner needs; that is this project's choice.
     pub fn snapshot(&self, alloc: Global) -> Result<Snapshot, Memory>
+        requires { self.now.ordered ≡ true }
         ensures states { IfOk result (λ snapshot. snapshot ≡ snapshot_of self.now.region self.now.states) }
         ensures ascend { IfOk result KeptsAscend }
         ensures orderly { IfOk result (All IsOrderly) }
@@ -172,6 +179,7 @@ impl Store {
 
     /// The pending updates: those of each key in byte order of keys, the lowest version first.
     pub fn pending(&self, alloc: Global) -> Result<Updates, Memory>
+        requires { self.now.ordered ≡ true }
         ensures { IfOk result (λ updates. updates ≡ pending_of_all self.now.states) }
     {
         let mut updates = Updates::new(alloc);
@@ -190,6 +198,7 @@ impl Store {
         ensures marks { self.new.marks ≡ self.old.marks }
         ensures attributes { self.new.attributes ≡ self.old.attributes }
         ensures states { self.new.states ≡ self.old.states }
+        ensures ordered { self.new.ordered ≡ self.old.ordered }
         ensures rooms { KeepsRooms self.old.rooms self.new.rooms }
         ensures place { IfOk result (λ place. IsPlace self.new place key.now) }
         ensures room { IfOk result (λ place. n ≤ spare_at self.new place) }
@@ -208,6 +217,7 @@ impl Store {
         ensures stays { OnErr result (self.new.states ≡ self.old.states) }
         ensures rooms { KeepsRooms self.old.rooms self.new.rooms }
         ensures place { IfOk result (λ place. IsPlace self.new place key.now) }
+        ensures ordered { has_slot key.now self.old.states ≡ true → self.new.ordered ≡ self.old.ordered }
     {
         let place = self.give_place(alloc, key)?;
         self.open(place);
@@ -220,6 +230,7 @@ impl Store {
         ensures marks { self.new.marks ≡ self.old.marks }
         ensures attributes { self.new.attributes ≡ self.old.attributes }
         ensures states { self.new.states ≡ self.old.states }
+        ensures ordered { self.new.ordered ≡ self.old.ordered }
         ensures rooms { KeepsRooms self.old.rooms self.new.rooms }
         ensures place { IfOk result (λ place. IsPlace self.new place key.now) }
     {
@@ -239,28 +250,45 @@ impl Store {
         ensures marks { self.new.marks ≡ self.old.marks }
         ensures attributes { self.new.attributes ≡ self.old.attributes }
         ensures states { self.new.states ≡ self.old.states }
+        ensures ordered { self.new.ordered ≡ self.old.ordered }
         ensures rooms { KeepsRooms self.old.rooms self.new.rooms }
         ensures room { OnOk result (n ≤ spare_at self.new place) }
     {
         self.slots.reserve_at(alloc, place, n)
     }
 
-    /// The key at a place has a slot from now on. It takes no memory.
+    /// The key at a place has a slot from now on. A new slot goes to the end of the order, which is
+    /// made again by [`Store::sort_order`]. It takes no memory.
     pub fn open(&mut self, place: usize)
         requires { place < length self.old.rooms }
         ensures region { self.new.region ≡ self.old.region }
         ensures marks { self.new.marks ≡ self.old.marks }
         ensures attributes { self.new.attributes ≡ self.old.attributes }
         ensures states { self.new.states ≡ after_step self.old (key_at self.old place) no_moves }
+        ensures ordered { has_slot (key_at self.old place) self.old.states ≡ true → self.new.ordered ≡ self.old.ordered }
         ensures rooms { self.new.rooms ≡ self.old.rooms }
     {
         if self.slots.is_listed(place) {
             return;
         }
-        let key = self.slots.slot_at(place).key();
-        let number = self.slots.lower_count(self.order.as_slice(), key);
-        insert_within(&mut self.order, number, place);
+        self.order.push_reserved(place);
         self.slots.list_at(place);
+    }
+
+    /// Puts the places that came since into byte order of keys. It takes no memory.
+    pub fn sort_order(&mut self)
+        ensures region { self.new.region ≡ self.old.region }
+        ensures marks { self.new.marks ≡ self.old.marks }
+        ensures attributes { self.new.attributes ≡ self.old.attributes }
+        ensures states { self.new.states ≡ self.old.states }
+        ensures rooms { self.new.rooms ≡ self.old.rooms }
+        ensures ordered { self.new.ordered ≡ true }
+    {
+        if self.sorted == self.order.len() {
+            return;
+        }
+        self.slots.sort_places(&mut self.order);
+        self.sorted = self.order.len();
     }
 
     /// The slot at a place is offered an update of its key, which has its place in the region at
@@ -275,6 +303,7 @@ impl Store {
         ensures marks { self.new.marks ≡ self.old.marks }
         ensures attributes { self.new.attributes ≡ self.old.attributes }
         ensures states { self.new.states ≡ after_step self.old update.key (accepted_at update ends.now) }
+        ensures ordered { has_slot update.key self.old.states ≡ true → self.new.ordered ≡ self.old.ordered }
         ensures rooms { UsesRoom place self.old.rooms self.new.rooms }
     {
         self.open(place);
@@ -288,6 +317,7 @@ impl Store {
         ensures marks { self.new.marks ≡ self.old.marks }
         ensures attributes { self.new.attributes ≡ self.old.attributes }
         ensures states { self.new.states ≡ after_step self.old (key_at self.old place) (acknowledged_at version.0) }
+        ensures ordered { has_slot (key_at self.old place) self.old.states ≡ true → self.new.ordered ≡ self.old.ordered }
         ensures rooms { KeepsRooms self.old.rooms self.new.rooms }
     {
         self.open(place);
@@ -296,7 +326,8 @@ impl Store {
 
     /// The place of the slot with this number from 0, in byte order of keys.
     pub fn place_at(&self, i: usize) -> usize
-        requires { i < length self.now.states }
+        requires number { i < length self.now.states }
+        requires ordered { self.now.ordered ≡ true }
         ensures within { result < length self.now.rooms }
         ensures ascend { KeysAscend self.now.states }
         ensures slot { slice_get self.now.states i ≡ Some (state_at self.now (key_at self.now result)) }
@@ -312,6 +343,7 @@ impl Store {
         ensures marks { self.new.marks ≡ self.old.marks }
         ensures attributes { self.new.attributes ≡ self.old.attributes }
         ensures states { self.new.states ≡ after_step self.old (key_at self.old place) forgotten_at }
+        ensures ordered { has_slot (key_at self.old place) self.old.states ≡ true → self.new.ordered ≡ self.old.ordered }
         ensures rooms { KeepsRooms self.old.rooms self.new.rooms }
     {
         self.open(place);
@@ -327,6 +359,7 @@ impl Store {
         ensures marks { self.new.marks ≡ self.old.marks }
         ensures attributes { self.new.attributes ≡ self.old.attributes }
         ensures states { self.new.states ≡ after_step self.old (key_at self.old place) (marked_at version.0) }
+        ensures ordered { has_slot (key_at self.old place) self.old.states ≡ true → self.new.ordered ≡ self.old.ordered }
         ensures rooms { KeepsRooms self.old.rooms self.new.rooms }
     {
         self.open(place);
@@ -340,6 +373,7 @@ impl Store {
         ensures marks { self.new.marks ≡ self.old.marks }
         ensures attributes { self.new.attributes ≡ self.old.attributes }
         ensures states { self.new.states ≡ after_step self.old (key_at self.old place) settled_at }
+        ensures ordered { has_slot (key_at self.old place) self.old.states ≡ true → self.new.ordered ≡ self.old.ordered }
         ensures rooms { KeepsRooms self.old.rooms self.new.rooms }
     {
         self.open(place);

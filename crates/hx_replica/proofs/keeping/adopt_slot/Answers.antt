@@ -11,8 +11,8 @@ mark_ends-requires-clause-number c =
     let n = ap length c.reset_acks.ensures.states ∙ changed_length (moved Forget) c.args.i c.args.store.now.states in
     subst (λ m. c.args.i < m) (sym n) c.requires.number
 
-pub settle-requires : goal.settle-requires
-settle-requires c =
+pub settle-requires-clause-number : goal.settle-requires-clause-number
+settle-requires-clause-number c =
     let n = ap length c.mark_ends.ensures.states ∙ changed_length (λ (s : KeyState). moved_all (tail_acks (context_seen c.args.context.now) (pending_of s)) s) c.args.i c.reset_acks.new.store.states
     ∙ ap length c.reset_acks.ensures.states ∙ changed_length (moved Forget) c.args.i c.args.store.now.states in
     subst (λ m. c.args.i < m) (sym n) c.requires.number

@@ -6,7 +6,7 @@ use Rattle.hx_replica.proofs.Roomy.{kept_self, kept_twice}
 use Rattle.hx_replica.proofs.keeping.mark_ends.Goals as goal
 
 pub loop-k-init : goal.loop-k-init
-loop-k-init c = record { region = refl; marks = refl; states = sym (changed_not c.args.i c.args.store.now.states); rooms = kept_self c.args.store.now.rooms }
+loop-k-init c = record { region = refl; marks = refl; states = sym (changed_not c.args.i c.args.store.now.states); rooms = kept_self c.args.store.now.rooms; ordered = c.requires.ordered }
 
 pub mark_end-requires-clause-number : goal.mark_end-requires-clause-number
 mark_end-requires-clause-number c =
@@ -20,6 +20,7 @@ loop-k-preserved c = record {
   states = c.mark_end.ensures.states ∙ ap (changed_at (marked_end (context_seen c.args.context.now) c.loop-k.k) c.args.i) c.loop-k.invariant.states
       ∙ one_marked (context_seen c.args.context.now) c.loop-k.k c.args.i c.args.store.now.states (subst (λ m. c.loop-k.k < m) c.pending_count-k-end.ensures c.loop-k-test.true);
   rooms = kept_twice c.args.store.now.rooms c.loop-k.store.rooms c.mark_end.new.store.rooms c.loop-k.invariant.rooms c.mark_end.ensures.rooms;
+  ordered = c.mark_end.ensures.ordered;
 }
 
 pub returns-clause-states : goal.returns-clause-states

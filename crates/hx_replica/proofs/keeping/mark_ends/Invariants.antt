@@ -1,4 +1,4 @@
-use Rattle.std.proofs.Common.{◌≡◌}
+use Rattle.std.proofs.Common.{◌≡◌, true}
 use Rattle.hx_store.specs.Stores.{KeepsRooms}
 use Rattle.hx_replica.specs.Adopting.{changed_at}
 use Rattle.hx_replica.specs.Outputs.{context_seen}
@@ -11,4 +11,5 @@ invariant-loop-k l = record {
   marks : l.store.marks ≡ l.fn.store.marks;
   states : l.store.states ≡ changed_at (marked_upto (context_seen l.context) l.k) l.i l.fn.store.states;
   rooms : KeepsRooms l.fn.store.rooms l.store.rooms;
+  ordered : l.store.ordered ≡ true;
 }

@@ -1,6 +1,7 @@
 use Rattle.std.proofs.Common.{◌≡◌, ◌++◌, IfOk, OnOk, ap, subst, sym}
-use Rattle.hx_model.specs.ServerSteps.{ServerStep}
+use Rattle.hx_model.specs.ServerSteps.{ServerStep, server_step}
 use Rattle.hx_replica.specs.Plans.{IsChange}
+use Rattle.hx_replica.specs.Servers.{ServerValue}
 use Rattle.hx_replica.proofs.Bareness.{bare_seen}
 use Rattle.hx_replica.proofs.Planning.{always, can_hear, nothing_more, step_on}
 use Rattle.hx_replica.proofs.servers.Server.change_on.Goals as goal
@@ -26,8 +27,9 @@ returns-in-Tick-clause-notes c =
 
 pub returns-in-Tick-clause-change : goal.returns-in-Tick-clause-change
 returns-in-Tick-clause-change c =
-    subst (λ (t : ServerStep). IfOk c.tick.result (IsChange c.args.self.now t.state))
-    (sym (step_on c.args.self.now c.args.input.now _ c.requires c.in-Tick.is)) c.tick.ensures.change
+    let v = c.args.self.now in
+    subst (λ (x : ServerValue). IfOk c.tick.result (IsChange x (server_step v.space v.state c.args.input.now).state)) (sym c.tick.ensures.stays)
+    (subst (λ (t : ServerStep). IfOk c.tick.result (IsChange v t.state)) (sym (step_on v c.args.input.now _ c.requires c.in-Tick.is)) c.tick.ensures.change)
 
 pub returns-in-Halt-clause-posts : goal.returns-in-Halt-clause-posts
 returns-in-Halt-clause-posts c =

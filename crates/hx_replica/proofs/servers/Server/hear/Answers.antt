@@ -1,9 +1,10 @@
 use Rattle.std.proofs.Common.{◌≡◌, ◌++◌, IfOk, OnOk, List, subst, sym}
 use Rattle.hx_types.specs.declared.snapshots.Kept.{Kept}
 use Rattle.hx_types.specs.declared.updates.Update.{Update}
-use Rattle.hx_model.specs.ServerSteps.{replica_in_epoch, snapped}
+use Rattle.hx_model.specs.ServerSteps.{message_step, replica_in_epoch, snapped}
 use Rattle.hx_replica.specs.Installing.{IsSnapshot}
 use Rattle.hx_replica.specs.Plans.{IsChange}
+use Rattle.hx_replica.specs.Servers.{ServerValue}
 use Rattle.hx_replica.proofs.Bareness.{bare_seen}
 use Rattle.hx_replica.proofs.Naming.{message_named}
 use Rattle.hx_replica.proofs.Planning.{change_on, notes_on, posts_on}
@@ -60,7 +61,10 @@ returns-in-Install-clause-notes c =
     notes_on c.args.self.now.space c.args.self.now.state c.args.from c.args.message.now _ c.install.result c.in-Install.is c.args.notes.now (λ one. one)
 
 pub returns-in-Install-clause-change : goal.returns-in-Install-clause-change
-returns-in-Install-clause-change c = change_on c.args.self.now c.args.from c.args.message.now _ c.install.result c.in-Install.is c.install.ensures.change
+returns-in-Install-clause-change c =
+    let v = c.args.self.now in
+    subst (λ (x : ServerValue). IfOk c.install.result (IsChange x (message_step v.space v.state c.args.from c.args.message.now).state)) (sym c.install.ensures.stays)
+    (change_on v c.args.from c.args.message.now _ c.install.result c.in-Install.is c.install.ensures.change)
 
 pub returns-in-Die-clause-posts : goal.returns-in-Die-clause-posts
 returns-in-Die-clause-posts c =

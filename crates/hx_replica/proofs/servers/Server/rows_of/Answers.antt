@@ -1,20 +1,32 @@
-use Rattle.std.proofs.Common.{List, ap, sym, subst, ◌∙◌}
-use Rattle.hx_replica.specs.declared.replicas.Replica.{Replica}
-use Rattle.hx_replica.specs.Replicas.{AreReplicas, rooms_of, views_of}
+use Rattle.std.proofs.Common.{ap}
+use Rattle.hx_store.specs.Stores.{StoreState}
 use Rattle.hx_replica.proofs.Bareness.{bare_same}
+use Rattle.hx_replica.proofs.Changing.{reserved, reserved_rooms, reserved_views}
 use Rattle.hx_replica.proofs.Invariant.{within}
-use Rattle.hx_replica.proofs.Searching.{if_found, rows_there, set_same}
+use Rattle.hx_replica.proofs.Ordered.{same_value}
+use Rattle.hx_replica.proofs.Searching.{if_found, rows_there}
 use Rattle.hx_replica.proofs.servers.Server.rows_of.Goals as goal
 
 pub invariant_of-self : goal.invariant_of-self
-invariant_of-self c = record {
-  valid = c.self.invariant.valid;
-  map_is = c.self.invariant.map_is;
-  replicas_are = subst (AreReplicas c.self.inside.space) (sym (set_same c.self.inside.replicas.items c.args.place c.index_mut-replica.result.now c.find.new.self (within c.self.inside c.args.self.now c.args.place c.self.view_is c.requires) c.index_mut-replica.ensures.value c.find.ensures.stays)) c.self.invariant.replicas_are;
-  bare =
-      bare_same (views_of c.self.inside.replicas.items) _ (ap views_of (set_same c.self.inside.replicas.items c.args.place c.index_mut-replica.result.now c.find.new.self (within c.self.inside c.args.self.now c.args.place c.self.view_is c.requires) c.index_mut-replica.ensures.value c.find.ensures.stays))
-      c.self.invariant.bare;
-}
+invariant_of-self c =
+    let i = c.self.inside in
+    let y = c.index_mut-replica.result.now in
+    let here = within i c.args.self.now c.args.place c.self.view_is c.requires in
+    let stays = c.find.ensures.stays in
+    record {
+      valid = c.self.invariant.valid;
+      map_is = c.self.invariant.map_is;
+      replicas_are =
+          reserved i.space i.replicas.items c.args.place y c.find.new.self c.self.invariant.replicas_are here c.index_mut-replica.ensures.value
+          (ap (λ (s : StoreState). s.region) stays) (ap (λ (s : StoreState). s.marks) stays) (ap (λ (s : StoreState). s.states) stays);
+      bare =
+          bare_same _ _
+          (
+          reserved_views i.space i.replicas.items c.args.place y c.find.new.self c.self.invariant.replicas_are here c.index_mut-replica.ensures.value
+          (ap (λ (s : StoreState). s.states) stays)
+          )
+          c.self.invariant.bare;
+    }
 
 pub returns-clause-rows : goal.returns-clause-rows
 returns-clause-rows c =
@@ -22,5 +34,16 @@ returns-clause-rows c =
 
 pub returns-clause-stays : goal.returns-clause-stays
 returns-clause-stays c =
-    ap (λ (rs : List Replica). record { space = c.self.inside.space; state = record { id = c.self.inside.id; config = c.self.inside.config; sealed = c.self.inside.sealed; halted = c.self.inside.halted; replicas = views_of rs }; rooms = rooms_of rs }) (set_same c.self.inside.replicas.items c.args.place c.index_mut-replica.result.now c.find.new.self (within c.self.inside c.args.self.now c.args.place c.self.view_is c.requires) c.index_mut-replica.ensures.value c.find.ensures.stays)
-    ∙ c.self.view_is
+    let i = c.self.inside in
+    let y = c.index_mut-replica.result.now in
+    let here = within i c.args.self.now c.args.place c.self.view_is c.requires in
+    let stays = c.find.ensures.stays in
+    same_value i c.args.self.now _ c.self.view_is
+    (
+    reserved_views i.space i.replicas.items c.args.place y c.find.new.self c.self.invariant.replicas_are here c.index_mut-replica.ensures.value
+    (ap (λ (s : StoreState). s.states) stays)
+    )
+    (
+    reserved_rooms i.space i.replicas.items c.args.place y c.find.new.self c.self.invariant.replicas_are here c.index_mut-replica.ensures.value
+    (ap (λ (s : StoreState). s.rooms) stays)
+    )

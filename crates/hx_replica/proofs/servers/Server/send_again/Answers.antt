@@ -1,4 +1,4 @@
-use Rattle.std.proofs.Common.{◌≡◌, ◌++◌, List, ap, refl, subst, ◌∙◌}
+use Rattle.std.proofs.Common.{◌≡◌, ◌++◌, List, ap, map, subst, sym, ◌∙◌}
 use Rattle.std.specs.List.{flat_map}
 use Rattle.std.proofs.lemmas.Result.{on_ok_weaker}
 use Rattle.hx_types.specs.declared.configs.Config.{Config}
@@ -6,14 +6,16 @@ use Rattle.hx_types.specs.declared.messages.Post.{Post}
 use Rattle.hx_model.specs.ServerSteps.{replica_tick, tick_step}
 use Rattle.hx_replica.specs.declared.replicas.Replica.{Replica}
 use Rattle.hx_replica.specs.Invariant.{value_of}
-use Rattle.hx_replica.specs.Replicas.{view_of}
+use Rattle.hx_replica.specs.Replicas.{AreOrdered, AreReplicas, in_order, view_of, views_of}
 use Rattle.hx_replica.specs.Servers.{ServerValue}
 use Rattle.hx_replica.specs.Ticking.{standing}
+use Rattle.hx_replica.proofs.Bareness.{bare_same}
+use Rattle.hx_replica.proofs.Ordered.{are_in_order, ordered_are, ordered_value, ordered_views, own_regions}
 use Rattle.hx_replica.proofs.Sending.{unsealed}
 use Rattle.hx_replica.proofs.servers.Server.send_again.Goals as goal
 
-pub returns : goal.returns
-returns c =
+pub returns-clause-posts : goal.returns-clause-posts
+returns-clause-posts c =
     let i = c.self.inside in
     let all = λ (k : Config) (rs : List Replica). flat_map (λ (r : Replica). replica_tick i.space (standing k i.id) (view_of r)) rs in
     on_ok_weaker c.tick_all.result
@@ -23,9 +25,31 @@ returns c =
     e ∙ ap (λ (ps : List Post). c.args.posts.now ++ ps)
     (
     ap (λ (k : Config). all k c.as_slice.result.now) c.deref-2.ensures
-    ∙ ap (all i.config) c.as_slice.ensures.value
-    ∙ unsealed i.space (value_of i).state i.replicas.items c.if-self.false refl
+    ∙ ap (all i.config) (c.as_slice.ensures.value ∙ c.sort_orders.ensures)
+    ∙ unsealed i.space (value_of i).state (map in_order i.replicas.items) c.if-self.false (sym (ordered_views i.replicas.items))
     )
     )
     )
     c.tick_all.ensures
+
+pub tick_all-requires-clause-regions : goal.tick_all-requires-clause-regions
+tick_all-requires-clause-regions c =
+    let i = c.self.inside in
+    own_regions i.space c.as_slice.result.now
+    (subst (AreReplicas i.space) (sym (c.as_slice.ensures.value ∙ c.sort_orders.ensures)) (ordered_are i.space i.replicas.items c.self.invariant.replicas_are)).each
+
+pub tick_all-requires-clause-ordered : goal.tick_all-requires-clause-ordered
+tick_all-requires-clause-ordered c = subst AreOrdered (sym (c.as_slice.ensures.value ∙ c.sort_orders.ensures)) (are_in_order c.self.inside.replicas.items)
+
+pub invariant_of-self : goal.invariant_of-self
+invariant_of-self c =
+    let i = c.self.inside in
+    record {
+      valid = c.self.invariant.valid;
+      map_is = c.self.invariant.map_is;
+      replicas_are = subst (AreReplicas i.space) (sym c.sort_orders.ensures) (ordered_are i.space i.replicas.items c.self.invariant.replicas_are);
+      bare = bare_same _ _ (ap views_of c.sort_orders.ensures ∙ ordered_views i.replicas.items) c.self.invariant.bare;
+    }
+
+pub returns-clause-stays : goal.returns-clause-stays
+returns-clause-stays c = ordered_value c.self.inside c.args.self.now _ c.self.view_is c.sort_orders.ensures

@@ -1,0 +1,5 @@
+use Rattle.hx_store.proofs.Ordering.{each-within}
+use Rattle.hx_store.proofs.stores.Store.sort_order.Goals as goal
+
+pub sort_places-requires-clause-within : goal.sort_places-requires-clause-within
+sort_places-requires-clause-within c = each-within c.self.invariant
