@@ -1,3 +1,4 @@
 pub mod SmallSpace
 pub mod Books
 pub mod OneServer
+pub mod Replies

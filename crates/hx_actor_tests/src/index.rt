@@ -4,17 +4,27 @@ ghost use Rattle.hx_index.specs.Orders.{IsIndexOf, no_rows};
 
 use crate::rows::{between, row};
 use hx_index::{Index, View};
-use hx_types::{Exact, Row, Term};
+use hx_types::{Exact, Row, Shared, Term};
 use std::alloc::Global;
 use std::process::Abort;
 
-fn copy(rt: &impl Abort, alloc: Global, row: &Row) -> Row
+/// The row with one more owner.
+fn copy(rt: &impl Abort, alloc: Global, row: &Shared<Row>) -> Shared<Row>
     ensures { result ≡ row.now }
 {
     let Ok(copy) = row.copy(alloc) else {
         panic!(rt; "no memory");
     };
     copy
+}
+
+/// A row of version 1, with one owner.
+fn shared(rt: &impl Abort, alloc: Global, key: &str, word: &str, number: i64) -> Shared<Row> {
+    let row = row(rt, alloc, key, word, number);
+    let Ok(shared) = Shared::new(alloc, row) else {
+        panic!(rt; "no memory");
+    };
+    shared
 }
 
 /// An index of two attributes with room for this many rows, and of none.
@@ -35,7 +45,7 @@ fn indexed(rt: &impl Abort, alloc: Global, rows: u32) -> Index
 #[test]
 fn a_row_is_found_by_its_number(rt: HostRuntime) {
     let alloc = rt.alloc();
-    let rows = [Some(row(&rt, alloc, "a", "x", 500))];
+    let rows = [Some(shared(&rt, alloc, "a", "x", 500))];
     let mut index = indexed(&rt, alloc, 1);
     index.add(&rows, 0);
     let mut view = View::new(&rows, 0);
@@ -52,15 +62,15 @@ fn a_row_is_found_by_its_number(rt: HostRuntime) {
 #[test]
 fn a_row_goes_to_its_new_place(rt: HostRuntime) {
     let alloc = rt.alloc();
-    let old = row(&rt, alloc, "a", "x", 500);
-    let other = row(&rt, alloc, "b", "y", 700);
+    let old = shared(&rt, alloc, "a", "x", 500);
+    let other = shared(&rt, alloc, "b", "y", 700);
     let one = [Some(copy(&rt, alloc, &old)), None];
     let both = [Some(copy(&rt, alloc, &old)), Some(copy(&rt, alloc, &other))];
-    let changed = [Some(row(&rt, alloc, "a", "x", 900)), Some(other)];
+    let changed = [Some(shared(&rt, alloc, "a", "x", 900)), Some(other)];
     let mut index = indexed(&rt, alloc, 2);
     index.add(&one, 0);
     index.add(&both, 1);
-    index.replace(&changed, 0, &old);
+    index.replace(&changed, 0, old.get());
     let mut view = View::new(&changed, 0);
     let numbers = Term::Range {
         attribute: 2,

@@ -1,19 +1,22 @@
-ghost use Rattle.std.specs.Prelude.{◌≡◌, IfOk};
+ghost use Rattle.std.specs.Prelude.{◌≡◌, ◌∷◌, [], IfOk};
+ghost use Rattle.hx_types.specs.declared.calls.Op.TheVariants.{Put};
+ghost use Rattle.hx_types.specs.declared.messages.Message.TheVariants as a_message;
 ghost use Rattle.hx_replica.specs.Examples.{ask_of, first, from_coordinator, put_of, small};
 ghost use Rattle.hx_replica.specs.Servers.{CanTake};
 ghost use Rattle.hx_model.specs.ServerSteps.{server_at_start};
 
-use crate::spaces::{by_key, text};
+use crate::spaces::{by_key, list, text};
 use hx_replica::Server;
 use hx_types::{
-    Actor, Assigns, Epoch, Input, Memory, Message, Op, PostId, RegionId, ServerId, SessionId,
-    Shared, Terms,
+    Actor, Assigns, Epoch, Input, Memory, Message, Note, Notes, Op, Post, PostId, Posts, RegionId,
+    ServerId, SessionId, Shared, Terms,
 };
 use std::alloc::Global;
 use std::process::Abort;
 
-fn put(rt: &impl Abort, alloc: Global, epoch: u64) -> Input
-    ensures { result ≡ put_of epoch }
+/// The first call of a session, which puts an object of defaults.
+fn call(rt: &impl Abort, alloc: Global, epoch: u64) -> Message
+    ensures { result ≡ a_message.Call (record { 0 = epoch }) 1 (Put (97 ∷ []) []) }
 {
     let op = Op::Put {
         key: text(rt, alloc, "a"),
@@ -22,14 +25,20 @@ fn put(rt: &impl Abort, alloc: Global, epoch: u64) -> Input
     let Ok(op) = Shared::new(alloc, op) else {
         panic!(rt; "no memory");
     };
+    Message::Call {
+        epoch: Epoch(epoch),
+        number: 1,
+        op,
+    }
+}
+
+fn put(rt: &impl Abort, alloc: Global, epoch: u64) -> Input
+    ensures { result ≡ put_of epoch }
+{
     Input::Deliver {
         id: PostId { entry: 1, place: 0 },
         from: Actor::Session(SessionId(1)),
-        message: Message::Call {
-            epoch: Epoch(epoch),
-            number: 1,
-            op,
-        },
+        message: call(rt, alloc, epoch),
     }
 }
 
@@ -111,4 +120,57 @@ fn a_server_takes_each_input(rt: HostRuntime) {
     ] {
         assert!(rt; made == wanted, "{name}");
     }
+}
+
+/// The server hears a put in the first epoch, into the lists, and makes what that changes.
+fn hear(rt: &impl Abort, alloc: Global, server: &mut Server, posts: &mut Posts, notes: &mut Notes)
+    requires { CanTake server.old.space server.old.state (put_of 1) }
+{
+    let put = call(rt, alloc, 1);
+    let from = Actor::Session(SessionId(1));
+    let Ok(change) = server.hear(alloc, from, &put, posts, notes) else {
+        panic!(rt; "no memory");
+    };
+    server.make(change);
+}
+
+/// Whether the posts are that a server is gone, and a reply to the first call of session 1.
+fn are_behind_another(posts: &Posts) -> bool {
+    match posts.as_slice() {
+        [gone, reply] => {
+            matches!(gone.message, Message::Gone)
+                && matches!(reply.to, Actor::Session(SessionId(1)))
+                && matches!(reply.message, Message::Reply { number: 1, .. })
+        }
+        _ => false,
+    }
+}
+
+/// Whether the notes are that a call began, and that the first version was assigned.
+fn is_assigned_behind_another(notes: &Notes) -> bool {
+    match notes.as_slice() {
+        [Note::Began { .. }, Note::Assigned { update }] => update.version.0 == 1,
+        _ => false,
+    }
+}
+
+/// What it posts and notes of a put goes behind a post and a note that the lists have.
+#[test]
+fn a_put_is_answered_behind_what_was_posted(rt: HostRuntime) {
+    let alloc = rt.alloc();
+    let gone = Post {
+        from: Actor::Server(ServerId(2)),
+        to: Actor::Coordinator,
+        message: Message::Gone,
+    };
+    let mut posts = list(&rt, alloc, [gone]);
+    let mut notes = list(&rt, alloc, [Note::Began { number: 1 }]);
+    let mut server = started(&rt, alloc).expect(&rt, "no memory");
+    hear(&rt, alloc, &mut server, &mut posts, &mut notes);
+    let key = text(&rt, alloc, "a");
+    let is_put = server.slot(RegionId(0), &key).is_some();
+    drop(key);
+    drop(server);
+    assert!(rt; is_put);
+    assert!(rt; are_behind_another(&posts) && is_assigned_behind_another(&notes));
 }

@@ -6,6 +6,8 @@ mod bundles;
 #[cfg(test)]
 mod drawn;
 #[cfg(test)]
+mod found_rows;
+#[cfg(test)]
 mod io;
 #[cfg(test)]
 mod lex;

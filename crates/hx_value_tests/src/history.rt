@@ -190,3 +190,25 @@ fn calls_and_histories_are_listed_together(rt: HostRuntime) {
     drop(both);
     assert!(rt; are_listed);
 }
+
+/// One walk lists the same calls, and the items of both keys as they stand in the trace.
+#[test]
+fn calls_and_items_are_listed_together(rt: HostRuntime) {
+    let script = script(&rt);
+    let trace = trace(&rt);
+    let both = records_and_items(rt.alloc(), &script, &trace);
+    let both = both.expect(&rt, "memory");
+    let are_recorded = are_recorded(&both.records) && !both.has_issued;
+    let are_of_both = match both.histories.as_slice() {
+        [first, second] => {
+            (first.key.as_str() == "ab" && first.items.len() == 2)
+                && (second.key.as_str() == "b" && second.items.len() == 1)
+        }
+        _ => false,
+    };
+    drop(both);
+    drop(trace);
+    drop(script);
+    assert!(rt; are_recorded);
+    assert!(rt; are_of_both);
+}

@@ -173,6 +173,62 @@ fn a_trace_grows_in_place(rt: HostRuntime) {
     assert!(&rt; are_sent && are_delivered);
 }
 
+/// Puts the session's own turn at the end, out of the lists, which then have nothing.
+fn append_asking<R: Abort + AllocGlobal>(
+    rt: &R,
+    trace: &mut Trace,
+    posts: &mut Posts,
+    notes: &mut Notes,
+) {
+    for epoch in [7, 8] {
+        posts.push(poll(epoch)).expect(rt, "memory");
+    }
+    notes.push(Note::Began { number: 1 }).expect(rt, "memory");
+    let growing = trace.growing();
+    growing
+        .reserve(posts.len(), notes.len())
+        .expect(rt, "memory");
+    growing.append_tick(SESSION, posts, notes);
+}
+
+/// Puts the delivery of its second post at the end, out of the lists, which then have nothing. The
+/// epoch is that of the post where it lies.
+fn append_hearing<R: Abort + AllocGlobal>(
+    rt: &R,
+    trace: &mut Trace,
+    posts: &mut Posts,
+    notes: &mut Notes,
+) -> u64 {
+    posts.push(poll(3)).expect(rt, "memory");
+    notes.push(Note::Began { number: 2 }).expect(rt, "memory");
+    let growing = trace.growing();
+    growing
+        .reserve(posts.len(), notes.len())
+        .expect(rt, "memory");
+    let id = PostId { entry: 1, place: 1 };
+    let at = growing.place_of(id).expect(rt, "the post");
+    let epoch = epoch_of(&growing.post(at).message);
+    growing.append_delivery(SERVER, id, at, posts, notes);
+    epoch
+}
+
+#[test]
+fn a_trace_grows_out_of_lists_that_it_is_lent(rt: HostRuntime) {
+    let (mut posts, mut notes) = (Posts::new(rt.alloc()), Notes::new(rt.alloc()));
+    let mut trace = Trace::new(rt.alloc());
+    append_asking(&rt, &mut trace, &mut posts, &mut notes);
+    let is_lent = posts.is_empty() && notes.is_empty();
+    let epoch = append_hearing(&rt, &mut trace, &mut posts, &mut notes);
+    let is_lent_again = posts.is_empty() && notes.is_empty();
+    let are_sent = are_sent(&trace, &[(1, 0, Some(7)), (1, 1, Some(8)), (2, 0, Some(3))]);
+    let are_delivered = are_delivered(&trace, &[None, Some((1, 1, 8))]);
+    let counts = counts(&trace);
+    drop(trace);
+    assert_eq!(&rt; (epoch, counts), (8, (2, 3, 2)));
+    assert!(&rt; is_lent && is_lent_again);
+    assert!(&rt; are_sent && are_delivered);
+}
+
 #[test]
 fn whole_entries_are_read_back(rt: HostRuntime) {
     let mut trace = Trace::new(rt.alloc());

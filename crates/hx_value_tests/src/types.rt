@@ -23,6 +23,38 @@ fn lists_take_items(rt: HostRuntime) {
     assert!(rt; list.as_slice() == [1, 2, 3].as_slice());
 }
 
+/// A list takes the items of another one, and a vector that has room takes all of its items. What
+/// gave up its items takes others.
+#[test]
+fn lists_give_up_their_items(rt: HostRuntime) {
+    let alloc = rt.alloc();
+    let mut all = list(&rt, [2]);
+    all.append(list(&rt, [3, 4])).expect(&rt, "memory");
+    let is_longer = all.as_slice() == [2, 3, 4].as_slice();
+    let mut vector = Vec::from_array(alloc, [1]).expect(&rt, "memory");
+    vector.reserve(all.len()).expect(&rt, "memory");
+    all.move_to(&mut vector);
+    let is_moved = all.is_empty() && vector.as_slice() == [1, 2, 3, 4].as_slice();
+    all.push(5).expect(&rt, "memory");
+    all.clear();
+    assert!(rt; is_longer && is_moved);
+    assert!(rt; all.is_empty());
+}
+
+/// The bytes of a text from the highest byte of the number down, with zeros behind a short text.
+#[test]
+fn texts_have_prefixes_in_their_order(rt: HostRuntime) {
+    for (text, prefix) in [
+        ("", 0),
+        ("abc", 0x6162_6300_0000_0000),
+        ("abcdefgh", 0x6162_6364_6566_6768),
+        ("abcdefghijkl", 0x6162_6364_6566_6768),
+    ] {
+        assert!(rt; prefix_of(text) == prefix, "{text}");
+    }
+    assert!(rt; prefix_of("abc") < prefix_of("ac"));
+}
+
 #[test]
 fn copies_stay_as_they_were(rt: HostRuntime) {
     let mut list = shared_list(&rt, [ServerId(1), ServerId(2)]);

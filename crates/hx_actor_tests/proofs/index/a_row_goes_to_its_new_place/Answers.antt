@@ -1,7 +1,7 @@
 use Rattle.std.proofs.Common.{◌≡◌, ℕ, [], ◌∷◌, None, Option, Some, length, ap, sym, subst, ◌∙◌, arith}
 use Rattle.hx_types.specs.declared.calls.Row.{Row}
 use Rattle.hx_index.specs.Looks.{ViewState}
-use Rattle.hx_index.specs.Orders.{IsIndexOf, rows_at}
+use Rattle.hx_index.specs.Orders.{IsIndexOf, rows_at, rows_with}
 use Rattle.hx_index.proofs.Lemmas.{first-changes, first-comes, second-comes, without-length}
 use Rattle.hx_actor_tests.proofs.index.a_row_goes_to_its_new_place.Goals as goal
 
@@ -18,8 +18,11 @@ pub replace-requires-clause-index : goal.replace-requires-clause-index
 replace-requires-clause-index g c =
     let first = c.copy-2.ensures in
     let second = c.copy-3.ensures in
+    let rows : ℕ → Option Row = rows_at (Some c.shared.result ∷ Some c.shared-other.result ∷ []) in
+    let index : IsIndexOf (rows_with 0 (Some c.shared-old.result) rows) c.add-2.new.self =
     subst (λ (rows : ℕ → Option Row). IsIndexOf rows c.add-2.new.self)
-    ((λ k. rows_at (Some (first k) ∷ Some (second k) ∷ [])) ∙ sym (first-changes (Some c.row-old.result) (Some c.row-other.result) (Some c.row.result))) c.add-2.ensures.index
+    ((λ k. rows_at (Some (first k) ∷ Some (second k) ∷ [])) ∙ sym (first-changes (Some c.shared-old.result) (Some c.shared-other.result) (Some c.shared.result))) c.add-2.ensures.index in
+    subst (λ (old : Row). IsIndexOf (rows_with 0 (Some old) rows) c.add-2.new.self) (sym c.get.ensures) index
 
 pub run-run-requires-clause-attribute : goal.run-run-requires-clause-attribute
 run-run-requires-clause-attribute g c =
