@@ -65,7 +65,7 @@ fn finds(
     ends: Option<(i64, i64)>,
     keys: &[&str],
 ) -> Option<(usize, u64)>
-    ensures { store.new ≡ store.old }
+    ensures { store.new ≡ record store.old { ordered = true } }
 {
     let terms = match ends {
         Some((lo, hi)) => between(rt, alloc, 2, lo, hi),
@@ -91,6 +91,7 @@ fn keys_stand_in_byte_order(rt: HostRuntime) {
         let key = text(&rt, alloc, key);
         assert!(rt; store.ensure(alloc, &key).is_ok());
     }
+    store.sort_order();
     let is_first = match store.nth(0) {
         Some(slot) => slot.key().as_str() == "a",
         None => false,
@@ -184,9 +185,10 @@ fn an_object_is_found_by_its_last_value(rt: HostRuntime) {
 }
 
 /// Whether an empty store could install what is committed in another one.
-fn install(alloc: Global, store: &Store, joiner: &mut Store) -> bool
+fn install(alloc: Global, store: &mut Store, joiner: &mut Store) -> bool
     requires { joiner.old.states ≡ [] }
 {
+    store.sort_order();
     match store.snapshot(alloc) {
         Ok(snapshot) => joiner.install(alloc, &snapshot).is_ok(),
         Err(_) => false,
@@ -204,7 +206,7 @@ fn a_snapshot_is_installed(rt: HostRuntime) {
     let slot = Slot::new(alloc, RegionId(3), text(&rt, alloc, "c"), false);
     let is_put = store.put(alloc, slot).is_ok();
     let mut joiner = empty(&rt, alloc, false);
-    let is_installed = install(alloc, &store, &mut joiner);
+    let is_installed = install(alloc, &mut store, &mut joiner);
     let found = finds(&rt, alloc, &mut joiner, None, &["a", "b"]);
     let slots = joiner.len();
     drop(joiner);
