@@ -1,8 +1,9 @@
--- The table of a server's steps, row by row: snapshots, seals, configurations, halts and ticks.
-use Rattle.std.specs.Prelude.{◌≡◌, ℕ, true, false, List, [], ◌∷◌, map, codes, None, Some}
+-- The table of a server's steps, row by row: snapshots, halts, ticks and configurations.
+use Rattle.std.specs.Prelude.{◌≡◌, ℕ, Bool, true, false, List, [], ◌∷◌, map, codes, None, Some}
 use Rattle.hx_types.specs.declared.configs.Config.{Config}
 use Rattle.hx_types.specs.declared.traces.Input.{Input}
 use Rattle.hx_types.specs.declared.snapshots.Kept.{Kept}
+use Rattle.hx_types.specs.declared.messages.Post.{Post}
 use Rattle.hx_types.specs.declared.updates.Update.{Update}
 use Rattle.hx_types.specs.declared.calls.Answer.TheVariants as an_answer
 use Rattle.hx_types.specs.declared.messages.Message.TheVariants as a_message
@@ -61,7 +62,8 @@ abbrev taken_first : List ℕ → KeyState
 taken_first key = slot_of key true (first_of key ∷ []) 0 [] []
 
 installed_by_keys :
-    step (joiner (not_installed 0)) (from_server 2 (a_message.Snap (epoch 2) (region 0) (kept ∷ []) (first_of (codes "b") ∷ second_update ∷ third_update ∷ first_of (codes "c") ∷ [])))
+    step (joiner (not_installed 0))
+    (from_server 2 (a_message.Snap (epoch 2) (region 0) (kept ∷ []) (first_of (codes "b") ∷ second_update ∷ third_update ∷ first_of (codes "c") ∷ [])))
     ≡ stepping (joiner (replica 0 (on_base kept (third_update ∷ second_update ∷ []) 1 ∷ taken_first (codes "b") ∷ taken_first (codes "c") ∷ [])))
     (
     between 3 2 (a_message.Update (epoch 2) (region 1) second_update)
@@ -88,17 +90,33 @@ abbrev high_joiner : Replica → ServerState
 high_joiner r = running 2 joins_high_region (replica 0 [] ∷ replica 1 [] ∷ r ∷ [])
 
 abbrev high_kept : Kept
-high_kept = record { key = codes "b"; floor = version 4; object = Some (row (codes "b") 4 blue); marks = mark 1 1 1 an_answer.Done ∷ []; touches = touch 2 4 ∷ [] }
+high_kept =
+    record {
+      key = codes "b";
+      floor = version 4;
+      object = Some (row (codes "b") 4 blue);
+      marks = mark 1 1 1 an_answer.Done ∷ [];
+      touches = touch 2 4 ∷ [];
+    }
+
+abbrev high_base : KeyState
+high_base = record (on_base (record high_kept { marks = []; touches = [] }) [] 4) { marks = false }
 
 installed_at_the_end :
     step (high_joiner (not_installed 2)) (from_server 1 (a_message.Snap (epoch 2) (region 2) (high_kept ∷ []) (second_update ∷ [])))
-    ≡ stepping (high_joiner (replica 2 (other_slot (second_update ∷ []) 2 [] [] ∷ record (on_base (record high_kept { marks = []; touches = [] }) [] 4) { marks = false } ∷ [])))
+    ≡ stepping (high_joiner (replica 2 (other_slot (second_update ∷ []) 2 [] [] ∷ high_base ∷ [])))
     (
-    between 2 1 (a_message.Ack (epoch 2) (region 2) the_key (version 2))
+    between 2 1 (a_message.Ack (epoch 2) (region 2) the_key (version 2) (region 2))
     ∷ to_coordinator 2 (a_message.Ready (epoch 2) (region 2))
     ∷ []
     )
 installed_at_the_end = refl
+
+-- a member that is listed as ready installs it too, and says nothing of it
+installed_as_ready :
+    step (running 2 whole (not_installed 0 ∷ replica 1 [] ∷ [])) (from_server 1 (a_message.Snap (epoch 2) (region 0) (kept ∷ []) []))
+    ≡ ignoring (running 2 whole (replica 0 (on_base kept [] 1 ∷ []) ∷ replica 1 [] ∷ []))
+installed_as_ready = refl
 
 -- installed before: nothing but that it is ready
 installed_before :
@@ -113,19 +131,50 @@ second = running 2 whole (replica 0 [] ∷ replica 1 [] ∷ [])
 ready_before : step second (from_server 1 (a_message.Snap (epoch 2) (region 0) (kept ∷ []) (second_update ∷ []))) ≡ ignoring second
 ready_before = refl
 
--- ---- Seal
+-- a snapshot of another epoch is taken too; what is posted has the server's own, and of a higher one it asks first
+abbrev snapshots : ℕ → ℕ → Input
+snapshots s e = from_server s (a_message.Snap (epoch e) (region 0) (kept ∷ []) (second_update ∷ []))
 
-sealed_in_its_epoch : step second (from_coordinator (a_message.Seal (epoch 2))) ≡ stepping (record second { sealed = true }) (to_coordinator 2 (a_message.Sealed (epoch 2)) ∷ [])
-sealed_in_its_epoch = refl
+abbrev polls : ℕ → Post
+polls s = to_coordinator s (a_message.Poll (epoch 2))
 
-sealed_again : step (record second { sealed = true }) (from_coordinator (a_message.Seal (epoch 2))) ≡ stepping (record second { sealed = true }) (to_coordinator 2 (a_message.Sealed (epoch 2)) ∷ [])
-sealed_again = refl
+abbrev installed_joiner : ServerState
+installed_joiner = joiner (replica 0 (on_base kept (second_update ∷ []) 1 ∷ []))
 
-not_sealed_in_a_lower_epoch : step second (from_coordinator (a_message.Seal (epoch 1))) ≡ ignoring second
-not_sealed_in_a_lower_epoch = refl
+installed_of_other_epochs :
+    map (λ (e : ℕ). step (joiner (not_installed 0)) (snapshots 2 e)) (1 ∷ 3 ∷ [])
+    ≡ stepping installed_joiner
+    (between 3 2 (a_message.Update (epoch 2) (region 1) second_update) ∷ to_coordinator 3 (a_message.Ready (epoch 2) (region 0)) ∷ [])
+    ∷ stepping installed_joiner
+    (polls 3 ∷ between 3 2 (a_message.Update (epoch 2) (region 1) second_update) ∷ to_coordinator 3 (a_message.Ready (epoch 2) (region 0)) ∷ [])
+    ∷ []
+installed_of_other_epochs = refl
 
-not_sealed_in_a_higher_epoch : step second (from_coordinator (a_message.Seal (epoch 3))) ≡ ignoring second
-not_sealed_in_a_higher_epoch = refl
+ready_of_other_epochs :
+    map (λ (e : ℕ). step installed_joiner (snapshots 2 e)) (1 ∷ 3 ∷ [])
+    ≡ stepping installed_joiner (to_coordinator 3 (a_message.Ready (epoch 2) (region 0)) ∷ [])
+    ∷ stepping installed_joiner (polls 3 ∷ to_coordinator 3 (a_message.Ready (epoch 2) (region 0)) ∷ [])
+    ∷ []
+ready_of_other_epochs = refl
+
+-- only the member directly before is heard: from the first of three, from the joiner itself or from a session it is dropped
+unheard_by_a_joiner :
+    map (step (joiner (not_installed 0))) (snapshots 1 2 ∷ snapshots 3 2 ∷ from_session 2 (a_message.Snap (epoch 2) (region 0) (kept ∷ []) []) ∷ [])
+    ≡ ignoring (joiner (not_installed 0)) ∷ ignoring (joiner (not_installed 0)) ∷ ignoring (joiner (not_installed 0)) ∷ []
+unheard_by_a_joiner = refl
+
+unheard_by_an_installed_joiner :
+    map (step installed_joiner) (snapshots 1 2 ∷ snapshots 1 3 ∷ []) ≡ ignoring installed_joiner ∷ stepping installed_joiner (polls 3 ∷ []) ∷ []
+unheard_by_an_installed_joiner = refl
+
+-- nobody stands before the first
+unheard_by_the_first :
+    map (λ (s : ℕ). step (running 1 whole (replica 0 [] ∷ replica 2 [] ∷ [])) (snapshots s 2)) (1 ∷ 2 ∷ 3 ∷ [])
+    ≡ ignoring (running 1 whole (replica 0 [] ∷ replica 2 [] ∷ []))
+    ∷ ignoring (running 1 whole (replica 0 [] ∷ replica 2 [] ∷ []))
+    ∷ ignoring (running 1 whole (replica 0 [] ∷ replica 2 [] ∷ []))
+    ∷ []
+unheard_by_the_first = refl
 
 -- ---- Die, Halt
 
@@ -135,20 +184,34 @@ dies = refl
 halts : step second Halt ≡ stepping (record second { halted = true }) (to_coordinator 2 a_message.Gone ∷ [])
 halts = refl
 
-dies_while_sealed : step (record second { sealed = true }) (from_coordinator a_message.Die) ≡ stepping (record second { sealed = true; halted = true }) (to_coordinator 2 a_message.Gone ∷ [])
-dies_while_sealed = refl
+-- replicas stay as they are, and it doesn't halt twice
+abbrev holding : Bool → ServerState
+holding halted =
+    record (running 2 whole (replica 0 (key_slot (second_update ∷ first_update ∷ []) 0 (2 ∷ []) (third_update ∷ []) ∷ []) ∷ replica 1 [] ∷ [])) {
+      halted = halted;
+    }
 
--- ---- Tick
+halts_as_it_is :
+    map (step (holding false)) (Halt ∷ from_coordinator a_message.Die ∷ [])
+    ≡ stepping (holding true) (to_coordinator 2 a_message.Gone ∷ []) ∷ stepping (holding true) (to_coordinator 2 a_message.Gone ∷ []) ∷ []
+halts_as_it_is = refl
 
-sealed_tick : step (record second { sealed = true }) Tick ≡ stepping (record second { sealed = true }) (to_coordinator 2 (a_message.Sealed (epoch 2)) ∷ [])
-sealed_tick = refl
+halts_once : map (step (holding true)) (Halt ∷ from_coordinator a_message.Die ∷ []) ≡ ignoring (holding true) ∷ ignoring (holding true) ∷ []
+halts_once = refl
+
+-- ---- Tick: where anything is posted, the newest configuration is asked for last
 
 -- what is pending is sent again, by region, key and version; what is committed or early isn't
 abbrev busy_second : ServerState
 busy_second =
     running 2 whole
     (
-    replica 0 (key_slot (third_update ∷ second_update ∷ first_update ∷ []) 1 (3 ∷ []) [] ∷ slot_of (codes "b") true (of_key (codes "b") first_update ∷ []) 0 [] (of_key (codes "b") third_update ∷ []) ∷ [])
+    replica 0
+    (
+    key_slot (third_update ∷ second_update ∷ first_update ∷ []) 1 (3 ∷ []) []
+    ∷ slot_of (codes "b") true (of_key (codes "b") first_update ∷ []) 0 [] (of_key (codes "b") third_update ∷ [])
+    ∷ []
+    )
     ∷ replica 1 (other_slot (second_update ∷ first_update ∷ []) 0 [] [] ∷ [])
     ∷ []
     )
@@ -162,6 +225,7 @@ pending_tick :
     ∷ between 2 2 (a_message.Update (epoch 2) (region 1) (of_key (codes "b") first_update))
     ∷ between 2 3 (a_message.Update (epoch 2) (region 1) first_update)
     ∷ between 2 3 (a_message.Update (epoch 2) (region 1) second_update)
+    ∷ polls 2
     ∷ []
     )
 pending_tick = refl
@@ -190,6 +254,7 @@ sender_tick :
     between 2 3 (a_message.Snap (epoch 2) (region 0) (kept ∷ []) (second_update ∷ of_key (codes "b") first_update ∷ []))
     ∷ between 2 3 (a_message.Update (epoch 2) (region 0) second_update)
     ∷ between 2 3 (a_message.Update (epoch 2) (region 0) (of_key (codes "b") first_update))
+    ∷ polls 2
     ∷ []
     )
 sender_tick = refl
@@ -205,7 +270,9 @@ no_sender_tick = refl
 abbrev two_join : Config
 two_join = configured 2 (1 ∷ 2 ∷ 3 ∷ []) ((ready 1 ∷ joining 2 ∷ ready 3 ∷ joining 4 ∷ []) ∷ [] ∷ [] ∷ [])
 
-last_ready_sends : step (running 3 two_join (replica 0 [] ∷ [])) Tick ≡ stepping (running 3 two_join (replica 0 [] ∷ [])) (between 3 4 (a_message.Snap (epoch 2) (region 0) [] []) ∷ [])
+last_ready_sends :
+    step (running 3 two_join (replica 0 [] ∷ [])) Tick
+    ≡ stepping (running 3 two_join (replica 0 [] ∷ [])) (between 3 4 (a_message.Snap (epoch 2) (region 0) [] []) ∷ polls 3 ∷ [])
 last_ready_sends = refl
 
 earlier_ready_does_not : step (running 1 two_join (replica 0 [] ∷ [])) Tick ≡ ignoring (running 1 two_join (replica 0 [] ∷ []))
@@ -218,9 +285,38 @@ joiner_tick :
     (
     between 3 2 (a_message.Update (epoch 2) (region 1) first_update)
     ∷ to_coordinator 3 (a_message.Ready (epoch 2) (region 0))
+    ∷ polls 3
     ∷ []
     )
 joiner_tick = refl
+
+-- one region after another, and one question for all
+abbrev busy_joiner : ServerState
+busy_joiner =
+    running 3 (joins_key_region 2)
+    (
+    replica 0 (key_slot (first_update ∷ []) 0 [] [] ∷ [])
+    ∷ replica 1 []
+    ∷ replica 2 (other_slot (second_update ∷ []) 0 [] [] ∷ [])
+    ∷ []
+    )
+
+busy_joiner_tick :
+    step busy_joiner Tick
+    ≡ stepping busy_joiner
+    (
+    between 3 2 (a_message.Update (epoch 2) (region 1) first_update)
+    ∷ to_coordinator 3 (a_message.Ready (epoch 2) (region 0))
+    ∷ between 3 1 (a_message.Update (epoch 2) (region 2) second_update)
+    ∷ polls 3
+    ∷ []
+    )
+busy_joiner_tick = refl
+
+-- a joiner with nothing to send says that it is ready, and asks
+ready_tick :
+    step (joiner (replica 0 [])) Tick ≡ stepping (joiner (replica 0 [])) (to_coordinator 3 (a_message.Ready (epoch 2) (region 0)) ∷ polls 3 ∷ [])
+ready_tick = refl
 
 not_installed_tick : step (joiner (not_installed 0)) Tick ≡ ignoring (joiner (not_installed 0))
 not_installed_tick = refl
@@ -235,23 +331,48 @@ of_lost_region = running 2 (lost_key_region 2) (replica 0 (key_slot (first_updat
 lost_region_tick : step of_lost_region Tick ≡ ignoring of_lost_region
 lost_region_tick = refl
 
+-- the other regions of its server aren't
+abbrev beside_lost_region : ServerState
+beside_lost_region =
+    running 2 (lost_key_region 2)
+    (replica 0 (key_slot (first_update ∷ []) 0 [] [] ∷ []) ∷ replica 1 (other_slot (first_update ∷ []) 0 [] [] ∷ []) ∷ [])
+
+beside_lost_region_tick :
+    step beside_lost_region Tick ≡ stepping beside_lost_region (between 2 3 (a_message.Update (epoch 2) (region 1) first_update) ∷ polls 2 ∷ [])
+beside_lost_region_tick = refl
+
+-- what is pending before a lost region isn't sent, so nothing is asked
+abbrev before_lost_region : ServerState
+before_lost_region =
+    running 2 (configured 2 (1 ∷ 2 ∷ []) ((ready 1 ∷ ready 2 ∷ []) ∷ [] ∷ (ready 1 ∷ []) ∷ []))
+    (replica 0 (key_slot (first_update ∷ []) 0 [] [] ∷ []) ∷ [])
+
+before_lost_region_tick : step before_lost_region Tick ≡ ignoring before_lost_region
+before_lost_region_tick = refl
+
 -- ---- Install
 
 abbrev installs : Config → Input
 installs config = from_coordinator (a_message.Install config)
 
-own_epoch_is_ignored : step (record second { sealed = true }) (installs whole) ≡ ignoring (record second { sealed = true })
+own_epoch_is_ignored : step (holding false) (installs whole) ≡ ignoring (holding false)
 own_epoch_is_ignored = refl
 
-lower_epoch_is_ignored : step (record second { sealed = true }) (installs (lost_key_region 1)) ≡ ignoring (record second { sealed = true })
+lower_epoch_is_ignored : step (holding false) (installs (lost_key_region 1)) ≡ ignoring (holding false)
 lower_epoch_is_ignored = refl
 
--- not sealed any more; a newly listed region has a replica that isn't installed; a region where it isn't listed any more has none
+-- a newly listed region has a replica that isn't installed; a region where it isn't listed any more has none
 abbrev moved_config : Config
 moved_config = configured 3 (1 ∷ 2 ∷ 3 ∷ []) ((ready 1 ∷ ready 2 ∷ []) ∷ (ready 3 ∷ []) ∷ (ready 3 ∷ ready 1 ∷ joining 2 ∷ []) ∷ [])
 
-adopted : step (record second { sealed = true }) (installs moved_config) ≡ ignoring (running 2 moved_config (replica 0 [] ∷ not_installed 2 ∷ []))
+adopted : step second (installs moved_config) ≡ ignoring (running 2 moved_config (replica 0 [] ∷ not_installed 2 ∷ []))
 adopted = refl
+
+-- epochs may be left out
+adopted_later :
+    step second (installs (record moved_config { epoch = epoch 7 }))
+    ≡ ignoring (running 2 (record moved_config { epoch = epoch 7 }) (replica 0 [] ∷ not_installed 2 ∷ []))
+adopted_later = refl
 
 -- a replica that stays keeps whether it is installed
 still_not_installed :
@@ -264,7 +385,8 @@ abbrev whole_next : Config
 whole_next = record whole { epoch = epoch 3 }
 
 forgets_and_sends_again :
-    step (running 2 whole (replica 0 (key_slot (second_update ∷ first_update ∷ []) 0 (2 ∷ []) (third_update ∷ []) ∷ []) ∷ replica 1 [] ∷ [])) (installs whole_next)
+    step (running 2 whole (replica 0 (key_slot (second_update ∷ first_update ∷ []) 0 (2 ∷ []) (third_update ∷ []) ∷ []) ∷ replica 1 [] ∷ []))
+    (installs whole_next)
     ≡ stepping (running 2 whole_next (replica 0 (key_slot (second_update ∷ first_update ∷ []) 0 [] [] ∷ []) ∷ replica 1 [] ∷ []))
     (
     between 2 2 (a_message.Update (epoch 3) (region 1) first_update)
@@ -273,9 +395,37 @@ forgets_and_sends_again :
     )
 forgets_and_sends_again = refl
 
+-- one region after another, key by key
+forgets_and_sends_by_regions :
+    step busy_second (installs whole_next)
+    ≡ stepping
+    (
+    running 2 whole_next
+    (
+    replica 0
+    (
+    key_slot (third_update ∷ second_update ∷ first_update ∷ []) 1 [] []
+    ∷ slot_of (codes "b") true (of_key (codes "b") first_update ∷ []) 0 [] []
+    ∷ []
+    )
+    ∷ replica 1 (other_slot (second_update ∷ first_update ∷ []) 0 [] [] ∷ [])
+    ∷ []
+    )
+    )
+    (
+    between 2 2 (a_message.Update (epoch 3) (region 1) second_update)
+    ∷ between 2 3 (a_message.Update (epoch 3) (region 2) third_update)
+    ∷ between 2 2 (a_message.Update (epoch 3) (region 1) (of_key (codes "b") first_update))
+    ∷ between 2 3 (a_message.Update (epoch 3) (region 1) first_update)
+    ∷ between 2 3 (a_message.Update (epoch 3) (region 1) second_update)
+    ∷ []
+    )
+forgets_and_sends_by_regions = refl
+
 -- so they are in a lost region, which is silent
 forgets_in_a_lost_region :
-    step (running 2 whole (replica 0 (key_slot (second_update ∷ first_update ∷ []) 0 (2 ∷ []) (third_update ∷ []) ∷ []) ∷ replica 1 [] ∷ [])) (installs (lost_key_region 3))
+    step (running 2 whole (replica 0 (key_slot (second_update ∷ first_update ∷ []) 0 (2 ∷ []) (third_update ∷ []) ∷ []) ∷ replica 1 [] ∷ []))
+    (installs (lost_key_region 3))
     ≡ ignoring (running 2 (lost_key_region 3) (replica 0 (key_slot (second_update ∷ first_update ∷ []) 0 [] [] ∷ []) ∷ replica 1 [] ∷ []))
 forgets_in_a_lost_region = refl
 
@@ -285,7 +435,8 @@ shorter = configured 3 (1 ∷ 2 ∷ []) ((ready 1 ∷ ready 2 ∷ []) ∷ (ready
 
 commits_at_the_end :
     step (running 2 whole (replica 0 [] ∷ replica 1 (other_slot (first_update ∷ []) 0 [] [] ∷ []) ∷ [])) (installs shorter)
-    ≡ stepping (running 2 shorter (replica 0 [] ∷ replica 1 (other_slot (first_update ∷ []) 1 [] [] ∷ []) ∷ [])) (between 2 2 (a_message.Ack (epoch 3) (region 0) the_key (version 1)) ∷ [])
+    ≡ stepping (running 2 shorter (replica 0 [] ∷ replica 1 (other_slot (first_update ∷ []) 1 [] [] ∷ []) ∷ []))
+    (between 2 2 (a_message.Ack (epoch 3) (region 0) the_key (version 1) (region 1)) ∷ [])
 commits_at_the_end = refl
 
 -- the new leader of a chain of one replica answers
@@ -306,7 +457,8 @@ missed v number =
 
 answers_alone :
     step (running 2 whole (replica 0 (key_slot (missed 1 1 ∷ []) 0 [] [] ∷ []) ∷ replica 1 [] ∷ [])) (installs alone)
-    ≡ stepping (running 2 alone (replica 0 (key_slot (missed 1 1 ∷ []) 1 [] [] ∷ []) ∷ replica 1 [] ∷ [])) (to_session 2 1 (a_message.Reply 1 (version 1) an_answer.NotFound) ∷ [])
+    ≡ stepping (running 2 alone (replica 0 (key_slot (missed 1 1 ∷ []) 1 [] [] ∷ []) ∷ replica 1 [] ∷ []))
+    (to_session 2 1 (a_message.Reply 1 (version 1) an_answer.NotFound) ∷ [])
 answers_alone = refl
 
 -- the leader doubts what is pending from the first version on that has a place in a lost region, after it sent what can be sent
@@ -363,6 +515,7 @@ others_do_nothing :
     (
     from_server 1 (a_message.Reply 1 (version 1) an_answer.Done)
     ∷ from_server 1 (a_message.Found (epoch 2) 1 (region 0) [])
+    ∷ from_coordinator (a_message.Seal (epoch 2))
     ∷ from_server 1 (a_message.Sealed (epoch 2))
     ∷ from_server 1 a_message.Gone
     ∷ from_session 1 (a_message.StopServer 1 (server 2))
@@ -372,5 +525,21 @@ others_do_nothing :
     ∷ from_session 1 (a_message.Poll (epoch 1))
     ∷ []
     )
-    ≡ ignoring second ∷ ignoring second ∷ ignoring second ∷ ignoring second ∷ ignoring second ∷ ignoring second ∷ ignoring second ∷ ignoring second ∷ ignoring second ∷ []
+    ≡ ignoring second ∷ ignoring second ∷ ignoring second ∷ ignoring second ∷ ignoring second ∷ ignoring second ∷ ignoring second
+    ∷ ignoring second ∷ ignoring second ∷ ignoring second ∷ []
 others_do_nothing = refl
+
+-- whatever their epoch
+others_of_a_higher_epoch_do_nothing :
+    map (step second)
+    (
+    from_server 1 (a_message.Found (epoch 3) 1 (region 0) [])
+    ∷ from_coordinator (a_message.Seal (epoch 3))
+    ∷ from_server 1 (a_message.Sealed (epoch 3))
+    ∷ from_coordinator (a_message.Outcome 1 (an_answer.Issued (epoch 3)))
+    ∷ from_server 1 (a_message.Ready (epoch 3) (region 0))
+    ∷ from_session 1 (a_message.Poll (epoch 3))
+    ∷ []
+    )
+    ≡ ignoring second ∷ ignoring second ∷ ignoring second ∷ ignoring second ∷ ignoring second ∷ ignoring second ∷ []
+others_of_a_higher_epoch_do_nothing = refl

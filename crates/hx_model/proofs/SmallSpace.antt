@@ -199,9 +199,9 @@ replica g states = record { region = region g; installed = true; states = states
 abbrev pub not_installed : ℕ → Replica
 not_installed g = record { region = region g; installed = false; states = [] }
 
--- a server that runs and isn't sealed
+-- a server that runs
 abbrev pub running : ℕ → Config → List Replica → ServerState
-running n config replicas = record { id = server n; config = config; sealed = false; halted = false; replicas = replicas }
+running n config replicas = record { id = server n; config = config; halted = false; replicas = replicas }
 
 -- a step that changes the state and notes nothing
 abbrev pub stepping : ServerState → List Post → ServerStep
