@@ -19,10 +19,10 @@ use Rattle.hx_types.specs.declared.messages.Message.TheVariants as a_message
 use Rattle.hx_types.specs.declared.ids.Actor.TheVariants.{Coordinator, Server, Session}
 use Rattle.hx_types.specs.declared.traces.Note.TheVariants as a_note
 use Rattle.hx_types.specs.Words.{IsIn, first_some, post}
-use Rattle.hx_types.specs.Configs.{is_lost, lists_ready, members_of}
+use Rattle.hx_types.specs.Configs.{any_joining, is_lost, lists_ready, members_of}
 use Rattle.hx_types.specs.Fitting.{IsScript, call_of, calls_of, numbered}
 use Rattle.hx_model.specs.Causes.{config_noted, is_fulfilled, issued_after}
-use Rattle.hx_model.specs.CoordinatorSteps.{CoordinatorState, CoordinatorStep, any_joining, coordinator_step}
+use Rattle.hx_model.specs.CoordinatorSteps.{CoordinatorState, CoordinatorStep, coordinator_step}
 use Rattle.hx_model.specs.SessionSteps.{SessionState}
 use Rattle.hx_model.specs.Runs.{IsRun, Output, MayTake, coordinator_after, coordinator_of, made_of, server_of, session_after, session_of}
 use Rattle.hx_law_lemmas.specs.Words.{posts_of}

@@ -17,11 +17,10 @@ use Rattle.hx_types.specs.declared.calls.Answer.TheVariants as an_answer
 use Rattle.hx_types.specs.declared.calls.Op.TheVariants.{Put, Get, Del, Cput, Search, Stop, Add, Atomic}
 use Rattle.hx_types.specs.declared.outcomes.Planned.TheVariants as a_plan
 use Rattle.hx_types.specs.Words.{server_in}
-use Rattle.hx_types.specs.Configs.{is_lost, lists_ready, members_of}
+use Rattle.hx_types.specs.Configs.{any_joining, is_lost, lists_ready, members_of}
 use Rattle.hx_types.specs.Effects.{is_write, key_of}
 use Rattle.hx_types.specs.Fitting.{IsScript, call_of}
 use Rattle.hx_model.specs.Causes.{AnsweredCall, HasCause, IsAddRefused, IsIssued, IsLostIn, IsRefused, IsRefusedFor, IsStopped, config_of, is_fulfilled, issued_after, refused_place, server_named, was_sent}
-use Rattle.hx_model.specs.CoordinatorSteps.{any_joining}
 use Rattle.hx_model.specs.Histories.{line_of}
 use Rattle.hx_model.specs.Planning.{plan_of}
 use Rattle.hx_model.specs.Regions.{key_region}

@@ -1,13 +1,14 @@
 -- Each step of the coordinator: what it answers was answered before, or is judged on its configuration or on the one that it issues.
-use Rattle.std.proofs.Common.{◌≡◌, ℕ, ◌+◌, ◌⊎◌, inl, inr, Bool, true, not, ◌&&◌, List, [], ◌∷◌, ◌++◌, map, Option, Some, None, refl, sym, ap, ◌∙◌, subst, eqb, ltb}
+use Rattle.std.proofs.Common.{◌≡◌, ℕ, ◌+◌, ◌⊎◌, inl, inr, not, ◌&&◌, List, [], ◌∷◌, ◌++◌, map, Option, Some, None, refl, sym, ap, ◌∙◌, subst, eqb, ltb}
 use Rattle.std.specs.Prelude.{⊤}
+use Rattle.std.specs.List.{filter, flat_map}
 use Rattle.std.proofs.lemmas.Bool.{cond_both, eqb-true}
 use Rattle.hx_types.specs.declared.calls.Answer.{Answer}
 use Rattle.hx_types.specs.declared.calls.Caller.{Caller}
 use Rattle.hx_types.specs.declared.calls.Op.{Op}
 use Rattle.hx_types.specs.declared.configs.Config.{Config}
+use Rattle.hx_types.specs.declared.configs.Member.{Member}
 use Rattle.hx_types.specs.declared.ids.Actor.{Actor}
-use Rattle.hx_types.specs.declared.ids.Epoch.{Epoch}
 use Rattle.hx_types.specs.declared.ids.RegionId.{RegionId}
 use Rattle.hx_types.specs.declared.ids.ServerId.{ServerId}
 use Rattle.hx_types.specs.declared.ids.SessionId.{SessionId}
@@ -20,11 +21,15 @@ use Rattle.hx_types.specs.declared.messages.Message.TheVariants as a_message
 use Rattle.hx_types.specs.declared.ids.Actor.TheVariants.{Coordinator, Server, Session}
 use Rattle.hx_types.specs.declared.traces.Input.TheVariants.{Tick, Halt, Deliver}
 use Rattle.hx_types.specs.declared.traces.Note.TheVariants as a_note
-use Rattle.hx_types.specs.Words.{IsIn, below, post, provided, server_in, without_server}
-use Rattle.hx_types.specs.Configs.{is_lost, lists_joining}
-use Rattle.hx_model.specs.CoordinatorSteps.{Answered, CoordinatorState, CoordinatorStep, Newest, Phase, Sealing, Steady, Task, add_step, adds, adds_steady, again, by_number, coordinator_message, coordinator_step, coordinator_tick, die_for, die_posts, gone_step, goes, is_newest_call, is_out, issue, issuing, judged, newest_answered, newest_of, outcome, ready_now, ready_step, remaining, resting, seal, sealed_now, sealed_step, sealing_or_issue, session_posts, still_sealing, stop_step, stops, telling, to_server, waits_less, with_answer, with_newest, with_number, with_server, with_task}
-use Rattle.hx_law_lemmas.proofs.Lemmas.{in-with_newest, newest-in, in-append, in-flat_map, in-map, in-provided}
-use Rattle.hx_law_causes.proofs.Outcomes.{Judged, issuing-well, judged-is}
+use Rattle.hx_types.specs.Words.{IsIn, below, post, server_in}
+use Rattle.hx_types.specs.Configs.{any_joining, any_ready, is_lost, lists_joining}
+use Rattle.hx_model.specs.CoordinatorSteps.{Answered, CoordinatorState, CoordinatorStep, Newest, Task, add_step, adds, again, by_number}
+use Rattle.hx_model.specs.CoordinatorSteps.{config_ready, config_with, config_without, coordinator_message, coordinator_step, coordinator_tick}
+use Rattle.hx_model.specs.CoordinatorSteps.{die_for, gone_step, is_newest_call, issue, join_posts, judged, last_ready_pair, newest_answered}
+use Rattle.hx_model.specs.CoordinatorSteps.{newest_of, outcome, ready_step, resting, session_posts, stop_step, stops, stops_answered}
+use Rattle.hx_model.specs.CoordinatorSteps.{stops_left, stops_server, telling, to_server, with_answer, with_newest, with_number, with_task}
+use Rattle.hx_law_lemmas.proofs.Lemmas.{in-with_newest, newest-in, in-append, in-filter, in-flat_map, in-map, in-provided}
+use Rattle.hx_law_causes.proofs.Outcomes.{Judged, add-judged, judged-is, stop-judged}
 
 -- what is said of the session that is answered
 abbrev pub ToSession : Actor → (SessionId → Type 0) → Type 0
@@ -123,34 +128,41 @@ module _ (Asked : Caller → Op → Type 0) (Old : Caller → Answer → Type 0)
       ])
       (λ t. h))
 
-  -- the next configuration is issued
-  issues : (d d' : CoordinatorState) → d'.config ≡ d.config → ((t : Task) → IsIn t d'.todo → Asked t.caller t.op) → ((x : Newest) → IsIn x d'.newest → (a : Answer) → x.answer ≡ Some a → Now d (caller_of x) a) → Coordinated d (issue d')
-  issues d d' e todo newest =
-      let w = issuing-well Asked d' todo in
-      record {
-        todo = w.left;
-        newest = answered-newest (Given (ByStep d (issue d'))) (issuing d').answered (λ a i. answered a (w.answered a i)) d'.newest (λ x i a q. up (caller_of x) a (newest x i a q));
-        posts = λ p i. elim (in-append (map (to_server (a_message.Install (issuing d').config)) (issuing d').config.servers ++ session_posts d'.sessions (a_message.Install (issuing d').config)) (map (λ (a : Answered). outcome a.caller a.answer) (issuing d').answered) p i) [
-          | inl j ↦ elim (in-append (map (to_server (a_message.Install (issuing d').config)) (issuing d').config.servers) (session_posts d'.sessions (a_message.Install (issuing d').config)) p j) [
-            | inl x ↦ to-each (Given (ByStep d (issue d'))) (a_message.Install (issuing d').config) (issuing d').config.servers p x
-            | inr x ↦ (let r = in-map (λ n. post Coordinator (Session (record { 0 = n + 1 })) (a_message.Install (issuing d').config)) (below d'.sessions) p x in
-                subst (λ (q : Post). Spoken (Given (ByStep d (issue d'))) q.to q.message) (sym r.2) tt)
+  -- what is judged on a configuration that is issued
+  abbrev JudgedOn : Config → Answered → Type 0
+  JudgedOn c a = (op : Op) × Asked a.caller op × Judged ⊤ c op a.answer
+
+  -- a configuration is issued
+  issues : (d d' : CoordinatorState) (c : Config) (answered : List Answered) (left : List Task)
+      → ((t : Task) → IsIn t left → Asked t.caller t.op)
+      → ((x : Newest) → IsIn x d'.newest → (a : Answer) → x.answer ≡ Some a → Now d (caller_of x) a)
+      → ((a : Answered) → IsIn a answered → JudgedOn c a) → Coordinated d (issue d' c answered left)
+  issues d d' c answered left todo newest well = record {
+    todo = todo;
+    newest = answered-newest (Given (ByStep d (issue d' c answered left))) answered (λ a i. told a (well a i)) d'.newest
+        (λ x i a q. up (caller_of x) a (newest x i a q));
+    posts = λ p i. elim (in-append (map (to_server (a_message.Install c)) c.servers ++ session_posts d'.sessions (a_message.Install c))
+        (map (λ (a : Answered). outcome a.caller a.answer) answered) p i) [
+          | inl j ↦ elim (in-append (map (to_server (a_message.Install c)) c.servers) (session_posts d'.sessions (a_message.Install c)) p j) [
+            | inl x ↦ to-each (Given (ByStep d (issue d' c answered left))) (a_message.Install c) c.servers p x
+            | inr x ↦ (let r = in-map (λ n. post Coordinator (Session (record { 0 = n + 1 })) (a_message.Install c)) (below d'.sessions) p x in
+                subst (λ (q : Post). Spoken (Given (ByStep d (issue d' c answered left))) q.to q.message) (sym r.2) tt)
           ]
-          | inr j ↦ (let r = in-map (λ (a : Answered). outcome a.caller a.answer) (issuing d').answered p j in
-              subst (λ (q : Post). Spoken (Given (ByStep d (issue d'))) q.to q.message) (sym r.2) (answered r.0 (w.answered r.0 r.1)))
+          | inr j ↦ (let r = in-map (λ (a : Answered). outcome a.caller a.answer) answered p j in
+              subst (λ (q : Post). Spoken (Given (ByStep d (issue d' c answered left))) q.to q.message) (sym r.2) (told r.0 (well r.0 r.1)))
         ];
-      }
+  }
     where
-      up : (c : Caller) (a : Answer) → Now d c a → Given (ByStep d (issue d')) c a
-      up c a (inl h) = inl h
-      up c a (inr (op, asked, j)) = inr (op, asked, inl j)
+      up : (u : Caller) (a : Answer) → Now d u a → Given (ByStep d (issue d' c answered left)) u a
+      up u a (inl h) = inl h
+      up u a (inr (op, asked, j)) = inr (op, asked, inl j)
 
-      here : (c : Config) (Note : Type 0) → Note → (op : Op) (a : Answer) → Judged ⊤ c op a → Judged Note c op a
-      here c Note n op (an_answer.Issued epoch) h = (n, h.1, h.2)
-      here c Note n op other h = h
+      here : (Note : Type 0) → Note → (op : Op) (a : Answer) → Judged ⊤ c op a → Judged Note c op a
+      here Note n op (an_answer.Issued epoch) h = (n, h.1, h.2)
+      here Note n op other h = h
 
-      answered : (a : Answered) → (op : Op) × Asked a.caller op × Judged ⊤ (issuing d').config op a.answer → Given (ByStep d (issue d')) a.caller a.answer
-      answered a (op, asked, j) = inr (op, asked, inr (here (issuing d').config ((issue d').notes ≡ a_note.Issued (issue d').state.config ∷ []) refl op a.answer j))
+      told : (a : Answered) → JudgedOn c a → Given (ByStep d (issue d' c answered left)) a.caller a.answer
+      told a (op, asked, j) = inr (op, asked, inr (here ((issue d' c answered left).notes ≡ a_note.Issued c ∷ []) refl op a.answer j))
 
   -- what a state with other parts has answered
   pub record Parts (d d' : CoordinatorState) : Type 0 where
@@ -158,60 +170,41 @@ module _ (Asked : Caller → Op → Type 0) (Old : Caller → Answer → Type 0)
     pub todo : (t : Task) → IsIn t d'.todo → Asked t.caller t.op
     pub newest : (x : Newest) → IsIn x d'.newest → (a : Answer) → x.answer ≡ Some a → Now d (caller_of x) a
 
-  same : (d : CoordinatorState) → Answers d → Parts d d
-  same d h = record { config = refl; todo = h.todo; newest = λ x i a q. inl (h.newest x i a q) }
-
-  -- waits for these, or issues
-  seals : (d d' : CoordinatorState) (ws : List ServerId) → Parts d d' → Coordinated d (sealing_or_issue d' ws)
-  seals d d' [] p = issues d d' p.config p.todo p.newest
-  seals d d' (w ∷ ws) p = tells d (record d' { phase = Sealing (w ∷ ws) }) p.config p.todo p.newest (map (to_server (a_message.Seal d'.config.epoch)) (w ∷ ws)) (to-each (Now d) (a_message.Seal d'.config.epoch) (w ∷ ws))
-
-  still-seals : (d d' : CoordinatorState) (ws : List ServerId) → Parts d d' → Coordinated d (still_sealing d' ws)
-  still-seals d d' [] p = issues d d' p.config p.todo p.newest
-  still-seals d d' (w ∷ ws) p = tells d (record d' { phase = Sealing (w ∷ ws) }) p.config p.todo p.newest [] (λ q i. absurd i)
-
-  waits-less : (d d' : CoordinatorState) (waited : List ServerId) (s : ServerId) → Parts d d' → Coordinated d (waits_less d' waited s)
-  waits-less d d' waited s p =
-      cond_both (server_in s waited) (still_sealing d' (without_server s waited)) (resting d') (Coordinated d)
-      (λ t. still-seals d d' (without_server s waited) p)
-      (λ t. tells d d' p.config p.todo p.newest [] (λ q i. absurd i))
+  -- what has been answered stays so
+  before-now : (d : CoordinatorState) → Answers d → (x : Newest) → IsIn x d.newest → (a : Answer) → x.answer ≡ Some a → Now d (caller_of x) a
+  before-now d h x i a q = inl (h.newest x i a q)
 
   -- ---- messages
 
+  -- the Stops of the server that is gone are answered
   hears-gone : (d : CoordinatorState) (from : Actor) → Answers d → Coordinated d (gone_step d from)
   hears-gone d Coordinator h = rests d h
   hears-gone d (Session u) h = rests d h
-  hears-gone d (Server s) h = cond_both (server_in s d.config.servers && not (is_out d.gone s)) (goes d s d.phase) (resting d) (Coordinated d) (λ t. by d.phase) (λ t. rests d h)
+  hears-gone d (Server s) h =
+      cond_both (server_in s d.config.servers)
+      (issue d (config_without d.config s) (stops_answered (config_without d.config s) s d.todo) (stops_left s d.todo)) (resting d) (Coordinated d)
+      (λ t. issues d d (config_without d.config s) (stops_answered (config_without d.config s) s d.todo) (stops_left s d.todo)
+      (λ x i. h.todo x (in-filter (λ (y : Task). not (stops_server s y)) d.todo x i).0)
+      (before-now d h)
+      (λ a i. stopped a (in-map done (filter (stops_server s) d.todo) a i)))
+      (λ t. rests d h)
     where
-      by : (ph : Phase) → Coordinated d (goes d s ph)
-      by Steady = seals d (record d { gone = with_server s d.gone }) (remaining (with_server s d.gone) d.config.servers) (record { config = refl; todo = h.todo; newest = λ x i a q. inl (h.newest x i a q) })
-      by (Sealing waited) = waits-less d (record d { gone = with_server s d.gone }) waited s (record { config = refl; todo = h.todo; newest = λ x i a q. inl (h.newest x i a q) })
+      done : Task → Answered
+      done x = record { caller = x.caller; answer = an_answer.Issued (config_without d.config s).epoch }
 
-  hears-sealed : (d : CoordinatorState) (epoch : Epoch) (from : Actor) → Answers d → Coordinated d (sealed_step d epoch from)
-  hears-sealed d epoch Coordinator h = rests d h
-  hears-sealed d epoch (Session u) h = rests d h
-  hears-sealed d epoch (Server s) h =
-      cond_both (eqb epoch.0 d.config.epoch.0) (sealed_now d s d.phase) _ (Coordinated d)
-      (λ t. by d.phase)
-      (λ t. cond_both (ltb epoch.0 d.config.epoch.0 && server_in s d.config.servers) (telling d (to_server (a_message.Install d.config) s ∷ [])) (resting d) (Coordinated d)
-      (λ q. keeps d h (to_server (a_message.Install d.config) s ∷ []) (to-each (Now d) (a_message.Install d.config) (s ∷ [])))
-      (λ q. rests d h))
-    where
-      by : (ph : Phase) → Coordinated d (sealed_now d s ph)
-      by Steady = rests d h
-      by (Sealing waited) = waits-less d d waited s (same d h)
+      stopped : (a : Answered) → (x : Task) × IsIn x (filter (stops_server s) d.todo) × (a ≡ done x) → JudgedOn (config_without d.config s) a
+      stopped a (x, i, e) =
+          let r = in-filter (stops_server s) d.todo x i in
+          subst (JudgedOn (config_without d.config s)) (sym e) (x.op, h.todo x r.0, stop-judged ⊤ tt d.config s x.op r.1)
 
-  hears-ready : (d : CoordinatorState) (epoch : Epoch) (g : RegionId) (from : Actor) → Answers d → Coordinated d (ready_step d epoch g from)
-  hears-ready d epoch g Coordinator h = rests d h
-  hears-ready d epoch g (Session u) h = rests d h
-  hears-ready d epoch g (Server s) h = cond_both (eqb epoch.0 d.config.epoch.0) (ready_now d s g d.phase) (resting d) (Coordinated d) (λ t. by d.phase) (λ t. rests d h)
-    where
-      by : (ph : Phase) → Coordinated d (ready_now d s g ph)
-      by (Sealing waited) = rests d h
-      by Steady =
-          cond_both (not (is_lost d.config g) && lists_joining d.config g s) (seal (record d { joined = d.joined ++ record { server = s; region = g } ∷ [] })) (resting d) (Coordinated d)
-          (λ t. seals d (record d { joined = d.joined ++ record { server = s; region = g } ∷ [] }) (remaining d.gone d.config.servers) (record { config = refl; todo = h.todo; newest = λ x i a q. inl (h.newest x i a q) }))
-          (λ t. rests d h)
+  -- nobody is answered where a joiner is ready
+  hears-ready : (d : CoordinatorState) (g : RegionId) (from : Actor) → Answers d → Coordinated d (ready_step d g from)
+  hears-ready d g Coordinator h = rests d h
+  hears-ready d g (Session u) h = rests d h
+  hears-ready d g (Server s) h =
+      cond_both (not (is_lost d.config g) && lists_joining d.config g s) (issue d (config_ready d.config s g) [] d.todo) (resting d) (Coordinated d)
+      (λ t. issues d d (config_ready d.config s g) [] d.todo h.todo (before-now d h) (λ a i. absurd i))
+      (λ t. rests d h)
 
   -- ---- calls
 
@@ -265,40 +258,48 @@ module _ (Asked : Caller → Op → Type 0) (Old : Caller → Answer → Type 0)
       (
       cond_both (server_in s d.config.servers) _ _ (Coordinated d)
       (λ t. (let p = more-todo d h caller (Stop s) asked in
-      tells d (with_task d caller (Stop s)) refl p.todo p.newest (provided (not (is_out d.gone s)) (to_server a_message.Die s ∷ []))
-      (λ q i. to-each (Now d) a_message.Die (s ∷ []) q (in-provided (not (is_out d.gone s)) (to_server a_message.Die s ∷ []) q i).1)))
+      tells d (with_task d caller (Stop s)) refl p.todo p.newest (to_server a_message.Die s ∷ []) (to-each (Now d) a_message.Die (s ∷ []))))
       (λ t. answers-now d h caller (Stop s) (an_answer.Stopped d.config.epoch) asked (refl, ap not t))
       )
 
   hears-add : (d : CoordinatorState) (number : ℕ) (s : ServerId) (g : RegionId) (u : SessionId) → Answers d → Asked (record { session = u; number = number }) (Add s g) → Coordinated d (add_step d number s g u)
-  hears-add d number s g u h asked = by-number d h (record { session = u; number = number }) (adds d (record { session = u; number = number }) s g d.phase) (by d.phase)
+  hears-add d number s g u h asked =
+      let caller : Caller = record { session = u; number = number } in
+      by-number d h caller (adds d caller s g (judged d.config s g)) (by (judged d.config s g) refl)
     where
-      steady : (o : Option Answer) → judged d.config s g ≡ o → Coordinated d (adds_steady d (record { session = u; number = number }) s g o)
-      steady None e = seals d (with_task d (record { session = u; number = number }) (Add s g)) (remaining d.gone d.config.servers) (more-todo d h (record { session = u; number = number }) (Add s g) asked)
-      steady (Some answer) e = answers-now d h (record { session = u; number = number }) (Add s g) answer asked (judged-is ⊥ d.config s g answer e)
-
-      by : (ph : Phase) → Coordinated d (adds d (record { session = u; number = number }) s g ph)
-      by (Sealing waited) = (let p = more-todo d h (record { session = u; number = number }) (Add s g) asked in tells d (with_task d (record { session = u; number = number }) (Add s g)) refl p.todo p.newest [] (λ q i. absurd i))
-      by Steady = steady (judged d.config s g) refl
+      by : (o : Option Answer) → judged d.config s g ≡ o → Coordinated d (adds d (record { session = u; number = number }) s g o)
+      by (Some answer) e = answers-now d h (record { session = u; number = number }) (Add s g) answer asked (judged-is ⊥ d.config s g answer e)
+      by None e =
+          let caller : Caller = record { session = u; number = number } in
+          let c = config_with d.config s g in
+          issues d (with_number d caller None) c (record { caller = caller; answer = an_answer.Issued c.epoch } ∷ []) d.todo h.todo
+          (numbers d h caller None (λ a q. absurd (cc)))
+          (λ a i. elim i [
+            | inl q ↦ subst (JudgedOn (config_with d.config s g)) (sym q) (Add s g, asked, add-judged ⊤ tt d.config s g e)
+            | inr j ↦ absurd j
+          ])
 
   -- what is posted to stop servers
-  dies : (G : Caller → Answer → Type 0) (test : ServerId → Bool) (ts : List Task) (p : Post) → IsIn p (die_posts test ts) → Spoken G p.to p.message
-  dies G test ts p i = let r = in-flat_map (λ (t : Task). die_for test t.op) ts p i in by r.0.op r.2
+  dies : (G : Caller → Answer → Type 0) (ts : List Task) (p : Post) → IsIn p (flat_map (λ (t : Task). die_for t.op) ts) → Spoken G p.to p.message
+  dies G ts p i = let r = in-flat_map (λ (t : Task). die_for t.op) ts p i in by r.0.op r.2
     where
-      by : (op : Op) → IsIn p (die_for test op) → Spoken G p.to p.message
-      by (Stop s) j = to-each G a_message.Die (s ∷ []) p (in-provided (test s) (to_server a_message.Die s ∷ []) p j).1
+      by : (op : Op) → IsIn p (die_for op) → Spoken G p.to p.message
+      by (Stop s) j = to-each G a_message.Die (s ∷ []) p j
       by other j = absurd j
 
-  ticks : (d : CoordinatorState) → Answers d → Coordinated d (coordinator_tick d d.phase)
-  ticks d h = by d.phase
-    where
-      by : (ph : Phase) → Coordinated d (coordinator_tick d ph)
-      by Steady = keeps d h (die_posts (λ s. true) d.todo) (dies (Now d) (λ s. true) d.todo)
-      by (Sealing waited) = keeps d h (map (to_server (a_message.Seal d.config.epoch)) waited ++ die_posts (λ (s : ServerId). not (is_out d.gone s)) d.todo)
-          (λ p i. elim (in-append (map (to_server (a_message.Seal d.config.epoch)) waited) (die_posts (λ (s : ServerId). not (is_out d.gone s)) d.todo) p i) [
-            | inl j ↦ to-each (Now d) (a_message.Seal d.config.epoch) waited p j
-            | inr j ↦ dies (Now d) (λ (s : ServerId). not (is_out d.gone s)) d.todo p j
-          ])
+  -- what is posted for joiners
+  joins : (G : Caller → Answer → Type 0) (c : Config) (lists : List (List Member)) (p : Post) → IsIn p (flat_map (join_posts c) lists) → Spoken G p.to p.message
+  joins G c lists p i =
+      let r = in-flat_map (join_posts c) lists p i in
+      to-each G (a_message.Install c) (last_ready_pair r.0) p
+      (in-provided (any_ready r.0 && any_joining r.0) (map (to_server (a_message.Install c)) (last_ready_pair r.0)) p r.2).1
+
+  ticks : (d : CoordinatorState) → Answers d → Coordinated d (coordinator_tick d)
+  ticks d h = keeps d h (flat_map (λ (t : Task). die_for t.op) d.todo ++ flat_map (join_posts d.config) d.config.regions)
+      (λ p i. elim (in-append (flat_map (λ (t : Task). die_for t.op) d.todo) (flat_map (join_posts d.config) d.config.regions) p i) [
+        | inl j ↦ dies (Now d) d.todo p j
+        | inr j ↦ joins (Now d) d.config d.config.regions p j
+      ])
 
   -- what a message asks of the coordinator
   abbrev pub AsksFor : Actor → Message → Type 0
@@ -307,7 +308,6 @@ module _ (Asked : Caller → Op → Type 0) (Old : Caller → Answer → Type 0)
   AsksFor from other = ⊤
 
   hears : (d : CoordinatorState) (from : Actor) (m : Message) → Answers d → AsksFor from m → Coordinated d (coordinator_message d from m)
-  hears d from (a_message.Sealed epoch) h v = hears-sealed d epoch from h
   hears d from a_message.Gone h v = hears-gone d from h
   hears d Coordinator (a_message.StopServer number server) h v = rests d h
   hears d (Server s) (a_message.StopServer number server) h v = rests d h
@@ -315,7 +315,7 @@ module _ (Asked : Caller → Op → Type 0) (Old : Caller → Answer → Type 0)
   hears d Coordinator (a_message.AddReplica number server g) h v = rests d h
   hears d (Server s) (a_message.AddReplica number server g) h v = rests d h
   hears d (Session u) (a_message.AddReplica number server g) h v = hears-add d number server g u h v
-  hears d from (a_message.Ready epoch g) h v = hears-ready d epoch g from h
+  hears d from (a_message.Ready epoch g) h v = hears-ready d g from h
   hears d from (a_message.Poll epoch) h v =
       cond_both (ltb epoch.0 d.config.epoch.0) (telling d (post Coordinator from (a_message.Install d.config) ∷ [])) (resting d) (Coordinated d)
       (λ t. keeps d h (post Coordinator from (a_message.Install d.config) ∷ []) (one (Now d) (post Coordinator from (a_message.Install d.config)) tt))

@@ -68,21 +68,22 @@ other_is = refl
 
 -- the first write is in doubt, told by the new leader, the second refused for the lost place, and the replica added
 its_answers : map (λ (r : Record). r.answer) (records_of script trace)
-    ≡ Some (an_answer.Doubt (record { 0 = 4 }) (record { 0 = 2 })) ∷ Some (an_answer.Refused (record { 0 = 4 }) (record { 0 = 2 })) ∷ Some (an_answer.Issued (record { 0 = 3 })) ∷ []
+    ≡ Some (an_answer.Doubt (record { 0 = 4 }) (record { 0 = 3 })) ∷ Some (an_answer.Refused (record { 0 = 4 }) (record { 0 = 3 }))
+    ∷ Some (an_answer.Issued (record { 0 = 4 })) ∷ []
 its_answers = refl
 
 -- the second region's leader is replaced
 its_leaders : option_map (λ (c : Config). head_of c (record { 0 = 1 })) (config_of script (record { 0 = 1 }) trace) ≡ Some (Some (record { 0 = 2 }))
 its_leaders = refl
 
-its_next_leader : option_map (λ (c : Config). head_of c (record { 0 = 1 })) (config_of script (record { 0 = 2 }) trace) ≡ Some (Some (record { 0 = 3 }))
+its_next_leader : option_map (λ (c : Config). head_of c (record { 0 = 1 })) (config_of script (record { 0 = 3 }) trace) ≡ Some (Some (record { 0 = 3 }))
 its_next_leader = refl
 
 -- and the joiner becomes ready
-its_joiner : option_map (λ (c : Config). lists_joining c (record { 0 = 1 }) (record { 0 = 4 })) (config_of script (record { 0 = 3 }) trace) ≡ Some true
+its_joiner : option_map (λ (c : Config). lists_joining c (record { 0 = 1 }) (record { 0 = 4 })) (config_of script (record { 0 = 4 }) trace) ≡ Some true
 its_joiner = refl
 
-its_ready : option_map (λ (c : Config). lists_ready c (record { 0 = 1 }) (record { 0 = 4 })) (config_of script (record { 0 = 4 }) trace) ≡ Some true
+its_ready : option_map (λ (c : Config). lists_ready c (record { 0 = 1 }) (record { 0 = 4 })) (config_of script (record { 0 = 5 }) trace) ≡ Some true
 its_ready = refl
 
 -- nothing is left to be done

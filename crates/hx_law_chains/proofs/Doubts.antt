@@ -53,7 +53,8 @@ pub record HeldUp (space : Space) (st : ServerState) (leader : ServerId) (key : 
 -- what a doubt says of the call that it answers
 abbrev pub DoubtSays : Script → ServerState → ServerId → Version → Answer → Caller → Type 0
 DoubtSays script st i v answer caller =
-    (g : RegionId) (epoch : Epoch) → answer ≡ an_answer.Doubt g epoch → (op : Op) (key : List ℕ) → call_of script caller ≡ Some op → key_of op ≡ Some key → HeldUp script.space st i key v g epoch
+    (g : RegionId) (epoch : Epoch) → answer ≡ an_answer.Doubt g epoch → (op : Op) (key : List ℕ) → call_of script caller ≡ Some op → key_of op ≡ Some key
+    → HeldUp script.space st i key v g epoch
 
 -- what a message says
 abbrev pub SaysOf : Script → ServerState → ServerId → Actor → Message → Type 0
@@ -77,7 +78,8 @@ effect-sure space (Some x) (Cput key tests sets) w = by (tests_hold x tests)
     by : (b : Bool) → is_doubt (cond b (changed_to (Some (written x sets))) (left_as (Some x) an_answer.CmpFail)).answer ≡ false
     by true = refl
     by false = refl
-effect-sure space old (Atomic key edits) w = atomic-both (λ (e : Effect). is_doubt e.answer ≡ false) space old key edits (λ object. refl) refl (λ object. refl) (λ object. refl)
+effect-sure space old (Atomic key edits) w = atomic-both (λ (e : Effect). is_doubt e.answer ≡ false) space old key edits (λ object. refl) refl
+    (λ object. refl) (λ object. refl)
 effect-sure space old other w = absurd (false≢true w)
 
 -- nor is a get
@@ -97,11 +99,13 @@ law-sure script known key older u l = elim l.effect [
 ]
 
 -- a reply whose answer is no doubt says nothing of doubts
-pub sure-says : (script : Script) (st : ServerState) (i : ServerId) (at : SlotContext) (caller : Caller) (v : Version) (a : Answer) → is_doubt a ≡ false → Says script st i (reply at caller v a)
+pub sure-says : (script : Script) (st : ServerState) (i : ServerId) (at : SlotContext) (caller : Caller) (v : Version) (a : Answer) → is_doubt a ≡ false
+    → Says script st i (reply at caller v a)
 sure-says script st i at caller v a s g epoch e = absurd (false≢true (sym s ∙ ap is_doubt e))
 
 -- moves whose updates are sure tell of none
-pub moves-say : (script : Script) (st : ServerState) (i : ServerId) (at : SlotContext) (ms : List Move) → AllKnown Sure ms → (p : Post) → IsIn p (flat_map (move_posts at) ms) → Says script st i p
+pub moves-say : (script : Script) (st : ServerState) (i : ServerId) (at : SlotContext) (ms : List Move) → AllKnown Sure ms → (p : Post)
+    → IsIn p (flat_map (move_posts at) ms) → Says script st i p
 moves-say script st i at ms known p j =
     let r = in-flat_map (move_posts at) ms p j in
     by r.0 (known r.0 r.1) r.2
@@ -137,7 +141,8 @@ passed-says script st i at u p = by (next_at at u)
     by (At y n) (inr k) = absurd k
 
 -- nor does an acknowledgement
-pub acked-says : (script : Script) (st : ServerState) (i : ServerId) (at : SlotContext) (u : Update) (y : Hop) (p : Post) → IsIn p (ack_to at u y) → Says script st i p
+pub acked-says : (script : Script) (st : ServerState) (i : ServerId) (at : SlotContext) (u : Update) (y : Hop) (p : Post) → IsIn p (ack_to at u y)
+    → Says script st i p
 acked-says script st i at u End p k = absurd k
 acked-says script st i at u (Blocked r) p k = absurd k
 acked-says script st i at u (At y n) p (inl q) = subst (Says script st i) (sym q) tt
@@ -146,10 +151,12 @@ acked-says script st i at u (At y n) p (inr k) = absurd k
 -- ---- what is stuck
 
 -- the first lost place is one of the places, in a lost region
-pub lost-place : (c : Config) (places : List Place) (g : RegionId) → first_lost c places ≡ Some g → (p : Place) × IsIn p places × (p.region ≡ g) × (is_lost c g ≡ true)
+pub lost-place : (c : Config) (places : List Place) (g : RegionId) → first_lost c places ≡ Some g → (p : Place) × IsIn p places × (p.region ≡ g)
+    × (is_lost c g ≡ true)
 lost-place c [] g = λ e. absurd (cc)
 lost-place c (p ∷ rest) g =
-    cond_both (is_lost c p.region) (Some p.region) (first_lost c rest) (λ o. o ≡ Some g → (q : Place) × IsIn q (p ∷ rest) × (q.region ≡ g) × (is_lost c g ≡ true))
+    cond_both (is_lost c p.region) (Some p.region) (first_lost c rest)
+    (λ o. o ≡ Some g → (q : Place) × IsIn q (p ∷ rest) × (q.region ≡ g) × (is_lost c g ≡ true))
     (λ t e. let q : p.region ≡ g = cc in (p, inl refl, q, ap (is_lost c) (sym q) ∙ t))
     (λ t e. let r = lost-place c rest g e in (r.0, inr r.1, r.2, r.3))
 
@@ -165,7 +172,8 @@ pub stuck-is : (c : Config) (us : List Update) (x : StuckAt) → stuck_among c u
 stuck-is c [] x e = absurd (cc)
 stuck-is c (u ∷ rest) x e = by (stuck-is c rest x) (first_lost c u.places) refl e
   where
-    by : (stuck_among c rest ≡ Some x → IsStuck c rest x) → (o : Option RegionId) → first_lost c u.places ≡ o → when_some o (stuck_among c rest) (λ (g : RegionId). Some (record { version = u.version; region = g })) ≡ Some x → IsStuck c (u ∷ rest) x
+    by : (stuck_among c rest ≡ Some x → IsStuck c rest x) → (o : Option RegionId) → first_lost c u.places ≡ o
+        → when_some o (stuck_among c rest) (λ (g : RegionId). Some (record { version = u.version; region = g })) ≡ Some x → IsStuck c (u ∷ rest) x
     by f None q e = (let r = f e in record { update = r.update; stands = inr r.stands; version = r.version; through = r.through; lost = r.lost })
     by f (Some g) q e =
         let z : record { version = u.version; region = g } ≡ x = cc in
@@ -179,11 +187,13 @@ stuck-is c (u ∷ rest) x e = by (stuck-is c rest x) (first_lost c u.places) ref
         }
 
 -- a decision that a write is stuck comes from what is stuck
-pub decide-stuck : (space : Space) (c : Config) (g : RegionId) (t : KeyState) (caller : Caller) (op : Op) (d : RegionId) → decide space c g t caller op ≡ a_decision.Stuck d → (x : StuckAt) × (stuck_of c t ≡ Some x) × (x.region ≡ d)
+pub decide-stuck : (space : Space) (c : Config) (g : RegionId) (t : KeyState) (caller : Caller) (op : Op) (d : RegionId)
+    → decide space c g t caller op ≡ a_decision.Stuck d → (x : StuckAt) × (stuck_of c t ≡ Some x) × (x.region ≡ d)
 decide-stuck space c g t caller op d = by (mark_of caller.session t)
   where
     fresh-stuck : fresh space c g t caller op ≡ a_decision.Stuck d → (x : StuckAt) × (stuck_of c t ≡ Some x) × (x.region ≡ d)
-    fresh-stuck = when_some_both (stuck_of c t) (a_decision.Assign _) (λ (x : StuckAt). a_decision.Stuck x.region) (λ y. y ≡ a_decision.Stuck d → (x : StuckAt) × (stuck_of c t ≡ Some x) × (x.region ≡ d))
+    fresh-stuck = when_some_both (stuck_of c t) (a_decision.Assign _) (λ (x : StuckAt). a_decision.Stuck x.region)
+        (λ y. y ≡ a_decision.Stuck d → (x : StuckAt) × (stuck_of c t ≡ Some x) × (x.region ≡ d))
         (λ q e. absurd (cc)) (λ x q e. (x, q, cc))
 
     by : (o : Option Mark) → by_mark space c g t caller op o ≡ a_decision.Stuck d → (x : StuckAt) × (stuck_of c t ≡ Some x) × (x.region ≡ d)
@@ -191,6 +201,8 @@ decide-stuck space c g t caller op d = by (mark_of caller.session t)
     by (Some m) =
         cond_both (ltb caller.number m.number) a_decision.Old _ (λ y. y ≡ a_decision.Stuck d → (x : StuckAt) × (stuck_of c t ≡ Some x) × (x.region ≡ d))
         (λ a e. absurd (cc))
-        (λ a. cond_both (eqb m.number caller.number) _ (fresh space c g t caller op) (λ y. y ≡ a_decision.Stuck d → (x : StuckAt) × (stuck_of c t ≡ Some x) × (x.region ≡ d))
-        (λ b. cond_both (leb m.version.0 t.floor) (a_decision.Again m.version m.answer) (a_decision.Wait m.version) (λ y. y ≡ a_decision.Stuck d → (x : StuckAt) × (stuck_of c t ≡ Some x) × (x.region ≡ d)) (λ z e. absurd (cc)) (λ z e. absurd (cc)))
+        (λ a. cond_both (eqb m.number caller.number) _ (fresh space c g t caller op)
+        (λ y. y ≡ a_decision.Stuck d → (x : StuckAt) × (stuck_of c t ≡ Some x) × (x.region ≡ d))
+        (λ b. cond_both (leb m.version.0 t.floor) (a_decision.Again m.version m.answer) (a_decision.Wait m.version)
+        (λ y. y ≡ a_decision.Stuck d → (x : StuckAt) × (stuck_of c t ≡ Some x) × (x.region ≡ d)) (λ z e. absurd (cc)) (λ z e. absurd (cc)))
         (λ b. fresh-stuck))

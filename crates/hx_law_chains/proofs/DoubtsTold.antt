@@ -45,26 +45,29 @@ module _ (script : Script) (valid : IsScript script) where
   Told i st ps = (p : Post) → IsIn p ps → (p.from ≡ Server i) × Says script st i p
 
   -- an entry of a server
-  entry-tells : (x : Entry) (older : List Entry) → IsRun script (x ∷ older) → (i : ServerId) → x.actor ≡ Server i → Told i (server_of script i (x ∷ older)) x.outputs
+  entry-tells : (x : Entry) (older : List Entry) → IsRun script (x ∷ older) → (i : ServerId) → x.actor ≡ Server i
+      → Told i (server_of script i (x ∷ older)) x.outputs
   entry-tells x older run i acts =
       let epochs = epochs-run script valid older run.1 in
       let had = chained-run script valid older run.1 in
-      let d = coordinator_of script older in
       let snapshots = snapshots-kept script valid older run.1 in
       let may = subst (λ (a : Actor). MayTake older a x.input) acts run.0.input in
       let real = subst (λ (a : Actor). is_actor script a ≡ true) acts run.0.actor in
       let up = subst (λ (a : Actor). has_halted script older a ≡ false) acts run.0.running in
       let step = server_step script.space (server_of script i older) x.input in
       let does = server-does-well script valid older epochs i x.input real up may in
-      let tells = input-tells (scene script older) valid.space d.gone d.phase d.joined had.keyed epochs.epochs epochs.known.newest i (real, up) (epochs.shaped i) (snapshots.joinable i) x.input (λ p j. (had.valid p j, snapshots.carried p j))
+      let tells = input-tells (scene script older) valid.space had.ordered had.keyed epochs.epochs i (real, up) (epochs.shaped i) (snapshots.joinable i) x.input
+      (λ p j. (had.valid p j, snapshots.carried p j))
       (λ id from m e. arrived id older (post from (Server i) m) (subst (MayTake older (Server i)) e may)) in
-      let made : made_of script older (Server i) x.input ≡ record { posts = x.outputs; notes = x.notes } = subst (λ (a : Actor). made_of script older a x.input ≡ record { posts = x.outputs; notes = x.notes }) acts run.0.made in
+      let made : made_of script older (Server i) x.input ≡ record { posts = x.outputs; notes = x.notes } = subst
+      (λ (a : Actor). made_of script older a x.input ≡ record { posts = x.outputs; notes = x.notes }) acts run.0.made in
       let here : server_of script i (x ∷ older) ≡ step.state = ap (λ (a : Actor). server_after script.space i a x.input (server_of script i older)) acts
       ∙ cond-true (same_server i i) step.state (server_of script i older) (eq-eqb i.0 i.0 refl) in
       subst (λ (st : ServerState). Told i st x.outputs) (sym here)
       (subst (λ (m : Output). Told i step.state m.posts) made (λ p j. ((does.posts p j).0, tells p j)))
 
-  module _ (trace : List Entry) (caller : Caller) (op0 : Op) (begin : ℕ) (version : Version) (g : RegionId) (epoch : Epoch) (op : Op) (key : List ℕ) (called : call_of script caller ≡ Some op) (on_key : key_of op ≡ Some key) where
+  module _ (trace : List Entry) (caller : Caller) (op0 : Op) (begin : ℕ) (version : Version) (g : RegionId) (epoch : Epoch) (op : Op) (key : List ℕ)
+      (called : call_of script caller ≡ Some op) (on_key : key_of op ≡ Some key) where
     -- the call where these entries were before its answer
     abbrev call_at : List Entry → AnsweredCall
     call_at t = record { script = script; trace = trace; older = t; caller = caller; op = op0; begin = begin; version = version }
@@ -74,7 +77,8 @@ module _ (script : Script) (valid : IsScript script) where
     doubt from = post from (Session caller.session) (a_message.Reply caller.number version (an_answer.Doubt g epoch))
 
     -- where it is held up
-    here-doubtful : (x : Entry) (older : List Entry) → IsRun script (x ∷ older) → (i : ServerId) → x.actor ≡ Server i → (from : Actor) → IsIn (doubt from) x.outputs → Doubtful (call_at (x ∷ older)) key g epoch
+    here-doubtful : (x : Entry) (older : List Entry) → IsRun script (x ∷ older) → (i : ServerId) → x.actor ≡ Server i → (from : Actor)
+        → IsIn (doubt from) x.outputs → Doubtful (call_at (x ∷ older)) key g epoch
     here-doubtful x older run i acts from j =
         let a = entry-tells x older run i acts (doubt from) j in
         let h : HeldUp script.space (server_of script i (x ∷ older)) i key version g epoch = a.1 g epoch refl op key called on_key in
@@ -94,23 +98,28 @@ module _ (script : Script) (valid : IsScript script) where
             not_above = h.not_above;
           };
           config = (server_of script i (x ∷ older)).config;
-          known = (epochs-run script valid (x ∷ older) run).known.servers i;
+          known = (epochs-run script valid (x ∷ older) run).epochs.own i;
           epoch_is = sym h.epoch_is;
           lost = h.lost;
         }
 
     -- whoever is no server replies to nobody
-    entry-doubtful : (x : Entry) (older : List Entry) → IsRun script (x ∷ older) → (from : Actor) → IsIn (doubt from) x.outputs → Doubtful (call_at (x ∷ older)) key g epoch
+    entry-doubtful : (x : Entry) (older : List Entry) → IsRun script (x ∷ older) → (from : Actor) → IsIn (doubt from) x.outputs
+        → Doubtful (call_at (x ∷ older)) key g epoch
     entry-doubtful x older run from j = by x.actor refl
       where
         by : (a : Actor) → x.actor ≡ a → Doubtful (call_at (x ∷ older)) key g epoch
         by (Server i) e = here-doubtful x older run i e from j
         by Coordinator e =
-            let made : made_of script older Coordinator x.input ≡ record { posts = x.outputs; notes = x.notes } = subst (λ (a : Actor). made_of script older a x.input ≡ record { posts = x.outputs; notes = x.notes }) e run.0.made in
-            absurd ((coordinator-plain (coordinator_of script older) x.input).posts (doubt from) (subst (λ (ps : List Post). IsIn (doubt from) ps) (sym (ap (λ (m : Output). m.posts) made)) j))
+            let made : made_of script older Coordinator x.input ≡ record { posts = x.outputs; notes = x.notes } = subst
+            (λ (a : Actor). made_of script older a x.input ≡ record { posts = x.outputs; notes = x.notes }) e run.0.made in
+            absurd ((coordinator-plain (coordinator_of script older) x.input).posts (doubt from)
+            (subst (λ (ps : List Post). IsIn (doubt from) ps) (sym (ap (λ (m : Output). m.posts) made)) j))
         by (Session u) e =
-            let made : made_of script older (Session u) x.input ≡ record { posts = x.outputs; notes = x.notes } = subst (λ (a : Actor). made_of script older a x.input ≡ record { posts = x.outputs; notes = x.notes }) e run.0.made in
-            absurd (((session_turn script.space x.input (session_of script u older)).turn.says (doubt from) (subst (λ (ps : List Post). IsIn (doubt from) ps) (sym (ap (λ (m : Output). m.posts) made)) j)).1)
+            let made : made_of script older (Session u) x.input ≡ record { posts = x.outputs; notes = x.notes } = subst
+            (λ (a : Actor). made_of script older a x.input ≡ record { posts = x.outputs; notes = x.notes }) e run.0.made in
+            absurd (((session_turn script.space x.input (session_of script u older)).turn.says (doubt from)
+            (subst (λ (ps : List Post). IsIn (doubt from) ps) (sym (ap (λ (m : Output). m.posts) made)) j)).1)
 
     -- every run
     run-doubtful : (t : List Entry) → IsRun script t → (from : Actor) → IsIn (doubt from) (posts_of t) → Doubtful (call_at t) key g epoch

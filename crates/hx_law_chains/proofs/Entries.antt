@@ -1,75 +1,73 @@
 -- Each input of a server keeps all keys.
-use Rattle.std.proofs.Common.{◌≡◌, ℕ, ◌≤◌, inl, inr, Bool, true, false, not, ◌&&◌, ◌||◌, List, [], ◌∷◌, length, Option, Some, None, refl, sym, ap, ◌∙◌, subst, arith, eqb, ltb, cond}
-use Rattle.std.specs.List.{flat_map}
-use Rattle.std.proofs.lemmas.Bool.{cond_both, cond-true, cond-false, and_parts, cases_Bool, ltb-true, false≢true}
+use Rattle.std.proofs.Common.{◌≡◌, ℕ, ◌⊎◌, inl, inr, true, false, not, ◌&&◌, List, [], ◌∷◌, ◌++◌, Option, Some, None, refl, sym, ap, ◌∙◌, subst, arith, cond}
+use Rattle.std.proofs.Common.{eqb, ltb}
+use Rattle.std.specs.List.{find, flat_map}
+use Rattle.std.proofs.lemmas.Bool.{and_parts, cond-false, cond_both, eqb-true, false≢true, ltb-true}
 use Rattle.hx_types.specs.declared.calls.Caller.{Caller}
 use Rattle.hx_types.specs.declared.calls.Op.{Op}
 use Rattle.hx_types.specs.declared.configs.Config.{Config}
-use Rattle.hx_types.specs.declared.configs.Member.{Member}
 use Rattle.hx_types.specs.declared.ids.Actor.{Actor}
 use Rattle.hx_types.specs.declared.ids.Actor.TheVariants.{Coordinator, Server, Session}
 use Rattle.hx_types.specs.declared.ids.Epoch.{Epoch}
 use Rattle.hx_types.specs.declared.ids.RegionId.{RegionId}
 use Rattle.hx_types.specs.declared.ids.ServerId.{ServerId}
 use Rattle.hx_types.specs.declared.ids.SessionId.{SessionId}
+use Rattle.hx_types.specs.declared.ids.Version.{Version}
 use Rattle.hx_types.specs.declared.messages.Message.{Message}
 use Rattle.hx_types.specs.declared.messages.Message.TheVariants as a_message
 use Rattle.hx_types.specs.declared.messages.Post.{Post}
 use Rattle.hx_types.specs.declared.messages.PostId.{PostId}
+use Rattle.hx_types.specs.declared.outcomes.Hop.TheVariants.{At}
 use Rattle.hx_types.specs.declared.snapshots.Kept.{Kept}
 use Rattle.hx_types.specs.declared.traces.Input.{Input}
 use Rattle.hx_types.specs.declared.traces.Input.TheVariants.{Tick, Halt, Deliver}
 use Rattle.hx_types.specs.declared.updates.Update.{Update}
 use Rattle.hx_types.specs.declared.values.Term.{Term}
-use Rattle.hx_types.specs.Words.{IsBefore, IsIn, first_of_list, post, when_some}
-use Rattle.hx_types.specs.Configs.{any_ready, head_of, is_lost, is_server, leads, lists_ready, members_of}
+use Rattle.hx_types.specs.Words.{IsIn, post, provided}
+use Rattle.hx_types.specs.Configs.{head_of, is_lost, is_server, leads, lists, lists_ready}
 use Rattle.hx_types.specs.Effects.{key_of}
 use Rattle.hx_types.specs.Fitting.{call_of}
 use Rattle.hx_types.specs.Spaces.{IsSpace}
 use Rattle.hx_types.specs.Subspaces.{is_key_region}
-use Rattle.hx_model.specs.CoordinatorSteps.{Joined, Phase}
+use Rattle.hx_model.specs.Hearing.{hears_ack, hears_snap, hears_update}
+use Rattle.hx_model.specs.Neighbours.{next_of, place_number, prev_of, region_at}
 use Rattle.hx_model.specs.Regions.{key_region}
-use Rattle.hx_model.specs.ServerSteps.{Replica, ServerState, ServerStep, acked, adopted, asked, at_slot, call_at, call_step, called, called_by, halting, replica_in_epoch, if_installed, input_step, install_at, message_step, replica_of, replica_tick, saying, seal_at, server_step, snapped, context_of, state_in, tick_step, unmoved, updated, with_config}
-use Rattle.hx_model.specs.Slots.{Forget, KeyState, found_in, moved}
-use Rattle.hx_law_lemmas.proofs.Lemmas.{in-provided, when_some_both, replica-found, Differ, server-same, more_same}
-use Rattle.hx_law_lemmas.specs.Words.{standing, view}
+use Rattle.hx_model.specs.ServerSteps.{Replica, ServerState, ServerStep, ack_step, acked, acked_of, adopted, asked, asking_last, at_slot, call_at, call_step}
+use Rattle.hx_model.specs.ServerSteps.{called, called_by, context_of, halting, if_installed, input_step, install_at}
+use Rattle.hx_model.specs.ServerSteps.{installed_slots, meeting, message_step, pending_with, poll_post, ready_post, replica_for, replica_of, replica_tick}
+use Rattle.hx_model.specs.ServerSteps.{saying, server_step, snapped, state_in, tick_step, unmoved, update_step, updated}
+use Rattle.hx_model.specs.ServerSteps.{with_config, with_slots}
+use Rattle.hx_model.specs.Slots.{found_in, pending_of}
+use Rattle.hx_law_lemmas.proofs.Lemmas.{in-find, in-provided, pending-in, replica-found, same_version, server-same, when_some_both}
+use Rattle.hx_law_lemmas.specs.Words.{standing}
 use Rattle.hx_law_folds.specs.Folding.{IsJoinableServer}
-use Rattle.hx_law_epochs.specs.Epochs.{FollowsOn}
-use Rattle.hx_law_epochs.proofs.Lemmas.{EpochsKept, Installed, member-ready, IsOrderly, Shaped, replica_in_epoch-is, installed-is}
+use Rattle.hx_law_epochs.proofs.Lemmas.{EpochsKept, Installed, Shaped, head-ready, installed-is, replica_for-is}
 use Rattle.hx_law_chains.proofs.Adopting.{adopted-served}
-use Rattle.hx_law_chains.proofs.Holders.{Up, live-of}
-use Rattle.hx_law_chains.proofs.Joining.{Twin, key_joined}
-use Rattle.hx_law_chains.proofs.Keys.{below-all}
-use Rattle.hx_law_chains.proofs.Late.{NoSnap}
+use Rattle.hx_law_chains.proofs.Calm.{Plain, asking-after, asking-first, calm-fixed, calm-key, calm-ordered, calm-valid, saying-served}
+use Rattle.hx_law_chains.proofs.Heard.{heard-at, heard-from}
+use Rattle.hx_law_chains.proofs.Holders.{NoSnap, Up, with_state_of, world_of}
+use Rattle.hx_law_chains.proofs.Keys.{following, low-in}
 use Rattle.hx_law_chains.proofs.Messages.{ack-served, call-served, update-served}
-use Rattle.hx_law_chains.proofs.Serving.{Acts, Asked, Late, Scene, Sent, Served, fixed-after, keys-after, mid, still-after, world}
+use Rattle.hx_law_chains.proofs.Moves.{accepted-in}
+use Rattle.hx_law_chains.proofs.Renewed.{Renews, fixed-renewed, keys-renewed, ordered-renewed, renewed, still-renewed}
+use Rattle.hx_law_chains.proofs.Serving.{Asked, Late, Scene, Served, world}
+use Rattle.hx_law_chains.proofs.Slotted.{live-now}
 use Rattle.hx_law_chains.proofs.Snapped.{snapped-served}
 use Rattle.hx_law_chains.proofs.Snapshots.{Carries, Sends, replica-sent}
 use Rattle.hx_law_chains.proofs.Ticks.{tick-served}
-use Rattle.hx_law_chains.proofs.World.{AckOk, Acking, KeyOk, Sending, UpdateOk, Valid}
+use Rattle.hx_law_chains.proofs.World.{AckOk, KeyOk, Ordered, UpdateOk, Valid, World, around, lawful-sorted}
 
--- the first member of a region that isn't lost is ready
-pub head-ready : (c : Config) (g : RegionId) (i : ServerId) → IsOrderly c → is_lost c g ≡ false → head_of c g ≡ Some i → lists_ready c g i ≡ true
-head-ready c g i orderly alive head = by (members_of c g) refl alive head
-  where
-    by : (ms : List Member) → members_of c g ≡ ms → not (any_ready ms) ≡ false → when_some (first_of_list ms) None (λ (m : Member). Some m.server) ≡ Some i → lists_ready c g i ≡ true
-    by [] q a h = absurd (cc)
-    by (m ∷ rest) q a h = member-ready c g i m (subst (λ (l : List Member). IsIn m l) (sym q) (inl refl)) (let z : Some m.server ≡ Some i = h in cc) (ready rest q a)
-      where
-        one : (b : Bool) → not (b || false) ≡ false → b ≡ true
-        one true z = refl
-        one false z = absurd (false≢true (sym z))
+-- the update of a version has it
+found-version : (v : ℕ) (us : List Update) (u : Update) → find (λ (x : Update). eqb x.version.0 v) us ≡ Some u → u.version.0 ≡ v
+found-version v [] u = λ e. absurd (cc)
+found-version v (x ∷ us) u =
+    cond_both (eqb x.version.0 v) (Some x) (find (λ (y : Update). eqb y.version.0 v) us) (λ o. o ≡ Some u → u.version.0 ≡ v)
+    (λ t e. let s : u ≡ x = cc in ap (λ (y : Update). y.version.0) s ∙ eqb-true x.version.0 v t)
+    (λ t e. found-version v us u e)
 
-        ready : (rest : List Member) → members_of c g ≡ m ∷ rest → not (any_ready (m ∷ rest)) ≡ false → m.ready ≡ true
-        ready [] q a = one m.ready a
-        ready (x ∷ rest) q a = orderly.joins_last g m x (subst (λ (l : List Member). IsBefore m x l) (sym q) (inl (refl, inl refl)))
-
-module _ (e : Scene) (asks : Asked) (valid : IsSpace e.script.space) (gone : List ServerId) (phase : Phase) (joined : List Joined) (ok : (key : List ℕ) → KeyOk e.script (world e) key)
-    (epochs : EpochsKept e.Real e.servers e.config gone phase joined e.posts) (is_known : e.known e.config) (i : ServerId) (here : Up e.Real e.servers i) (shaped : Shaped i (e.servers i)) (joinable : IsJoinableServer e.script.space (e.servers i)) where
-  -- no server stands twice in a list
-  abbrev differ : (g : RegionId) → Differ (members_of e.config g)
-  differ = epochs.orderly.differ
-
+module _ (e : Scene) (asks : Asked) (valid : IsSpace e.script.space) (o : Ordered (world e)) (ok : (key : List ℕ) → KeyOk e.script (world e) key)
+    (epochs : EpochsKept e.Real e.servers e.known e.config e.posts) (i : ServerId) (here : Up e.Real e.servers i) (shaped : Shaped i (e.servers i))
+    (joinable : IsJoinableServer e.script.space (e.servers i)) where
   -- the server's state
   abbrev st0 : ServerState
   st0 = e.servers i
@@ -78,179 +76,224 @@ module _ (e : Scene) (asks : Asked) (valid : IsSpace e.script.space) (gone : Lis
   abbrev pub Fine : ServerStep → Type 0
   Fine step = Served e asks i step.state step.notes step.posts
 
-  -- ---- a step that leaves slots and configuration, and sends no snapshots
-  module _ (q : ServerState) (new : List Post) (config : q.config ≡ st0.config) (replicas : q.replicas ≡ st0.replicas) (says : (p : Post) → IsIn p new → Valid e.script (world e) p.from p.to p.message × Late e asks i p.to p.message × NoSnap p.message) where
-    -- what is installed was so
-    abbrev was : (g : RegionId) → Installed q g → Installed st0 g
-    was g h = record { replica = h.replica; found = ap (replica_of g) (sym replicas) ∙ h.found; installed = h.installed }
+  -- by its parts
+  abbrev st : ServerState
+  st = standing (e.servers i).config i (e.servers i).replicas
 
-    -- no snapshot is sent
-    none : (key : List ℕ) (g : RegionId) (s : ServerId) (t : KeyState) → Sent e valid ok differ i here q [] new key g s t → Twin e.script (world e) key g s t
-    none key g s t h = absurd (says _ h.posted).2
+  same : e.servers i ≡ st
+  same = λ j. record { id = shaped.id j; config = (e.servers i).config; halted = here.1 j; replicas = (e.servers i).replicas }
 
-    -- how the server acts
-    acts : Acts e valid ok differ i here q [] new
-    acts = record {
-      grows = λ g h. record { replica = h.replica; found = ap (replica_of g) replicas ∙ h.found; installed = h.installed };
-      twins = none;
-      keyed = λ key. record {
-        number = length (e.line key);
-        more = more_same (e.line key);
-        lawful = (ok key).lawful;
-        below = below-all e.script (mid e valid ok differ i here q [] new) key (key_joined e.script valid (world e) differ (Sent e valid ok differ i here q [] new) none key (ok key));
-        mine = λ g at up. record {
-          old = view e.config st0 (state_in e.script.space at.replica key);
-          held = inl (inl (live-of e.script.space e.Real e.servers e.config key g i st0 refl here (was g at)));
-          moves = [];
-          is = ap (λ (c : Config). cond (eqb c.epoch.0 e.config.epoch.0) (state_in e.script.space at.replica key) (moved Forget (state_in e.script.space at.replica key))) config;
-          allowed = tt;
-        };
-      };
-    }
-
-    -- what it keeps
-    pub quiet-served : Served e asks i q [] new
-    quiet-served = record {
-      keys = keys-after e valid ok differ i here q [] new acts;
-      still = still-after e valid ok differ i here q [] new acts;
-      posts = λ p j. still-after e valid ok differ i here q [] new acts p.from p.to p.message (says p j).0;
-      lines = λ key. inl refl;
-      fixed = fixed-after e valid ok differ i here q [] new acts;
-      late = λ p j. (says p j).1;
-    }
+  by-parts : (step : ServerState → ServerStep) → Fine (step st) → Fine (step st0)
+  by-parts step h = subst (λ (x : ServerState). Fine (step x)) (sym same) h
 
   -- nothing happens
   still : Fine (unmoved st0)
-  still = quiet-served st0 [] refl refl (λ p j. absurd j)
+  still = saying-served e asks valid o ok i here [] (λ p j. absurd j)
 
-  -- what the server says of itself
-  said : (m : Message) → Valid e.script (world e) (Server st0.id) Coordinator m × Late e asks i Coordinator m × NoSnap m → (p : Post) → IsIn p (post (Server st0.id) Coordinator m ∷ []) → Valid e.script (world e) p.from p.to p.message × Late e asks i p.to p.message × NoSnap p.message
-  said m h p (inl z) = subst (λ (x : Post). Valid e.script (world e) x.from x.to x.message × Late e asks i x.to x.message × NoSnap x.message) (sym z) h
-  said m h p (inr j) = absurd j
+  -- the newest configuration is asked for
+  polls : (p : Post) → IsIn p (poll_post st0 ∷ []) → Plain e asks i p
+  polls p (inl q) = subst (Plain e asks i) (sym q) (tt, tt, tt)
+  polls p (inr j) = absurd j
 
-  -- a halt
+  -- first
+  met : (epoch : Epoch) (step : ServerStep) → Fine step → Fine (meeting st0 epoch step)
+  met epoch step h = asking-first e asks valid o ok i here step.state step.notes step.posts (provided (ltb st0.config.epoch.0 epoch.0) (poll_post st0 ∷ []))
+      (λ p j. polls p (in-provided (ltb st0.config.epoch.0 epoch.0) (poll_post st0 ∷ []) p j).1) h
+
+  -- or last
+  asked-last : (ps : List Post) → Served e asks i st0 [] ps → Fine (saying st0 (asking_last st0 ps))
+  asked-last [] h = h
+  asked-last (p ∷ ps) h = asking-after e asks valid o ok i here st0 [] (p ∷ ps) (poll_post st0 ∷ []) polls h
+
+  -- ---- a halt
+  abbrev stopped : ServerState
+  stopped = record { id = st0.id; config = st0.config; halted = true; replicas = st0.replicas }
+
+  halts : Renews e i stopped
+  halts = record {
+    known = o.own i;
+    later = omega arith;
+    grows = λ g h. record { replica = h.replica; found = h.found; installed = h.installed };
+    home = λ g h. o.home g i (record { replica = h.replica; found = h.found; installed = h.installed });
+    was = λ g h. (record { replica = h.replica; found = h.found; installed = h.installed }, λ key. refl);
+  }
+
   halt-fine : Fine (halting st0)
-  halt-fine = quiet-served (record st0 { halted = true }) _ refl refl (said a_message.Gone (tt, tt, tt))
-
-  -- a seal
-  seal-fine : (epoch : Epoch) → Fine (seal_at st0 epoch)
-  seal-fine epoch = cond_both (eqb epoch.0 st0.config.epoch.0) _ (unmoved st0) Fine
-      (λ t. quiet-served (record st0 { sealed = true }) _ refl refl (said (a_message.Sealed epoch) (tt, tt, tt)))
-      (λ t. still)
-
-  -- ---- where the server has the newest configuration and isn't sealed
-  module _ (opened : st0.sealed ≡ false) where
-    -- it has the newest configuration
-    config-now : st0.config ≡ e.config
-    config-now = elim (epochs.near i here.0 here.1) [ inl z ↦ z | inr z ↦ absurd (false≢true (sym opened ∙ z.1)) ]
-
-    -- by its parts
-    same : st0 ≡ standing e.config i st0.replicas
-    same = λ j. record { id = shaped.id j; config = config-now j; sealed = opened j; halted = here.1 j; replicas = st0.replicas }
-
-    -- a step of it
-    by-parts : (step : ServerState → ServerStep) → Fine (step (standing e.config i st0.replicas)) → Fine (step st0)
-    by-parts step h = subst (λ (x : ServerState). Fine (step x)) (sym same) h
-
-    -- a tick
-    tick-open : Fine (saying st0 (flat_map (replica_tick e.script.space st0) st0.replicas))
-    tick-open = by-parts (λ x. saying x (flat_map (replica_tick e.script.space x) x.replicas))
-        (tick-served e asks valid ok differ i here st0.replicas same shaped.once (subst (IsJoinableServer e.script.space) same joinable))
-
-  -- a tick
-  tick-fine : Fine (tick_step e.script.space st0)
-  tick-fine = elim (cases_Bool st0.sealed) [
-    | inl z ↦ subst (λ (ps : List Post). Fine (saying st0 ps)) (sym (cond-true st0.sealed (post (Server st0.id) Coordinator (a_message.Sealed st0.config.epoch) ∷ []) (flat_map (replica_tick e.script.space st0) st0.replicas) z))
-        (quiet-served st0 _ refl refl (said (a_message.Sealed st0.config.epoch) (tt, tt, tt)))
-    | inr z ↦ subst (λ (ps : List Post). Fine (saying st0 ps)) (sym (cond-false st0.sealed (post (Server st0.id) Coordinator (a_message.Sealed st0.config.epoch) ∷ []) (flat_map (replica_tick e.script.space st0) st0.replicas) z))
-        (tick-open z)
-  ]
-
-  -- a configuration that arrives
-  install-fine : (config : Config) → (config.epoch.0 ≤ e.config.epoch.0) × (config.epoch.0 ≡ e.config.epoch.0 → config ≡ e.config) → Fine (install_at e.script.space st0 config)
-  install-fine config v =
-      cond_both (ltb st0.config.epoch.0 config.epoch.0) (adopted e.script.space (with_config st0 config)) (unmoved st0) Fine
-      (λ t. let l = ltb-true st0.config.epoch.0 config.epoch.0 t in elim (epochs.near i here.0 here.1) [
-        | inl z ↦ absurd (let q : st0.config.epoch.0 ≡ e.config.epoch.0 = ap (λ (x : Config). x.epoch.0) z in omega (arith, q, l, v.0))
-        | inr z ↦ (let a = z.0.epoch in let q : config ≡ e.config = v.1 (omega (arith, a, l, v.0)) in
-            subst (λ (x : Config). Fine (adopted e.script.space (with_config st0 x))) (sym q) (adopts z.0))
-      ])
-      (λ t. still)
+  halt-fine = record {
+    ordered = calm-ordered e.script e.Real (with_state_of e.servers i stopped) e.config e.line e.posts (new ++ e.posts) e.known e.known back forth
+        (λ d k. k) (λ d k. k) ordered keys;
+    keys = calm-key e.script e.Real (with_state_of e.servers i stopped) e.config e.line e.posts (new ++ e.posts) e.known e.known back forth (λ d k. k)
+        (λ d k. k) ordered keys;
+    still = λ a b m h. calm-valid e.script e.Real (with_state_of e.servers i stopped) e.config e.line e.posts (new ++ e.posts) e.known e.known back forth
+        (λ d k. k) (λ d k. k) ordered keys a b m
+        (still-renewed e o ok i here stopped halts a b m h);
+    posts = says (world_of e.script e.Real (with_state_of e.servers i stopped) e.config e.line (new ++ e.posts) e.known);
+    lines = λ key. inl refl;
+    fixed = λ key v h. (
+      calm-fixed e.script e.Real (with_state_of e.servers i stopped) e.config e.line e.posts (new ++ e.posts) e.known e.known back forth (λ d k. k)
+          (λ d k. k) ordered keys key v
+          (fixed-renewed e o ok i here stopped halts key v h),
+      refl,
+    );
+    late = λ p j. late p j;
+  }
     where
-      -- by its parts
-      parts : st0 ≡ record { id = i; config = st0.config; sealed = st0.sealed; halted = false; replicas = st0.replicas }
-      parts = λ j. record { id = shaped.id j; config = st0.config; sealed = st0.sealed; halted = here.1 j; replicas = st0.replicas }
+      new : List Post
+      new = post (Server (e.servers i).id) Coordinator a_message.Gone ∷ []
 
-      adopts : FollowsOn st0.config e.config → Fine (adopted e.script.space (with_config st0 e.config))
-      adopts f = subst (λ (x : ServerState). Fine (adopted e.script.space (with_config x e.config))) (sym parts)
-          (adopted-served e asks valid ok differ i here st0.config st0.sealed st0.replicas parts (let a = f.epoch in omega (arith, a)) (subst (IsJoinableServer e.script.space) parts joinable)
-          (λ g h. f.stays g i (epochs.listed i here.0 here.1) (shaped.only g h.replica h.found)))
+      ordered : Ordered (renewed e o ok i here stopped halts)
+      ordered = ordered-renewed e o ok i here stopped halts
 
-  -- a replica that hears
-  record Hearing (epoch : Epoch) (g : RegionId) (r : Replica) : Type 0 where
-    pub opened : st0.sealed ≡ false
+      keys : (key : List ℕ) → KeyOk e.script (renewed e o ok i here stopped halts) key
+      keys = keys-renewed e o ok i here stopped halts
+
+      back : (p : Post) → IsIn p (new ++ e.posts) → NoSnap p.message ⊎ IsIn p e.posts
+      back p (inl q) = inl (subst (λ (x : Post). NoSnap x.message) (sym q) tt)
+      back p (inr j) = inr j
+
+      forth : (p : Post) → IsIn p e.posts → IsIn p (new ++ e.posts)
+      forth p j = inr j
+
+      says : (w : World) (p : Post) → IsIn p new → Valid e.script w p.from p.to p.message
+      says w p (inl q) = subst (λ (x : Post). Valid e.script w x.from x.to x.message) (sym q) tt
+      says w p (inr j) = absurd j
+
+      late : (p : Post) → IsIn p new → Late e asks i p.to p.message
+      late p (inl q) = subst (λ (x : Post). Late e asks i x.to x.message) (sym q) tt
+      late p (inr j) = absurd j
+
+  -- ---- a tick
+  tick-fine : Fine (tick_step e.script.space st0)
+  tick-fine = asked-last (flat_map (replica_tick e.script.space st0) st0.replicas)
+      (by-parts (λ x. saying x (flat_map (replica_tick e.script.space x) x.replicas))
+      (tick-served e asks valid o ok i here (e.servers i).replicas same shaped.once (subst (IsJoinableServer e.script.space) same joinable)))
+
+  -- ---- a configuration that arrives
+  install-fine : (config : Config) → e.known config → Fine (install_at e.script.space st0 config)
+  install-fine config k =
+      cond_both (ltb st0.config.epoch.0 config.epoch.0) (adopted e.script.space (with_config st0 config)) (unmoved st0) Fine
+      (λ t. by-parts (λ x. adopted e.script.space (with_config x config))
+      (adopted-served e asks valid o ok i here (e.servers i).replicas same (subst (IsJoinableServer e.script.space) same joinable) config k
+      (ltb-true st0.config.epoch.0 config.epoch.0 t)))
+      (λ t. still)
+
+  -- ---- a replica that takes messages
+  record Taking (g : RegionId) (r : Replica) : Type 0 where
     pub found : replica_of r.region st0.replicas ≡ Some r
     pub region : r.region ≡ g
-    pub alive : is_lost e.config r.region ≡ false
-    pub own : epoch ≡ e.config.epoch
+    pub alive : is_lost st0.config r.region ≡ false
+    pub listed : lists st0.config r.region i ≡ true
 
-  hears : (epoch : Epoch) (g : RegionId) (r : Replica) → replica_in_epoch st0 epoch g ≡ Some r → Hearing epoch g r
-  hears epoch g r z =
-      let h = replica_in_epoch-is st0 epoch g r z in
+  takes : (g : RegionId) (r : Replica) → replica_for st0 g ≡ Some r → Taking g r
+  takes g r z =
+      let h = replica_for-is st0 g r z in
       let f = (replica-found g st0.replicas r h.found).1 in
-      let c = config-now h.not_sealed in
-      record {
-        opened = h.not_sealed;
-        found = subst (λ (x : RegionId). replica_of x st0.replicas ≡ Some r) (sym f) h.found;
-        region = f;
-        alive = ap (is_lost e.config) f ∙ ap (λ (x : Config). is_lost x g) (sym c) ∙ h.not_lost;
-        own = (let n = h.own ∙ ap (λ (x : Config). x.epoch.0) c in λ j. record { 0 = n j });
-      }
+      let found = subst (λ (x : RegionId). replica_of x st0.replicas ≡ Some r) (sym f) h.found in
+      record { found = found; region = f; alive = ap (is_lost st0.config) f ∙ h.not_lost; listed = shaped.only r.region r found }
 
-  -- an update
-  update-fine : (epoch : Epoch) (g : RegionId) (u : Update) → UpdateOk e.script (world e) epoch g u i → (o : Option Replica) → if_installed (replica_in_epoch st0 epoch g) ≡ o → Fine (updated e.script.space st0 u o)
-  update-fine epoch g u v None z = still
-  update-fine epoch g u v (Some r) z =
-      let n = installed-is (replica_in_epoch st0 epoch g) r z in
-      let h = hears epoch g r n.0 in
-      by-parts h.opened (λ x. updated e.script.space x u (Some r))
-      (update-served e asks valid ok differ i here st0.replicas (same h.opened) r h.found n.1 h.alive u
-      (subst (λ (x : RegionId). Sending e.script (world e) u.key x i u) (sym h.region) (v.1 (ap (λ (x : Epoch). x.0) h.own))))
+  -- ---- an update
+  update-fine : (from : Actor) (epoch : Epoch) (g : RegionId) (u : Update) → Valid e.script (world e) from (Server i) (a_message.Update epoch g u)
+      → (o : Option Replica) → if_installed (replica_for st0 g) ≡ o → Fine (updated e.script.space st0 from u o)
+  update-fine from epoch g u v None z = still
+  update-fine from epoch g u v (Some r) z =
+      let n = installed-is (replica_for st0 g) r z in
+      let h = takes g r n.0 in
+      by-parts (λ x. updated e.script.space x from u (Some r))
+      (cond_both (hears_update st.config u (place_number r.region u.places) i from)
+      (at_slot st r (state_in e.script.space r u.key) (update_step (context_of e.script.space st r.region) (state_in e.script.space r u.key) u))
+      (unmoved st) Fine
+      (λ t. (let (x, place, from_is, hop_is) = heard-from from (prev_of st.config u.places (place_number r.region u.places) i) t in
+      update-served e asks valid o ok i here (e.servers i).replicas same r h.found n.1 x u
+      (subst (λ (y : RegionId). UpdateOk e.script (world e) u.key x y i u) (sym h.region)
+      (subst (λ (a : Actor). Valid e.script (world e) a (Server i) (a_message.Update epoch g u)) from_is v))
+      place hop_is))
+      (λ t. subst (λ (x : ServerState). Fine (unmoved x)) same still))
 
-  -- an acknowledgement
-  ack-fine : (epoch : Epoch) (g : RegionId) (key : List ℕ) (n : ℕ) → AckOk e.script (world e) epoch g key n i → (o : Option Replica) → if_installed (replica_in_epoch st0 epoch g) ≡ o → Fine (acked e.script.space st0 key n o)
-  ack-fine epoch g key n v None z = still
-  ack-fine epoch g key n v (Some r) z =
-      let m = installed-is (replica_in_epoch st0 epoch g) r z in
-      let h = hears epoch g r m.0 in
-      by-parts h.opened (λ x. acked e.script.space x key n (Some r))
-      (ack-served e asks valid ok differ i here st0.replicas (same h.opened) r h.found m.1 h.alive key n
-      (subst (λ (x : RegionId). Acking e.script (world e) key x i n) (sym h.region) (v.1 (ap (λ (x : Epoch). x.0) h.own))))
+  -- ---- an acknowledgement
+  ack-fine : (from : Actor) (epoch : Epoch) (g : RegionId) (key : List ℕ) (n : Version) (by : RegionId)
+      → Valid e.script (world e) from (Server i) (a_message.Ack epoch g key n by)
+      → (o : Option Replica) → if_installed (replica_for st0 g) ≡ o → Fine (acked e.script.space st0 from key n.0 by o)
+  ack-fine from epoch g key n by v None z = still
+  ack-fine from epoch g key n by v (Some r) z =
+      let m = installed-is (replica_for st0 g) r z in
+      let h = takes g r m.0 in
+      by-parts (λ x. acked e.script.space x from key n.0 by (Some r)) (pending h m.1 (pending_with n.0 (state_in e.script.space r key)) refl)
+    where
+      -- the pending update is the one that was acknowledged
+      one : (h : Taking g r) (installed : r.installed ≡ true) (u : Update) → pending_with n.0 (state_in e.script.space r key) ≡ Some u → (w : Update)
+          → IsIn w (e.line key) → w.version.0 ≡ n.0 → u ≡ w
+      one h installed u f w j q =
+          let t = state_in e.script.space r key in
+          let law = (ok key).lawful in
+          let sorted = lawful-sorted e.script e.known key (e.line key) law in
+          let own = (ok key).own r.region i t (live-now e valid o ok i here (e.servers i).replicas same key r.region
+          (record { replica = r; found = h.found; installed = installed })) in
+          let a = accepted-in (e.line key) r.region (around e.script (world e) key r.region i) sorted (low-in e.script (world e) key (e.line key) law)
+          (following e.script (world e) key (e.line key) law r.region) t u own
+          (pending-in t.floor t.accepted u (in-find (λ (x : Update). eqb x.version.0 n.0) (pending_of t) u f)).0 in
+          same_version (e.line key) u w sorted a.0 j (found-version n.0 (pending_of t) u f ∙ sym q)
 
-  -- a search
-  ask-fine : (from : Actor) (epoch : Epoch) (number : ℕ) (g : RegionId) (terms : List Term) → asks.ask from epoch number g terms → (o : Option Replica) → if_installed (replica_in_epoch st0 epoch g) ≡ o → Fine (asked st0 from epoch number terms o)
+      -- which hears the acknowledgement
+      heard : (h : Taking g r) (installed : r.installed ≡ true) (u : Update) → pending_with n.0 (state_in e.script.space r key) ≡ Some u
+          → (x : ServerId) (place : ℕ) → from ≡ Server x → next_of st.config u.places (place_number r.region u.places) i ≡ At x place
+          → region_at u.places place ≡ by
+          → Fine (at_slot st r (state_in e.script.space r key) (ack_step (context_of e.script.space st r.region) (state_in e.script.space r key) n.0))
+      heard h installed u f x place from_is hop_is region =
+          let a = subst (λ (y : RegionId). AckOk e.script (world e) key x by y i n.0) (sym h.region)
+          (subst (λ (a : Actor). Valid e.script (world e) a (Server i) (a_message.Ack epoch g key n by)) from_is v) in
+          let q = one h installed u f a.update a.stands a.version in
+          ack-served e asks valid o ok i here (e.servers i).replicas same r h.found installed x by key n.0 a place
+          (subst (λ (y : Update). next_of st.config y.places (place_number r.region y.places) i ≡ At x place) q hop_is)
+          (subst (λ (y : Update). region_at y.places place ≡ by) q region)
+
+      pending : (h : Taking g r) → r.installed ≡ true → (o : Option Update) → pending_with n.0 (state_in e.script.space r key) ≡ o
+          → Fine (acked_of e.script.space st from by r (state_in e.script.space r key) n.0 o)
+      pending h installed None f = subst (λ (x : ServerState). Fine (unmoved x)) same still
+      pending h installed (Some u) f =
+          cond_both (hears_ack st.config u (place_number r.region u.places) i from by)
+          (at_slot st r (state_in e.script.space r key) (ack_step (context_of e.script.space st r.region) (state_in e.script.space r key) n.0))
+          (unmoved st) Fine
+          (λ t. (let (x, place, from_is, hop_is, region) = heard-at u.places by from (next_of st.config u.places (place_number r.region u.places) i) t in
+          heard h installed u f x place from_is hop_is region))
+          (λ t. subst (λ (x : ServerState). Fine (unmoved x)) same still)
+
+  -- ---- a search
+  ask-fine : (from : Actor) (epoch : Epoch) (number : ℕ) (g : RegionId) (terms : List Term) → asks.ask from epoch number g terms
+      → (o : Option Replica) → if_installed (replica_for st0 g) ≡ o → Fine (asked st0 from epoch number terms o)
   ask-fine from epoch number g terms a None z = still
   ask-fine from epoch number g terms a (Some r) z =
-      let h = hears epoch g r (installed-is (replica_in_epoch st0 epoch g) r z).0 in
-      quiet-served st0 _ refl refl (λ p j. elim (in-provided (lists_ready st0.config r.region st0.id) (post (Server st0.id) from (a_message.Found epoch number r.region (found_in r.region terms r.states)) ∷ []) p j).1 [
-        | inl q ↦ subst (λ (x : Post). Valid e.script (world e) x.from x.to x.message × Late e asks i x.to x.message × NoSnap x.message) (sym q) (
+      let h = takes g r (installed-is (replica_for st0 g) r z).0 in
+      saying-served e asks valid o ok i here _ (λ p j. elim (in-provided (lists_ready st0.config r.region st0.id)
+      (post (Server st0.id) from (a_message.Found epoch number r.region (found_in r.region terms r.states)) ∷ []) p j).1 [
+        | inl q ↦ subst (Plain e asks i) (sym q) (
           tt,
-          (terms, subst (λ (x : RegionId). asks.ask from epoch number x terms) (sym h.region) a, (r, subst (λ (x : RegionId). if_installed (replica_in_epoch st0 epoch x) ≡ Some r) (sym h.region) z, refl)),
+          (
+            terms,
+            subst (λ (x : RegionId). asks.ask from epoch number x terms) (sym h.region) a,
+            (r, subst (λ (x : RegionId). if_installed (replica_for st0 x) ≡ Some r) (sym h.region) z, refl),
+          ),
           tt,
         )
         | inr k ↦ absurd k
       ])
 
-  -- a snapshot
-  snap-fine : (from : Actor) (epoch : Epoch) (g : RegionId) (snapshot : List Kept) (pending : List Update) → IsIn (post from (Server i) (a_message.Snap epoch g snapshot pending)) e.posts → Carries e.script.space g snapshot pending
-      → (o : Option Replica) → replica_in_epoch st0 epoch g ≡ o → Fine (snapped e.script.space st0 snapshot pending o)
+  -- ---- a snapshot
+  snap-fine : (from : Actor) (epoch : Epoch) (g : RegionId) (snapshot : List Kept) (pending : List Update)
+      → IsIn (post from (Server i) (a_message.Snap epoch g snapshot pending)) e.posts → Carries e.script.space g snapshot pending
+      → (o : Option Replica) → replica_for st0 g ≡ o → Fine (snapped e.script.space st0 from snapshot pending o)
   snap-fine from epoch g snapshot pending arrived carries None z = still
   snap-fine from epoch g snapshot pending arrived carries (Some r) z =
-      let h = hears epoch g r z in
-      by-parts h.opened (λ x. snapped e.script.space x snapshot pending (Some r))
-      (snapped-served e asks valid ok differ i here st0.replicas (same h.opened) r h.found h.alive from snapshot pending
-      (subst (λ (x : Epoch). IsIn (post from (Server i) (a_message.Snap x r.region snapshot pending)) e.posts) h.own (subst (λ (x : RegionId). IsIn (post from (Server i) (a_message.Snap epoch x snapshot pending)) e.posts) (sym h.region) arrived))
-      (subst (λ (x : RegionId). Carries e.script.space x snapshot pending) (sym h.region) carries))
+      let h = takes g r z in
+      by-parts (λ x. snapped e.script.space x from snapshot pending (Some r))
+      (cond_both (not (hears_snap st.config r.region i from)) (unmoved st)
+      (cond r.installed (saying st (ready_post st r.region))
+      (with_slots st r (installed_slots (context_of e.script.space st r.region) snapshot pending))) Fine
+      (λ t. subst (λ (x : ServerState). Fine (unmoved x)) same still)
+      (λ t. snapped-served e asks valid o ok i here (e.servers i).replicas same r h.found h.listed from epoch snapshot pending
+      (subst (λ (x : RegionId). IsIn (post from (Server i) (a_message.Snap epoch x snapshot pending)) e.posts) (sym h.region) arrived)
+      (subst (λ (x : RegionId). Carries e.script.space x snapshot pending) (sym h.region) carries)))
+
+  -- ---- a call
 
   -- who leads is the first member
   lead-of : (o : Option ServerId) → is_server i o ≡ true → o ≡ Some i
@@ -258,64 +301,82 @@ module _ (e : Scene) (asks : Asked) (valid : IsSpace e.script.space) (gone : Lis
   lead-of (Some x) z = ap Some (sym (server-same i x z))
 
   -- a call at a replica
-  call-fine : (r : Replica) (epoch : Epoch) (key : List ℕ) → Hearing epoch (key_region e.script.space key) r → (caller : Caller) (op : Op) → call_of e.script caller ≡ Some op → key_of op ≡ Some key → asks.call caller → Fine (call_at e.script.space st0 r key caller op)
-  call-fine r epoch key h caller op called on_key a = by-parts h.opened (λ x. call_at e.script.space x r key caller op)
-      (cond_both (leads e.script.space e.config i r.region) (at_slot (standing e.config i st0.replicas) r (state_in e.script.space r key) (call_step (context_of e.script.space (standing e.config i st0.replicas) r.region) (state_in e.script.space r key) caller op)) (unmoved (standing e.config i st0.replicas)) Fine
-      (λ l. let b = and_parts (is_key_region e.script.space r.region && not (is_lost e.config r.region)) (is_server i (head_of e.config r.region)) l in
-      let k = and_parts (is_key_region e.script.space r.region) (not (is_lost e.config r.region)) b.0 in
-      let head = lead-of (head_of e.config r.region) b.1 in
-      let at = epochs.ready r.region i (head-ready e.config r.region i epochs.orderly h.alive head) in
+  call-fine : (r : Replica) (key : List ℕ) → Taking (key_region e.script.space key) r → (caller : Caller) (op : Op) → call_of e.script caller ≡ Some op
+      → key_of op ≡ Some key → asks.call caller → Fine (call_at e.script.space st0 r key caller op)
+  call-fine r key h caller op called on_key a = by-parts (λ x. call_at e.script.space x r key caller op)
+      (cond_both (leads e.script.space st.config i r.region)
+      (at_slot st r (state_in e.script.space r key) (call_step (context_of e.script.space st r.region) (state_in e.script.space r key) caller op))
+      (unmoved st) Fine
+      (λ l. let b = and_parts (is_key_region e.script.space r.region && not (is_lost st.config r.region)) (is_server i (head_of st.config r.region)) l in
+      let k = and_parts (is_key_region e.script.space r.region) (not (is_lost st.config r.region)) b.0 in
+      let head = lead-of (head_of st.config r.region) b.1 in
+      let at = epochs.ready st.config (o.own i) r.region i (head-ready st.config (epochs.orderly st.config (o.own i)) r.region i h.alive head) in
       let s = replica-sent e.script.space st0 joinable r (replica-found r.region st0.replicas r h.found).0 key in
-      call-served e asks valid ok differ i here st0.replicas (same h.opened) r h.found (ap (λ (x : Replica). x.installed) (sym (one r at h.found)) ∙ at.installed) h.alive key h.region head s.slot (s.marks ∙ k.0) is_known caller op called on_key a)
-      (λ l. subst (λ (x : ServerState). Fine (unmoved x)) (same h.opened) still))
+      call-served e asks valid o ok i here (e.servers i).replicas same r h.found (ap (λ (x : Replica). x.installed) (sym (one at)) ∙ at.installed)
+      key h.region head s.slot (s.marks ∙ k.0) caller op called on_key a)
+      (λ l. subst (λ (x : ServerState). Fine (unmoved x)) same still))
     where
-      one : (r : Replica) (at : Installed st0 r.region) → replica_of r.region st0.replicas ≡ Some r → at.replica ≡ r
-      one r at f = let q : Some at.replica ≡ Some r = sym at.found ∙ f in cc
+      one : (at : Installed st0 r.region) → at.replica ≡ r
+      one at = let q : Some at.replica ≡ Some r = sym at.found ∙ h.found in cc
 
   -- a call that arrives
-  called-fine : (from : Actor) (epoch : Epoch) (number : ℕ) (op : Op) → Valid e.script (world e) from (Server i) (a_message.Call epoch number op) → ((u : SessionId) → from ≡ Session u → asks.call (record { session = u; number = number }))
-      → Fine (called_by e.script.space st0 from epoch number op)
+  called-fine : (from : Actor) (epoch : Epoch) (number : ℕ) (op : Op) → Valid e.script (world e) from (Server i) (a_message.Call epoch number op)
+      → ((u : SessionId) → from ≡ Session u → asks.call (record { session = u; number = number })) → Fine (called_by e.script.space st0 from number op)
   called-fine Coordinator epoch number op v a = still
   called-fine (Server x) epoch number op v a = still
   called-fine (Session u) epoch number op v a = by (key_of op) refl
     where
-      by : (o : Option (List ℕ)) → key_of op ≡ o → Fine (called e.script.space st0 epoch (record { session = u; number = number }) op o)
+      by : (o : Option (List ℕ)) → key_of op ≡ o → Fine (called e.script.space st0 (record { session = u; number = number }) op o)
       by None z = still
       by (Some key) z =
-          when_some_both (replica_in_epoch st0 epoch (key_region e.script.space key)) (unmoved st0) (λ (r : Replica). call_at e.script.space st0 r key (record { session = u; number = number }) op) Fine
+          when_some_both (replica_for st0 (key_region e.script.space key)) (unmoved st0)
+          (λ (r : Replica). call_at e.script.space st0 r key (record { session = u; number = number }) op) Fine
           (λ q. still)
-          (λ r q. call-fine r epoch key (hears epoch (key_region e.script.space key) r q) (record { session = u; number = number }) op v z (a u refl))
+          (λ r q. call-fine r key (takes (key_region e.script.space key) r q) (record { session = u; number = number }) op v z (a u refl))
 
-  -- each message
+  -- ---- each message
   message-fine : (from : Actor) (m : Message) → IsIn (post from (Server i) m) e.posts → Valid e.script (world e) from (Server i) m → Sends e.script.space m
-      → ((u : SessionId) (epoch : Epoch) (number : ℕ) (op : Op) → from ≡ Session u → m ≡ a_message.Call epoch number op → asks.call (record { session = u; number = number }))
+      → ((u : SessionId) (epoch : Epoch) (number : ℕ) (op : Op) → from ≡ Session u → m ≡ a_message.Call epoch number op
+      → asks.call (record { session = u; number = number }))
       → ((epoch : Epoch) (number : ℕ) (g : RegionId) (terms : List Term) → m ≡ a_message.Ask epoch number g terms → asks.ask from epoch number g terms)
       → Fine (message_step e.script.space st0 from m)
-  message-fine from (a_message.Call epoch number op) j v s a b = called-fine from epoch number op v (λ u z. a u epoch number op z refl)
-  message-fine from (a_message.Update epoch g u) j v s a b = update-fine epoch g u v (if_installed (replica_in_epoch st0 epoch g)) refl
-  message-fine from (a_message.Ack epoch g key version) j v s a b = ack-fine epoch g key version.0 v (if_installed (replica_in_epoch st0 epoch g)) refl
-  message-fine from (a_message.Ask epoch number g terms) j v s a b = ask-fine from epoch number g terms (b epoch number g terms refl) (if_installed (replica_in_epoch st0 epoch g)) refl
-  message-fine from (a_message.Seal epoch) j v s a b = seal-fine epoch
+  message-fine from (a_message.Call epoch number op) j v s a b = met epoch (called_by e.script.space st0 from number op)
+      (called-fine from epoch number op v (λ u z. a u epoch number op z refl))
+  message-fine from (a_message.Update epoch g u) j v s a b = met epoch (updated e.script.space st0 from u (if_installed (replica_for st0 g)))
+      (update-fine from epoch g u v (if_installed (replica_for st0 g)) refl)
+  message-fine from (a_message.Ack epoch g key n by) j v s a b =
+      met epoch (acked e.script.space st0 from key n.0 by (if_installed (replica_for st0 g)))
+      (ack-fine from epoch g key n by v (if_installed (replica_for st0 g)) refl)
+  message-fine from (a_message.Ask epoch number g terms) j v s a b =
+      met epoch (asked st0 from epoch number terms (if_installed (replica_for st0 g)))
+      (ask-fine from epoch number g terms (b epoch number g terms refl) (if_installed (replica_for st0 g)) refl)
   message-fine from (a_message.Install config) j v s a b = install-fine config (epochs.says (post from (Server i) (a_message.Install config)) j)
   message-fine from a_message.Die j v s a b = halt-fine
-  message-fine from (a_message.Snap epoch g snapshot pending) j v s a b = snap-fine from epoch g snapshot pending j s (replica_in_epoch st0 epoch g) refl
+  message-fine from (a_message.Snap epoch g snapshot pending) j v s a b =
+      met epoch (snapped e.script.space st0 from snapshot pending (replica_for st0 g)) (snap-fine from epoch g snapshot pending j s (replica_for st0 g) refl)
   message-fine from other j v s a b = still
 
-  -- each input
+  -- ---- each input
   pub input-served : (input : Input) → ((p : Post) → IsIn p e.posts → Valid e.script (world e) p.from p.to p.message × Sends e.script.space p.message)
       → ((id : PostId) (from : Actor) (m : Message) → input ≡ Deliver id from m → IsIn (post from (Server i) m) e.posts)
-      → ((id : PostId) (u : SessionId) (epoch : Epoch) (number : ℕ) (op : Op) → input ≡ Deliver id (Session u) (a_message.Call epoch number op) → asks.call (record { session = u; number = number }))
-      → ((id : PostId) (from : Actor) (epoch : Epoch) (number : ℕ) (g : RegionId) (terms : List Term) → input ≡ Deliver id from (a_message.Ask epoch number g terms) → asks.ask from epoch number g terms)
+      → ((id : PostId) (u : SessionId) (epoch : Epoch) (number : ℕ) (op : Op) → input ≡ Deliver id (Session u) (a_message.Call epoch number op)
+      → asks.call (record { session = u; number = number }))
+      → ((id : PostId) (from : Actor) (epoch : Epoch) (number : ℕ) (g : RegionId) (terms : List Term)
+      → input ≡ Deliver id from (a_message.Ask epoch number g terms) → asks.ask from epoch number g terms)
       → Fine (server_step e.script.space st0 input)
-  input-served input posts arrives calls searches = subst Fine (sym (cond-false st0.halted (unmoved st0) (input_step e.script.space st0 input) here.1)) (by input arrives calls searches)
+  input-served input posts arrives calls searches = subst Fine (sym (cond-false st0.halted (unmoved st0) (input_step e.script.space st0 input) here.1))
+      (by input arrives calls searches)
     where
       by : (input : Input) → ((id : PostId) (from : Actor) (m : Message) → input ≡ Deliver id from m → IsIn (post from (Server i) m) e.posts)
-          → ((id : PostId) (u : SessionId) (epoch : Epoch) (number : ℕ) (op : Op) → input ≡ Deliver id (Session u) (a_message.Call epoch number op) → asks.call (record { session = u; number = number }))
-          → ((id : PostId) (from : Actor) (epoch : Epoch) (number : ℕ) (g : RegionId) (terms : List Term) → input ≡ Deliver id from (a_message.Ask epoch number g terms) → asks.ask from epoch number g terms)
+          → ((id : PostId) (u : SessionId) (epoch : Epoch) (number : ℕ) (op : Op) → input ≡ Deliver id (Session u) (a_message.Call epoch number op)
+          → asks.call (record { session = u; number = number }))
+          → ((id : PostId) (from : Actor) (epoch : Epoch) (number : ℕ) (g : RegionId) (terms : List Term)
+          → input ≡ Deliver id from (a_message.Ask epoch number g terms) → asks.ask from epoch number g terms)
           → Fine (input_step e.script.space st0 input)
       by Tick f c d = tick-fine
       by Halt f c d = halt-fine
       by (Deliver id from m) f c d =
           let j = f id from m refl in
           let p = posts (post from (Server i) m) j in
-          message-fine from m j p.0 p.1 (λ u epoch number op z w. c id u epoch number op (λ k. Deliver id (z k) (w k))) (λ epoch number g terms w. d id from epoch number g terms (λ k. Deliver id from (w k)))
+          message-fine from m j p.0 p.1 (λ u epoch number op z w. c id u epoch number op (λ k. Deliver id (z k) (w k)))
+          (λ epoch number g terms w. d id from epoch number g terms (λ k. Deliver id from (w k)))

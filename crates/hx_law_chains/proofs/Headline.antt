@@ -1,27 +1,42 @@
 -- The laws on chains from what every run keeps.
-use Rattle.std.proofs.Common.{◌≡◌, ℕ, ◌≤◌, inl, inr, true, List, [], ◌∷◌, Option, Some, None, refl, sym, ap, ◌∙◌, arith, eqb}
+use Rattle.std.proofs.Common.{◌≡◌, ℕ, ◌≤◌, inl, inr, true, is_some, List, [], ◌∷◌, Option, Some, None, refl, sym, ap, ◌∙◌, arith}
 use Rattle.std.proofs.lemmas.Bool.{cond_both, cond-true, false≢true}
-use Rattle.hx_types.specs.declared.ids.Actor.TheVariants.{Session}
+use Rattle.hx_types.specs.declared.configs.Config.{Config}
+use Rattle.hx_types.specs.declared.ids.Actor.{Actor}
+use Rattle.hx_types.specs.declared.ids.Actor.TheVariants.{Coordinator, Server, Session}
+use Rattle.hx_types.specs.declared.ids.Epoch.{Epoch}
 use Rattle.hx_types.specs.declared.ids.RegionId.{RegionId}
 use Rattle.hx_types.specs.declared.ids.ServerId.{ServerId}
+use Rattle.hx_types.specs.declared.ids.Version.{Version}
+use Rattle.hx_types.specs.declared.messages.Message.{Message}
 use Rattle.hx_types.specs.declared.messages.Message.TheVariants as a_message
+use Rattle.hx_types.specs.declared.outcomes.Hop.TheVariants.{At}
+use Rattle.hx_types.specs.declared.snapshots.Kept.{Kept}
 use Rattle.hx_types.specs.declared.traces.Entry.{Entry}
 use Rattle.hx_types.specs.declared.traces.Script.{Script}
 use Rattle.hx_types.specs.declared.updates.Update.{Update}
 use Rattle.hx_types.specs.Words.{IsIn, post}
+use Rattle.hx_types.specs.Configs.{lists, members_of}
 use Rattle.hx_types.specs.Fitting.{IsScript}
+use Rattle.hx_model.specs.Hearing.{hears_ack, hears_update}
 use Rattle.hx_model.specs.Holders.{IsPrefix, snap_state}
 use Rattle.hx_model.specs.Histories.{line_of}
+use Rattle.hx_model.specs.Neighbours.{next_of, place_number, prev_of}
 use Rattle.hx_model.specs.Runs.{IsRun, coordinator_of, server_of}
 use Rattle.hx_model.specs.ServerSteps.{Replica, if_installed, replica_of, state_in}
 use Rattle.hx_model.specs.Slots.{Forget, KeyState, has_place, moved, top_of}
 use Rattle.hx_law_lemmas.specs.Words.{posts_of, view}
-use Rattle.hx_law_epochs.proofs.Lemmas.{PrecedesInChain, placed-number, installed-is, IsKnown, Real}
-use Rattle.hx_law_chains.specs.Chains.{AreAssigned, InOrder, IsHeld, IsUp, RunsAnswerCommitted, RunsAssignUpdates, RunsHoldParts, RunsKeepOrder, RunsSendParts, StandsEarlier}
-use Rattle.hx_law_chains.proofs.Holders.{live-of}
+use Rattle.hx_law_lemmas.proofs.Lemmas.{after-order, before-in, listed-in}
+use Rattle.hx_law_epochs.specs.Epochs.{order}
+use Rattle.hx_law_epochs.proofs.Lemmas.{EpochsRun, Installed, IsKnown, PrecedesInChain, Real, Says, epochs-run, installed-is, placed-number}
+use Rattle.hx_law_chains.specs.Chains.{AckStands, AreAssigned, InOrder, IsComing, IsHeld, IsSentFrom, IsStanding, MayHave, PostStands, RunsAnswerCommitted}
+use Rattle.hx_law_chains.specs.Chains.{RunsAssignUpdates, RunsHoldParts, RunsKeepOrder, RunsPostsStand, RunsSendParts, StandsEarlier, UpdateStands}
+use Rattle.hx_law_chains.proofs.Heard.{heard-at, heard-from}
+use Rattle.hx_law_chains.proofs.Holders.{Up, now-listed}
 use Rattle.hx_law_chains.proofs.Runs.{chained-run, scene}
+use Rattle.hx_law_chains.proofs.Sending.{joiner-next}
 use Rattle.hx_law_chains.proofs.Serving.{world}
-use Rattle.hx_law_chains.proofs.World.{Along, Chained, Lawful, Told, World}
+use Rattle.hx_law_chains.proofs.World.{AckOk, Along, Chained, HearsAck, HearsUpdate, Lawful, May, Told, UpdateOk, Valid, World}
 
 -- where all stand after a trace
 abbrev at : Script → List Entry → World
@@ -38,7 +53,11 @@ assigned script t key (u ∷ us) h = (
     called = h.0.called;
     writes = h.0.writes;
     on_key = h.0.on_key;
-    effect = elim h.0.effect [ inl e ↦ inl e | inr e ↦ inr (record { region = e.1.0; config = e.1.1; issued = e.1.2; answer = e.1.3; object = e.0; first = e.1.4 }) ];
+    effect = elim h.0.effect [
+      | inl e ↦ inl e
+      | inr e ↦ inr
+          (record { region = e.1.0; config = e.1.1; issued = e.1.2; answer = e.1.3; object = e.0; first = e.1.4 })
+    ];
     done = h.0.made.done;
     places = h.0.made.places;
     newer = h.0.newer;
@@ -60,30 +79,87 @@ module _ (script : Script) (valid : IsScript script) (t0 : List Entry) (run : Is
   abbrev chained : Chained script (at script t0) (posts_of t0)
   chained = chained-run script valid t0 run
 
-  -- what a slot is worth
-  abbrev worth : ServerId → KeyState → KeyState
-  worth s x = view (coordinator_of script t0).config (server_of script s t0) x
+  -- where a server's replica is found and installed
+  abbrev installed-at : (g : RegionId) (s : ServerId) (r : Replica) → if_installed (replica_of g (server_of script s t0).replicas) ≡ Some r
+      → Installed (server_of script s t0) g
+  installed-at g s r e = (let n = installed-is (replica_of g (server_of script s t0).replicas) r e in record { replica = r; found = n.0; installed = n.1 })
 
-  -- what a replica that is up is worth is held
-  up-holds : (key : List ℕ) (g : RegionId) (s : ServerId) (r : Replica) → IsUp script t0 g s r → (at script t0).holds key g s (worth s (state_in script.space r key))
-  up-holds key g s r u =
-      let n = installed-is (replica_of g (server_of script s t0).replicas) r u.installed in
-      inl (live-of script.space (Real script) (λ y. server_of script y t0) (coordinator_of script t0).config key g s (server_of script s t0) refl (u.server, u.running) (record { replica = r; found = n.0; installed = n.1 }))
+  -- the newest configuration lists a replica that stands
+  standing-listed : (g : RegionId) (s : ServerId) (r : Replica) → IsStanding script t0 g s r → IsIn s (order (coordinator_of script t0).config g)
+  standing-listed g s r (inl u) = now-listed script (Real script) (λ y. server_of script y t0) (coordinator_of script t0).config (λ key. line_of key t0)
+      (posts_of t0) (IsKnown script t0) chained.ordered g s
+      (u.server, u.running) (installed-at g s r u.installed)
+  standing-listed g s r (inr l) = listed-in (coordinator_of script t0).config g s l.listed
+
+  -- it is held, as what it is worth
+  stands-held : (key : List ℕ) (g : RegionId) (s : ServerId) (r : Replica) → IsStanding script t0 g s r
+      → (at script t0).holds key g s (view (server_of script s t0) (state_in script.space r key))
+  stands-held key g s r u = inl (record { listed = standing-listed g s r u; at = at-here u; is = is-here u })
+    where
+      at-here : IsStanding script t0 g s r → Installed (server_of script s t0) g
+      at-here (inl k) = installed-at g s r k.installed
+      at-here (inr k) = installed-at g s r k.installed
+
+      is-here : (k : IsStanding script t0 g s r) → view (server_of script s t0) (state_in script.space r key) ≡ view (server_of script s t0)
+          (state_in script.space (at-here k).replica key)
+      is-here (inl k) = refl
+      is-here (inr k) = refl
 
   -- what a slot is worth has its top, floor and content
-  worth-top : (s : ServerId) (x : KeyState) → top_of (worth s x) ≡ top_of x
-  worth-top s x = cond_both (eqb (server_of script s t0).config.epoch.0 (coordinator_of script t0).config.epoch.0) x (moved Forget x) (λ y. top_of y ≡ top_of x) (λ z. refl) (λ z. refl)
+  worth-top : (s : ServerId) (x : KeyState) → top_of (view (server_of script s t0) x) ≡ top_of x
+  worth-top s x = cond_both (server_of script s t0).halted (moved Forget x) x (λ y. top_of y ≡ top_of x) (λ z. refl) (λ z. refl)
 
-  worth-floor : (s : ServerId) (x : KeyState) → (worth s x).floor ≡ x.floor
-  worth-floor s x = cond_both (eqb (server_of script s t0).config.epoch.0 (coordinator_of script t0).config.epoch.0) x (moved Forget x) (λ y. y.floor ≡ x.floor) (λ z. refl) (λ z. refl)
+  worth-floor : (s : ServerId) (x : KeyState) → (view (server_of script s t0) x).floor ≡ x.floor
+  worth-floor s x = cond_both (server_of script s t0).halted (moved Forget x) x (λ y. y.floor ≡ x.floor) (λ z. refl) (λ z. refl)
 
-  worth-part : (s : ServerId) (g : RegionId) (line : List Update) (x : KeyState) → IsPrefix g line (worth s x) → IsPrefix g line x
-  worth-part s g line x = cond_both (eqb (server_of script s t0).config.epoch.0 (coordinator_of script t0).config.epoch.0) x (moved Forget x) (λ y. IsPrefix g line y → IsPrefix g line x) (λ z p. p)
-      (λ z p. record { list = p.list; object = p.object; marks = p.marks; touches = p.touches; floor = p.floor })
+  worth-part : (s : ServerId) (g : RegionId) (line : List Update) (x : KeyState) → IsPrefix g line (view (server_of script s t0) x) → IsPrefix g line x
+  worth-part s g line x = cond_both (server_of script s t0).halted (moved Forget x) x (λ y. IsPrefix g line y → IsPrefix g line x)
+      (λ z p. record { list = p.list; object = p.object; marks = p.marks; touches = p.touches; floor = p.floor }) (λ z p. p)
+
+  -- a snapshot under way goes to a member that the newest configuration lists
+  coming-listed : (from : Actor) (epoch : Epoch) (g : RegionId) (s : ServerId) (snapshot : List Kept) (pending : List Update)
+      → IsIn (post from (Server s) (a_message.Snap epoch g snapshot pending)) (posts_of t0)
+      → Up (Real script) (λ y. server_of script y t0) s → IsIn s (order (coordinator_of script t0).config g)
+  coming-listed from epoch g s snapshot pending posted up = by from (epochs.epochs.says _ posted)
+    where
+      epochs : EpochsRun script t0
+      epochs = epochs-run script valid t0 run
+
+      by : (from : Actor) → Says (λ y. server_of script y t0) (IsKnown script t0) (coordinator_of script t0).config from (Server s)
+          (a_message.Snap epoch g snapshot pending) → IsIn s (order (coordinator_of script t0).config g)
+      by Coordinator h = absurd h
+      by (Session u) h = absurd h
+      by (Server k) h =
+          let x = h.1 in
+          let d = chained.ordered.differ x.config x.known g in
+          (chained.ordered.grown x.config (coordinator_of script t0).config x.known chained.ordered.newest
+          (chained.ordered.last x.config x.known)).stays g s (chained.ordered.up s up)
+          (before-in k s (order x.config g) (after-order k s (members_of x.config g) d (joiner-next k s (members_of x.config g) d x.sender)).0).1
+
+  -- it is held
+  coming-held : (key : List ℕ) (g : RegionId) (s : ServerId) (t : KeyState) → IsComing script t0 key g s t → (at script t0).holds key g s t
+  coming-held key g s t c = inr (record {
+    up = (c.server, c.running);
+    listed = coming-listed c.from c.epoch g s c.snapshot c.pending c.posted (c.server, c.running);
+    empty = λ h. c.empty h.replica (record {
+      server = c.server;
+      running = c.running;
+      installed = found-installed
+          (replica_of g (server_of script s t0).replicas) h.replica h.found h.installed;
+    });
+    from = c.from;
+    epoch = c.epoch;
+    snapshot = c.snapshot;
+    pending = c.pending;
+    posted = c.posted;
+    is = c.is;
+  })
 
   -- replicas hold their part
-  hold-parts : (g : RegionId) (s : ServerId) (r : Replica) → IsUp script t0 g s r → (key : List ℕ) → IsPrefix g (line_of key t0) (state_in script.space r key)
-  hold-parts g s r u key = worth-part s g (line_of key t0) (state_in script.space r key) ((chained.keyed key).own g s (worth s (state_in script.space r key)) (up-holds key g s r u)).content
+  hold-parts : (g : RegionId) (s : ServerId) (r : Replica) → IsStanding script t0 g s r → (key : List ℕ)
+      → IsPrefix g (line_of key t0) (state_in script.space r key)
+  hold-parts g s r u key = worth-part s g (line_of key t0) (state_in script.space r key)
+      ((chained.keyed key).own g s (view (server_of script s t0) (state_in script.space r key)) (stands-held key g s r u)).content
 
   -- what is worth the same: its top and its floor
   record Same (t w : KeyState) : Type 0 where
@@ -93,34 +169,29 @@ module _ (script : Script) (valid : IsScript script) (t0 : List Entry) (run : Is
   -- what stands for a region at a server is held, or what it is worth
   holds : (key : List ℕ) (g : RegionId) (s : ServerId) (t : KeyState) → IsHeld script t0 key g s t → (w : KeyState) × (at script t0).holds key g s w × Same t w
   holds key g s t (inl (r, up, is)) = (
-    worth s (state_in script.space r key),
-    up-holds key g s r up,
-    record { top = worth-top s (state_in script.space r key) ∙ ap top_of (sym is); floor = worth-floor s (state_in script.space r key) ∙ ap (λ (x : KeyState). x.floor) (sym is) },
+    view (server_of script s t0) (state_in script.space r key),
+    stands-held key g s r up,
+    record {
+      top = worth-top s (state_in script.space r key) ∙ ap top_of (sym is);
+      floor = worth-floor s (state_in script.space r key)
+          ∙ ap (λ (x : KeyState). x.floor) (sym is);
+    },
   )
-  holds key g s t (inr c) = (
-    t,
-    inr (record {
-      up = (c.server, c.running);
-      empty = λ h. c.empty h.replica (record { server = c.server; running = c.running; installed = found-installed (replica_of g (server_of script s t0).replicas) h.replica h.found h.installed });
-      from = c.from;
-      snapshot = c.snapshot;
-      pending = c.pending;
-      posted = c.posted;
-      is = c.is;
-    }),
-    record { top = refl; floor = refl },
-  )
+  holds key g s t (inr c) = (t, coming-held key g s t c, record { top = refl; floor = refl })
 
   -- chains are in order
-  keep-order : (key : List ℕ) (u : Update) → IsIn u (line_of key t0) → (g h : RegionId) (s x : ServerId) (t y : KeyState) → has_place g u ≡ true → has_place h u ≡ true
+  keep-order : (key : List ℕ) (u : Update) → IsIn u (line_of key t0) → (g h : RegionId) (s x : ServerId) (t y : KeyState) → has_place g u ≡ true
+      → has_place h u ≡ true
       → IsHeld script t0 key g s t → IsHeld script t0 key h x y → StandsEarlier (coordinator_of script t0).config u g s h x → InOrder u t y
   keep-order key u i g h s x t y p1 p2 a b e =
       let (w, first, m) = holds key g s t a in
       let (z, second, n) = holds key h x y b in
       let stands : PrecedesInChain (coordinator_of script t0).config u.places g s h x = (placed-number u.places h p2, e) in
       record {
-        accepted = λ l. (let p = m.top in let q = n.top in let k = ((chained.keyed key).own h x z second).taken u i p2 (omega (arith, l, q)) g s w first stands in omega (arith, k, p));
-        committed = λ l. (let p = m.floor in let q = n.floor in let k = ((chained.keyed key).own g s w first).freed u i p1 (omega (arith, l, p)) h x z second stands in omega (arith, k, q));
+        accepted = λ l. (let p = m.top in let q = n.top in let k = ((chained.keyed key).own h x z second).taken u i p2 (omega (arith, l, q))
+            g s w first stands in omega (arith, k, p));
+        committed = λ l. (let p = m.floor in let q = n.floor in let k = ((chained.keyed key).own g s w first).freed u i p1 (omega (arith, l, p))
+            h x z second stands in omega (arith, k, q));
       }
 
 -- replicas hold their part
@@ -129,16 +200,20 @@ runs_hold_parts script valid t run = hold-parts script valid t run
 
 -- so do snapshots under way
 pub runs_send_parts : RunsSendParts
-runs_send_parts script valid t run from g s snapshot pending posted real up empty key =
+runs_send_parts script valid t run from epoch g s snapshot pending posted real up empty key =
     (((chained-run script valid t run).keyed key).own g s (snap_state script.space g key snapshot pending)
-    (inr (record {
-      up = (real, up);
-      empty = λ h. empty h.replica (record { server = real; running = up; installed = found-installed (replica_of g (server_of script s t).replicas) h.replica h.found h.installed });
+    (coming-held script valid t run key g s (snap_state script.space g key snapshot pending)
+    (record {
       from = from;
+      epoch = epoch;
       snapshot = snapshot;
       pending = pending;
       posted = posted;
-      is = refl;
+      server = real;
+      running = up;
+      empty = empty;
+      is =
+          refl;
     }))).content
 
 -- chains are in order
@@ -157,3 +232,101 @@ runs_answer_committed script valid t run from c v answer posted op key called on
     by (inl h) = absurd (false≢true (sym sure ∙ h.1))
     by (inr (inl h)) = floor h.2
     by (inr (inr h)) = floor h.3
+
+-- ---- what is under way
+
+module _ (script : Script) (valid : IsScript script) (t0 : List Entry) (run : IsRun script t0) where
+  -- what the server has or may come to have
+  may : (s : ServerId) (c : Config) → MayHave script t0 s c → May (at script t0) s c
+  may s c m = record { up = (m.server, m.running); known = m.issued; later = m.later }
+
+  -- the sender
+  sent-from : (x : ServerId) (g : RegionId) (u : Update) → has_place g u ≡ true → Installed (server_of script x t0) g → IsSentFrom script t0 (Server x) g u
+  sent-from x g u p h = record {
+    server = x;
+    from_is = refl;
+    placed = p;
+    installed = ap is_some (found-installed (replica_of g (server_of script x t0).replicas) h.replica h.found h.installed);
+  }
+
+  -- an update may be heard
+  hears-it : (x : ServerId) (g : RegionId) (s : ServerId) (u : Update) (c : Config) → MayHave script t0 s c → lists c g s ≡ true
+      → hears_update c u (place_number g u.places) s (Server x) ≡ true
+      → HearsUpdate (at script t0) x g s u
+  hears-it x g s u c m l h =
+      let (y, place, from_is, hop_is) = heard-from (Server x) (prev_of c u.places (place_number g u.places) s) h in
+      let q : x ≡ y = (let e = from_is in cc) in
+      record { config = c; may = may s c m; listed = listed-in c g s l; place = place; at = hop_is ∙ ap (λ (z : ServerId). At z place) (sym q) }
+
+  -- and an acknowledgement
+  hears-back : (x : ServerId) (by g : RegionId) (s : ServerId) (u : Update) (c : Config) → MayHave script t0 s c → lists c g s ≡ true
+      → hears_ack c u (place_number g u.places) s (Server x) by ≡ true
+      → HearsAck (at script t0) x by g s u
+  hears-back x by g s u c m l h =
+      let (y, place, from_is, hop_is, region) = heard-at u.places by (Server x) (next_of c u.places (place_number g u.places) s) h in
+      let q : x ≡ y = (let e = from_is in cc) in
+      record {
+        config = c;
+        may = may s c m;
+        listed = listed-in c g s l;
+        place = place;
+        at = hop_is
+            ∙ ap (λ (z : ServerId). At z place) (sym q);
+        region = region;
+      }
+
+  -- an update under way
+  update-stands : (x : ServerId) (g : RegionId) (s : ServerId) (u : Update) → UpdateOk script (at script t0) u.key x g s u
+      → UpdateStands script t0 (Server x) g s u
+  update-stands x g s u ok = record {
+    region = ok.region;
+    sent = sent-from x ok.region u ok.sender_placed ok.from;
+    stands = λ c m l h. (ok.heard (hears-it x g s u c m l h)).stands;
+    accepted = λ c m l h k y t p held e. (let (w, holder, same) = holds script valid t0 run u.key k y t held in
+        let a = (ok.heard (hears-it x g s u c m l h)).before k y w holder (placed-number u.places g ok.placed, e) in
+        let z = same.top in omega (arith, a, z));
+  }
+
+  -- an acknowledgement under way
+  ack-stands : (x : ServerId) (by g : RegionId) (s : ServerId) (key : List ℕ) (v : Version) → AckOk script (at script t0) key x by g s v.0
+      → AckStands script t0 (Server x) by g s key v
+  ack-stands x by g s key v ok =
+      let n = ok.version in
+      record {
+        update = ok.update;
+        stands = ok.stands;
+        version = λ j. record { 0 = n j };
+        sent = sent-from x by ok.update ok.sender_placed ok.from;
+        accepted = λ k y t p held. (let (w, holder, same) = holds script valid t0 run key k y t held in
+            let a = ok.everywhere k y w holder p in let z = same.top in omega (arith, a, z, n));
+        committed = λ c m l h k y t p held e. (let (w, holder, same) = holds script valid t0 run key k y t held in
+            let a = (ok.heard (hears-back x by g s ok.update c m l h)).1 k y w holder (placed-number ok.update.places k p, e) in
+            let z = same.floor in omega (arith, a, z, n));
+      }
+
+  -- each post
+  post-stands : (from : Actor) (s : ServerId) (m : Message) → Valid script (at script t0) from (Server s) m
+      → Says (λ y. server_of script y t0) (IsKnown script t0) (coordinator_of script t0).config from (Server s) m → PostStands script t0 from s m
+  post-stands from s (a_message.Update epoch g u) = by from
+    where
+      by : (from : Actor) → Valid script (at script t0) from (Server s) (a_message.Update epoch g u)
+          → Says (λ y. server_of script y t0) (IsKnown script t0) (coordinator_of script t0).config from (Server s) (a_message.Update epoch g u)
+          → UpdateStands script t0 from g s u
+      by (Server x) h k = update-stands x g s u h
+      by Coordinator h k = absurd k
+      by (Session y) h k = absurd k
+  post-stands from s (a_message.Ack epoch g key version region) = by from
+    where
+      by : (from : Actor) → Valid script (at script t0) from (Server s) (a_message.Ack epoch g key version region)
+          → Says (λ y. server_of script y t0) (IsKnown script t0) (coordinator_of script t0).config from (Server s)
+          (a_message.Ack epoch g key version region) → AckStands script t0 from region g s key version
+      by (Server x) h k = ack-stands x region g s key version h
+      by Coordinator h k = absurd k
+      by (Session y) h k = absurd k
+  post-stands from s other = λ h k. tt
+
+-- all updates and acknowledgements under way stand so
+pub runs_posts_stand : RunsPostsStand
+runs_posts_stand script valid t run from s m i =
+    post-stands script valid t run from s m ((chained-run script valid t run).valid (post from (Server s) m) i)
+    ((epochs-run script valid t run).epochs.says (post from (Server s) m) i)

@@ -1,6 +1,5 @@
 -- What the posts of a slot say of calls: a reply to a write answers no get, nobody is called, and no snapshot is sent.
 use Rattle.std.proofs.Common.{◌≡◌, inl, inr, true, List, Some, refl, sym, ap, ◌∙◌, subst}
-use Rattle.std.specs.Prelude.{⊤}
 use Rattle.std.specs.List.{flat_map}
 use Rattle.std.proofs.lemmas.Bool.{false≢true}
 use Rattle.hx_types.specs.declared.calls.Caller.{Caller}
@@ -10,29 +9,23 @@ use Rattle.hx_types.specs.declared.ids.RegionId.{RegionId}
 use Rattle.hx_types.specs.declared.ids.ServerId.{ServerId}
 use Rattle.hx_types.specs.declared.ids.Version.{Version}
 use Rattle.hx_types.specs.declared.calls.Answer.{Answer}
-use Rattle.hx_types.specs.declared.messages.Message.{Message}
-use Rattle.hx_types.specs.declared.messages.Message.TheVariants as a_message
 use Rattle.hx_types.specs.declared.messages.Post.{Post}
 use Rattle.hx_types.specs.declared.outcomes.Hop.{Hop}
 use Rattle.hx_types.specs.declared.outcomes.Hop.TheVariants.{At, End, Blocked}
 use Rattle.hx_types.specs.declared.traces.Script.{Script}
 use Rattle.hx_types.specs.declared.updates.Update.{Update}
 use Rattle.hx_types.specs.Words.{IsIn}
-use Rattle.hx_types.specs.Configs.{members_of}
 use Rattle.hx_types.specs.Effects.{is_write}
 use Rattle.hx_types.specs.Fitting.{call_of}
 use Rattle.hx_types.specs.Spaces.{IsSpace}
 use Rattle.hx_model.specs.ServerSteps.{SlotContext, ack_to, doubt_in, move_posts, next_at, passed_on, prev_at, reply, told_to, update_to}
 use Rattle.hx_model.specs.Slots.{Acknowledge, Commit, Forget, Hold, Move, Take}
-use Rattle.hx_law_lemmas.proofs.Lemmas.{in-flat_map, Differ}
-use Rattle.hx_law_chains.proofs.Posts.{Committed, MoveOk, Seat, law}
+use Rattle.hx_law_lemmas.proofs.Lemmas.{in-flat_map}
+use Rattle.hx_law_chains.proofs.Holders.{NoSnap}
+use Rattle.hx_law_chains.proofs.Posts.{Committed, Seat}
+use Rattle.hx_law_chains.proofs.Saying.{MoveOk, law}
 use Rattle.hx_law_chains.proofs.Serving.{Asked, Late, Scene}
-use Rattle.hx_law_chains.proofs.World.{KeyOk, Valid, World, context}
-
--- the message is no snapshot
-abbrev pub NoSnap : Message → Type 0
-NoSnap (a_message.Snap epoch g snapshot pending) = ⊥
-NoSnap other = ⊤
+use Rattle.hx_law_chains.proofs.World.{KeyOk, Ordered, Valid, World, context}
 
 -- an update to the next replica is none
 pub passed-nosnap : (at : SlotContext) (u : Update) (p : Post) → IsIn p (passed_on at u) → NoSnap p.message
@@ -74,13 +67,16 @@ SlotLate e asked i p = Late e asked i p.to p.message × NoSnap p.message
 
 module _ (e : Scene) (asked : Asked) (i : ServerId) where
   -- a reply about a write
-  pub write-late : (script : Script) (w : World) (g : RegionId) (caller : Caller) (v : Version) (a : Answer) (op : Op) → script ≡ e.script → call_of script caller ≡ Some op → is_write op ≡ true → (p : Post) → p ≡ reply (context script w g i) caller v a → SlotLate e asked i p
+  pub write-late : (script : Script) (w : World) (g : RegionId) (caller : Caller) (v : Version) (a : Answer) (op : Op) → script ≡ e.script
+      → call_of script caller ≡ Some op → is_write op ≡ true → (p : Post) → p ≡ reply (context script w g i) caller v a → SlotLate e asked i p
   write-late script w g caller v a op s called writes p q = subst (SlotLate e asked i) (sym q) (
-    (λ key get. absurd (let z : Some op ≡ Some (Get key) = sym called ∙ ap (λ (x : Script). call_of x caller) s ∙ get in let o : op ≡ Get key = cc in false≢true (ap is_write (sym o) ∙ writes))),
+    (λ key get. absurd (let z : Some op ≡ Some (Get key) = sym called ∙ ap (λ (x : Script). call_of x caller) s
+        ∙ get in let o : op ≡ Get key = cc in false≢true (ap is_write (sym o) ∙ writes))),
     tt,
   )
 
-  module _ (w : World) (valid : IsSpace e.script.space) (ok : (key : List _) → KeyOk e.script w key) (differ : (g : RegionId) → Differ (members_of w.config g)) (g : RegionId) (seat : Seat e.script w g i) where
+  module _ (w : World) (valid : IsSpace e.script.space) (o : Ordered w) (ok : (key : List _) → KeyOk e.script w key) (g : RegionId)
+      (seat : Seat e.script w g i) where
     -- an update to the next replica
     pub passed-late : (u : Update) (p : Post) → IsIn p (passed_on (context e.script w g i) u) → SlotLate e asked i p
     passed-late u p = by (next_at (context e.script w g i) u)
@@ -99,16 +95,19 @@ module _ (e : Scene) (asked : Asked) (i : ServerId) where
     ack-late u (At y n) p (inl q) = subst (SlotLate e asked i) (sym q) (tt, tt)
 
     -- an answer of a committed update
-    pub reply-late : (u : Update) → Committed e.script valid w ok differ g i seat u → (p : Post) → p ≡ reply (context e.script w g i) u.caller u.version u.answer → SlotLate e asked i p
-    reply-late u c p q = let l = law e.script valid w ok differ g i seat u c.known in write-late e.script w g u.caller u.version u.answer l.1.op refl l.1.called l.1.writes p q
+    pub reply-late : (u : Update) → Committed e.script valid w o ok g i seat u → (p : Post) → p ≡ reply (context e.script w g i) u.caller u.version u.answer
+        → SlotLate e asked i p
+    reply-late u c p q = let l = law e.script valid w o ok g i seat u c.known in
+        write-late e.script w g u.caller u.version u.answer l.1.op refl l.1.called l.1.writes p q
 
     -- what is posted with moves
-    pub moves-late : (ms : List Move) → ((m : Move) → IsIn m ms → MoveOk e.script valid w ok differ g i seat m) → (p : Post) → IsIn p (flat_map (move_posts (context e.script w g i)) ms) → SlotLate e asked i p
+    pub moves-late : (ms : List Move) → ((m : Move) → IsIn m ms → MoveOk e.script valid w o ok g i seat m) → (p : Post)
+        → IsIn p (flat_map (move_posts (context e.script w g i)) ms) → SlotLate e asked i p
     moves-late ms f p j =
         let r = in-flat_map (move_posts (context e.script w g i)) ms p j in
         by r.0 (f r.0 r.1) r.2
       where
-        by : (m : Move) → MoveOk e.script valid w ok differ g i seat m → IsIn p (move_posts (context e.script w g i) m) → SlotLate e asked i p
+        by : (m : Move) → MoveOk e.script valid w o ok g i seat m → IsIn p (move_posts (context e.script w g i) m) → SlotLate e asked i p
         by (Take u) k x = passed-late u p x
         by (Hold u) k x = absurd x
         by (Acknowledge v) k x = absurd x
@@ -122,7 +121,8 @@ module _ (e : Scene) (asked : Asked) (i : ServerId) where
             told End (inr x) = absurd x
 
   -- a doubt about a write says nothing but that
-  pub doubt-fine : (w : World) (g : RegionId) (caller : Caller) (op : Op) → call_of e.script caller ≡ Some op → is_write op ≡ true → (v : Version) (d : RegionId) (p : Post) → p ≡ doubt_in (context e.script w g i) caller v d
+  pub doubt-fine : (w : World) (g : RegionId) (caller : Caller) (op : Op) → call_of e.script caller ≡ Some op → is_write op ≡ true
+      → (v : Version) (d : RegionId) (p : Post) → p ≡ doubt_in (context e.script w g i) caller v d
       → Valid e.script w p.from p.to p.message × SlotLate e asked i p
   doubt-fine w g caller op called writes v d p q = (
     subst (λ (x : Post). Valid e.script w x.from x.to x.message) (sym q)

@@ -14,4 +14,4 @@ pub use Rattle.hx_law_chains.proofs.Runs.{chained-run, fixed-run, late-run, line
 pub use Rattle.hx_law_chains.proofs.ServerPosts.{AnySnapshot, AssignsOne, OfServer, server-plain}
 pub use Rattle.hx_law_chains.proofs.Serving.{Scene, world}
 pub use Rattle.hx_law_chains.proofs.Snapshots.{replica-ascends, replica-sent, snapshots-kept}
-pub use Rattle.hx_law_chains.proofs.World.{Along, Fixed, KeyOk, Law, Lawful, Told, World, around, law-of, lawful-made, lawful-numbered, lawful-sorted}
+pub use Rattle.hx_law_chains.proofs.World.{Along, Chained, Fixed, KeyOk, Law, Lawful, Told, World, around, law-of, lawful-made, lawful-numbered, lawful-sorted}

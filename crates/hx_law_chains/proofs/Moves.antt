@@ -1,6 +1,7 @@
 -- One slot of a replica, or of a snapshot under way: what it relies on, and that each move which is allowed keeps it.
 use Rattle.hx_model.specs.Lines.{upto}
-use Rattle.std.proofs.Common.{◌≡◌, ℕ, zero, suc, ◌<◌, ◌≤◌, ◌⊎◌, inl, inr, Bool, true, false, not, List, [], ◌∷◌, ◌++◌, map, length, Option, Some, None, refl, sym, ap, ◌∙◌, subst, arith, leb, eqb}
+use Rattle.std.proofs.Common.{◌≡◌, ℕ, zero, suc, ◌<◌, ◌≤◌, ◌⊎◌, inl, inr, Bool, true, false, not, List, [], ◌∷◌, ◌++◌, map, length, Option, Some, None, refl}
+use Rattle.std.proofs.Common.{sym, ap, ◌∙◌, subst, arith, leb, eqb}
 use Rattle.std.specs.Prelude.{⊤}
 use Rattle.std.specs.List.{filter, find, list_any}
 use Rattle.std.proofs.lemmas.Bool.{cond_both, eqb-true, leb-true, leb-false, false≢true, cases_lt}
@@ -9,7 +10,9 @@ use Rattle.hx_types.specs.declared.updates.Update.{Update}
 use Rattle.hx_types.specs.Words.{IsIn, provided, when_some}
 use Rattle.hx_model.specs.Holders.{IsPrefix, only_in}
 use Rattle.hx_model.specs.Neighbours.{is_end}
-use Rattle.hx_model.specs.Slots.{Acknowledge, Commit, Forget, Hold, KeyState, Move, Take, acknowledged, after_at, commits, follows, has_place, is_pending, marks_after, moved, moved_all, offered, other_version, pending_above, pending_of, settled, taken, top_of, touches_after, turns, kept_row, waits_below}
+use Rattle.hx_model.specs.Slots.{Acknowledge, Commit, Forget, Hold, KeyState, Move, Take, acknowledged, after_at, commits, follows, has_place, is_pending}
+use Rattle.hx_model.specs.Slots.{marks_after, moved, moved_all, offered, other_version, pending_above, pending_of, settled, taken, top_of, touches_after}
+use Rattle.hx_model.specs.Slots.{turns, kept_row, waits_below}
 use Rattle.hx_model.specs.ServerSteps.{SlotContext, accepting, tail_acks, next_at, resumed, with_commits}
 use Rattle.hx_law_lemmas.proofs.Lemmas.{any-in, in-append, in-filter, in-find, in_left, in_right, when_some_both, Sorted, in-only, in-upto, in-upto_from}
 use Rattle.hx_law_lemmas.proofs.Lemmas.{only-in, only-sorted, same_version, upto-low, upto-sorted, Following, More}
@@ -63,7 +66,8 @@ pub kept_same : (a : Around) → Kept a a
 kept_same a = record { waits = λ u h. h; before = λ u h. h; after = λ u h. h; closed = λ u h. h }
 
 -- a base and a list are a part of a line that stays up to the top
-pub prefix_more : (g : RegionId) (n : ℕ) (line longer : List Update) (t : KeyState) → More n line longer → top_of t ≤ n → t.base.floor.0 ≤ top_of t → IsPrefix g line t → IsPrefix g longer t
+pub prefix_more : (g : RegionId) (n : ℕ) (line longer : List Update) (t : KeyState) → More n line longer → top_of t ≤ n → t.base.floor.0 ≤ top_of t
+    → IsPrefix g line t → IsPrefix g longer t
 prefix_more g n line longer t more l b p =
     let top = more.same (top_of t) l in
     let base = more.same t.base.floor.0 (omega (arith, b, l)) in
@@ -85,7 +89,13 @@ own_rely g n line longer a b t more l early kept own = record {
   top_is = elim own.top_is [ inl e ↦ inl e | inr k ↦ inr (k.0, more.keeps k.0 k.1 (let e = k.3 in omega (arith, e, l)), k.2, k.3) ];
   taken = λ u i p q. kept.before u (own.taken u (more.back u i (omega (arith, q, l))) p q);
   freed = λ u i p q. (let f = own.content.floor in kept.after u (own.freed u (more.back u i (omega (arith, q, f, l))) p q));
-  early = λ u i. (let w = own.early u i in record { stands = more.keeps u w.stands (early u w); placed = w.placed; before = kept.before u w.before; waits = kept.waits u w.waits });
+  early = λ u i. (let w = own.early u i in record {
+    stands = more.keeps u w.stands (early u w);
+    placed = w.placed;
+    before = kept.before u w.before;
+    waits =
+        kept.waits u w.waits;
+  });
   acked = λ v i. (let w = own.acked v i in record {
     update = w.update;
     stands = more.keeps w.update w.stands (let x = w.version in let y = w.low in omega (arith, x, y, l));
@@ -99,9 +109,17 @@ own_rely g n line longer a b t more l early kept own = record {
 }
 
 -- what a slot forgets, it may forget
-pub own_forget : (line : List Update) (g : RegionId) (a b : Around) (t : KeyState) → ((u : Update) → a.before u → b.before u) → ((u : Update) → a.after u → b.after u) → Own line g a t → Own line g b (moved Forget t)
+pub own_forget : (line : List Update) (g : RegionId) (a b : Around) (t : KeyState) → ((u : Update) → a.before u → b.before u)
+    → ((u : Update) → a.after u → b.after u) → Own line g a t → Own line g b (moved Forget t)
 own_forget line g a b t before after own = record {
-  content = record { list = own.content.list; object = own.content.object; marks = own.content.marks; touches = own.content.touches; floor = own.content.floor };
+  content = record {
+    list = own.content.list;
+    object = own.content.object;
+    marks = own.content.marks;
+    touches = own.content.touches;
+    floor =
+        own.content.floor;
+  };
   low = own.low;
   top_line = own.top_line;
   top_is = own.top_is;
@@ -116,7 +134,8 @@ abbrev pub Allowed : List Update → RegionId → Around → KeyState → Move �
 Allowed line g a t (Take u) = IsIn u line × (after_at g u ≡ Some (top_of t)) × a.before u
 Allowed line g a t (Hold u) = Waiting line g a u
 Allowed line g a t (Acknowledge v) = Acked line g a (top_of t) v
-Allowed line g a t (Commit u) = IsIn u t.accepted × (t.floor ≤ u.version.0) × a.after u × ((w : Update) → IsIn w t.accepted → t.floor < w.version.0 → w.version.0 ≤ u.version.0 → w ≡ u)
+Allowed line g a t (Commit u) = IsIn u t.accepted × (t.floor ≤ u.version.0) × a.after u
+    × ((w : Update) → IsIn w t.accepted → t.floor < w.version.0 → w.version.0 ≤ u.version.0 → w ≡ u)
 Allowed line g a t Forget = ⊤
 
 -- each move is allowed where it is made
@@ -160,7 +179,8 @@ Rising [] = Unit {0}
 Rising (u ∷ us) = ((w : Update) → IsIn w us → u.version.0 < w.version.0) × Rising us
 
 pub pending-is : (v : ℕ) (us : List Update) → Sorted us
-    → ((w : Update) → IsIn w (pending_above v us) → IsIn w us × (v < w.version.0)) × ((w : Update) → IsIn w us → v < w.version.0 → IsIn w (pending_above v us)) × Rising (pending_above v us)
+    → ((w : Update) → IsIn w (pending_above v us) → IsIn w us × (v < w.version.0))
+    × ((w : Update) → IsIn w us → v < w.version.0 → IsIn w (pending_above v us)) × Rising (pending_above v us)
 pending-is v [] h = ((λ w i. absurd i), (λ w i l. i), tt)
 pending-is v (u ∷ us) h =
     cond_both (leb u.version.0 v) [] (pending_above v us ++ u ∷ [])
@@ -216,11 +236,13 @@ module _ (line : List Update) (g : RegionId) (a : Around) (line_sorted : Sorted 
   -- what is accepted stands in the line with a place in the region, no higher than the top
   pub accepted-in : (t : KeyState) (u : Update) → Own line g a t → IsIn u t.accepted → IsIn u line × (has_place g u ≡ true) × (u.version.0 ≤ top_of t)
   accepted-in t u own i =
-      let o = only-in g (upto (top_of t) line) u (subst (λ (l : List Update). IsIn u l) (sym own.content.list) (in_left t.accepted (only_in g (upto t.base.floor.0 line)) u i)) in
+      let o = only-in g (upto (top_of t) line) u (subst (λ (l : List Update). IsIn u l) (sym own.content.list)
+      (in_left t.accepted (only_in g (upto t.base.floor.0 line)) u i)) in
       (in-upto (top_of t) line u o.0, o.1, upto-low (top_of t) line u line_sorted o.0)
 
   -- an update of the line with a place there, above the base and no higher than the top, is accepted
-  pub in-accepted : (t : KeyState) (u : Update) → Own line g a t → IsIn u line → has_place g u ≡ true → t.base.floor.0 < u.version.0 → u.version.0 ≤ top_of t → IsIn u t.accepted
+  pub in-accepted : (t : KeyState) (u : Update) → Own line g a t → IsIn u line → has_place g u ≡ true → t.base.floor.0 < u.version.0
+      → u.version.0 ≤ top_of t → IsIn u t.accepted
   in-accepted t u own i p b l =
       front-above t.accepted (only_in g (upto t.base.floor.0 line)) t.base.floor.0 u
       (subst (λ (us : List Update). IsIn u us) own.content.list (in-only g (upto (top_of t) line) u (in-upto_from (top_of t) line u line_sorted i l) p))
@@ -260,7 +282,8 @@ module _ (line : List Update) (g : RegionId) (a : Around) (line_sorted : Sorted 
         });
       }
     where
-      next : (w : Update) → IsIn w line → has_place g w ≡ true → w.version.0 ≤ u.version.0 → top_of t < w.version.0 → Following line g u (top_of t) → w.version.0 ≡ u.version.0
+      next : (w : Update) → IsIn w line → has_place g w ≡ true → w.version.0 ≤ u.version.0 → top_of t < w.version.0 → Following line g u (top_of t)
+          → w.version.0 ≡ u.version.0
       next w i p l h f = elim (cases_lt w.version.0 u.version.0) [
         | inl b ↦ absurd (let n = f.next w (in-only g line w i p) b in omega (arith, n, h))
         | inr b ↦ omega (arith, l, b)
@@ -268,10 +291,21 @@ module _ (line : List Update) (g : RegionId) (a : Around) (line_sorted : Sorted 
 
   -- each allowed move keeps what the slot relies on, and nothing falls
   pub later-one : (t : KeyState) (m : Move) → Own line g a t → Allowed line g a t m → Later line g a t (moved m t)
-  later-one t (Take u) own k = record { own = take-own t u own k; top_up = (let f = following u (top_of t) k.0 k.1 in let b = f.above in omega (arith, b)); floor_up = omega arith }
+  later-one t (Take u) own k = record {
+    own = take-own t u own k;
+    top_up = (let f = following u (top_of t) k.0 k.1 in let b = f.above in omega (arith, b));
+    floor_up = omega arith;
+  }
   later-one t (Hold u) own k = record {
     own = record {
-      content = record { list = own.content.list; object = own.content.object; marks = own.content.marks; touches = own.content.touches; floor = own.content.floor };
+      content = record {
+        list = own.content.list;
+        object = own.content.object;
+        marks = own.content.marks;
+        touches = own.content.touches;
+        floor =
+            own.content.floor;
+      };
       low = own.low;
       top_line = own.top_line;
       top_is = own.top_is;
@@ -289,7 +323,14 @@ module _ (line : List Update) (g : RegionId) (a : Around) (line_sorted : Sorted 
   }
   later-one t (Acknowledge v) own k = record {
     own = record {
-      content = record { list = own.content.list; object = own.content.object; marks = own.content.marks; touches = own.content.touches; floor = own.content.floor };
+      content = record {
+        list = own.content.list;
+        object = own.content.object;
+        marks = own.content.marks;
+        touches = own.content.touches;
+        floor =
+            own.content.floor;
+      };
       low = own.low;
       top_line = own.top_line;
       top_is = own.top_is;
@@ -306,7 +347,14 @@ module _ (line : List Update) (g : RegionId) (a : Around) (line_sorted : Sorted 
   }
   later-one t (Commit u) own k = record {
     own = record {
-      content = record { list = own.content.list; object = own.content.object; marks = own.content.marks; touches = own.content.touches; floor = (accepted-in t u own k.0).2 };
+      content = record {
+        list = own.content.list;
+        object = own.content.object;
+        marks = own.content.marks;
+        touches = own.content.touches;
+        floor =
+            (accepted-in t u own k.0).2;
+      };
       low = (let b = own.low in let c = k.1 in omega (arith, b, c));
       top_line = own.top_line;
       top_is = own.top_is;
@@ -341,7 +389,8 @@ module _ (line : List Update) (g : RegionId) (a : Around) (line_sorted : Sorted 
       let r = later-all ms (moved x t) l.own k.1 in
       subst (Promise line g a (moved_all ms (moved x t))) (sym e) (made x k.0 r.top_up r.floor_up)
     where
-      made : (x : Move) → Allowed line g a t x → top_of (moved x t) ≤ top_of (moved_all ms (moved x t)) → (moved x t).floor ≤ (moved_all ms (moved x t)).floor → Promise line g a (moved_all ms (moved x t)) x
+      made : (x : Move) → Allowed line g a t x → top_of (moved x t) ≤ top_of (moved_all ms (moved x t))
+          → (moved x t).floor ≤ (moved_all ms (moved x t)).floor → Promise line g a (moved_all ms (moved x t)) x
       made (Take u) k up floor = (k.0, (following u (top_of t) k.0 k.1).placed, up, k.2)
       made (Hold u) k up floor = tt
       made (Acknowledge v) k up floor = tt
@@ -349,13 +398,15 @@ module _ (line : List Update) (g : RegionId) (a : Around) (line_sorted : Sorted 
       made Forget k up floor = tt
 
   -- allowed moves one list after another
-  pub allowed-append : (ms ns : List Move) (t : KeyState) → AllAllowed line g a t ms → AllAllowed line g a (moved_all ms t) ns → AllAllowed line g a t (ms ++ ns)
+  pub allowed-append : (ms ns : List Move) (t : KeyState) → AllAllowed line g a t ms → AllAllowed line g a (moved_all ms t) ns
+      → AllAllowed line g a t (ms ++ ns)
   allowed-append [] ns t p q = q
   allowed-append (m ∷ ms) ns t p q = (p.0, allowed-append ms ns (moved m t) p.1 q)
 
   -- what commits rely on: these updates are the pending ones, the lowest first
   abbrev Pending : KeyState → List Update → Type 0
-  Pending t us = ((u : Update) → IsIn u us → IsIn u t.accepted × (t.floor < u.version.0)) × ((w : Update) → IsIn w t.accepted → t.floor < w.version.0 → IsIn w us)
+  Pending t us = ((u : Update) → IsIn u us → IsIn u t.accepted × (t.floor < u.version.0))
+      × ((w : Update) → IsIn w t.accepted → t.floor < w.version.0 → IsIn w us)
 
   -- commits of acknowledged pending updates are allowed
   commits-allowed : (marks : List ℕ) (us : List Update) (t : KeyState) (top : ℕ) → ((v : ℕ) → IsIn v marks → Acked line g a top v)
@@ -399,21 +450,25 @@ module _ (line : List Update) (g : RegionId) (a : Around) (line_sorted : Sorted 
   with_commits-allowed t ms own k = allowed-append ms (settled (moved_all ms t)) t k (settled-allowed (moved_all ms t) (later-all ms t own k).own)
 
   -- acknowledgements are allowed where the updates are accepted and nothing stands after
-  marks-allowed : (us : List Update) (t : KeyState) → Own line g a t → ((u : Update) → IsIn u us → IsIn u line × (has_place g u ≡ true) × (u.version.0 ≤ top_of t) × a.after u × a.closed u)
+  marks-allowed : (us : List Update) (t : KeyState) → Own line g a t
+      → ((u : Update) → IsIn u us → IsIn u line × (has_place g u ≡ true) × (u.version.0 ≤ top_of t) × a.after u × a.closed u)
       → AllAllowed line g a t (map (λ (u : Update). Acknowledge u.version.0) us)
   marks-allowed [] t own f = tt
   marks-allowed (u ∷ us) t own f =
       let h = f u (inl refl) in
-      let k : Allowed line g a t (Acknowledge u.version.0) = record { update = u; stands = h.0; version = refl; placed = h.1; before = own.taken u h.0 h.1 h.2; after = h.3; closed = h.4; low = h.2 } in
+      let k : Allowed line g a t (Acknowledge u.version.0) =
+      record { update = u; stands = h.0; version = refl; placed = h.1; before = own.taken u h.0 h.1 h.2; after = h.3; closed = h.4; low = h.2 } in
       (k, marks-allowed us (moved (Acknowledge u.version.0) t) (later-one t (Acknowledge u.version.0) own k).own (λ w j. f w (inr j)))
 
   -- what is taken is accepted after the moves
-  taken-in : (ms : List Move) (t : KeyState) → Own line g a t → AllAllowed line g a t ms → (u : Update) → IsIn u (taken ms) → IsIn u line × (has_place g u ≡ true) × (u.version.0 ≤ top_of (moved_all ms t))
+  taken-in : (ms : List Move) (t : KeyState) → Own line g a t → AllAllowed line g a t ms → (u : Update) → IsIn u (taken ms) → IsIn u line
+      × (has_place g u ≡ true) × (u.version.0 ≤ top_of (moved_all ms t))
   taken-in [] t own k u i = absurd i
   taken-in (Take x ∷ ms) t own k u (inl e) =
       let l = later-one t (Take x) own k.0 in
       let r = (later-all ms (moved (Take x) t) l.own k.1).top_up in
-      subst (λ (y : Update). IsIn y line × (has_place g y ≡ true) × (y.version.0 ≤ top_of (moved_all ms (moved (Take x) t)))) (sym e) (k.0.0, (following x (top_of t) k.0.0 k.0.1).placed, r)
+      subst (λ (y : Update). IsIn y line × (has_place g y ≡ true) × (y.version.0 ≤ top_of (moved_all ms (moved (Take x) t)))) (sym e)
+      (k.0.0, (following x (top_of t) k.0.0 k.0.1).placed, r)
   taken-in (Take x ∷ ms) t own k u (inr i) = taken-in ms (moved (Take x) t) (later-one t (Take x) own k.0).own k.1 u i
   taken-in (Hold x ∷ ms) t own k u i = taken-in ms (moved (Hold x) t) (later-one t (Hold x) own k.0).own k.1 u i
   taken-in (Acknowledge v ∷ ms) t own k u i = taken-in ms (moved (Acknowledge v) t) (later-one t (Acknowledge v) own k.0).own k.1 u i
@@ -425,7 +480,8 @@ module _ (line : List Update) (g : RegionId) (a : Around) (line_sorted : Sorted 
   Ends context = (u : Update) → IsIn u line → has_place g u ≡ true → is_end (next_at context u) ≡ true → a.after u × a.closed u
 
   -- moves that take updates, with all that they bring
-  pub accepting-allowed : (context : SlotContext) (t : KeyState) (ms : List Move) → Ends context → Own line g a t → AllAllowed line g a t ms → AllAllowed line g a t (accepting context t ms)
+  pub accepting-allowed : (context : SlotContext) (t : KeyState) (ms : List Move) → Ends context → Own line g a t → AllAllowed line g a t ms
+      → AllAllowed line g a t (accepting context t ms)
   accepting-allowed context t ms ends own k =
       let l = (later-all ms t own k).own in
       with_commits-allowed t (ms ++ tail_acks context (taken ms)) own
@@ -436,7 +492,8 @@ module _ (line : List Update) (g : RegionId) (a : Around) (line_sorted : Sorted 
       let e = ends u b.0 b.1 f.1 in (b.0, b.1, b.2, e.0, e.1))))
 
   -- the early updates whose turn comes are allowed
-  turns-allowed : (n : ℕ) (t : KeyState) (early : List Update) → ((u : Update) → IsIn u early → Waiting line g a u) → Own line g a t → AllAllowed line g a t (turns g n (top_of t) early)
+  turns-allowed : (n : ℕ) (t : KeyState) (early : List Update) → ((u : Update) → IsIn u early → Waiting line g a u) → Own line g a t
+      → AllAllowed line g a t (turns g n (top_of t) early)
   turns-allowed zero t early f own = tt
   turns-allowed (suc n) t early f own =
       when_some_both (find (follows g (top_of t)) early) [] (λ (u : Update). Take u ∷ turns g n u.version.0 early) (AllAllowed line g a t)
@@ -448,7 +505,8 @@ module _ (line : List Update) (g : RegionId) (a : Around) (line_sorted : Sorted 
       )
 
   -- the moves of an offered update of the line are allowed, where it may be held or follows
-  pub offered-allowed : (t : KeyState) (u : Update) → Own line g a t → IsIn u line → has_place g u ≡ true → a.before u → a.waits u ⊎ (follows g (top_of t) u ≡ true) → AllAllowed line g a t (offered g t u)
+  pub offered-allowed : (t : KeyState) (u : Update) → Own line g a t → IsIn u line → has_place g u ≡ true → a.before u → a.waits u
+      ⊎ (follows g (top_of t) u ≡ true) → AllAllowed line g a t (offered g t u)
   offered-allowed t u own i p b e =
       cond_both (leb u.version.0 (top_of t)) [] _ (AllAllowed line g a t) (λ t. tt)
       (

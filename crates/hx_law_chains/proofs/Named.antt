@@ -21,11 +21,13 @@ named script [] u = (refl, refl)
 named script (x ∷ older) u = by (named script older u) x.actor
   where
     by : ((session_of script u older).id ≡ u) × ((session_of script u older).calls ≡ calls_of script u) → (a : Actor)
-        → ((session_after script.space u a x.input (session_of script u older)).id ≡ u) × ((session_after script.space u a x.input (session_of script u older)).calls ≡ calls_of script u)
+        → ((session_after script.space u a x.input (session_of script u older)).id ≡ u)
+        × ((session_after script.space u a x.input (session_of script u older)).calls ≡ calls_of script u)
     by before Coordinator = before
     by before (Server i) = before
     by before (Session w) =
-        cond_both (eqb w.0 u.0) (session_step script.space (session_of script u older) x.input).state (session_of script u older) (λ (s : SessionState). (s.id ≡ u) × (s.calls ≡ calls_of script u))
+        cond_both (eqb w.0 u.0) (session_step script.space (session_of script u older) x.input).state (session_of script u older)
+        (λ (s : SessionState). (s.id ≡ u) × (s.calls ≡ calls_of script u))
         (λ t. let turn = session_turn script.space x.input (session_of script u older) in let same = started_same turn.start (session_of script u older) in
         (turn.turn.id ∙ same.0 ∙ before.0, turn.turn.calls ∙ same.1 ∙ before.1))
         (λ t. before)

@@ -1,6 +1,6 @@
 -- Every run keeps all keys: by the entries of servers, and those of the coordinator and of sessions.
 use Rattle.hx_model.specs.Lines.{upto}
-use Rattle.std.proofs.Common.{◌≡◌, ℕ, ◌⊎◌, inl, inr, Bool, true, false, List, [], ◌∷◌, ◌++◌, refl, sym, ap, ◌∙◌, subst, arith, eqb, cond}
+use Rattle.std.proofs.Common.{◌≡◌, ℕ, ◌⊎◌, inl, inr, Bool, true, false, List, [], ◌∷◌, ◌++◌, None, refl, sym, ap, ◌∙◌, subst, arith, cond}
 use Rattle.std.proofs.lemmas.Bool.{cond_both, cond-true, cond-false, eqb-true}
 use Rattle.hx_types.specs.declared.configs.Config.{Config}
 use Rattle.hx_types.specs.declared.ids.Actor.{Actor}
@@ -13,34 +13,46 @@ use Rattle.hx_types.specs.declared.spaces.Space.{Space}
 use Rattle.hx_types.specs.declared.traces.Entry.{Entry}
 use Rattle.hx_types.specs.declared.traces.Input.{Input}
 use Rattle.hx_types.specs.declared.traces.Script.{Script}
+use Rattle.hx_types.specs.declared.updates.Update.{Update}
 use Rattle.hx_types.specs.declared.ids.Actor.TheVariants.{Coordinator, Server, Session}
 use Rattle.hx_types.specs.declared.messages.Message.TheVariants as a_message
 use Rattle.hx_types.specs.declared.traces.Input.TheVariants.{Deliver}
-use Rattle.hx_types.specs.Words.{IsIn, post, provided, same_server}
-use Rattle.hx_types.specs.Configs.{first_config}
+use Rattle.hx_types.specs.Words.{IsBefore, IsIn, post, provided, same_server}
+use Rattle.hx_types.specs.Configs.{first_config, members_of}
 use Rattle.hx_types.specs.Fitting.{IsScript}
 use Rattle.hx_types.specs.Subspaces.{is_key_region}
 use Rattle.hx_model.specs.Histories.{line_notes, line_of}
-use Rattle.hx_model.specs.Runs.{IsRun, Output, MayTake, coordinator_of, has_halted, is_actor, made_of, server_after, server_of}
+use Rattle.hx_model.specs.Neighbours.{member_after}
+use Rattle.hx_model.specs.Runs.{IsRun, Output, MayTake, coordinator_of, coordinator_after, has_halted, is_actor, made_of, server_after, server_of}
 use Rattle.hx_model.specs.ServerSteps.{Replica, ServerState, ServerStep, listed_regions, server_at_start, server_step, state_in}
-use Rattle.hx_model.specs.Slots.{Forget, KeyState, moved, new_state, state_among}
-use Rattle.hx_law_epochs.specs.Epochs.{order}
-use Rattle.hx_law_lemmas.specs.Words.{noted, posts_of, view}
-use Rattle.hx_law_lemmas.proofs.Lemmas.{in-append, in-map, replica-found, listed-in, arrived}
+use Rattle.hx_model.specs.Slots.{KeyState, new_state, state_among}
 use Rattle.hx_law_lemmas.specs.Facts.{DeliversCall}
-use Rattle.hx_law_epochs.proofs.Lemmas.{EpochsRun, IsKnown, Real, epochs-run, known-still}
+use Rattle.hx_law_lemmas.specs.Words.{noted, posts_of}
+use Rattle.hx_law_lemmas.proofs.Lemmas.{after-nobody, arrived, in-append, in-map, replica-found}
+use Rattle.hx_law_epochs.specs.Epochs.{order}
+use Rattle.hx_law_epochs.proofs.Lemmas.{EpochsRun, IsKnown, Real, Widens, epochs-run, orderly-lists, widens}
+use Rattle.hx_law_chains.proofs.Calm.{calm-fixed, calm-key, calm-ordered, calm-valid}
+use Rattle.hx_law_chains.proofs.Elsewhere.{KeptAfter, elsewhere-kept}
 use Rattle.hx_law_chains.proofs.Entries.{input-served}
-use Rattle.hx_law_chains.proofs.Snapshots.{snapshots-kept}
-use Rattle.hx_law_chains.proofs.Elsewhere.{KeptAfter, calm-key, calm-valid, elsewhere-kept}
 use Rattle.hx_law_chains.proofs.Holders.{with_state_of, world_of}
 use Rattle.hx_law_chains.proofs.Moves.{Around, Own}
 use Rattle.hx_law_chains.proofs.Serving.{Asked, Assigns, Late, Scene, Served, after, world}
-use Rattle.hx_law_chains.proofs.World.{Chained, Fixed, KeyOk, Valid, World, around}
+use Rattle.hx_law_chains.proofs.Snapshots.{snapshots-kept}
+use Rattle.hx_law_chains.proofs.World.{Chained, Fixed, May, Ordered, Valid, World, around}
 
 -- where all stand after a trace
 abbrev pub scene : Script → List Entry → Scene
 scene script t =
-    record { script = script; Real = Real script; servers = λ s. server_of script s t; config = (coordinator_of script t).config; line = λ key. line_of key t; posts = posts_of t; known = IsKnown script t }
+    record {
+      script = script;
+      Real = Real script;
+      servers = λ s. server_of script s t;
+      config = (coordinator_of script t).config;
+      line =
+          λ key. line_of key t;
+      posts = posts_of t;
+      known = IsKnown script t;
+    }
 
 -- what an entry delivers
 abbrev pub delivered : Entry → Asked
@@ -65,48 +77,85 @@ own-new g a marks key = record {
     empty true = refl
     empty false = refl
 
--- what a slot is worth that has nothing
-own-start : (g : RegionId) (a : Around) (c : Config) (st : ServerState) (marks : Bool) (key : List ℕ) → Own [] g a (view c st (new_state marks key))
-own-start g a c st marks key = cond_both (eqb st.config.epoch.0 c.epoch.0) (new_state marks key) (moved Forget (new_state marks key)) (Own [] g a) (λ t. own-new g a marks key) (λ t. own-new g a marks key)
-
 -- replicas have no slots
 start-empty : (space : Space) (s : ServerId) (g : RegionId) (r : Replica) → IsIn r (server_at_start space s).replicas → r.states ≡ []
-start-empty space s g r i = let m = in-map (λ (h : RegionId). record { region = h; installed = true; states = [] }) (listed_regions (first_config space) s) r i in ap (λ (y : Replica). y.states) m.2
+start-empty space s g r i = let m = in-map (λ (h : RegionId). record { region = h; installed = true; states = [] }) (listed_regions (first_config space) s)
+    r i in ap (λ (y : Replica). y.states) m.2
 
--- all keys are kept
-start-chained : (script : Script) → IsScript script → Chained script (world (scene script [])) []
-start-chained script valid = record {
-  keyed = λ key. record { lawful = tt; listed = λ g s t h. listed key g s t h; own = λ g s t h. own key g s t h };
-  valid = λ p i. absurd i;
-}
-  where
-    start : EpochsRun script []
-    start = epochs-run script valid [] tt
+-- where no posts are yet, each configuration that is known is the first
+module _ (script : Script) (valid : IsScript script) where
+  start : EpochsRun script []
+  start = epochs-run script valid [] tt
 
-    listed : (key : List ℕ) (g : RegionId) (s : ServerId) (t : KeyState) → (world (scene script [])).holds key g s t → IsIn s (order (first_config script.space) g)
-    listed key g s t (inl l) = listed-in (first_config script.space) g s ((start.shaped s).only g l.at.replica l.at.found)
-    listed key g s t (inr w) = absurd w.posted
+  -- configurations are in order
+  start-ordered : Ordered (world (scene script []))
+  start-ordered = record {
+    differ = λ c k. (start.epochs.orderly c k).differ;
+    listed = λ c k. orderly-lists c (start.epochs.orderly c k);
+    grown = start.epochs.grown;
+    newest = start.epochs.newest;
+    last = start.epochs.last;
+    own = start.epochs.own;
+    home = start.epochs.home;
+    up = λ s u. start.epochs.listed s u.0 u.1;
+    seat = λ key g s at l. (state_in script.space at.replica key, inl (record { listed = l; at = at; is = refl }));
+  }
 
-    own : (key : List ℕ) (g : RegionId) (s : ServerId) (t : KeyState) → (world (scene script [])).holds key g s t → Own [] g (around script (world (scene script [])) key g s) t
-    own key g s t (inr w) = absurd w.posted
-    own key g s t (inl l) =
-        let e = start-empty script.space s g l.at.replica (replica-found g (server_at_start script.space s).replicas l.at.replica l.at.found).0 in
-        let new : state_in script.space l.at.replica key ≡ new_state (is_key_region script.space l.at.replica.region) key = ap (λ (states : List KeyState). state_among (is_key_region script.space l.at.replica.region) key states) e in
-        subst (Own [] g (around script (world (scene script [])) key g s)) (sym (l.is ∙ ap (view (first_config script.space) (server_at_start script.space s)) new))
-        (own-start g (around script (world (scene script [])) key g s) (first_config script.space) (server_at_start script.space s) (is_key_region script.space l.at.replica.region) key)
+  -- all keys are kept
+  start-chained : Chained script (world (scene script [])) []
+  start-chained = record {
+    ordered = start-ordered;
+    keyed = λ key. record {
+      lawful = tt;
+      listed = λ g s t h. listed key g s t h;
+      own = λ g s t h. own key g s t h;
+      clear =
+          λ s c m g i none z t h b. clear key s c m g i none z t h b;
+    };
+    valid = λ p i. absurd i;
+  }
+    where
+      listed : (key : List ℕ) (g : RegionId) (s : ServerId) (t : KeyState) → (world (scene script [])).holds key g s t
+          → IsIn s (order (first_config script.space) g)
+      listed key g s t (inl l) = l.listed
+      listed key g s t (inr w) = absurd w.posted
+
+      own : (key : List ℕ) (g : RegionId) (s : ServerId) (t : KeyState) → (world (scene script [])).holds key g s t
+          → Own [] g (around script (world (scene script [])) key g s) t
+      own key g s t (inr w) = absurd w.posted
+      own key g s t (inl l) =
+          let e = start-empty script.space s g l.at.replica (replica-found g (server_at_start script.space s).replicas l.at.replica l.at.found).0 in
+          let new : state_in script.space l.at.replica key ≡ new_state (is_key_region script.space l.at.replica.region) key =
+          ap (λ (states : List KeyState). state_among (is_key_region script.space l.at.replica.region) key states) e in
+          subst (Own [] g (around script (world (scene script [])) key g s)) (sym (l.is ∙ new))
+          (own-new g (around script (world (scene script [])) key g s) (is_key_region script.space l.at.replica.region) key)
+
+      clear : (key : List ℕ) (s : ServerId) (c : Config) → May (world (scene script [])) s c → (g : RegionId) → IsIn s (order c g)
+          → member_after s (members_of c g) ≡ None
+          → (z : ServerId) (t : KeyState) → (world (scene script [])).holds key g z t → IsBefore s z (order (first_config script.space) g) → ⊥
+      clear key s c m g i none z t h b =
+          let k = start.epochs.one c (first_config script.space) m.known start.epochs.newest (first-epoch c m.known) in
+          after-nobody s (members_of c g) ((start.epochs.orderly c m.known).differ g) none z (subst (λ (x : Config). IsBefore s z (order x g)) (sym k) b)
+        where
+          first-epoch : (c : Config) → IsKnown script [] c → c.epoch ≡ (first_config script.space).epoch
+          first-epoch c k = (let l = (start.known.on.only c.epoch c k).0 in let m = start.epochs.last c k in let n : c.epoch.0 ≡ 1 = omega (arith, l, m) in
+              λ j. record { 0 = n j })
 
 -- ---- an entry of a server
 
-module _ (script : Script) (valid : IsScript script) (older : List Entry) (epochs : EpochsRun script older) (known' : Config → Type 0) (more : (d : Config) → IsKnown script older d → known' d)
+module _ (script : Script) (valid : IsScript script) (older : List Entry) (epochs : EpochsRun script older) (known2 : Config → Type 0)
+    (wider : Widens (IsKnown script older) known2 (coordinator_of script older).config (coordinator_of script older).config)
     (had : Chained script (world (scene script older)) (posts_of older)) (i : ServerId) (input : Input) (asked : Asked) where
   -- the server's step
   abbrev step : ServerStep
   step = server_step script.space (server_of script i older) input
 
   -- the servers after
-  servers-are : (s : ServerId) → with_state_of (λ j. server_of script j older) i step.state s ≡ server_after script.space s (Server i) input (server_of script s older)
+  servers-are : (s : ServerId) → with_state_of (λ j. server_of script j older) i step.state s ≡ server_after script.space s (Server i) input
+      (server_of script s older)
   servers-are s =
-      cond_both (same_server i s) step.state (server_of script s older) (λ (y : ServerState). y ≡ cond (same_server i s) (server_step script.space (server_of script s older) input).state (server_of script s older))
+      cond_both (same_server i s) step.state (server_of script s older)
+      (λ (y : ServerState). y ≡ cond (same_server i s) (server_step script.space (server_of script s older) input).state (server_of script s older))
       (λ t. (let n = eqb-true i.0 s.0 t in let e : i ≡ s = λ j. record { 0 = n j } in
       ap (λ (x : ServerId). (server_step script.space (server_of script x older) input).state) e
       ∙ sym (cond-true (same_server i s) (server_step script.space (server_of script s older) input).state (server_of script s older) t)))
@@ -114,42 +163,65 @@ module _ (script : Script) (valid : IsScript script) (older : List Entry) (epoch
 
   -- where all stand after, with other servers
   abbrev with-servers : (ServerId → ServerState) → World
-  with-servers M = world_of script (Real script) M (coordinator_of script older).config (noted (λ key. line_of key older) step.notes) (step.posts ++ posts_of older) known'
+  with-servers M = world_of script (Real script) M (coordinator_of script older).config (noted (λ key. line_of key older) step.notes)
+      (step.posts ++ posts_of older) known2
 
   -- what is kept with them
   record KeptWith (M : ServerId → ServerState) : Type 0 where
     pub chained : Chained script (with-servers M) (step.posts ++ posts_of older)
-    pub fixed : (key : List ℕ) (v : ℕ) → Fixed script (world (scene script older)) key v → Fixed script (with-servers M) key v × (upto v (line_notes key (line_of key older) step.notes) ≡ upto v (line_of key older))
+    pub fixed : (key : List ℕ) (v : ℕ) → Fixed script (world (scene script older)) key v → Fixed script (with-servers M) key v
+        × (upto v (line_notes key (line_of key older) step.notes) ≡ upto v (line_of key older))
+
+  -- the servers, the lines and the posts after
+  abbrev M : ServerId → ServerState
+  M = with_state_of (λ j. server_of script j older) i step.state
+
+  abbrev L : List ℕ → List Update
+  L = noted (λ key. line_of key older) step.notes
+
+  abbrev posts : List Post
+  posts = step.posts ++ posts_of older
 
   -- what a step keeps whose keys and posts are true
-  pub server-kept : Served (scene script older) asked i step.state step.notes step.posts → KeptAfter script valid older epochs known' more had (Server i) input step.posts step.notes
+  pub server-kept : Served (scene script older) asked i step.state step.notes step.posts
+      → KeptAfter script valid older epochs known2 had (Server i) input step.posts step.notes
   server-kept served =
       let r = subst KeptWith (λ j s. servers-are s j) (record {
         chained = record {
-          keyed = keyed;
-          valid = λ p j. still p.from p.to p.message (elim (in-append step.posts (posts_of older) p j) [ inl k ↦ served.posts p k | inr k ↦ served.still p.from p.to p.message (had.valid p k) ]);
+          ordered = calm-ordered script (Real script) M (coordinator_of script older).config L posts posts (IsKnown script older) known2 (λ p j. inr j)
+              (λ p j. j) wider.still less served.ordered served.keys;
+          keyed = calm-key script (Real script) M (coordinator_of script older).config L posts posts (IsKnown script older) known2 (λ p j. inr j) (λ p j. j)
+              wider.still less served.ordered served.keys;
+          valid = λ p j. still p.from p.to p.message (elim (in-append step.posts (posts_of older) p j)
+              [ inl k ↦ served.posts p k | inr k ↦ served.still p.from p.to p.message (had.valid p k) ]);
         };
-        fixed = served.fixed;
+        fixed = λ key v f. (let h = served.fixed key v f in (
+          calm-fixed script (Real script) M (coordinator_of script older).config L posts posts (IsKnown script older) known2 (λ p j. inr j) (λ p j. j)
+              wider.still less served.ordered served.keys key v h.0,
+          h.1,
+        ));
       }) in
       record { chained = r.chained; fixed = r.fixed }
     where
-      keyed : (key : List ℕ) → KeyOk script (with-servers (with_state_of (λ j. server_of script j older) i step.state)) key
-      keyed = calm-key script (with_state_of (λ j. server_of script j older) i step.state) (coordinator_of script older).config (noted (λ key. line_of key older) step.notes) (step.posts ++ posts_of older) [] (IsKnown script older) known' (λ p j. absurd j) more served.keys
+      less : (d : Config) → known2 d → IsKnown script older d
+      less d h = elim (wider.only d h) [ inl a ↦ a | inr e ↦ subst (IsKnown script older) (sym e) epochs.known.newest ]
 
-      still : (from to : Actor) (m : Message) → Valid script (world (after (scene script older) i step.state step.notes step.posts)) from to m → Valid script (with-servers (with_state_of (λ j. server_of script j older) i step.state)) from to m
-      still = calm-valid script (with_state_of (λ j. server_of script j older) i step.state) (coordinator_of script older).config (noted (λ key. line_of key older) step.notes) (step.posts ++ posts_of older) [] (IsKnown script older) known' (λ p j. absurd j) more served.keys
+      still : (from to : Actor) (m : Message) → Valid script (world (after (scene script older) i step.state step.notes step.posts)) from to m
+          → Valid script (with-servers M) from to m
+      still = calm-valid script (Real script) M (coordinator_of script older).config L posts posts (IsKnown script older) known2 (λ p j. inr j) (λ p j. j)
+          wider.still less served.ordered served.keys
 
 -- ---- all runs
 
 -- an entry of a server keeps all keys
-serves : (script : Script) → IsScript script → (x : Entry) (older : List Entry) → IsRun script (x ∷ older) → Chained script (world (scene script older)) (posts_of older) → (i : ServerId) → x.actor ≡ Server i
+serves : (script : Script) → IsScript script → (x : Entry) (older : List Entry) → IsRun script (x ∷ older)
+    → Chained script (world (scene script older)) (posts_of older) → (i : ServerId) → x.actor ≡ Server i
     → let step = server_step script.space (server_of script i older) x.input in Served (scene script older) (delivered x) i step.state step.notes step.posts
 serves script valid x older run had i acts =
     let epochs = epochs-run script valid older run.1 in
-    let d = coordinator_of script older in
     let snapshots = snapshots-kept script valid older run.1 in
     let may = subst (λ (a : Actor). MayTake older a x.input) acts run.0.input in
-    input-served (scene script older) (delivered x) valid.space d.gone d.phase d.joined had.keyed epochs.epochs (epochs.known.newest) i
+    input-served (scene script older) (delivered x) valid.space had.ordered had.keyed epochs.epochs i
     (subst (λ (a : Actor). is_actor script a ≡ true) acts run.0.actor, subst (λ (a : Actor). has_halted script older a ≡ false) acts run.0.running)
     (epochs.shaped i) (snapshots.joinable i) x.input (λ p j. (had.valid p j, snapshots.carried p j))
     (λ id from m e. arrived id older (post from (Server i) m) (subst (MayTake older (Server i)) e may))
@@ -158,18 +230,23 @@ serves script valid x older run had i acts =
 
 module _ (script : Script) (valid : IsScript script) where
   -- what an entry keeps
-  entry-kept : (x : Entry) (older : List Entry) (run : IsRun script (x ∷ older)) (had : Chained script (world (scene script older)) (posts_of older)) (epochs : EpochsRun script older)
-      → KeptAfter script valid older epochs (IsKnown script (x ∷ older)) (known-still script valid older epochs x run.0) had x.actor x.input x.outputs x.notes
+  entry-kept : (x : Entry) (older : List Entry) (run : IsRun script (x ∷ older)) (had : Chained script (world (scene script older)) (posts_of older))
+      (epochs : EpochsRun script older)
+      → KeptAfter script valid older epochs (IsKnown script (x ∷ older)) had x.actor x.input x.outputs x.notes
   entry-kept x older run had epochs = by x.actor refl
     where
-      by : (a : Actor) → x.actor ≡ a → KeptAfter script valid older epochs (IsKnown script (x ∷ older)) (known-still script valid older epochs x run.0) had x.actor x.input x.outputs x.notes
+      by : (a : Actor) → x.actor ≡ a → KeptAfter script valid older epochs (IsKnown script (x ∷ older)) had x.actor x.input x.outputs x.notes
       by Coordinator e = elsewhere-kept script valid older epochs had x run.0 (λ i q. (let z : Coordinator ≡ Server i = sym e ∙ q in cc))
       by (Session u) e = elsewhere-kept script valid older epochs had x run.0 (λ i q. (let z : Session u ≡ Server i = sym e ∙ q in cc))
       by (Server i) e =
-          let made : made_of script older (Server i) x.input ≡ record { posts = x.outputs; notes = x.notes } = subst (λ (a : Actor). made_of script older a x.input ≡ record { posts = x.outputs; notes = x.notes }) e run.0.made in
-          subst (λ (a : Actor). KeptAfter script valid older epochs (IsKnown script (x ∷ older)) (known-still script valid older epochs x run.0) had a x.input x.outputs x.notes) (sym e)
-          (subst (λ (m : Output). KeptAfter script valid older epochs (IsKnown script (x ∷ older)) (known-still script valid older epochs x run.0) had (Server i) x.input m.posts m.notes) made
-          (server-kept script valid older epochs (IsKnown script (x ∷ older)) (known-still script valid older epochs x run.0) had i x.input (delivered x) (serves script valid x older run had i e)))
+          let made : made_of script older (Server i) x.input ≡ record { posts = x.outputs; notes = x.notes } = subst
+          (λ (a : Actor). made_of script older a x.input ≡ record { posts = x.outputs; notes = x.notes }) e run.0.made in
+          subst (λ (a : Actor). KeptAfter script valid older epochs (IsKnown script (x ∷ older)) had a x.input x.outputs x.notes) (sym e)
+          (subst (λ (m : Output). KeptAfter script valid older epochs (IsKnown script (x ∷ older)) had (Server i) x.input m.posts m.notes) made
+          (server-kept script valid older epochs (IsKnown script (x ∷ older))
+          (subst (λ (a : Actor). Widens (IsKnown script older) (IsKnown script (x ∷ older)) (coordinator_of script older).config
+          (coordinator_after a x.input (coordinator_of script older)).config) e (widens script valid older epochs x run.0)) had i x.input (delivered x)
+          (serves script valid x older run had i e)))
 
   -- every run keeps all keys and posts
   pub chained-run : (t : List Entry) → IsRun script t → Chained script (world (scene script t)) (posts_of t)
@@ -185,11 +262,16 @@ module _ (script : Script) (valid : IsScript script) where
   pub lines-run : (x : Entry) (older : List Entry) → IsRun script (x ∷ older) → (i : ServerId) → x.actor ≡ Server i
       → (key : List ℕ) → (line_of key (x ∷ older) ≡ line_of key older) ⊎ Assigns (scene script older) (delivered x) key (line_of key (x ∷ older))
   lines-run x older run i e key =
-      let made : made_of script older (Server i) x.input ≡ record { posts = x.outputs; notes = x.notes } = subst (λ (a : Actor). made_of script older a x.input ≡ record { posts = x.outputs; notes = x.notes }) e run.0.made in
-      subst (λ (m : Output). (line_notes key (line_of key older) m.notes ≡ line_of key older) ⊎ Assigns (scene script older) (delivered x) key (line_notes key (line_of key older) m.notes)) made ((serves script valid x older run (chained-run older run.1) i e).lines key)
+      let made : made_of script older (Server i) x.input ≡ record { posts = x.outputs; notes = x.notes } = subst
+      (λ (a : Actor). made_of script older a x.input ≡ record { posts = x.outputs; notes = x.notes }) e run.0.made in
+      subst (λ (m : Output). (line_notes key (line_of key older) m.notes ≡ line_of key older)
+      ⊎ Assigns (scene script older) (delivered x) key (line_notes key (line_of key older) m.notes)) made
+      ((serves script valid x older run (chained-run older run.1) i e).lines key)
 
   -- what its posts say
-  pub late-run : (x : Entry) (older : List Entry) → IsRun script (x ∷ older) → (i : ServerId) → x.actor ≡ Server i → (p : Post) → IsIn p x.outputs → Late (scene script older) (delivered x) i p.to p.message
+  pub late-run : (x : Entry) (older : List Entry) → IsRun script (x ∷ older) → (i : ServerId) → x.actor ≡ Server i → (p : Post) → IsIn p x.outputs
+      → Late (scene script older) (delivered x) i p.to p.message
   late-run x older run i e p j =
-      let made : made_of script older (Server i) x.input ≡ record { posts = x.outputs; notes = x.notes } = subst (λ (a : Actor). made_of script older a x.input ≡ record { posts = x.outputs; notes = x.notes }) e run.0.made in
+      let made : made_of script older (Server i) x.input ≡ record { posts = x.outputs; notes = x.notes } = subst
+      (λ (a : Actor). made_of script older a x.input ≡ record { posts = x.outputs; notes = x.notes }) e run.0.made in
       (serves script valid x older run (chained-run older run.1) i e).late p (subst (λ (ps : List Post). IsIn p ps) (sym (ap (λ (m : Output). m.posts) made)) j)

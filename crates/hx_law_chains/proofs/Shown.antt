@@ -8,7 +8,8 @@ use Rattle.hx_types.specs.declared.updates.Update.{Update}
 use Rattle.hx_types.specs.Words.{IsIn, provided}
 use Rattle.hx_model.specs.Holders.{only_in}
 use Rattle.hx_model.specs.Regions.{key_region}
-use Rattle.hx_model.specs.Slots.{KeyState, kept_of, kept_row, latest_of, mark_among, marks_after, object_in, object_of, pending_above, top_above, top_of, touches_after}
+use Rattle.hx_model.specs.Slots.{KeyState, kept_of, kept_row, latest_of, mark_among, marks_after, object_in, object_of, pending_above, top_above, top_of}
+use Rattle.hx_model.specs.Slots.{touches_after}
 use Rattle.hx_law_lemmas.proofs.Lemmas.{only-in, top-numbered, upto-low, upto_upto, only-key, AllMade, made-numbered, made-sorted, made-upto, slot_of}
 use Rattle.hx_law_lemmas.proofs.Lemmas.{length-upto}
 use Rattle.hx_law_folds.specs.Folding.{IsSlotOf, ShowSame}
@@ -22,7 +23,8 @@ pending-over v [] [] f = refl
 pending-over v [] (w ∷ vs) f = cond-true (leb w.version.0 v) [] _ (le-leb w.version.0 v (f w (inl refl)))
 pending-over v (u ∷ us) vs f = ap (λ (l : List Update). cond (leb u.version.0 v) [] (l ++ u ∷ [])) (pending-over v us vs f)
 
-module _ (space : Space) (key : List ℕ) (line : List Update) (made : AllMade space key line) (a : Around) (t : KeyState) (own : Own line (key_region space key) a t) (slot : IsSlotOf (key_region space key) t) (marks : t.marks ≡ true) (key_is : t.base.key ≡ key) where
+module _ (space : Space) (key : List ℕ) (line : List Update) (made : AllMade space key line) (a : Around) (t : KeyState)
+    (own : Own line (key_region space key) a t) (slot : IsSlotOf (key_region space key) t) (marks : t.marks ≡ true) (key_is : t.base.key ≡ key) where
   -- the key's region
   abbrev g : RegionId
   g = key_region space key
@@ -49,26 +51,32 @@ module _ (space : Space) (key : List ℕ) (line : List Update) (made : AllMade s
   pending-same : pending_above t.floor t.accepted ≡ pending_above t.floor us
   pending-same =
       sym (pending-over t.floor t.accepted (only_in g (upto t.base.floor.0 line))
-      (λ x i. let b = upto-low t.base.floor.0 line x (made-sorted space key line made) (only-in g (upto t.base.floor.0 line) x i).0 in let l = own.low in omega (arith, b, l)))
+      (λ x i. let b = upto-low t.base.floor.0 line x (made-sorted space key line made) (only-in g (upto t.base.floor.0 line) x i).0 in let l = own.low in
+      omega (arith, b, l)))
       ∙ ap (pending_above t.floor) (sym own.content.list ∙ all-in (top_of t))
 
   -- a fold over the part in the region is that over the line
   pub object-same : object_of g t ≡ kept_row g None (upto t.floor us)
-  object-same = object-line g line (sorted-descends line (made-sorted space key line made)) t slot own.content ∙ ap (kept_row g None) (all-in t.floor ∙ sym floor-part)
+  object-same = object-line g line (sorted-descends line (made-sorted space key line made)) t slot own.content
+      ∙ ap (kept_row g None) (all-in t.floor ∙ sym floor-part)
 
   latest-same : latest_of g t ≡ object_in (kept_row g None us)
-  latest-same = latest-line g line (sorted-descends line (made-sorted space key line made)) t slot own.content ∙ ap (λ (l : List Update). object_in (kept_row g None l)) (all-in (top_of t))
+  latest-same = latest-line g line (sorted-descends line (made-sorted space key line made)) t slot own.content
+      ∙ ap (λ (l : List Update). object_in (kept_row g None l)) (all-in (top_of t))
 
   marks-same : marks_after t.base.marks t.accepted ≡ marks_after [] us
   marks-same = marks-line g line (sorted-descends line (made-sorted space key line made)) t slot own.content marks ∙ ap (marks_after []) (all-in (top_of t))
 
   touches-same : touches_after t.base.touches t.accepted ≡ touches_after [] us
-  touches-same = touches-line g line (sorted-descends line (made-sorted space key line made)) t slot own.content marks ∙ ap (touches_after []) (all-in (top_of t))
+  touches-same = touches-line g line (sorted-descends line (made-sorted space key line made)) t slot own.content marks
+      ∙ ap (touches_after []) (all-in (top_of t))
 
   kept-same : kept_of g t ≡ kept_of g (slot_of t.marks key us t.floor t.acked t.early)
   kept-same =
-      let m = kept-marks-line g line (sorted-descends line (made-sorted space key line made)) t slot own.content ∙ ap (λ (l : List Update). provided t.marks (marks_after [] l)) (all-in t.floor ∙ sym floor-part) in
-      let n = kept-touches-line g line (sorted-descends line (made-sorted space key line made)) t slot own.content ∙ ap (λ (l : List Update). provided t.marks (touches_after [] l)) (all-in t.floor ∙ sym floor-part) in
+      let m = kept-marks-line g line (sorted-descends line (made-sorted space key line made)) t slot own.content
+      ∙ ap (λ (l : List Update). provided t.marks (marks_after [] l)) (all-in t.floor ∙ sym floor-part) in
+      let n = kept-touches-line g line (sorted-descends line (made-sorted space key line made)) t slot own.content
+      ∙ ap (λ (l : List Update). provided t.marks (touches_after [] l)) (all-in t.floor ∙ sym floor-part) in
       let o = object-same in
       λ j. record { key = key_is j; floor = record { 0 = t.floor }; object = o j; marks = m j; touches = n j }
 

@@ -36,7 +36,7 @@ use Rattle.hx_law_chains.proofs.CoordinatorPosts.{OfCoordinator, coordinator-pla
 use Rattle.hx_law_chains.proofs.ServerPosts.{OfServer, server-plain}
 
 -- what holds of all holds of each
-each-of : {A : Type 0} (P : A → Type 0) (xs : List A) (x : A) → AllByRecursion P xs → IsIn x xs → P x
+pub each-of : {A : Type 0} (P : A → Type 0) (xs : List A) (x : A) → AllByRecursion P xs → IsIn x xs → P x
 each-of P [] x h i = absurd i
 each-of P (y ∷ ys) x h (inl e) = subst P (sym e) h.0
 each-of P (y ∷ ys) x h (inr i) = each-of P ys x h.1 i
@@ -58,7 +58,8 @@ replica-sends space r h = record {
 }
 
 -- so its snapshot carries them
-pub replica-carries : (space : Space) (r : Replica) → IsJoinableReplica space r → Carries space r.region (snapshot_of r.region r.states) (pending_of_all r.states)
+pub replica-carries : (space : Space) (r : Replica) → IsJoinableReplica space r
+    → Carries space r.region (snapshot_of r.region r.states) (pending_of_all r.states)
 replica-carries space r h = record { states = r.states; sends = replica-sends space r h; snapshot_is = refl; pending_is = refl }
 
 -- keys that ascend do so in each other's sight
@@ -79,7 +80,8 @@ pub record SentSlot (space : Space) (g : RegionId) (states : List KeyState) (key
   pub marks : (state_among (is_key_region space g) key states).marks ≡ is_key_region space g
 
 -- so of slots that can join
-pub sent-slot : (space : Space) (g : RegionId) (states : List KeyState) → SendsJoin g (is_key_region space g) states → (key : List ℕ) → SentSlot space g states key
+pub sent-slot : (space : Space) (g : RegionId) (states : List KeyState) → SendsJoin g (is_key_region space g) states → (key : List ℕ)
+    → SentSlot space g states key
 sent-slot space g states h key =
     let can = all-weaker (CanJoin g (is_key_region space g)) (CanBeSent g (is_key_region space g)) (λ s k. k.sent) states h.slots in
     record {
@@ -89,7 +91,8 @@ sent-slot space g states h key =
     }
 
 -- and of a replica of a server
-pub replica-sent : (space : Space) (st : ServerState) → IsJoinableServer space st → (r : Replica) → IsIn r st.replicas → (key : List ℕ) → SentSlot space r.region r.states key
+pub replica-sent : (space : Space) (st : ServerState) → IsJoinableServer space st → (r : Replica) → IsIn r st.replicas → (key : List ℕ)
+    → SentSlot space r.region r.states key
 replica-sent space st h r i key = sent-slot space r.region r.states (replica-sends space r (each-of (IsJoinableReplica space) st.replicas r h i)) key
 
 -- ---- all runs
@@ -111,7 +114,8 @@ server-sends space other h = tt
 
 -- what is carried has no floor of 0
 sends-floors : (space : Space) (m : Message) → Sends space m → HasFloors m
-sends-floors space (a_message.Snap epoch g snapshot pending) h = subst (λ (ks : List Kept). AllByRecursion (λ (k : Kept). 0 < k.floor.0) ks) (sym h.snapshot_is) h.sends.floors
+sends-floors space (a_message.Snap epoch g snapshot pending) h = subst (λ (ks : List Kept). AllByRecursion (λ (k : Kept). 0 < k.floor.0) ks)
+    (sym h.snapshot_is) h.sends.floors
 sends-floors space other h = tt
 
 -- the coordinator posts none
@@ -136,17 +140,21 @@ module _ (script : Script) (valid : IsScript script) (older : List Entry) (x : E
 
   -- a server's own entry
   own-joins : (i : ServerId) → x.actor ≡ Server i → IsJoinableServer script.space (server_step script.space (server_of script i older) x.input).state
-  own-joins i acts = joinable-stays script.space (server_of script i older) (had.joinable i) x.input (joins i x.input (subst (λ (a : Actor). MayTake older a x.input) acts run.0.input))
+  own-joins i acts = joinable-stays script.space (server_of script i older) (had.joinable i) x.input
+      (joins i x.input (subst (λ (a : Actor). MayTake older a x.input) acts run.0.input))
 
   -- each server after the entry
   joinable-after : (s : ServerId) → IsJoinableServer script.space (server_of script s (x ∷ older))
   joinable-after s = by x.actor refl
     where
       by : (a : Actor) → x.actor ≡ a → IsJoinableServer script.space (server_of script s (x ∷ older))
-      by Coordinator e = subst (λ (a : Actor). IsJoinableServer script.space (server_after script.space s a x.input (server_of script s older))) (sym e) (had.joinable s)
-      by (Session u) e = subst (λ (a : Actor). IsJoinableServer script.space (server_after script.space s a x.input (server_of script s older))) (sym e) (had.joinable s)
+      by Coordinator e = subst (λ (a : Actor). IsJoinableServer script.space (server_after script.space s a x.input (server_of script s older))) (sym e)
+          (had.joinable s)
+      by (Session u) e = subst (λ (a : Actor). IsJoinableServer script.space (server_after script.space s a x.input (server_of script s older))) (sym e)
+          (had.joinable s)
       by (Server i) e = subst (λ (a : Actor). IsJoinableServer script.space (server_after script.space s a x.input (server_of script s older))) (sym e)
-          (cond_both (same_server i s) (server_step script.space (server_of script s older) x.input).state (server_of script s older) (IsJoinableServer script.space)
+          (cond_both (same_server i s) (server_step script.space (server_of script s older) x.input).state (server_of script s older)
+          (IsJoinableServer script.space)
           (λ t. let q = eqb-true i.0 s.0 t in let same : i ≡ s = λ j. record { 0 = q j } in
           subst (λ (y : ServerId). IsJoinableServer script.space (server_step script.space (server_of script y older) x.input).state) same (own-joins i e))
           (λ t. had.joinable s))
@@ -156,13 +164,16 @@ module _ (script : Script) (valid : IsScript script) (older : List Entry) (x : E
   sends-now p i = by x.actor refl
     where
       made-posts : (a : Actor) → x.actor ≡ a → (made_of script older a x.input).posts ≡ x.outputs
-      made-posts a e = ap (λ (m : Output). m.posts) (subst (λ (b : Actor). made_of script older b x.input ≡ record { posts = x.outputs; notes = x.notes }) e run.0.made)
+      made-posts a e = ap (λ (m : Output). m.posts) (subst (λ (b : Actor). made_of script older b x.input ≡ record { posts = x.outputs; notes = x.notes })
+          e run.0.made)
 
       by : (a : Actor) → x.actor ≡ a → Sends script.space p.message
-      by Coordinator e = coordinator-sends script.space p.message ((coordinator-plain (coordinator_of script older) x.input).posts p (subst (λ (ps : List Post). IsIn p ps) (sym (made-posts Coordinator e)) i))
+      by Coordinator e = coordinator-sends script.space p.message
+          ((coordinator-plain (coordinator_of script older) x.input).posts p (subst (λ (ps : List Post). IsIn p ps) (sym (made-posts Coordinator e)) i))
       by (Session u) e =
           let turn = session_turn script.space x.input (session_of script u older) in
-          session-sends script.space (started turn.start (session_of script u older)) _ _ p.message (turn.turn.says p (subst (λ (ps : List Post). IsIn p ps) (sym (made-posts (Session u) e)) i)).1
+          session-sends script.space (started turn.start (session_of script u older)) _ _ p.message
+          (turn.turn.says p (subst (λ (ps : List Post). IsIn p ps) (sym (made-posts (Session u) e)) i)).1
       by (Server j) e =
           server-sends script.space p.message
           ((server-plain (Carries script.space) script.space (server_of script j older) x.input

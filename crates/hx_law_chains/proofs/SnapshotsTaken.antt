@@ -9,7 +9,8 @@ use Rattle.hx_types.specs.Words.{IsIn, same_text}
 use Rattle.hx_types.specs.Subspaces.{is_key_region}
 use Rattle.hx_model.proofs.Lemmas.{eq_of_same_text, same_text_self}
 use Rattle.hx_model.specs.Holders.{kept_among, snap_state}
-use Rattle.hx_model.specs.ServerSteps.{Slots, SlotContext, accepting, installed_slots, join_keys, keys_of, move_posts, offered_all, passed_on, resumed, state_from}
+use Rattle.hx_model.specs.ServerSteps.{Slots, SlotContext, accepting, installed_slots, join_keys, keys_of, move_posts, offered_all, passed_on, resumed}
+use Rattle.hx_model.specs.ServerSteps.{state_from}
 use Rattle.hx_model.specs.Slots.{Forget, KeyState, kept_of, moved, moved_all, pending_of, snapshot_of, state_among}
 use Rattle.hx_law_lemmas.proofs.Lemmas.{in-append}
 use Rattle.hx_law_folds.specs.Folding.{CanBeSent, CanJoin, folded}
@@ -29,11 +30,19 @@ posts-forget context s = refl
 
 -- a post of a join is one of those of some key's slot as it was
 join-post : (context : SlotContext) (us : List Update) (p : Post) (ks : List (List ℕ)) (slots : Slots) → Once ks → IsIn p (join_keys context us slots ks).posts
-    → IsIn p slots.posts ⊎ ((key : List ℕ) × IsIn key ks × (let s = state_among (is_key_region context.space context.region) key slots.states in IsIn p (flat_map (move_posts context) (accepting context s (offered_all context.region s (some context us key key))))))
+    → IsIn p slots.posts ⊎ ((key : List ℕ) × IsIn key ks
+    × (let s = state_among (is_key_region context.space context.region) key slots.states in IsIn p
+    (flat_map (move_posts context) (accepting context s (offered_all context.region s (some context us key key))))))
 join-post context us p [] slots once i = inl i
 join-post context us p (k ∷ ks) slots once i = elim (join-post context us p ks (after_join context us k slots k) once.1 i) [
   | inl j ↦ elim (in-append slots.posts _ p j) [ inl m ↦ inl m | inr m ↦ inr (k, inl refl, m) ]
-  | inr j ↦ inr (j.0, inr j.1, subst (λ (s : KeyState). IsIn p (flat_map (move_posts context) (accepting context s (offered_all context.region s (some context us j.0 j.0))))) (other context us j.0 slots k (differs ks j.0 once.0 j.1)) j.2)
+  | inr j ↦ inr (
+    j.0,
+    inr j.1,
+    subst (λ (s : KeyState). IsIn p
+        (flat_map (move_posts context) (accepting context s (offered_all context.region s (some context us j.0 j.0)))))
+        (other context us j.0 slots k (differs ks j.0 once.0 j.1)) j.2,
+  )
 ]
   where
     turned : (a b : List ℕ) → same_text b a ≡ false → same_text a b ≡ false
@@ -72,7 +81,8 @@ module _ (context : SlotContext) (snapshot : List Kept) (pending : List Update) 
 
   -- the slot of each key after the snapshot is installed goes on with what was sent
   pub taken-state : (key : List ℕ) → state_among (is_key_region context.space context.region) key (installed_slots context snapshot pending).states
-      ≡ moved_all (resumed context (snap_state context.space context.region key snapshot pending)) (snap_state context.space context.region key snapshot pending)
+      ≡ moved_all (resumed context (snap_state context.space context.region key snapshot pending))
+      (snap_state context.space context.region key snapshot pending)
   taken-state key =
       ap (λ (ks : List Kept). state_among at_key key (installed_slots context ks pending).states) c.snapshot_is
       ∙ ap (λ (us : List Update). state_among at_key key (installed_slots context (snapshot_of context.region c.states) us).states) c.pending_is
@@ -105,11 +115,15 @@ module _ (context : SlotContext) (snapshot : List Kept) (pending : List Update) 
   -- what is posted of a key is what the sender's slot posts in the joiner's place
   key-posts : (key : List ℕ) → let s = state_among at_key key first.states in
       flat_map (move_posts context) (accepting context s (offered_all context.region s (filter (λ (u : Update). same_text u.key key) pending)))
-      ≡ flat_map (passed_on context) (pending_of (snap_state context.space context.region key snapshot pending)) ++ flat_map (move_posts context) (resumed context (snap_state context.space context.region key snapshot pending))
+      ≡ flat_map (passed_on context) (pending_of (snap_state context.space context.region key snapshot pending)) ++ flat_map (move_posts context)
+      (resumed context (snap_state context.space context.region key snapshot pending))
   key-posts key =
-      ap (λ (s : KeyState). flat_map (move_posts context) (accepting context s (offered_all context.region s (filter (λ (u : Update). same_text u.key key) pending)))) (first-is key)
-      ∙ ap (λ (us : List Update). flat_map (move_posts context) (accepting context (over context.region (there key)) (offered_all context.region (over context.region (there key)) us))) (some-is key)
-      ∙ joining-posts context (there key) (among-slot-turn context.region at_key key c.states c.sends.slots).0 (among-slot-turn context.region at_key key c.states c.sends.slots).1
+      ap (λ (s : KeyState). flat_map (move_posts context)
+      (accepting context s (offered_all context.region s (filter (λ (u : Update). same_text u.key key) pending)))) (first-is key)
+      ∙ ap (λ (us : List Update). flat_map (move_posts context)
+      (accepting context (over context.region (there key)) (offered_all context.region (over context.region (there key)) us))) (some-is key)
+      ∙ joining-posts context (there key) (among-slot-turn context.region at_key key c.states c.sends.slots).0
+      (among-slot-turn context.region at_key key c.states c.sends.slots).1
       ∙ posts-forget context (folded context.region (there key))
       ∙ ap (λ (t : KeyState). flat_map (passed_on context) (pending_of t) ++ flat_map (move_posts context) (resumed context t)) (sym (sent-is key))
 

@@ -1,6 +1,6 @@
--- What every run keeps of chains: lines, what replicas and snapshots hold of them, the order in which chains accept and commit, and what answers rest on.
+-- What every run keeps of chains: lines, what replicas and snapshots hold of them, the order in which chains accept and commit, what answers rest on, what is under way, and whom replicas hear.
 use Rattle.hx_model.specs.Lines.{line_object}
-use Rattle.std.specs.Prelude.{◌≡◌, ℕ, ◌+◌, ◌<◌, ◌≤◌, ◌⊎◌, true, false, List, [], ◌∷◌, length, map, ⊤, Some}
+use Rattle.std.specs.Prelude.{◌≡◌, ℕ, ◌+◌, ◌<◌, ◌≤◌, ◌⊎◌, true, false, List, [], ◌∷◌, length, map, nat_lt, ⊤, Some}
 use Rattle.hx_types.specs.declared.calls.Answer.{Answer}
 use Rattle.hx_types.specs.declared.calls.Answer.TheVariants as an_answer
 use Rattle.hx_types.specs.declared.calls.Caller.{Caller}
@@ -9,28 +9,36 @@ use Rattle.hx_types.specs.declared.configs.Config.{Config}
 use Rattle.hx_types.specs.declared.configs.Member.{Member}
 use Rattle.hx_types.specs.declared.ids.Actor.{Actor}
 use Rattle.hx_types.specs.declared.ids.Actor.TheVariants.{Server, Session}
+use Rattle.hx_types.specs.declared.ids.Epoch.{Epoch}
 use Rattle.hx_types.specs.declared.ids.RegionId.{RegionId}
 use Rattle.hx_types.specs.declared.ids.ServerId.{ServerId}
 use Rattle.hx_types.specs.declared.ids.Version.{Version}
+use Rattle.hx_types.specs.declared.messages.Message.{Message}
 use Rattle.hx_types.specs.declared.messages.Message.TheVariants as a_message
+use Rattle.hx_types.specs.declared.messages.Post.{Post}
+use Rattle.hx_types.specs.declared.messages.PostId.{PostId}
 use Rattle.hx_types.specs.declared.snapshots.Kept.{Kept}
+use Rattle.hx_types.specs.declared.spaces.Space.{Space}
 use Rattle.hx_types.specs.declared.traces.Entry.{Entry}
+use Rattle.hx_types.specs.declared.traces.Input.TheVariants.{Deliver}
 use Rattle.hx_types.specs.declared.traces.Script.{Script}
 use Rattle.hx_types.specs.declared.updates.Update.{Update}
-use Rattle.hx_types.specs.Words.{IsBefore, IsIn, post}
-use Rattle.hx_types.specs.Configs.{members_of}
+use Rattle.hx_types.specs.Words.{IsBefore, IsIn, post, provided}
+use Rattle.hx_types.specs.Configs.{lists, members_of}
 use Rattle.hx_types.specs.Effects.{effect_of, is_write, key_of}
 use Rattle.hx_types.specs.Fitting.{IsScript, call_of, is_done, is_doubt}
 use Rattle.hx_model.specs.Causes.{config_of}
 use Rattle.hx_model.specs.Holders.{IsPrefix, snap_state}
+use Rattle.hx_model.specs.Hearing.{hears_ack, hears_snap, hears_update}
 use Rattle.hx_model.specs.Leading.{first_lost}
 use Rattle.hx_model.specs.Neighbours.{place_number}
 use Rattle.hx_model.specs.Places.{places_of}
 use Rattle.hx_model.specs.Slots.{KeyState, has_place, top_of, touches_after}
-use Rattle.hx_model.specs.ServerSteps.{Replica, if_installed, replica_of, state_in}
+use Rattle.hx_model.specs.ServerSteps.{Replica, ServerState, if_installed, pending_with, poll_post, replica_for, replica_of, state_in}
 use Rattle.hx_model.specs.Runs.{IsRun, coordinator_of, is_actor, server_of}
 use Rattle.hx_model.specs.Histories.{line_of}
 use Rattle.hx_law_lemmas.specs.Words.{posts_of}
+use Rattle.hx_law_epochs.specs.Epochs.{IsInstalled}
 
 -- ---- lines
 
@@ -41,7 +49,8 @@ pub record IsRefusedFor (script : Script) (trace : List Entry) (key : List ℕ) 
   pub issued : config_of script config.epoch trace ≡ Some config
   pub answer : u.answer ≡ an_answer.Refused region config.epoch
   pub object : u.object ≡ line_object older
-  pub first : first_lost config (places_of script.space key (line_object older) (effect_of script.space (line_object older) op).object (effect_of script.space (line_object older) op).changes (length older) (touches_after [] older)) ≡ Some region
+  pub first : first_lost config (places_of script.space key (line_object older) (effect_of script.space (line_object older) op).object
+      (effect_of script.space (line_object older) op).changes (length older) (touches_after [] older)) ≡ Some region
 
 -- the update follows on the older ones of its key's line: the effect of a write of the script on the object before, or refused, through the places that its objects before and after ask for, and newer than its session's earlier ones
 pub record IsAssigned (script : Script) (trace : List Entry) (key : List ℕ) (older : List Update) (u : Update) : Type 0 where
@@ -51,7 +60,8 @@ pub record IsAssigned (script : Script) (trace : List Entry) (key : List ℕ) (o
   pub called : call_of script u.caller ≡ Some op
   pub writes : is_write op ≡ true
   pub on_key : key_of op ≡ Some key
-  pub effect : ((u.answer ≡ (effect_of script.space (line_object older) op).answer) × (u.object ≡ (effect_of script.space (line_object older) op).object)) ⊎ IsRefusedFor script trace key older u op
+  pub effect : ((u.answer ≡ (effect_of script.space (line_object older) op).answer) × (u.object ≡ (effect_of script.space (line_object older) op).object))
+      ⊎ IsRefusedFor script trace key older u op
   pub done : u.changes ≡ is_done u.answer
   pub places : u.places ≡ places_of script.space key (line_object older) u.object u.changes (length older) (touches_after [] older)
   pub newer : (w : Update) → IsIn w older → w.caller.session ≡ u.caller.session → w.caller.number < u.caller.number
@@ -63,7 +73,8 @@ AreAssigned script trace key (u ∷ older) = IsAssigned script trace key older u
 
 -- in every run each update of a line follows so
 abbrev pub RunsAssignUpdates : Type 0
-RunsAssignUpdates = (script : Script) → IsScript script → (trace : List Entry) → IsRun script trace → (key : List ℕ) → AreAssigned script trace key (line_of key trace)
+RunsAssignUpdates = (script : Script) → IsScript script → (trace : List Entry) → IsRun script trace → (key : List ℕ)
+    → AreAssigned script trace key (line_of key trace)
 
 -- ---- what holds updates
 
@@ -73,28 +84,38 @@ pub record IsUp (script : Script) (trace : List Entry) (g : RegionId) (s : Serve
   pub running : (server_of script s trace).halted ≡ false
   pub installed : if_installed (replica_of g (server_of script s trace).replicas) ≡ Some r
 
+-- an installed replica of a server that has halted, and that the newest configuration lists still
+pub record IsLeft (script : Script) (trace : List Entry) (g : RegionId) (s : ServerId) (r : Replica) : Type 0 where
+  pub listed : lists (coordinator_of script trace).config g s ≡ true
+  pub installed : if_installed (replica_of g (server_of script s trace).replicas) ≡ Some r
+
+-- one of the two
+abbrev pub IsStanding : Script → List Entry → RegionId → ServerId → Replica → Type 0
+IsStanding script trace g s r = IsUp script trace g s r ⊎ IsLeft script trace g s r
+
 -- in every run such a replica holds of each key, as base and list together, its region's part of the key's line up to some version
 abbrev pub RunsHoldParts : Type 0
 RunsHoldParts =
     (script : Script) → IsScript script → (trace : List Entry) → IsRun script trace
-    → (g : RegionId) (s : ServerId) (r : Replica) → IsUp script trace g s r
+    → (g : RegionId) (s : ServerId) (r : Replica) → IsStanding script trace g s r
     → (key : List ℕ) → IsPrefix g (line_of key trace) (state_in script.space r key)
 
--- in every run so does a snapshot of the newest epoch, under way to a server that hasn't halted and whose replica isn't installed
+-- in every run so does a snapshot, of whatever epoch, under way to a server that hasn't halted and whose replica isn't installed
 abbrev pub RunsSendParts : Type 0
 RunsSendParts =
     (script : Script) → IsScript script → (trace : List Entry) → IsRun script trace
-    → (from : Actor) (g : RegionId) (s : ServerId) (snapshot : List Kept) (pending : List Update)
-    → IsIn (post from (Server s) (a_message.Snap (coordinator_of script trace).config.epoch g snapshot pending)) (posts_of trace)
+    → (from : Actor) (epoch : Epoch) (g : RegionId) (s : ServerId) (snapshot : List Kept) (pending : List Update)
+    → IsIn (post from (Server s) (a_message.Snap epoch g snapshot pending)) (posts_of trace)
     → is_actor script (Server s) ≡ true → (server_of script s trace).halted ≡ false → ((r : Replica) → IsUp script trace g s r → ⊥)
     → (key : List ℕ) → IsPrefix g (line_of key trace) (snap_state script.space g key snapshot pending)
 
--- a snapshot of the newest epoch is under way with this slot to a server that hasn't halted and has no installed replica there
+-- a snapshot is under way with this slot to a server that hasn't halted and has no installed replica there
 pub record IsComing (script : Script) (trace : List Entry) (key : List ℕ) (g : RegionId) (s : ServerId) (t : KeyState) : Type 0 where
   pub from : Actor
+  pub epoch : Epoch
   pub snapshot : List Kept
   pub pending : List Update
-  pub posted : IsIn (post from (Server s) (a_message.Snap (coordinator_of script trace).config.epoch g snapshot pending)) (posts_of trace)
+  pub posted : IsIn (post from (Server s) (a_message.Snap epoch g snapshot pending)) (posts_of trace)
   pub server : is_actor script (Server s) ≡ true
   pub running : (server_of script s trace).halted ≡ false
   pub empty : (r : Replica) → IsUp script trace g s r → ⊥
@@ -102,7 +123,7 @@ pub record IsComing (script : Script) (trace : List Entry) (key : List ℕ) (g :
 
 -- the slot of a key that stands for a region at a server: that of an installed replica, or of a snapshot under way
 abbrev pub IsHeld : Script → List Entry → List ℕ → RegionId → ServerId → KeyState → Type 0
-IsHeld script trace key g s t = ((r : Replica) × IsUp script trace g s r × (t ≡ state_in script.space r key)) ⊎ IsComing script trace key g s t
+IsHeld script trace key g s t = ((r : Replica) × IsStanding script trace g s r × (t ≡ state_in script.space r key)) ⊎ IsComing script trace key g s t
 
 -- ---- chains
 
@@ -127,7 +148,7 @@ RunsKeepOrder =
 
 -- ---- answers
 
--- in every run, where a call on a key was answered with a version and no doubt, each update of the key's line up to that version is committed wherever its chain holds it at a server that hasn't halted
+-- in every run, where a call on a key was answered with a version and no doubt, each update of the key's line up to that version is committed wherever its chain holds it
 abbrev pub RunsAnswerCommitted : Type 0
 RunsAnswerCommitted =
     (script : Script) → IsScript script → (trace : List Entry) → IsRun script trace
@@ -136,3 +157,80 @@ RunsAnswerCommitted =
     → (u : Update) → IsIn u (line_of key trace) → u.version.0 ≤ v.0
     → (g : RegionId) (s : ServerId) (t : KeyState) → has_place g u ≡ true → IsHeld script trace key g s t
     → u.version.0 ≤ t.floor
+
+-- ---- posts under way
+
+-- the server hasn't halted, and has this configuration or may come to have it: one of the run that isn't older than its own
+pub record MayHave (script : Script) (trace : List Entry) (s : ServerId) (c : Config) : Type 0 where
+  pub server : is_actor script (Server s) ≡ true
+  pub running : (server_of script s trace).halted ≡ false
+  pub issued : config_of script c.epoch trace ≡ Some c
+  pub later : (server_of script s trace).config.epoch.0 ≤ c.epoch.0
+
+-- the sender is a server with an installed replica of this region, which the update goes through
+pub record IsSentFrom (script : Script) (trace : List Entry) (from : Actor) (g : RegionId) (u : Update) : Type 0 where
+  pub server : ServerId
+  pub from_is : from ≡ Server server
+  pub placed : has_place g u ≡ true
+  pub installed : IsInstalled (server_of script server trace) g
+
+-- an update under way came from such a server; where the receiver hears it, by its configuration or a later one, it stands in its key's line, and all that stands before the receiver in its chain has accepted it
+pub record UpdateStands (script : Script) (trace : List Entry) (from : Actor) (g : RegionId) (s : ServerId) (u : Update) : Type 0 where
+  pub region : RegionId
+  pub sent : IsSentFrom script trace from region u
+  pub stands : (c : Config) → MayHave script trace s c → lists c g s ≡ true → hears_update c u (place_number g u.places) s from ≡ true
+      → IsIn u (line_of u.key trace)
+  pub accepted : (c : Config) → MayHave script trace s c → lists c g s ≡ true → hears_update c u (place_number g u.places) s from ≡ true
+      → (h : RegionId) (x : ServerId) (t : KeyState) → has_place h u ≡ true → IsHeld script trace u.key h x t
+      → StandsEarlier (coordinator_of script trace).config u h x g s
+      → u.version.0 ≤ top_of t
+
+-- an acknowledged version stands in its key's line and is accepted by all that stands in its chain; where the receiver hears the acknowledgement, all that stands after the receiver has committed it
+pub record AckStands (script : Script) (trace : List Entry) (from : Actor) (by g : RegionId) (s : ServerId) (key : List ℕ) (v : Version) : Type 0 where
+  pub update : Update
+  pub stands : IsIn update (line_of key trace)
+  pub version : update.version ≡ v
+  pub sent : IsSentFrom script trace from by update
+  pub accepted : (h : RegionId) (x : ServerId) (t : KeyState) → has_place h update ≡ true → IsHeld script trace key h x t → v.0 ≤ top_of t
+  pub committed : (c : Config) → MayHave script trace s c → lists c g s ≡ true → hears_ack c update (place_number g update.places) s from by ≡ true
+      → (h : RegionId) (x : ServerId) (t : KeyState) → has_place h update ≡ true → IsHeld script trace key h x t
+      → StandsEarlier (coordinator_of script trace).config update g s h x
+      → v.0 ≤ t.floor
+
+-- what is said of a post to a server
+abbrev pub PostStands : Script → List Entry → Actor → ServerId → Message → Type 0
+PostStands script trace from s (a_message.Update epoch g u) = UpdateStands script trace from g s u
+PostStands script trace from s (a_message.Ack epoch g key version by) = AckStands script trace from by g s key version
+PostStands script trace from s other = ⊤
+
+-- in every run all updates and acknowledgements under way stand so
+abbrev pub RunsPostsStand : Type 0
+RunsPostsStand =
+    (script : Script) → IsScript script → (trace : List Entry) → IsRun script trace
+    → (from : Actor) (s : ServerId) (m : Message) → IsIn (post from (Server s) m) (posts_of trace) → PostStands script trace from s m
+
+-- ---- whom a replica hears
+
+-- nothing of the server changes, and at most it asks for the newest configuration, where the message is of a later epoch
+pub record IsDropped (before after : ServerState) (epoch : Epoch) (posts : List Post) : Type 0 where
+  pub state : after ≡ before
+  pub posted : posts ≡ provided (nat_lt before.config.epoch.0 epoch.0) (poll_post before ∷ [])
+
+-- what a server takes between replicas comes from its neighbour by its own configuration: an update from its predecessor, an acknowledgement of a pending update from its successor, a snapshot from the member before it; all else is dropped
+abbrev pub HearsNeighbour : Space → ServerId → ServerState → ServerState → List Post → Actor → Message → Type 0
+HearsNeighbour space s before after posts from (a_message.Update epoch g u) =
+    (hears_update before.config u (place_number g u.places) s from ≡ true) ⊎ IsDropped before after epoch posts
+HearsNeighbour space s before after posts from (a_message.Ack epoch g key v by) =
+    ((r : Replica) × (u : Update) × (if_installed (replica_for before g) ≡ Some r) × (pending_with v.0 (state_in space r key) ≡ Some u)
+    × (hears_ack before.config u (place_number g u.places) s from by ≡ true))
+    ⊎ IsDropped before after epoch posts
+HearsNeighbour space s before after posts from (a_message.Snap epoch g snapshot pending) =
+    (hears_snap before.config g s from ≡ true) ⊎ IsDropped before after epoch posts
+HearsNeighbour space s before after posts from other = ⊤
+
+-- in every run a server takes them from its neighbours alone
+abbrev pub RunsHearNeighbours : Type 0
+RunsHearNeighbours =
+    (script : Script) → IsScript script → (x : Entry) (older : List Entry) → IsRun script (x ∷ older)
+    → (s : ServerId) → x.actor ≡ Server s → (id : PostId) (from : Actor) (m : Message) → x.input ≡ Deliver id from m
+    → HearsNeighbour script.space s (server_of script s older) (server_of script s (x ∷ older)) x.outputs from m

@@ -1,29 +1,58 @@
-//! The laws on chains over all runs: what replicas and snapshots under way hold of each line, whatever is delivered, lost, repeated, halted, stopped or added.
+//! The laws on chains over all runs: what replicas and snapshots under way hold of each line,
+//! whatever is delivered, lost, repeated, halted, stopped or added.
 #![tactic(auto)]
 
-ghost use Rattle.hx_law_chains.specs.Chains.{RunsAnswerCommitted, RunsAssignUpdates, RunsHoldParts, RunsKeepOrder, RunsSendParts};
+ghost use Rattle.hx_law_chains.specs.Chains.{RunsAnswerCommitted, RunsAssignUpdates, RunsHearNeighbours, RunsHoldParts, RunsKeepOrder, RunsPostsStand, RunsSendParts};
 
-/// In every run each update of a key's line has the next version and is the effect of a write of the script on the object before it, or is refused because a configuration of the run has lost a place that the effect asks for, the first such one; it goes through the key's region and, where it changes the object, through the regions of the object before and after it, in each after the last version that had a place there.
+/// In every run each update of a key's line has the next version and is the effect of a write
+/// of the script on the object before it, or is refused because a configuration of the run has
+/// lost a place that the effect asks for, the first such one; it goes through the key's region
+/// and, where it changes the object, through the regions of the object before and after it, in
+/// each after the last version that had a place there.
 pub fn updates_are_assigned()
     ensures { RunsAssignUpdates }
 {}
 
-/// In every run an installed replica whose server hasn't halted holds of each key its region's part of the key's line up to some version, with nothing left out and nothing else, whether it was there from the start or began from a snapshot, and though lines are cut where a leader halts.
+/// In every run an installed replica whose server hasn't halted, or that the newest
+/// configuration lists, holds of each key its region's part of the key's line up to some
+/// version, with nothing left out and nothing else, whether it was there from the start or
+/// began from a snapshot, and though lines are cut where a leader halts.
 pub fn replicas_hold_their_part()
     ensures { RunsHoldParts }
 {}
 
-/// In every run a snapshot of the newest epoch that is under way to a joiner holds of each key, with its pending updates, the region's part of the key's line up to some version.
+/// In every run a snapshot, of whatever epoch, that is under way to a joiner holds of each key,
+/// with its pending updates, the region's part of the key's line up to some version.
 pub fn snapshots_hold_their_part()
     ensures { RunsSendParts }
 {}
 
-/// In every run what a replica has accepted is accepted by every replica before it in the update's chain, and what it has committed is committed by every one after it, in whatever configurations; a snapshot under way to a joiner counts as the replica that it makes.
+/// In every run what a replica has accepted is accepted by every replica before it in the
+/// update's chain, and what it has committed is committed by every one after it, in whatever
+/// configurations; a snapshot under way to a joiner counts as the replica that it makes.
 pub fn chains_keep_their_order()
     ensures { RunsKeepOrder }
 {}
 
-/// In every run what a session was answered is committed by all: each update up to the version that the answer names, by every replica of its chain that is installed and hasn't halted, and in every snapshot under way to a joiner.
+/// In every run what a session was answered is committed by all: each update up to the version
+/// that the answer names, by every installed replica of its chain that hasn't halted or that
+/// the newest configuration lists, and in every snapshot under way to a joiner.
 pub fn answers_are_committed()
     ensures { RunsAnswerCommitted }
+{}
+
+/// In every run each update and each acknowledgement under way came from an installed replica;
+/// where its receiver may hear it, by its own configuration or a later one, an update stands in
+/// its key's line and is accepted by all before the receiver in its chain, and an acknowledged
+/// one, which all of its chain have accepted, is committed by all after the receiver.
+pub fn posts_under_way_stand()
+    ensures { RunsPostsStand }
+{}
+
+/// In every run a server takes an update only from its predecessor, an acknowledgement only
+/// from its successor, for a pending update and at the region that it names, and a snapshot
+/// only from the member before it, by its own configuration; any other leaves it as it is, and
+/// at most it asks for the newest configuration.
+pub fn replicas_hear_their_neighbours()
+    ensures { RunsHearNeighbours }
 {}

@@ -274,13 +274,13 @@ kept = by_code (λ (x : Kept). (x.key, (x.floor, (x.object, (x.marks, x.touches)
 
 -- ---- messages and posts
 abbrev MessageCode : Type 0
-MessageCode = (Epoch × (ℕ × Op)) ⊎ ((ℕ × (Version × Answer)) ⊎ ((Epoch × (RegionId × Update)) ⊎ ((Epoch × (RegionId × (List ℕ × Version))) ⊎ ((Epoch × (ℕ × (RegionId × List Term))) ⊎ ((Epoch × (ℕ × (RegionId × List Row))) ⊎ (Epoch ⊎ (Epoch ⊎ (Config ⊎ (ℕ ⊎ (ℕ ⊎ ((ℕ × ServerId) ⊎ ((ℕ × (ServerId × RegionId)) ⊎ ((ℕ × Answer) ⊎ ((Epoch × (RegionId × (List Kept × List Update))) ⊎ ((Epoch × RegionId) ⊎ Epoch)))))))))))))))
+MessageCode = (Epoch × (ℕ × Op)) ⊎ ((ℕ × (Version × Answer)) ⊎ ((Epoch × (RegionId × Update)) ⊎ ((Epoch × (RegionId × (List ℕ × (Version × RegionId)))) ⊎ ((Epoch × (ℕ × (RegionId × List Term))) ⊎ ((Epoch × (ℕ × (RegionId × List Row))) ⊎ (Epoch ⊎ (Epoch ⊎ (Config ⊎ (ℕ ⊎ (ℕ ⊎ ((ℕ × ServerId) ⊎ ((ℕ × (ServerId × RegionId)) ⊎ ((ℕ × Answer) ⊎ ((Epoch × (RegionId × (List Kept × List Update))) ⊎ ((Epoch × RegionId) ⊎ Epoch)))))))))))))))
 
 abbrev message_code : Message → MessageCode
 message_code (a_message.Call e n o) = inl (e, (n, o))
 message_code (a_message.Reply n v a) = inr (inl (n, (v, a)))
 message_code (a_message.Update e g u) = inr (inr (inl (e, (g, u))))
-message_code (a_message.Ack e g k v) = inr (inr (inr (inl (e, (g, (k, v))))))
+message_code (a_message.Ack e g k v b) = inr (inr (inr (inl (e, (g, (k, (v, b)))))))
 message_code (a_message.Ask e n g ts) = inr (inr (inr (inr (inl (e, (n, (g, ts)))))))
 message_code (a_message.Found e n g rows) = inr (inr (inr (inr (inr (inl (e, (n, (g, rows))))))))
 message_code (a_message.Seal e) = inr (inr (inr (inr (inr (inr (inl e))))))
@@ -299,7 +299,7 @@ abbrev message_of : MessageCode → Message
 message_of (inl t) = a_message.Call t.0 t.1.0 t.1.1
 message_of (inr (inl t)) = a_message.Reply t.0 t.1.0 t.1.1
 message_of (inr (inr (inl t))) = a_message.Update t.0 t.1.0 t.1.1
-message_of (inr (inr (inr (inl t)))) = a_message.Ack t.0 t.1.0 t.1.1.0 t.1.1.1
+message_of (inr (inr (inr (inl t)))) = a_message.Ack t.0 t.1.0 t.1.1.0 t.1.1.1.0 t.1.1.1.1
 message_of (inr (inr (inr (inr (inl t))))) = a_message.Ask t.0 t.1.0 t.1.1.0 t.1.1.1
 message_of (inr (inr (inr (inr (inr (inl t)))))) = a_message.Found t.0 t.1.0 t.1.1.0 t.1.1.1
 message_of (inr (inr (inr (inr (inr (inr (inl e))))))) = a_message.Seal e
@@ -319,7 +319,7 @@ message_back (a_message.Call e n o) = refl
 message_back other = refl
 
 message : Discrete Message
-message = by_code message_code message_of message_back (either (both epoch (both ℕ_discrete op)) (either (both ℕ_discrete (both version answer)) (either (both epoch (both region update)) (either (both epoch (both region (both text version))) (either (both epoch (both ℕ_discrete (both region (listed term)))) (either (both epoch (both ℕ_discrete (both region (listed row)))) (either epoch (either epoch (either config (either ℕ_discrete (either ℕ_discrete (either (both ℕ_discrete server) (either (both ℕ_discrete (both server region)) (either (both ℕ_discrete answer) (either (both epoch (both region (both (listed kept) (listed update)))) (either (both epoch region) epoch))))))))))))))))
+message = by_code message_code message_of message_back (either (both epoch (both ℕ_discrete op)) (either (both ℕ_discrete (both version answer)) (either (both epoch (both region update)) (either (both epoch (both region (both text (both version region)))) (either (both epoch (both ℕ_discrete (both region (listed term)))) (either (both epoch (both ℕ_discrete (both region (listed row)))) (either epoch (either epoch (either config (either ℕ_discrete (either ℕ_discrete (either (both ℕ_discrete server) (either (both ℕ_discrete (both server region)) (either (both ℕ_discrete answer) (either (both epoch (both region (both (listed kept) (listed update)))) (either (both epoch region) epoch))))))))))))))))
 
 post : Discrete Post
 post = by_code (λ (x : Post). (x.from, (x.to, x.message))) (λ t. record { from = t.0; to = t.1.0; message = t.1.1 }) (λ x. refl) (both actor (both actor message))

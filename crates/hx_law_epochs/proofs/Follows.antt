@@ -1,21 +1,20 @@
 -- What the coordinator issues is orderly and follows on the configuration before.
-use Rattle.std.proofs.Common.{◌≡◌, ℕ, zero, suc, ◌+◌, ◌⊎◌, inl, inr, Bool, true, false, not, ◌&&◌, ◌||◌, List, [], ◌∷◌, ◌++◌, map, refl, sym, ap, ◌∙◌, subst, arith, ◌==◌}
-use Rattle.std.specs.List.{filter, slice_get}
-use Rattle.std.proofs.lemmas.Bool.{and_from, and_parts, cases_Bool, cond_both, eq-eqb, eqb-true, false≢true, or_cases}
+use Rattle.std.proofs.Common.{◌≡◌, ◌+◌, ◌⊎◌, inl, inr, Bool, true, false, not, ◌&&◌, ◌||◌, List, [], ◌∷◌, ◌++◌, map, refl, sym, ap, ◌∙◌, subst}
+use Rattle.std.specs.List.{filter}
+use Rattle.std.proofs.lemmas.Bool.{and_from, and_parts, cases_Bool, cond_both, eq-eqb, false≢true, or_cases}
 use Rattle.std.proofs.lemmas.List.{map-append}
 use Rattle.hx_types.specs.declared.configs.Config.{Config}
 use Rattle.hx_types.specs.declared.configs.Member.{Member}
 use Rattle.hx_types.specs.declared.ids.Epoch.{Epoch}
 use Rattle.hx_types.specs.declared.ids.RegionId.{RegionId}
 use Rattle.hx_types.specs.declared.ids.ServerId.{ServerId}
-use Rattle.hx_types.specs.Words.{IsBefore, IsIn, same_server, when_some}
+use Rattle.hx_types.specs.Words.{IsBefore, IsIn, same_server}
 use Rattle.hx_types.specs.Configs.{any_ready, is_lost, lists, lists_joining, lists_ready, members_of}
-use Rattle.hx_model.specs.CoordinatorSteps.{CoordinatorState, Joined, config_without, is_joined, is_out, issuing, lists_without, made_ready}
 use Rattle.hx_law_lemmas.proofs.Lemmas.{any-in, in-append, in-filter, in-map, in_left, map-in, Differ, server-same, before-in, fewer-before, fewer-differ}
 use Rattle.hx_law_lemmas.proofs.Lemmas.{in-listed, listed-in, member-server, servers_of}
 use Rattle.hx_law_epochs.specs.Epochs.{FollowsOn, order}
 use Rattle.hx_law_epochs.proofs.Members.{server-member}
-use Rattle.hx_law_epochs.proofs.Next.{Grown, IsOrderly, MayJoin, any-of, filter-in, issuing-grown, joiner}
+use Rattle.hx_law_epochs.proofs.Next.{Grown, IsOrderly, MayJoin, any-of, filter-in, joiner}
 
 -- ---- members by their tests
 
@@ -36,17 +35,6 @@ ready-member c g s t =
 pub member-ready : (c : Config) (g : RegionId) (s : ServerId) (m : Member) → IsIn m (members_of c g) → m.server ≡ s → m.ready ≡ true → lists_ready c g s ≡ true
 member-ready c g s m i e r =
     any-of (λ (m : Member). same_server m.server s && m.ready) (members_of c g) m i (and_from (same_server m.server s) m.ready (eq-eqb m.server.0 s.0 (ap (λ (y : ServerId). y.0) e)) r)
-
--- one that joins has a member that isn't ready
-pub joining-member : (c : Config) (g : RegionId) (s : ServerId) → lists_joining c g s ≡ true → (m : Member) × IsIn m (members_of c g) × (m.server ≡ s) × (m.ready ≡ false)
-joining-member c g s t =
-    let r = any-in (λ (m : Member). same_server m.server s && not m.ready) (members_of c g) t in
-    let a = and_parts (same_server r.0.server s) (not r.0.ready) r.2 in
-    (r.0, r.1, server-same r.0.server s a.0, flip r.0.ready a.1)
-  where
-    flip : (b : Bool) → not b ≡ true → b ≡ false
-    flip true e = absurd (false≢true e)
-    flip false e = refl
 
 pub member-joining : (c : Config) (g : RegionId) (s : ServerId) (m : Member) → IsIn m (members_of c g) → m.server ≡ s → m.ready ≡ false → lists_joining c g s ≡ true
 member-joining c g s m i e r =
@@ -119,93 +107,82 @@ module _ (test : Member → Bool) (after : Member → Member) (same : (m : Membe
       ])
       (λ t c. let r = some-before rest x y c in (r.0, r.1, inr r.2, r.3, r.4))
 
--- ---- the configuration without the departed
+-- a configuration comes next: it follows on another, is orderly, and who is ready in it was so or becomes so
+pub record ComesNext (c n : Config) (turns : RegionId → ServerId → Bool) : Type 0 where
+  pub follows : FollowsOn c n
+  pub orderly : IsOrderly n
+  pub ready : (g : RegionId) (s : ServerId) → lists_ready n g s ≡ true → (lists_ready c g s ≡ true) ⊎ (turns g s ≡ true)
 
--- the list at an index
-without-at : (gone : List ServerId) (joined : List Joined) (n : ℕ) (regions : List (List Member)) (k : ℕ)
-    → when_some (slice_get (lists_without gone joined n regions) k) [] (λ (ms : List Member). ms)
-    ≡ map (made_ready joined (n + k)) (filter (λ (x : Member). not (is_out gone x.server)) (when_some (slice_get regions k) [] (λ (ms : List Member). ms)))
-without-at gone joined n [] k = refl
-without-at gone joined n (ms ∷ rest) zero = ap (λ i. map (made_ready joined i) (filter (λ (x : Member). not (is_out gone x.server)) ms)) (let e : n ≡ n + 0 = omega arith in e)
-without-at gone joined n (ms ∷ rest) (suc k) =
-    without-at gone joined (n + 1) rest k
-    ∙ ap (λ i. map (made_ready joined i) (filter (λ (x : Member). not (is_out gone x.server)) (when_some (slice_get rest k) [] (λ (ms : List Member). ms)))) (let e : n + 1 + k ≡ n + suc k = omega arith in e)
+-- ---- the next configuration, before a server joins: without the departed, and with those ready who became so
 
--- who joined a region by its number
-pub joined-in : (joined : List Joined) (g : RegionId) (s : ServerId) → is_joined joined g.0 s ≡ true → (j : Joined) × IsIn j joined × (j.region ≡ g) × (j.server ≡ s)
-joined-in joined g s t =
-    let r = any-in (λ (j : Joined). (j.region.0 == g.0) && same_server j.server s) joined t in
-    let a = and_parts (r.0.region.0 == g.0) (same_server r.0.server s) r.2 in
-    (r.0, r.1, (let e = eqb-true r.0.region.0 g.0 a.0 in λ i. record { 0 = e i }), server-same r.0.server s a.1)
-
-module _ (d : CoordinatorState) (ok : IsOrderly d.config) (present : (j : Joined) → IsIn j d.joined → is_lost d.config j.region ≡ false) where
-  -- the configuration without the departed
-  abbrev w : Config
-  w = config_without d
-
+module _ (c w : Config) (ok : IsOrderly c) (out : ServerId → Bool) (turns : RegionId → ServerId → Bool) (present : (g : RegionId) (s : ServerId) → turns g s ≡ true → is_lost c g ≡ false)
+    (epoch : w.epoch.0 ≡ c.epoch.0 + 1) (servers : w.servers ≡ filter (λ (y : ServerId). not (out y)) c.servers)
+    (left : (g : RegionId) → members_of w g ≡ map (λ (m : Member). record { server = m.server; ready = m.ready || turns g m.server }) (filter (λ (m : Member). not (out m.server)) (members_of c g))) where
   -- who hasn't departed
   abbrev keep : Member → Bool
-  keep m = not (is_out d.gone m.server)
+  keep m = not (out m.server)
 
-  -- the members of a region that haven't
-  left : (g : RegionId) → members_of w g ≡ some keep (made_ready d.joined g.0) (λ m. refl) (members_of d.config g)
-  left g =
-      without-at d.gone d.joined 0 d.config.regions g.0
-      ∙ ap (λ i. map (made_ready d.joined i) (filter keep (members_of d.config g))) (let e : 0 + g.0 ≡ g.0 = omega arith in e)
+  -- a member, ready if it became so
+  abbrev made : RegionId → Member → Member
+  made g m = record { server = m.server; ready = m.ready || turns g m.server }
+
+  -- who is a server now
+  in-now : (s : ServerId) → IsIn s w.servers → IsIn s (filter (λ (y : ServerId). not (out y)) c.servers)
+  in-now s i = subst (λ (l : List ServerId). IsIn s l) servers i
 
   -- a member that is left was one
-  left-from : (g : RegionId) (m : Member) → IsIn m (members_of w g) → (x : Member) × IsIn x (members_of d.config g) × (keep x ≡ true) × (m ≡ made_ready d.joined g.0 x)
+  left-from : (g : RegionId) (m : Member) → IsIn m (members_of w g) → (x : Member) × IsIn x (members_of c g) × (keep x ≡ true) × (m ≡ made g x)
   left-from g m i =
-      let a = in-map (made_ready d.joined g.0) (filter keep (members_of d.config g)) m (subst (λ (l : List Member). IsIn m l) (left g) i) in
-      let b = in-filter keep (members_of d.config g) a.0 a.1 in
+      let a = in-map (made g) (filter keep (members_of c g)) m (subst (λ (l : List Member). IsIn m l) (left g) i) in
+      let b = in-filter keep (members_of c g) a.0 a.1 in
       (a.0, b.0, b.1, a.2)
 
   -- and one whose server is among those left is left
-  left-there : (g : RegionId) (x : Member) → IsIn x (members_of d.config g) → IsIn x.server w.servers → IsIn (made_ready d.joined g.0 x) (members_of w g)
+  left-there : (g : RegionId) (x : Member) → IsIn x (members_of c g) → IsIn x.server w.servers → IsIn (made g x) (members_of w g)
   left-there g x i s =
-      subst (λ (l : List Member). IsIn (made_ready d.joined g.0 x) l) (sym (left g))
-      (map-in (made_ready d.joined g.0) (filter keep (members_of d.config g)) x (filter-in keep (members_of d.config g) x i (in-filter (λ (y : ServerId). not (is_out d.gone y)) d.config.servers x.server s).1))
+      subst (λ (l : List Member). IsIn (made g x) l) (sym (left g))
+      (map-in (made g) (filter keep (members_of c g)) x (filter-in keep (members_of c g) x i (in-filter (λ (y : ServerId). not (out y)) c.servers x.server (in-now x.server s)).1))
 
   -- who is ready now was, or joined
-  ready-from : (g : RegionId) (x : Member) → (made_ready d.joined g.0 x).ready ≡ true → (x.ready ≡ true) ⊎ (is_joined d.joined g.0 x.server ≡ true)
-  ready-from g x t = or_cases x.ready (is_joined d.joined g.0 x.server) t
+  ready-from : (g : RegionId) (x : Member) → (made g x).ready ≡ true → (x.ready ≡ true) ⊎ (turns g x.server ≡ true)
+  ready-from g x t = or_cases x.ready (turns g x.server) t
 
   -- what is lost stays lost
-  left-lost : (g : RegionId) → is_lost d.config g ≡ true → is_lost w g ≡ true
+  left-lost : (g : RegionId) → is_lost c g ≡ true → is_lost w g ≡ true
   left-lost g l = elim (cases_Bool (any_ready (members_of w g))) [
     | inr f ↦ ap not f
     | inl t ↦ absurd (false≢true (sym (found t) ∙ l))
   ]
     where
-      found : any_ready (members_of w g) ≡ true → is_lost d.config g ≡ false
+      found : any_ready (members_of w g) ≡ true → is_lost c g ≡ false
       found t =
           let a = any-in (λ (m : Member). m.ready) (members_of w g) t in
           let b = left-from g a.0 a.1 in
           elim (ready-from g b.0 (ap (λ (m : Member). m.ready) (sym b.3) ∙ a.2)) [
-            | inl r ↦ ready-not_lost d.config g b.0 b.1 r
-            | inr r ↦ (let j = joined-in d.joined g b.0.server r in subst (λ (h : RegionId). is_lost d.config h ≡ false) j.2 (present j.0 j.1))
+            | inl r ↦ ready-not_lost c g b.0 b.1 r
+            | inr r ↦ present g b.0.server r
           ]
 
   -- the order of those left
-  left-order : (g : RegionId) (x y : ServerId) → IsBefore x y (order w g) → IsBefore x y (order d.config g)
-  left-order g x y b = fewer-before keep (made_ready d.joined g.0) (λ m. refl) (members_of d.config g) x y (subst (λ (l : List Member). IsBefore x y (servers_of l)) (left g) b)
+  left-order : (g : RegionId) (x y : ServerId) → IsBefore x y (order w g) → IsBefore x y (order c g)
+  left-order g x y b = fewer-before keep (made g) (λ m. refl) (members_of c g) x y (subst (λ (l : List Member). IsBefore x y (servers_of l)) (left g) b)
 
-  order-left : (g : RegionId) (x y : ServerId) → IsIn x w.servers → IsIn y w.servers → IsBefore x y (order d.config g) → IsBefore x y (order w g)
+  order-left : (g : RegionId) (x y : ServerId) → IsIn x w.servers → IsIn y w.servers → IsBefore x y (order c g) → IsBefore x y (order w g)
   order-left g x y i j b =
       subst (λ (l : List Member). IsBefore x y (servers_of l)) (sym (left g))
-      (stay-before keep (made_ready d.joined g.0) (λ m. refl) (members_of d.config g) x y (λ m k e. kept m x e i) (λ m k e. kept m y e j) b)
+      (stay-before keep (made g) (λ m. refl) (members_of c g) x y (λ m k e. kept m x e i) (λ m k e. kept m y e j) b)
     where
       kept : (m : Member) (x : ServerId) → m.server ≡ x → IsIn x w.servers → keep m ≡ true
-      kept m x e i = ap (λ (y : ServerId). not (is_out d.gone y)) e ∙ (in-filter (λ (y : ServerId). not (is_out d.gone y)) d.config.servers x i).1
+      kept m x e i = ap (λ (y : ServerId). not (out y)) e ∙ (in-filter (λ (y : ServerId). not (out y)) c.servers x (in-now x i)).1
 
   -- it is orderly
   left-orderly : IsOrderly w
   left-orderly = record {
     members = λ g m i. (let b = left-from g m i in
-        subst (λ (x : Member). IsIn x.server w.servers) (sym b.3) (filter-in (λ (y : ServerId). not (is_out d.gone y)) d.config.servers b.0.server (ok.members g b.0 b.1) b.2));
-    differ = λ g. subst Differ (sym (left g)) (fewer-differ keep (made_ready d.joined g.0) (λ m. refl) (members_of d.config g) (ok.differ g));
-    joins_last = λ g m x b. (let r = some-before keep (made_ready d.joined g.0) (λ m. refl) (members_of d.config g) m x (subst (λ (l : List Member). IsBefore m x l) (left g) b) in
-        ap (λ (y : Member). y.ready) r.3 ∙ ap (λ b. b || is_joined d.joined g.0 r.0.server) (ok.joins_last g r.0 r.1 r.2));
+        subst (λ (x : Member). IsIn x.server w.servers) (sym b.3) (subst (λ (l : List ServerId). IsIn b.0.server l) (sym servers) (filter-in (λ (y : ServerId). not (out y)) c.servers b.0.server (ok.members g b.0 b.1) b.2)));
+    differ = λ g. subst Differ (sym (left g)) (fewer-differ keep (made g) (λ m. refl) (members_of c g) (ok.differ g));
+    joins_last = λ g m x b. (let r = some-before keep (made g) (λ m. refl) (members_of c g) m x (subst (λ (l : List Member). IsBefore m x l) (left g) b) in
+        ap (λ (y : Member). y.ready) r.3 ∙ ap (λ b. b || turns g r.0.server) (ok.joins_last g r.0 r.1 r.2));
   }
 
   -- ---- what grew from it
@@ -261,50 +238,50 @@ module _ (d : CoordinatorState) (ok : IsOrderly d.config) (present : (j : Joined
     not-left g s may i = let m = server-member s (members_of w g) i in may.no_member m.0 m.1 m.2
 
     -- nor was it a member before
-    not-before : (g : RegionId) (s : ServerId) → MayJoin w s g → lists d.config g s ≡ true → ⊥
+    not-before : (g : RegionId) (s : ServerId) → MayJoin w s g → lists c g s ≡ true → ⊥
     not-before g s may t =
-        let m = listed-member d.config g s t in
-        may.no_member (made_ready d.joined g.0 m.0) (left-there g m.0 m.1 (subst (λ (x : ServerId). IsIn x w.servers) (sym m.2) may.known)) m.2
+        let m = listed-member c g s t in
+        may.no_member (made g m.0) (left-there g m.0 m.1 (subst (λ (x : ServerId). IsIn x w.servers) (sym m.2) may.known)) m.2
 
     -- what is lost stays lost
-    grown-lost : (g : RegionId) → is_lost d.config g ≡ true → is_lost n g ≡ true
+    grown-lost : (g : RegionId) → is_lost c g ≡ true → is_lost n g ≡ true
     grown-lost g l = elim (grown.lists g) [
       | inl e ↦ ap (λ (ms : List Member). not (any_ready ms)) e ∙ left-lost g l
       | inr (s, e, may) ↦ absurd (false≢true (sym may.not_lost ∙ left-lost g l))
     ]
 
     -- a member that was before is left
-    was-left : (g : RegionId) (s : ServerId) → IsIn s n.servers → lists d.config g s ≡ true → (m : Member) × IsIn m (members_of d.config g) × (m.server ≡ s) × IsIn (made_ready d.joined g.0 m) (members_of n g)
+    was-left : (g : RegionId) (s : ServerId) → IsIn s n.servers → lists c g s ≡ true → (m : Member) × IsIn m (members_of c g) × (m.server ≡ s) × IsIn (made g m) (members_of n g)
     was-left g s i t =
-        let m = listed-member d.config g s t in
-        (m.0, m.1, m.2, grown-in g (made_ready d.joined g.0 m.0) (left-there g m.0 m.1 (subst (λ (x : ServerId). IsIn x w.servers) (sym m.2) (server-left s i))))
+        let m = listed-member c g s t in
+        (m.0, m.1, m.2, grown-in g (made g m.0) (left-there g m.0 m.1 (subst (λ (x : ServerId). IsIn x w.servers) (sym m.2) (server-left s i))))
 
     -- it follows on the one before
-    grown-follows : FollowsOn d.config n
+    grown-follows : FollowsOn c n
     grown-follows = record {
-      epoch = ap (λ (e : Epoch). e.0) grown.epoch;
-      servers = λ s i. (in-filter (λ (y : ServerId). not (is_out d.gone y)) d.config.servers s (server-left s i)).0;
-      stays = λ g s i t. (let m = was-left g s i t in member-listed n g s (made_ready d.joined g.0 m.0) m.3 m.2);
+      epoch = ap (λ (e : Epoch). e.0) grown.epoch ∙ epoch;
+      servers = λ s i. (in-filter (λ (y : ServerId). not (out y)) c.servers s (in-now s (server-left s i))).0;
+      stays = λ g s i t. (let m = was-left g s i t in member-listed n g s (made g m.0) m.3 m.2);
       same_order = λ g x y t b. elim (grown-order g x y b) [
         | inl c ↦ left-order g x y c
         | inr (i, may) ↦ absurd (not-before g y may t)
       ];
       keeps_order = λ g x y i j b. order-grown g x y (order-left g x y (server-left x i) (server-left y j) b);
       joins = λ g s t. (let m = listed-member n g s t in joined g s m.0 m.1 m.2 (grown-from g m.0 m.1));
-      ready = λ g s i t. (let m = ready-member d.config g s t in
-          member-ready n g s (made_ready d.joined g.0 m.0)
-          (grown-in g (made_ready d.joined g.0 m.0) (left-there g m.0 m.1 (subst (λ (x : ServerId). IsIn x w.servers) (sym m.2) (server-left s i)))) m.2
-          (ap (λ b. b || is_joined d.joined g.0 m.0.server) m.3));
+      ready = λ g s i t. (let m = ready-member c g s t in
+          member-ready n g s (made g m.0)
+          (grown-in g (made g m.0) (left-there g m.0 m.1 (subst (λ (x : ServerId). IsIn x w.servers) (sym m.2) (server-left s i)))) m.2
+          (ap (λ b. b || turns g m.0.server) m.3));
       lost = grown-lost;
     }
       where
         joined : (g : RegionId) (s : ServerId) (m : Member) → IsIn m (members_of n g) → m.server ≡ s
             → IsIn m (members_of w g) ⊎ ((m ≡ joiner m.server) × MayJoin w m.server g × (members_of n g ≡ members_of w g ++ joiner m.server ∷ []))
-            → (lists d.config g s ≡ true) ⊎ (lists_joining n g s ≡ true) × (is_lost d.config g ≡ false) × ((x : ServerId) → IsBefore s x (order n g) → ⊥)
-        joined g s m i e (inl j) = inl (let b = left-from g m j in member-listed d.config g s b.0 b.1 (sym (ap (λ (x : Member). x.server) b.3) ∙ e))
+            → (lists c g s ≡ true) ⊎ (lists_joining n g s ≡ true) × (is_lost c g ≡ false) × ((x : ServerId) → IsBefore s x (order n g) → ⊥)
+        joined g s m i e (inl j) = inl (let b = left-from g m j in member-listed c g s b.0 b.1 (sym (ap (λ (x : Member). x.server) b.3) ∙ e))
         joined g s m i e (inr (q, may, l)) = inr (
           member-joining n g s m i e (ap (λ (x : Member). x.ready) q),
-          elim (cases_Bool (is_lost d.config g)) [ inl t ↦ absurd (false≢true (sym may.not_lost ∙ left-lost g t)) | inr t ↦ t ],
+          elim (cases_Bool (is_lost c g)) [ inl t ↦ absurd (false≢true (sym may.not_lost ∙ left-lost g t)) | inr t ↦ t ],
           λ x b. elim (grown-order g s x b) [
             | inl c ↦ not-left g m.server may (subst (λ (z : ServerId). IsIn z (order w g)) (sym e) (before-in s x (order w g) c).0)
             | inr (j, k) ↦ not-left g m.server may (subst (λ (z : ServerId). IsIn z (order w g)) (sym e) j)
@@ -332,30 +309,20 @@ module _ (d : CoordinatorState) (ok : IsOrderly d.config) (present : (j : Joined
     }
 
     -- who is ready in it was ready, or is one of those that became so
-    grown-ready : (g : RegionId) (s : ServerId) → lists_ready n g s ≡ true → (lists_ready d.config g s ≡ true) ⊎ ((j : Joined) × IsIn j d.joined × (j.region ≡ g) × (j.server ≡ s))
+    grown-ready : (g : RegionId) (s : ServerId) → lists_ready n g s ≡ true → (lists_ready c g s ≡ true) ⊎ (turns g s ≡ true)
     grown-ready g s t = let m = ready-member n g s t in by m.0 m.2 m.3 (grown-from g m.0 m.1)
       where
         by : (m : Member) → m.server ≡ s → m.ready ≡ true → IsIn m (members_of w g) ⊎ ((m ≡ joiner m.server) × MayJoin w m.server g × (members_of n g ≡ members_of w g ++ joiner m.server ∷ []))
-            → (lists_ready d.config g s ≡ true) ⊎ ((j : Joined) × IsIn j d.joined × (j.region ≡ g) × (j.server ≡ s))
+            → (lists_ready c g s ≡ true) ⊎ (turns g s ≡ true)
         by m e r (inr (q, may, l)) = absurd (false≢true (sym (ap (λ (x : Member). x.ready) q) ∙ r))
         by m e r (inl i) =
             let b = left-from g m i in
             let z : b.0.server ≡ s = sym (ap (λ (x : Member). x.server) b.3) ∙ e in
             elim (ready-from g b.0 (ap (λ (x : Member). x.ready) (sym b.3) ∙ r)) [
-              | inl u ↦ inl (member-ready d.config g s b.0 b.1 z u)
-              | inr u ↦ (let j = joined-in d.joined g b.0.server u in inr (j.0, j.1, j.2, j.3 ∙ z))
+              | inl u ↦ inl (member-ready c g s b.0 b.1 z u)
+              | inr u ↦ inr (ap (turns g) (sym z) ∙ u)
             ]
 
-  -- what is issued
-  pub issuing-follows : FollowsOn d.config (issuing d).config
-  issuing-follows = grown-follows (issuing d).config (issuing-grown d)
-
-  pub issuing-orderly : IsOrderly (issuing d).config
-  issuing-orderly = grown-orderly (issuing d).config (issuing-grown d)
-
-  pub issuing-ready : (g : RegionId) (s : ServerId) → lists_ready (issuing d).config g s ≡ true → (lists_ready d.config g s ≡ true) ⊎ ((j : Joined) × IsIn j d.joined × (j.region ≡ g) × (j.server ≡ s))
-  issuing-ready = grown-ready (issuing d).config (issuing-grown d)
-
-  -- who hasn't gone is among its servers
-  pub issuing-servers : (s : ServerId) → IsIn s d.config.servers → is_out d.gone s ≡ false → IsIn s (issuing d).config.servers
-  issuing-servers s i t = left-server (issuing d).config (issuing-grown d) s (filter-in (λ (y : ServerId). not (is_out d.gone y)) d.config.servers s i (ap not t))
+    -- all of it
+    pub grown-comes : ComesNext c n turns
+    grown-comes = record { follows = grown-follows; orderly = grown-orderly; ready = grown-ready }

@@ -1,7 +1,9 @@
 -- The law on what every run keeps of epochs.
-use Rattle.std.proofs.Common.{inl, inr, List, [], ◌∷◌, is_some, Option, Some, None, refl, ap, ◌∙◌}
-use Rattle.std.proofs.lemmas.Bool.{cond-true}
+use Rattle.std.proofs.Common.{◌≡◌, inl, inr, true, List, [], ◌∷◌, is_some, Option, Some, None, refl, ap, ◌∙◌}
+use Rattle.std.proofs.lemmas.Bool.{cond_both, cond-true, false≢true}
+use Rattle.hx_types.specs.declared.configs.Config.{Config}
 use Rattle.hx_types.specs.declared.ids.Actor.{Actor}
+use Rattle.hx_types.specs.declared.ids.Epoch.{Epoch}
 use Rattle.hx_types.specs.declared.ids.RegionId.{RegionId}
 use Rattle.hx_types.specs.declared.ids.ServerId.{ServerId}
 use Rattle.hx_types.specs.declared.messages.Message.{Message}
@@ -11,18 +13,18 @@ use Rattle.hx_types.specs.declared.traces.Script.{Script}
 use Rattle.hx_types.specs.declared.messages.Message.TheVariants as a_message
 use Rattle.hx_types.specs.declared.ids.Actor.TheVariants.{Server}
 use Rattle.hx_types.specs.Words.{IsIn, post}
-use Rattle.hx_model.specs.CoordinatorSteps.{Phase, Sealing, Steady}
+use Rattle.hx_model.specs.Causes.{config_of}
 use Rattle.hx_model.specs.Holders.{IsPosted}
 use Rattle.hx_model.specs.Runs.{coordinator_of, server_of}
-use Rattle.hx_model.specs.ServerSteps.{Replica, ServerState, if_installed}
+use Rattle.hx_model.specs.ServerSteps.{Replica, ServerState, if_installed, replica_of}
 use Rattle.hx_law_lemmas.specs.Words.{posts_of}
-use Rattle.hx_law_lemmas.proofs.Lemmas.{in_left, in_right}
-use Rattle.hx_law_epochs.specs.Epochs.{EpochsHold, HasTold, IsInstalled, OthersAreSealed, RunsKeepEpochs}
-use Rattle.hx_law_epochs.proofs.Facts.{Installed, Says, Waits}
-use Rattle.hx_law_epochs.proofs.Runs.{EpochsRun, epochs-run}
+use Rattle.hx_law_lemmas.proofs.Lemmas.{in-listed, in_left, in_right}
+use Rattle.hx_law_epochs.specs.Epochs.{EpochsHold, HasTold, IsInstalled, RunsKeepEpochs}
+use Rattle.hx_law_epochs.proofs.Facts.{Installed, Says}
+use Rattle.hx_law_epochs.proofs.Runs.{EpochsRun, IsKnown, epochs-run}
 
 -- an installed replica is found installed
-found-installed : (st : ServerState) (g : RegionId) → Installed st g → IsInstalled st g
+pub found-installed : (st : ServerState) (g : RegionId) → Installed st g → IsInstalled st g
 found-installed st g i =
     ap (λ (o : Option Replica). is_some (if_installed o)) i.found
     ∙ ap (λ (o : Option Replica). is_some o) (cond-true i.replica.installed (Some i.replica) None i.installed)
@@ -33,16 +35,23 @@ posted-in [] p h = absurd h
 posted-in (x ∷ older) p (inl i) = in_left x.outputs (posts_of older) p i
 posted-in (x ∷ older) p (inr h) = in_right x.outputs (posts_of older) p (posted-in older p h)
 
--- who isn't waited for is sealed or has halted
-others-sealed : (script : Script) (t : List Entry) (ph : Phase) → Waits (λ s. server_of script s t) (coordinator_of script t).config ph → OthersAreSealed script t ph
-others-sealed script t Steady w = tt
-others-sealed script t (Sealing waited) w = w
+-- and what is found installed is
+pub installed-found : (st : ServerState) (g : RegionId) → IsInstalled st g → Installed st g
+installed-found st g = by (replica_of g st.replicas) refl
+  where
+    by : (o : Option Replica) → replica_of g st.replicas ≡ o → is_some (if_installed o) ≡ true → Installed st g
+    by None e h = absurd (false≢true h)
+    by (Some r) e h =
+        cond_both r.installed (Some r) None (λ o. is_some o ≡ true → Installed st g)
+        (λ t h. record { replica = r; found = e; installed = t })
+        (λ t h. absurd (false≢true h))
+        h
 
 -- what a server told
-told-stays : (script : Script) (t : List Entry) (s : ServerId) (to : Actor) (m : Message) → Says (λ x. server_of script x t) (coordinator_of script t).config (Server s) to m → HasTold script t s m
+told-stays : (script : Script) (t : List Entry) (s : ServerId) (to : Actor) (m : Message)
+    → Says (λ x. server_of script x t) (IsKnown script t) (coordinator_of script t).config (Server s) to m → HasTold script t s m
 told-stays script t s to a_message.Gone h = h
-told-stays script t s to (a_message.Sealed epoch) h = h
-told-stays script t s to (a_message.Ready epoch g) h = λ e. found-installed (server_of script s t) g (h.1 e)
+told-stays script t s to (a_message.Ready epoch g) h = found-installed (server_of script s t) g h.1
 told-stays script t s to other h = tt
 
 -- in every run
@@ -54,15 +63,15 @@ runs_keep_epochs script valid t run = by (epochs-run script valid t run)
       servers_known = k.known.servers;
       sessions_known = k.known.sessions;
       newest_known = k.known.newest;
+      older = λ s. k.epochs.last (server_of script s t).config (k.epochs.own s);
       listed = k.epochs.listed;
-      near = k.epochs.near;
-      departed = k.epochs.departed;
-      sealed = others-sealed script t (coordinator_of script t).phase k.epochs.waits;
-      ready = λ g s e. found-installed (server_of script s t) g (k.epochs.ready g s e);
-      became_ready = λ j i. (let b = k.epochs.became_ready j i in (b.listed, b.not_lost, found-installed (server_of script j.server t) j.region b.installed));
+      home = λ s g h. in-listed (server_of script s t).config g s (k.epochs.home g s (installed-found (server_of script s t) g h));
+      ready = λ epoch c e g s r. found-installed (server_of script s t) g (k.epochs.ready c (own-epoch epoch c e k) g s r);
       told = λ s to m p. told-stays script t s to m (k.epochs.says (post (Server s) to m) (posted-in t (post (Server s) to m) p));
-      installs = λ from to config p. (
-        k.known.installs (post from to (a_message.Install config)) config (posted-in t (post from to (a_message.Install config)) p) refl,
-        (k.epochs.says (post from to (a_message.Install config)) (posted-in t (post from to (a_message.Install config)) p)).0,
-      );
+      installs = λ from to config p. (let install = post from to (a_message.Install config) in
+          let known = k.epochs.says install (posted-in t install p) in (known, k.epochs.last config known));
     }
+      where
+        -- a configuration of an epoch is known
+        own-epoch : (epoch : Epoch) (c : Config) → config_of script epoch t ≡ Some c → EpochsRun script t → IsKnown script t c
+        own-epoch epoch c e k = ap (λ (x : Epoch). config_of script x t) (k.known.on.only epoch c e).2 ∙ e

@@ -3,8 +3,11 @@ pub mod Positions
 pub mod Neighbours
 pub mod Next
 pub mod Follows
+pub mod Makers
+pub mod Growing
 pub mod Facts
 pub mod Controls
+pub mod Widening
 pub mod Coordinator
 pub mod SlotPosts
 pub mod Replicas

@@ -1,19 +1,17 @@
 -- The next configuration: the one before without the departed, with joiners made ready and at most one more for each region, follows on the one before.
-use Rattle.std.proofs.Common.{◌≡◌, ℕ, zero, suc, ◌⊎◌, inl, inr, Bool, true, false, not, ◌&&◌, ◌||◌, List, [], ◌∷◌, ◌++◌, Option, Some, None, refl, sym, ap, ◌∙◌, subst, cond}
+use Rattle.std.proofs.Common.{◌≡◌, ℕ, zero, suc, ◌⊎◌, inl, inr, Bool, true, false, not, ◌&&◌, ◌||◌, List, [], ◌∷◌, ◌++◌, Option, Some, None, refl, sym, ap}
+use Rattle.std.proofs.Common.{◌∙◌, subst, cond}
 use Rattle.std.specs.List.{filter, list_any, slice_get, slice_set}
 use Rattle.std.proofs.lemmas.Bool.{and_from, cases_Bool, cases_eq, cond_both, eq-eqb, false≢true}
-use Rattle.hx_types.specs.declared.calls.Answer.{Answer}
-use Rattle.hx_types.specs.declared.calls.Op.{Op}
 use Rattle.hx_types.specs.declared.configs.Config.{Config}
 use Rattle.hx_types.specs.declared.configs.Member.{Member}
 use Rattle.hx_types.specs.declared.ids.RegionId.{RegionId}
 use Rattle.hx_types.specs.declared.ids.ServerId.{ServerId}
 use Rattle.hx_types.specs.declared.calls.Answer.TheVariants as an_answer
-use Rattle.hx_types.specs.declared.calls.Op.TheVariants.{Stop, Add}
 use Rattle.hx_types.specs.Words.{IsBefore, IsIn, same_server, server_in, when_some}
-use Rattle.hx_types.specs.Configs.{any_ready, is_lost, lists_ready, members_of}
-use Rattle.hx_model.specs.CoordinatorSteps.{CoordinatorState, Issuing, Task, adds_by, answers_with, any_joining, appended, config_without, does, does_all, issuing, judged, leaves}
-use Rattle.hx_law_lemmas.proofs.Lemmas.{any-in, in_right, Differ, server-in}
+use Rattle.hx_types.specs.Configs.{any_joining, any_ready, is_lost, lists_ready, members_of}
+use Rattle.hx_model.specs.CoordinatorSteps.{config_with, judged, next_config}
+use Rattle.hx_law_lemmas.proofs.Lemmas.{in_right, Differ, server-in}
 
 -- a server that joins a region
 abbrev pub joiner : ServerId → Member
@@ -62,12 +60,12 @@ filter-in test (x ∷ xs) p i t =
 -- ---- the lists with servers added
 
 -- what stands at an index of a list that has one item set
-set-here : {A : Type 0} (xs : List A) (k : ℕ) (x y : A) → slice_get xs k ≡ Some x → slice_get (slice_set xs k y) k ≡ Some y
+pub set-here : {A : Type 0} (xs : List A) (k : ℕ) (x y : A) → slice_get xs k ≡ Some x → slice_get (slice_set xs k y) k ≡ Some y
 set-here [] k x y e = absurd (cc)
 set-here (a ∷ xs) zero x y e = refl
 set-here (a ∷ xs) (suc k) x y e = set-here xs k x y e
 
-set-other : {A : Type 0} (xs : List A) (k j : ℕ) (y : A) → (j ≡ k → ⊥) → slice_get (slice_set xs k y) j ≡ slice_get xs j
+pub set-other : {A : Type 0} (xs : List A) (k j : ℕ) (y : A) → (j ≡ k → ⊥) → slice_get (slice_set xs k y) j ≡ slice_get xs j
 set-other [] k j y n = refl
 set-other (a ∷ xs) zero zero y n = absurd (n refl)
 set-other (a ∷ xs) zero (suc j) y n = refl
@@ -75,15 +73,15 @@ set-other (a ∷ xs) (suc k) zero y n = refl
 set-other (a ∷ xs) (suc k) (suc j) y n = set-other xs k j y (λ e. n (ap (λ i. suc i) e))
 
 -- the members of a region to which a server is appended, where there are some
-pub appended-here : (c : Config) (s : ServerId) (g : RegionId) → is_lost c g ≡ false → members_of (appended c s g) g ≡ members_of c g ++ joiner s ∷ []
+pub appended-here : (c : Config) (s : ServerId) (g : RegionId) → is_lost c g ≡ false → members_of (config_with c s g) g ≡ members_of c g ++ joiner s ∷ []
 appended-here c s g l = by (slice_get c.regions g.0) refl l
   where
-    by : (o : Option (List Member)) → slice_get c.regions g.0 ≡ o → not (any_ready (when_some o [] (λ (ms : List Member). ms))) ≡ false → members_of (appended c s g) g ≡ members_of c g ++ joiner s ∷ []
+    by : (o : Option (List Member)) → slice_get c.regions g.0 ≡ o → not (any_ready (when_some o [] (λ (ms : List Member). ms))) ≡ false → members_of (config_with c s g) g ≡ members_of c g ++ joiner s ∷ []
     by None e f = absurd (false≢true (sym f))
     by (Some ms) e f = ap (λ (o : Option (List Member)). when_some o [] (λ (xs : List Member). xs)) (set-here c.regions g.0 ms (members_of c g ++ joiner s ∷ []) e)
 
 -- and those of another region
-appended-other : (c : Config) (s : ServerId) (g h : RegionId) → (h.0 ≡ g.0 → ⊥) → members_of (appended c s g) h ≡ members_of c h
+appended-other : (c : Config) (s : ServerId) (g h : RegionId) → (h.0 ≡ g.0 → ⊥) → members_of (config_with c s g) h ≡ members_of c h
 appended-other c s g h n = ap (λ (o : Option (List Member)). when_some o [] (λ (xs : List Member). xs)) (set-other c.regions g.0 h.0 (members_of c g ++ joiner s ∷ []) n)
 
 -- a list to which a member that isn't ready was appended has one
@@ -113,55 +111,19 @@ judged-may c s g = by (server_in s c.servers) refl (is_lost c g) refl (lists_rea
           | inr u ↦ absurd (false≢true (sym t ∙ any-of (λ (x : Member). not x.ready) (members_of c g) m i (ap not u)))
         ]
 
--- one more server is appended
-pub grown-more : (c d : Config) → Grown c d → (s : ServerId) (g : RegionId) → MayJoin d s g → Grown c (appended d s g)
-grown-more c d h s g may = record {
-  epoch = h.epoch;
-  servers = h.servers;
+-- the configuration of the next epoch, with nothing else changed
+abbrev pub renumbered : Config → Config
+renumbered c = next_config c c.servers c.regions
+
+-- to which a server is appended
+pub config_with-grown : (c : Config) (s : ServerId) (g : RegionId) → MayJoin c s g → Grown (renumbered c) (config_with c s g)
+config_with-grown c s g may = record {
+  epoch = refl;
+  servers = refl;
   lists = λ k. elim (cases_eq k.0 g.0) [
-    | inl e ↦ here k (λ j. record { 0 = e j })
-    | inr n ↦ elim (h.lists k) [
-      | inl e ↦ inl (appended-other d s g k n ∙ e)
-      | inr (x, e, m) ↦ inr (x, appended-other d s g k n ∙ e, m)
-    ]
+    | inl e ↦ (let z : k ≡ g = λ j. record { 0 = e j } in
+        subst (λ (q : RegionId). (members_of (config_with c s g) q ≡ members_of c q) ⊎ ((x : ServerId) × (members_of (config_with c s g) q ≡ members_of c q ++ joiner x ∷ []) × MayJoin (renumbered c) x q)) (sym z)
+        (inr (s, appended-here c s g may.not_lost, record { known = may.known; not_lost = may.not_lost; all_ready = may.all_ready; no_member = may.no_member })))
+    | inr n ↦ inl (appended-other c s g k n)
   ];
 }
-  where
-    before : (members_of d g ≡ members_of c g) ⊎ ((x : ServerId) × (members_of d g ≡ members_of c g ++ joiner x ∷ []) × MayJoin c x g) → members_of d g ≡ members_of c g
-    before (inl e) = e
-    before (inr (x, e, m)) = absurd (let t = any-in (λ (y : Member). not y.ready) (members_of d g) (ap any_joining e ∙ joins-there (members_of c g) x) in false≢true (sym (ap not (may.all_ready t.0 t.1)) ∙ t.2))
-
-    at : members_of d g ≡ members_of c g → (members_of (appended d s g) g ≡ members_of c g ++ joiner s ∷ []) × MayJoin c s g
-    at e = (
-      appended-here d s g may.not_lost ∙ ap (λ (l : List Member). l ++ joiner s ∷ []) e,
-      record {
-        known = subst (λ (l : List ServerId). IsIn s l) h.servers may.known;
-        not_lost = ap (λ (l : List Member). not (any_ready l)) (sym e) ∙ may.not_lost;
-        all_ready = λ m i. may.all_ready m (subst (λ (l : List Member). IsIn m l) (sym e) i);
-        no_member = λ m i. may.no_member m (subst (λ (l : List Member). IsIn m l) (sym e) i);
-      },
-    )
-
-    here : (k : RegionId) → k ≡ g → (members_of (appended d s g) k ≡ members_of c k) ⊎ ((x : ServerId) × (members_of (appended d s g) k ≡ members_of c k ++ joiner x ∷ []) × MayJoin c x k)
-    here k e = let r = at (before (h.lists g)) in subst (λ (q : RegionId). (members_of (appended d s g) q ≡ members_of c q) ⊎ ((x : ServerId) × (members_of (appended d s g) q ≡ members_of c q ++ joiner x ∷ []) × MayJoin c x q)) (sym e) (inr (s, r.0, r.1))
-
--- what is to be done makes it grow
-grown-by : (c : Config) (i : Issuing) → Grown c i.config → (t : Task) → Grown c (does i t t.op).config
-grown-by c i h t = by t.op
-  where
-    adds : (s : ServerId) (g : RegionId) (o : Option Answer) → judged i.config s g ≡ o → Grown c (adds_by i t s g o).config
-    adds s g (Some a) e = h
-    adds s g None e = grown-more c i.config h s g (judged-may i.config s g e)
-
-    by : (op : Op) → Grown c (does i t op).config
-    by (Stop s) = cond_both (server_in s i.config.servers) (leaves i t) (answers_with i t (an_answer.Issued i.config.epoch)) (λ (y : Issuing). Grown c y.config) (λ e. h) (λ e. h)
-    by (Add s g) = adds s g (judged i.config s g) refl
-    by other = h
-
-pub grown-all : (c : Config) (i : Issuing) → Grown c i.config → (ts : List Task) → Grown c (does_all i ts).config
-grown-all c i h [] = h
-grown-all c i h (t ∷ ts) = grown-all c (does i t t.op) (grown-by c i h t) ts
-
--- what is issued grew from what was left
-pub issuing-grown : (d : CoordinatorState) → Grown (config_without d) (issuing d).config
-issuing-grown d = grown-all (config_without d) (record { config = config_without d; answered = []; left = [] }) (record { epoch = refl; servers = refl; lists = λ g. inl refl }) d.todo

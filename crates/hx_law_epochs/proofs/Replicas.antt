@@ -1,15 +1,14 @@
 -- A server's replicas: those of the regions in which its configuration lists it, each once, empty where not installed; what changes of them keeps this.
-use Rattle.std.proofs.Common.{◌≡◌, inl, inr, Bool, true, false, not, ◌||◌, List, [], map, Option, Some, None, refl, sym, ap, ◌∙◌, subst, cond, eqb}
-use Rattle.std.proofs.lemmas.Bool.{cond_both, eqb-true}
+use Rattle.std.proofs.Common.{◌≡◌, inl, inr, Bool, true, false, List, [], map, Option, Some, None, refl, sym, ap, ◌∙◌, subst, cond}
+use Rattle.std.proofs.lemmas.Bool.{cond_both}
 use Rattle.hx_types.specs.declared.configs.Config.{Config}
-use Rattle.hx_types.specs.declared.ids.Epoch.{Epoch}
 use Rattle.hx_types.specs.declared.ids.RegionId.{RegionId}
 use Rattle.hx_types.specs.declared.ids.ServerId.{ServerId}
 use Rattle.hx_types.specs.declared.spaces.Space.{Space}
 use Rattle.hx_types.specs.Words.{IsIn, when_some}
 use Rattle.hx_types.specs.Configs.{first_config, is_lost, lists}
 use Rattle.hx_model.specs.Slots.{KeyState}
-use Rattle.hx_model.specs.ServerSteps.{Replica, ServerState, adopted, adopted_replica, adopted_state, replica_in_epoch, if_installed, is_active, listed_regions, replica_of, replica_or_new, server_at_start, context_of, with_config, with_replica}
+use Rattle.hx_model.specs.ServerSteps.{Replica, ServerState, adopted, adopted_replica, adopted_state, replica_for, if_installed, is_active, listed_regions, replica_of, replica_or_new, server_at_start, context_of, with_config, with_replica}
 use Rattle.hx_law_lemmas.proofs.Lemmas.{in-map, in-with_replica, replica-found, replica-here, replica-other, which-region, Once, listed-apart, listed-only}
 use Rattle.hx_law_lemmas.proofs.Lemmas.{listed-there, made-found, made-in, made-once, mapped-found, mapped-from, mapped-once, once-replaced}
 use Rattle.hx_law_epochs.proofs.Facts.{Installed}
@@ -44,22 +43,17 @@ module _ (space : Space) (s : ServerId) where
     installed = refl;
   }
 
--- where a replica hears, it is found, the server isn't sealed and has the epoch, and the region isn't lost
-pub record Hears (st : ServerState) (epoch : Epoch) (g : RegionId) (r : Replica) : Type 0 where
+-- where a replica takes messages, it is found, and its region isn't lost
+pub record Takes (st : ServerState) (g : RegionId) (r : Replica) : Type 0 where
   pub found : replica_of g st.replicas ≡ Some r
-  pub not_sealed : st.sealed ≡ false
-  pub own : epoch.0 ≡ st.config.epoch.0
   pub not_lost : is_lost st.config g ≡ false
 
-pub replica_in_epoch-is : (st : ServerState) (epoch : Epoch) (g : RegionId) (r : Replica) → replica_in_epoch st epoch g ≡ Some r → Hears st epoch g r
-replica_in_epoch-is st epoch g r = by st.sealed refl (eqb epoch.0 st.config.epoch.0) refl (is_lost st.config g) refl
+pub replica_for-is : (st : ServerState) (g : RegionId) (r : Replica) → replica_for st g ≡ Some r → Takes st g r
+replica_for-is st g r = by (is_lost st.config g) refl
   where
-    by : (a : Bool) → st.sealed ≡ a → (b : Bool) → eqb epoch.0 st.config.epoch.0 ≡ b → (c : Bool) → is_lost st.config g ≡ c
-        → cond (a || not b || c) None (replica_of g st.replicas) ≡ Some r → Hears st epoch g r
-    by true p b q c t e = absurd (cc)
-    by false p false q c t e = absurd (cc)
-    by false p true q true t e = absurd (cc)
-    by false p true q false t e = record { found = e; not_sealed = p; own = eqb-true epoch.0 st.config.epoch.0 q; not_lost = t }
+    by : (b : Bool) → is_lost st.config g ≡ b → cond b None (replica_of g st.replicas) ≡ Some r → Takes st g r
+    by true t e = absurd (cc)
+    by false t e = record { found = e; not_lost = t }
 
 pub installed-is : (o : Option Replica) (r : Replica) → if_installed o ≡ Some r → (o ≡ Some r) × (r.installed ≡ true)
 installed-is None r = λ e. absurd (cc)

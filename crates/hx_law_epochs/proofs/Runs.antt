@@ -1,8 +1,9 @@
 -- Every run keeps what holds of epochs: by each entry of the coordinator, of a server and of a session.
-use Rattle.std.proofs.Common.{◌≡◌, ℕ, zero, suc, ◌+◌, ◌-◌, ◌<◌, ◌≤◌, ◌⊎◌, inl, inr, Bool, true, false, List, [], ◌∷◌, ◌++◌, Option, Some, None, refl, sym, ap, ◌∙◌, subst, arith, cond, eqb, ltb, leb}
-use Rattle.std.proofs.lemmas.Bool.{and_from, and_parts, cond_both, cond-false, cond-true, eq-eqb, eqb-true, le-leb, leb-true, lt-ltb, ltb-true, ne_eqb, cases_lt}
+use Rattle.std.proofs.Common.{◌≡◌, ℕ, zero, suc, ◌+◌, ◌-◌, ◌<◌, ◌≤◌, ◌⊎◌, inl, inr, Bool, true, false, List, [], ◌∷◌, ◌++◌, Option, Some, None, refl, sym, ap}
+use Rattle.std.proofs.Common.{◌∙◌, subst, arith, cond, eqb, ltb, leb}
+use Rattle.std.proofs.lemmas.Bool.{and_from, and_parts, cond_both, cond-false, cond-true, eq-eqb, eqb-true, le-leb, leb-true, lt-ltb, ltb-true, ne_eqb}
+use Rattle.std.proofs.lemmas.Bool.{cases_lt}
 use Rattle.hx_types.specs.declared.configs.Config.{Config}
-use Rattle.hx_types.specs.declared.configs.Member.{Member}
 use Rattle.hx_types.specs.declared.ids.Actor.{Actor}
 use Rattle.hx_types.specs.declared.ids.Epoch.{Epoch}
 use Rattle.hx_types.specs.declared.ids.RegionId.{RegionId}
@@ -20,7 +21,7 @@ use Rattle.hx_types.specs.declared.messages.Message.TheVariants as a_message
 use Rattle.hx_types.specs.declared.ids.Actor.TheVariants.{Coordinator, Server, Session}
 use Rattle.hx_types.specs.declared.traces.Input.TheVariants.{Deliver}
 use Rattle.hx_types.specs.declared.traces.Note.TheVariants as a_note
-use Rattle.hx_types.specs.Words.{IsBefore, IsIn, below, first_some, post, same_server}
+use Rattle.hx_types.specs.Words.{IsIn, below, first_some, post, same_server}
 use Rattle.hx_types.specs.Configs.{first_config, is_lost, lists_ready, members_of}
 use Rattle.hx_types.specs.Spaces.{IsServerOf}
 use Rattle.hx_types.specs.Fitting.{IsScript}
@@ -28,19 +29,24 @@ use Rattle.hx_model.specs.Causes.{config_noted, config_of}
 use Rattle.hx_model.specs.ServerSteps.{ServerState, server_step}
 use Rattle.hx_model.specs.CoordinatorSteps.{CoordinatorState, coordinator_step}
 use Rattle.hx_model.specs.SessionSteps.{SessionState, session_step}
-use Rattle.hx_model.specs.Runs.{IsRun, IsStep, Output, MayTake, coordinator_after, coordinator_of, has_halted, is_actor, made_of, server_after, server_of, session_after, session_of}
+use Rattle.hx_model.specs.Runs.{IsRun, IsStep, Output, MayTake, coordinator_after, coordinator_of, has_halted, is_actor, made_of, server_after, server_of}
+use Rattle.hx_model.specs.Runs.{session_after, session_of}
 use Rattle.hx_law_lemmas.specs.Words.{posts_of}
-use Rattle.hx_law_lemmas.proofs.Lemmas.{in-append, in-below, in-map, in_left, in_right, map-in, all-ready, started, arrived, members-differ, session_turn}
+use Rattle.hx_law_lemmas.proofs.Lemmas.{before-first, in-below, in-map, in_left, in_right, map-in, all-ready, listed-in, started, arrived, members-differ}
+use Rattle.hx_law_lemmas.proofs.Lemmas.{session_turn}
 use Rattle.hx_law_lemmas.proofs.Lemmas.{SaysOf}
 use Rattle.hx_law_posts.proofs.Lemmas.{first-of_space, member-server}
-use Rattle.hx_law_epochs.specs.Epochs.{FollowsOn, IsSealedOrHalted, RunsOn, WasIssued}
+use Rattle.hx_law_epochs.specs.Epochs.{FollowsOn, RunsOn, WasIssued}
 use Rattle.hx_law_epochs.proofs.Controls.{Controls}
-use Rattle.hx_law_epochs.proofs.Coordinator.{coordinates}
-use Rattle.hx_law_epochs.proofs.Facts.{KeptBy, Says}
+use Rattle.hx_law_epochs.proofs.Coordinator.{coordinates, coordinating-kept}
+use Rattle.hx_law_epochs.proofs.Facts.{EpochsKept, Says}
+use Rattle.hx_law_epochs.proofs.Growing.{GrownOut, grown-out-self}
+use Rattle.hx_law_epochs.proofs.Next.{IsOrderly}
 use Rattle.hx_law_epochs.proofs.Replicas.{Shaped, start-installed, start-shaped}
 use Rattle.hx_law_epochs.proofs.Servers.{Does, Tells, server-does}
-use Rattle.hx_law_epochs.proofs.Serving.{May, leads-installed, ready-listed, serving-kept}
+use Rattle.hx_law_epochs.proofs.Serving.{leads-installed, ready-listed, serving-kept}
 use Rattle.hx_law_epochs.proofs.Sessions.{session-config, session-issues, session-says}
+use Rattle.hx_law_epochs.proofs.Widening.{Widens, more-kept, same-kept}
 
 -- a server of the script
 abbrev pub Real : Script → ServerId → Type 0
@@ -60,7 +66,7 @@ pub record Known (script : Script) (t : List Entry) : Type 0 where
 
 -- what every run keeps of epochs
 pub record EpochsRun (script : Script) (t : List Entry) : Type 0 where
-  pub epochs : KeptBy (Real script) (λ s. server_of script s t) (coordinator_of script t) (posts_of t)
+  pub epochs : EpochsKept (Real script) (λ s. server_of script s t) (IsKnown script t) (coordinator_of script t).config (posts_of t)
   pub shaped : (s : ServerId) → Shaped s (server_of script s t)
   pub known : Known script t
 
@@ -82,24 +88,30 @@ first-there space s (a, b) =
 real-server : (script : Script) (s : ServerId) → Real script s → IsServerOf script.space s
 real-server script s e = let a = and_parts (ltb 0 s.0) (leb s.0 script.space.servers) e in (ltb-true 0 s.0 a.0, leb-true s.0 script.space.servers a.1)
 
+-- at the start the first configuration is known alone
+first-known : (script : Script) (k : Config) → IsKnown script [] k → k ≡ first_config script.space
+first-known script k =
+    cond_both (eqb k.epoch.0 1) (Some (first_config script.space)) None (λ o. o ≡ Some k → k ≡ first_config script.space)
+    (λ t e. sym (let q : first_config script.space ≡ k = cc in q))
+    (λ t e. absurd (cc))
+
+-- no two of an epoch are known
+known-one : (script : Script) (t : List Entry) (k m : Config) → IsKnown script t k → IsKnown script t m → k.epoch ≡ m.epoch → k ≡ m
+known-one script t k m a b e = let q : Some k ≡ Some m = sym a ∙ ap (λ (x : Epoch). config_of script x t) e ∙ b in cc
+
 start-run : (script : Script) → IsScript script → EpochsRun script []
 start-run script valid = record {
   epochs = record {
-    orderly = record {
-      members = λ g m i. first-there script.space m.server (member-server script.space (first_config script.space) (first-of_space script.space valid.space) g m i);
-      differ = members-differ script.space valid.space;
-      joins_last = λ g m x b. all-ready script.space g m (before-first (members_of (first_config script.space) g) m x b);
-    };
+    newest = refl;
+    last = λ k a. (let e = ap (λ (x : Config). x.epoch.0) (first-known script k a) in omega (arith, e));
+    one = known-one script [];
+    orderly = λ k a. subst IsOrderly (sym (first-known script k a)) orderly;
+    grown = λ k n a b l. subst (GrownOut k) (first-known script k a ∙ sym (first-known script n b)) (grown-out-self k);
+    own = λ s. refl;
+    home = λ g s i. listed-in (first_config script.space) g s ((start-shaped script.space s).only g i.replica i.found);
     listed = λ s r l. first-there script.space s (real-server script s r);
-    near = λ s r l. inl refl;
-    low = λ s. omega arith;
-    departed = λ s i. absurd i;
-    waits = tt;
-    became_ready = λ j i. absurd i;
-    ready = λ g s t. start-installed script.space s g (ready-listed (first_config script.space) g s t);
-    real = λ s i. (let m = in-map (λ n. record { 0 = n + 1 }) (below script.space.servers) s i in
-        let b = in-below script.space.servers m.0 m.1 in
-        subst (λ (x : ServerId). Real script x) (sym m.2) (and_from (ltb 0 (m.0 + 1)) (leb (m.0 + 1) script.space.servers) (lt-ltb 0 (m.0 + 1) (omega arith)) (le-leb (m.0 + 1) script.space.servers (omega (arith, b)))));
+    ready = λ k a g s t. start-installed script.space s g (ready-listed (first_config script.space) g s (subst (λ (x : Config). lists_ready x g s ≡ true) (first-known script k a) t));
+    real = λ k a s i. first-real s (subst (λ (x : Config). IsIn s x.servers) (first-known script k a) i);
     says = λ p i. absurd i;
   };
   shaped = λ s. start-shaped script.space s;
@@ -117,10 +129,18 @@ start-run script valid = record {
   };
 }
   where
-    before-first : (ms : List Member) (m x : Member) → IsBefore m x ms → IsIn m ms
-    before-first [] m x b = absurd b
-    before-first (y ∷ ms) m x (inl (e, i)) = inl e
-    before-first (y ∷ ms) m x (inr b) = inr (before-first ms m x b)
+    orderly : IsOrderly (first_config script.space)
+    orderly = record {
+      members = λ g m i. first-there script.space m.server (member-server script.space (first_config script.space) (first-of_space script.space valid.space) g m i);
+      differ = members-differ script.space valid.space;
+      joins_last = λ g m x b. all-ready script.space g m (before-first (members_of (first_config script.space) g) m x b);
+    }
+
+    first-real : (s : ServerId) → IsIn s (first_config script.space).servers → Real script s
+    first-real s i =
+        let m = in-map (λ n. record { 0 = n + 1 }) (below script.space.servers) s i in
+        let b = in-below script.space.servers m.0 m.1 in
+        subst (λ (x : ServerId). Real script x) (sym m.2) (and_from (ltb 0 (m.0 + 1)) (leb (m.0 + 1) script.space.servers) (lt-ltb 0 (m.0 + 1) (omega arith)) (le-leb (m.0 + 1) script.space.servers (omega (arith, b))))
 
 -- ---- an entry
 
@@ -136,15 +156,17 @@ module _ (script : Script) (valid : IsScript script) (older : List Entry) (kept 
   -- a configuration is issued, or none is
   pub record IssuesNext (c : Config) (ns : List Note) : Type 0 where
     pub follows : FollowsOn d.config c
-    pub sealed : (s : ServerId) → IsIn s d.config.servers → IsSealedOrHalted (N s) d.config.epoch
+    pub orderly : IsOrderly c
+    pub departed : (s : ServerId) → IsIn s d.config.servers → IsIn s c.servers ⊎ ((N s).halted ≡ true)
     pub notes : ns ≡ a_note.Issued c ∷ []
 
   abbrev pub Notes : Config → List Note → Type 0
   Notes c ns = ((c ≡ d.config) × ((epoch : Epoch) → config_noted epoch ns ≡ None)) ⊎ IssuesNext c ns
 
-  -- what is kept by an entry
-  pub record Keeps (a : Actor) (input : Input) (ps : List Post) (ns : List Note) : Type 0 where
-    pub epochs : KeptBy (Real script) (λ s. server_after script.space s a input (N s)) (coordinator_after a input d) (ps ++ posts_of older)
+  -- what is kept by an entry, of what is known after it
+  pub record Keeps (a : Actor) (input : Input) (ps : List Post) (ns : List Note) : Type 1 where
+    pub epochs : (after : Config → Type 0) → Widens (IsKnown script older) after d.config (coordinator_after a input d).config
+        → EpochsKept (Real script) (λ s. server_after script.space s a input (N s)) after (coordinator_after a input d).config (ps ++ posts_of older)
     pub shaped : (s : ServerId) → Shaped s (server_after script.space s a input (N s))
     pub notes : Notes (coordinator_after a input d).config ns
     pub installs : (p : Post) (config : Config) → IsIn p ps → p.message ≡ a_message.Install config → config ≡ (coordinator_after a input d).config
@@ -154,7 +176,7 @@ module _ (script : Script) (valid : IsScript script) (older : List Entry) (kept 
   arrives a id from m h = arrived id older (post from a m) h
 
   -- and says what posts say
-  arrives-says : (a : Actor) (input : Input) → MayTake older a input → (id : PostId) (from : Actor) (m : Message) → input ≡ Deliver id from m → Says N d.config from a m
+  arrives-says : (a : Actor) (input : Input) → MayTake older a input → (id : PostId) (from : Actor) (m : Message) → input ≡ Deliver id from m → Says N (IsKnown script older) d.config from a m
   arrives-says a input may id from m e = kept.epochs.says (post from a m) (arrives a id from m (subst (MayTake older a) e may))
 
   -- ---- a server
@@ -171,19 +193,20 @@ module _ (script : Script) (valid : IsScript script) (older : List Entry) (kept 
   server-others i input j n = cond-false (same_server i j) (server_step script.space (N j) input).state (N j) (ne_eqb i.0 j.0 (λ e. n (λ k. record { 0 = sym e k })))
 
   pub server-does-well : (i : ServerId) (input : Input) → Real script i → (N i).halted ≡ false → MayTake older (Server i) input
-      → Does i (N i) (May d.config) (server_step script.space (N i) input)
+      → Does i (N i) (IsKnown script older) (server_step script.space (N i) input)
   server-does-well i input real up may =
-      server-does script.space i (N i) (kept.shaped i) (leads-installed (Real script) N d.config d.gone d.phase d.joined (posts_of older) kept.epochs i real up script.space (kept.shaped i).id)
-      (May d.config) input (λ id from config e. arrives-says (Server i) input may id from (a_message.Install config) e)
+      server-does script.space i (N i) (kept.shaped i) (leads-installed (Real script) N (IsKnown script older) d.config (posts_of older) kept.epochs i real up script.space (kept.shaped i).id)
+      (IsKnown script older) input (λ id from config e. arrives-says (Server i) input may id from (a_message.Install config) e)
 
   server-keeps : (i : ServerId) (input : Input) → Real script i → (N i).halted ≡ false → MayTake older (Server i) input
       → let step = server_step script.space (N i) input in Keeps (Server i) input step.posts step.notes
   server-keeps i input real up may =
       let step = server_step script.space (N i) input in
       let does = server-does-well i input real up may in
+      let after = serving-kept (Real script) N (IsKnown script older) d.config (posts_of older) kept.epochs i real up step does
+      (λ s. server_after script.space s (Server i) input (N s)) (server-here i input) (server-others i input) in
       record {
-        epochs = serving-kept (Real script) N d.config d.gone d.phase d.joined (posts_of older) kept.epochs i real up step does
-            (λ s. server_after script.space s (Server i) input (N s)) (server-here i input) (server-others i input);
+        epochs = λ known w. same-kept (Real script) (λ s. server_after script.space s (Server i) input (N s)) (IsKnown script older) d.config (step.posts ++ posts_of older) after known d.config w refl;
         shaped = λ s. cond_both (same_server i s) (server_step script.space (N s) input).state (N s) (Shaped s)
             (λ t. (let e = eqb-true i.0 s.0 t in let q : i ≡ s = (λ k. record { 0 = e k }) in subst (λ (x : ServerId). Shaped x (server_step script.space (N x) input).state) q does.shaped))
             (λ t. kept.shaped s);
@@ -195,13 +218,13 @@ module _ (script : Script) (valid : IsScript script) (older : List Entry) (kept 
 
   coordinator-keeps : (input : Input) → MayTake older Coordinator input → let step = coordinator_step d input in Keeps Coordinator input step.posts step.notes
   coordinator-keeps input may =
-      let c = coordinates (Real script) N (posts_of older) d input kept.epochs (λ id from m e. arrives-says Coordinator input may id from m e) in
+      let c = coordinates N d (kept.epochs.orderly d.config kept.epochs.newest) (IsKnown script older) input (λ id from m e. arrives-says Coordinator input may id from m e) in
       record {
-        epochs = c.kept;
+        epochs = λ known w. coordinating-kept (Real script) N (IsKnown script older) d.config (posts_of older) kept.epochs (coordinator_step d input) c known w;
         shaped = kept.shaped;
         notes = elim c.next [
           | inl (e, n) ↦ inl (e, λ epoch. ap (config_noted epoch) n)
-          | inr i ↦ inr (record { follows = i.follows; sealed = i.sealed; notes = i.notes })
+          | inr (i, n) ↦ inr (record { follows = i.follows; orderly = i.orderly; departed = i.departed; notes = n })
         ];
         installs = λ p config j e. subst (Controls (coordinator_step d input).state.config) e (c.controls p j).1;
       }
@@ -215,21 +238,10 @@ module _ (script : Script) (valid : IsScript script) (older : List Entry) (kept 
       let turn = session_turn script.space input s in
       let mid = started turn.start s in
       record {
-        epochs = record {
-          orderly = kept.epochs.orderly;
-          listed = kept.epochs.listed;
-          near = kept.epochs.near;
-          low = kept.epochs.low;
-          departed = kept.epochs.departed;
-          waits = kept.epochs.waits;
-          became_ready = kept.epochs.became_ready;
-          ready = kept.epochs.ready;
-          real = kept.epochs.real;
-          says = λ p i. elim (in-append step.posts (posts_of older) p i) [
-            | inl j ↦ session-says N d.config mid step.state.sent step.state.under_way p.from p.to p.message (turn.turn.says p j).1
-            | inr j ↦ kept.epochs.says p j
-          ];
-        };
+        epochs = λ known w. same-kept (Real script) N (IsKnown script older) d.config (step.posts ++ posts_of older)
+            (more-kept (Real script) N (IsKnown script older) d.config (posts_of older) kept.epochs step.posts
+            (λ p j. session-says N (IsKnown script older) d.config mid step.state.sent step.state.under_way p.from p.to p.message (turn.turn.says p j).1))
+            known d.config w refl;
         shaped = kept.shaped;
         notes = inl (refl, session-issues script.space input s);
         installs = λ p config j e. absurd (no_install mid step.state.sent step.state.under_way config (subst (SaysOf mid step.state.sent step.state.under_way) e (turn.turn.says p j).1));
@@ -297,6 +309,11 @@ module _ (script : Script) (valid : IsScript script) (older : List Entry) (kept 
           let k = kept.known.on.only now.epoch now (sym e ∙ h) in
           let l = k.1 in let f = i.follows.epoch in omega (arith, l, f)
 
+  -- no epoch is earlier
+  grows : Notes script valid older kept now x.notes → was.epoch.0 ≤ now.epoch.0
+  grows (inl (e, f)) = let q = ap (λ (c : Config). c.epoch.0) e in omega (arith, q)
+  grows (inr i) = let q = i.follows.epoch in omega (arith, q)
+
   -- the numbers of the epochs
   now-on : Notes script valid older kept now x.notes → RunsOn script (x ∷ older)
   now-on notes = record {
@@ -311,10 +328,6 @@ module _ (script : Script) (valid : IsScript script) (older : List Entry) (kept 
     ];
   }
     where
-      grows : Notes script valid older kept now x.notes → was.epoch.0 ≤ now.epoch.0
-      grows (inl (e, f)) = let q = ap (λ (c : Config). c.epoch.0) e in omega (arith, q)
-      grows (inr i) = let q = i.follows.epoch in omega (arith, q)
-
       -- an epoch that isn't the new one is no later than before
       low : Notes script valid older kept now x.notes → (epoch : Epoch) → epoch.0 ≤ now.epoch.0 → config_of script epoch (x ∷ older) ≡ config_of script epoch older → epoch.0 ≤ was.epoch.0
       low (inl (e, f)) epoch l same = let q = ap (λ (c : Config). c.epoch.0) e in omega (arith, q, l)
@@ -327,40 +340,34 @@ module _ (script : Script) (valid : IsScript script) (older : List Entry) (kept 
             let o = (kept.known.on.only epoch now w).1 in o)
       ]
 
+  -- one configuration more is known, or none
+  pub widens : Widens (IsKnown script older) (IsKnown script (x ∷ older)) was now
+  widens = record {
+    later = grows here.notes;
+    still = known-still;
+    newest = now-known here.notes;
+    only = λ k h. elim (after-is now here.notes k.epoch) [
+      | inl e ↦ inl (sym e ∙ h)
+      | inr (a, b, e) ↦ inr (let z : Some k ≡ Some now = sym h ∙ e in cc)
+    ];
+  }
+
+  -- what is kept of epochs after the entry
+  pub epochs-after : EpochsKept (Real script) (λ s. server_of script s (x ∷ older)) (IsKnown script (x ∷ older)) now (posts_of (x ∷ older))
+  epochs-after = here.epochs (IsKnown script (x ∷ older)) widens
+
   -- the configurations of actors and posts
   pub known-after : Known script (x ∷ older)
   known-after = record {
     newest = now-known here.notes;
-    servers = λ s. server s x.actor x.input (λ id from config e. install x.actor x.input step.input id from config e) step.actor step.running (here.shaped s);
+    servers = epochs-after.own;
     sessions = λ u. session u x.actor x.input (λ id from config e. install x.actor x.input step.input id from config e);
-    installs = λ p config i e. elim (in-append x.outputs (posts_of older) p i) [
-      | inl j ↦ subst (IsKnown script (x ∷ older)) (sym (here.installs p config j e)) (now-known here.notes)
-      | inr j ↦ known-still config (kept.known.installs p config j e)
-    ];
+    installs = λ p config i e. subst (Says (λ s. server_of script s (x ∷ older)) (IsKnown script (x ∷ older)) now p.from p.to) e (epochs-after.says p i);
     on = now-on here.notes;
   }
     where
       install : (a : Actor) (input : Input) → MayTake older a input → (id : PostId) (from : Actor) (config : Config) → input ≡ Deliver id from (a_message.Install config) → IsKnown script older config
-      install a input may id from config e = kept.known.installs (post from a (a_message.Install config)) config (arrives script valid older kept a id from (a_message.Install config) (subst (MayTake older a) e may)) refl
-
-      server : (s : ServerId) (a : Actor) (input : Input) → ((id : PostId) (from : Actor) (config : Config) → input ≡ Deliver id from (a_message.Install config) → IsKnown script older config)
-          → is_actor script a ≡ true → has_halted script older a ≡ false → Shaped s (server_after script.space s a input (server_of script s older)) → IsKnown script (x ∷ older) (server_after script.space s a input (server_of script s older)).config
-      server s Coordinator input f real up h = known-still _ (kept.known.servers s)
-      server s (Session u) input f real up h = known-still _ (kept.known.servers s)
-      server s (Server i) input f real up h =
-          cond_both (same_server i s) (server_step script.space (server_of script s older) input).state (server_of script s older) (λ (st : ServerState). IsKnown script (x ∷ older) st.config)
-          (λ t. (let e = eqb-true i.0 s.0 t in let q : i ≡ s = (λ k. record { 0 = e k }) in
-          by (subst (λ (y : ServerId). Does y (server_of script y older) (IsKnown script older) (server_step script.space (server_of script y older) input)) q
-          (server-does script.space i (server_of script i older) (kept.shaped i)
-          (leads-installed (Real script) (λ s. server_of script s older) (coordinator_of script older).config (coordinator_of script older).gone (coordinator_of script older).phase (coordinator_of script older).joined (posts_of older) kept.epochs i real up script.space (kept.shaped i).id)
-          (IsKnown script older) input f))))
-          (λ t. known-still _ (kept.known.servers s))
-        where
-          by : Does s (server_of script s older) (IsKnown script older) (server_step script.space (server_of script s older) input) → IsKnown script (x ∷ older) (server_step script.space (server_of script s older) input).state.config
-          by does = elim does.change [
-            | inl k ↦ subst (IsKnown script (x ∷ older)) (sym k.config) (known-still _ (kept.known.servers s))
-            | inr (config, may, k) ↦ subst (IsKnown script (x ∷ older)) (sym k.config_is) (known-still config may)
-          ]
+      install a input may id from config e = arrives-says script valid older kept a input may id from (a_message.Install config) e
 
       session : (u : SessionId) (a : Actor) (input : Input) → ((id : PostId) (from : Actor) (config : Config) → input ≡ Deliver id from (a_message.Install config) → IsKnown script older config)
           → IsKnown script (x ∷ older) (session_after script.space u a input (session_of script u older)).config
@@ -380,7 +387,7 @@ epochs-run script valid [] run = start-run script valid
 epochs-run script valid (x ∷ older) run =
     let kept = epochs-run script valid older run.1 in
     let k = keeps-entry script valid older kept x run.0 in
-    record { epochs = k.epochs; shaped = k.shaped; known = known-after script valid older kept x run.0 }
+    record { epochs = epochs-after script valid older kept x run.0; shaped = k.shaped; known = known-after script valid older kept x run.0 }
 
 -- each configuration is issued as it should be
 pub issued-well : (script : Script) → IsScript script → (x : Entry) (older : List Entry) → IsRun script (x ∷ older) → (next : Config) → IsIn (a_note.Issued next) x.notes → WasIssued script older next
@@ -404,7 +411,13 @@ issued-well script valid x older run next i =
     by kept (inl (e, f)) = absurd (noted x.notes i (f next.epoch))
     by kept (inr k) =
         let same : next ≡ (coordinator_of script (x ∷ older)).config = alone (subst (λ (l : List Note). IsIn (a_note.Issued next) l) k.notes i) in
-        record { before = (coordinator_of script older).config; newest = refl; known = kept.known.newest; follows = subst (FollowsOn (coordinator_of script older).config) (sym same) k.follows; sealed = k.sealed }
+        record {
+          before = (coordinator_of script older).config;
+          newest = refl;
+          known = kept.known.newest;
+          follows = subst (FollowsOn (coordinator_of script older).config) (sym same) k.follows;
+          departed = λ s j out. elim (k.departed s j) [ inl here ↦ absurd (out (subst (λ (c : Config). IsIn s c.servers) (sym same) here)) | inr h ↦ h ];
+        }
       where
         alone : IsIn (a_note.Issued next) (a_note.Issued (coordinator_of script (x ∷ older)).config ∷ []) → next ≡ (coordinator_of script (x ∷ older)).config
         alone (inl e) = cc

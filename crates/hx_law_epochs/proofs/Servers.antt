@@ -1,8 +1,9 @@
--- Each step of a server, as far as epochs go: what becomes of its configuration, its seal and its replicas, and what it posts.
-use Rattle.std.proofs.Common.{◌≡◌, ℕ, ◌<◌, ◌⊎◌, inl, inr, Bool, true, false, not, List, [], ◌∷◌, ◌++◌, map, Option, Some, None, refl, sym, ap, ◌∙◌, subst, ltb, eqb}
+-- Each step of a server, as far as epochs go: what becomes of its configuration and its replicas, and what it posts.
+use Rattle.std.proofs.Common.{◌≡◌, ℕ, ◌<◌, ◌≤◌, ◌⊎◌, inl, inr, Bool, true, false, not, List, [], ◌∷◌, ◌++◌, map, Option, Some, None, refl, sym, ap, ◌∙◌}
+use Rattle.std.proofs.Common.{subst, arith, ltb}
 use Rattle.std.specs.Prelude.{⊤}
 use Rattle.std.specs.List.{filter, flat_map}
-use Rattle.std.proofs.lemmas.Bool.{and_parts, cond_both, eqb-true, false≢true, ltb-true}
+use Rattle.std.proofs.lemmas.Bool.{and_parts, cond_both, false≢true, ltb-true}
 use Rattle.hx_types.specs.declared.calls.Caller.{Caller}
 use Rattle.hx_types.specs.declared.calls.Op.{Op}
 use Rattle.hx_types.specs.declared.configs.Config.{Config}
@@ -21,23 +22,30 @@ use Rattle.hx_types.specs.declared.values.Term.{Term}
 use Rattle.hx_types.specs.declared.messages.Message.TheVariants as a_message
 use Rattle.hx_types.specs.declared.ids.Actor.TheVariants.{Coordinator, Server, Session}
 use Rattle.hx_types.specs.declared.traces.Input.TheVariants.{Tick, Halt, Deliver}
-use Rattle.hx_types.specs.Words.{IsIn, post, same_text, when_some}
+use Rattle.hx_types.specs.Words.{IsIn, post, provided, same_text, when_some}
 use Rattle.hx_types.specs.Effects.{key_of}
 use Rattle.hx_types.specs.Configs.{is_lost, joiner_for, leads, lists, lists_joining, lists_ready}
 use Rattle.hx_types.specs.Subspaces.{is_key_region}
 use Rattle.hx_model.specs.Causes.{config_noted}
+use Rattle.hx_model.specs.Hearing.{hears_ack, hears_snap, hears_update}
+use Rattle.hx_model.specs.Neighbours.{place_number}
 use Rattle.hx_model.specs.Regions.{key_region}
 use Rattle.hx_model.specs.Slots.{KeyState, moved_all, pending_of, pending_of_all, snapshot_of, state_among}
-use Rattle.hx_model.specs.ServerSteps.{Replica, ServerState, ServerStep, SlotStep, Slots, SlotContext, accepting, acked, ack_step, adopted, adopted_posts, asked, at_slot, call_at, call_step, called, called_by, halting, replica_in_epoch, if_installed, input_step, install_at, installed_slots, is_active, join_keys, join_slot, keys_of, message_step, move_posts, offered_all, passed_on, pending_posts, ready_post, replica_of, replica_tick, resumed_posts, saying, seal_at, server_step, snap_posts, snap_to, snapped, context_of, state_from, state_in, tick_step, unmoved, update_step, updated, with_config, with_slots}
+use Rattle.hx_model.specs.ServerSteps.{Replica, ServerState, ServerStep, SlotStep, Slots, SlotContext, accepting, acked, acked_of, ack_step, adopted}
+use Rattle.hx_model.specs.ServerSteps.{adopted_posts, asked, asking_last, at_slot, call_at, call_step, called, called_by, halting, replica_for, if_installed}
+use Rattle.hx_model.specs.ServerSteps.{input_step, install_at, installed_slots, is_active, join_keys, join_slot, keys_of, meeting, message_step, move_posts}
+use Rattle.hx_model.specs.ServerSteps.{offered_all, passed_on, pending_posts, pending_with, poll_post, ready_post, replica_of, replica_tick, resumed_posts}
+use Rattle.hx_model.specs.ServerSteps.{saying, server_step, snap_posts, snap_to, snapped, context_of, state_from, state_in, tick_step, unmoved, update_step}
+use Rattle.hx_model.specs.ServerSteps.{updated, with_config, with_slots}
 use Rattle.hx_law_lemmas.proofs.Lemmas.{in-append, in-flat_map, in-provided, replica-found, replica-here, with_slot_at, once-found}
 use Rattle.hx_law_epochs.proofs.Facts.{FromServer, Installed, SendsSnapshot}
-use Rattle.hx_law_epochs.proofs.Replicas.{Shaped, done-installed, done-shaped, replica_in_epoch-is, installed-is, mid-installed, mid-shaped, replaced-installed, replaced-shaped}
+use Rattle.hx_law_epochs.proofs.Replicas.{Shaped, done-installed, done-shaped, replica_for-is, installed-is, mid-installed, mid-shaped, replaced-installed}
+use Rattle.hx_law_epochs.proofs.Replicas.{replaced-shaped}
 use Rattle.hx_law_epochs.proofs.SlotPosts.{OfSlot, SlotSays, SlotTells, ack-tells, call-tells, moves-of, pending-of, resumed-of, update-tells}
 
 -- the server goes on in its configuration
 pub record Stays (before after : ServerState) : Type 0 where
   pub config : after.config ≡ before.config
-  pub sealed : before.sealed ≡ true → after.sealed ≡ true
   pub halted : before.halted ≡ true → after.halted ≡ true
   pub installed : (g : RegionId) → Installed before g → Installed after g
 
@@ -51,19 +59,19 @@ pub record Adopts (s : ServerId) (config : Config) (before after : ServerState) 
 -- what a post of a server says of it when it is posted
 abbrev pub Tells : ServerId → ServerState → Actor → Message → Type 0
 Tells s st to (a_message.Update epoch g u) = epoch ≡ st.config.epoch
-Tells s st to (a_message.Ack epoch g key version) = epoch ≡ st.config.epoch
+Tells s st to (a_message.Ack epoch g key version by) = epoch ≡ st.config.epoch
 Tells s st to (a_message.Reply number version answer) = ⊤
-Tells s st to (a_message.Found epoch number g rows) = epoch ≡ st.config.epoch
-Tells s st to (a_message.Sealed epoch) = (epoch ≡ st.config.epoch) × (st.sealed ≡ true)
+Tells s st to (a_message.Found epoch number g rows) = ⊤
+Tells s st to (a_message.Poll epoch) = epoch.0 ≤ st.config.epoch.0
 Tells s st to a_message.Gone = st.halted ≡ true
 Tells s st to (a_message.Ready epoch g) = (epoch ≡ st.config.epoch) × Installed st g
-Tells s st to (a_message.Snap epoch g snapshot pending) = (epoch ≡ st.config.epoch) × FromServer to (SendsSnapshot st.config st g s)
+Tells s st to (a_message.Snap epoch g snapshot pending) = (epoch ≡ st.config.epoch) × FromServer to (SendsSnapshot (λ (k : Config). k ≡ st.config) st epoch g s)
 Tells s st to other = ⊥
 
 -- what a slot's post says
 pub slot-tells : (s : ServerId) (st : ServerState) (c : Config) (to : Actor) (m : Message) → c ≡ st.config → SlotSays c m → Tells s st to m
 slot-tells s st c to (a_message.Update epoch g u) e h = h ∙ ap (λ (x : Config). x.epoch) e
-slot-tells s st c to (a_message.Ack epoch g key version) e h = h ∙ ap (λ (x : Config). x.epoch) e
+slot-tells s st c to (a_message.Ack epoch g key version by) e h = h ∙ ap (λ (x : Config). x.epoch) e
 slot-tells s st c to (a_message.Reply number version answer) e h = tt
 slot-tells s st c to other e h = absurd h
 
@@ -81,7 +89,7 @@ module _ (space : Space) (s : ServerId) (st : ServerState) (shaped : Shaped s st
 
   -- nothing changes of it
   stays : Stays st st
-  stays = record { config = refl; sealed = λ e. e; halted = λ e. e; installed = λ g i. i }
+  stays = record { config = refl; halted = λ e. e; installed = λ g i. i }
 
   -- posts alone
   says : (ps : List Post) → ((p : Post) → IsIn p ps → Mine st p) → Does s st May (saying st ps)
@@ -104,7 +112,6 @@ module _ (space : Space) (s : ServerId) (st : ServerState) (shaped : Shaped s st
     shaped = replaced-shaped s st shaped r (with_slot_at r (moved_all step.moves t)) found (λ e. absurd (false≢true (sym e ∙ there)));
     change = inl (record {
       config = refl;
-      sealed = λ e. e;
       halted = λ e. e;
       installed = replaced-installed s st shaped r (with_slot_at r (moved_all step.moves t)) found (λ e. e);
     });
@@ -119,64 +126,90 @@ module _ (space : Space) (s : ServerId) (st : ServerState) (shaped : Shaped s st
   -- ---- messages to replicas
 
   -- where a key's leader hears, it is installed
-  module _ (leads_installed : (g : RegionId) → st.sealed ≡ false → leads space st.config st.id g ≡ true → Installed st g) where
-    call-does : (epoch : Epoch) (g : RegionId) (r : Replica) → replica_in_epoch st epoch g ≡ Some r → (key : List ℕ) (caller : Caller) (op : Op) → Does s st May (call_at space st r key caller op)
-    call-does epoch g r e key caller op =
-        let h = replica_in_epoch-is st epoch g r e in
+  module _ (leads_installed : (g : RegionId) → leads space st.config st.id g ≡ true → Installed st g) where
+    call-does : (g : RegionId) (r : Replica) → replica_for st g ≡ Some r → (key : List ℕ) (caller : Caller) (op : Op) → Does s st May (call_at space st r key caller op)
+    call-does g r e key caller op =
+        let h = replica_for-is st g r e in
         cond_both (leads space st.config st.id r.region) (at_slot st r (state_in space r key) (call_step (context_of space st r.region) (state_in space r key) caller op)) (unmoved st) (Does s st May)
         (
         λ t. slot-does r (state_in space r key) (call_step (context_of space st r.region) (state_in space r key) caller op) (own-name g r h.found)
-        (same (own-name g r h.found) (leads_installed r.region h.not_sealed t)) (call-tells (context_of space st r.region) (state_in space r key) caller op)
+        (same (own-name g r h.found) (leads_installed r.region t)) (call-tells (context_of space st r.region) (state_in space r key) caller op)
         )
         (λ t. rests)
       where
         same : replica_of r.region st.replicas ≡ Some r → Installed st r.region → r.installed ≡ true
         same f i = let p : Some i.replica ≡ Some r = sym i.found ∙ f in let q : i.replica ≡ r = cc in sym (ap (λ (z : Replica). z.installed) q) ∙ i.installed
 
-    called-does : (from : Actor) (epoch : Epoch) (number : ℕ) (op : Op) → Does s st May (called_by space st from epoch number op)
-    called-does Coordinator epoch number op = rests
-    called-does (Server other) epoch number op = rests
-    called-does (Session u) epoch number op = on (key_of op)
+    called-does : (from : Actor) (number : ℕ) (op : Op) → Does s st May (called_by space st from number op)
+    called-does Coordinator number op = rests
+    called-does (Server other) number op = rests
+    called-does (Session u) number op = on (key_of op)
       where
-        hears : (key : List ℕ) (o : Option Replica) → replica_in_epoch st epoch (key_region space key) ≡ o → Does s st May (when_some o (unmoved st) (λ (r : Replica). call_at space st r key (record { session = u; number = number }) op))
+        hears : (key : List ℕ) (o : Option Replica) → replica_for st (key_region space key) ≡ o → Does s st May (when_some o (unmoved st) (λ (r : Replica). call_at space st r key (record { session = u; number = number }) op))
         hears key None e = rests
-        hears key (Some r) e = call-does epoch (key_region space key) r e key (record { session = u; number = number }) op
+        hears key (Some r) e = call-does (key_region space key) r e key (record { session = u; number = number }) op
 
-        on : (o : Option (List ℕ)) → Does s st May (called space st epoch (record { session = u; number = number }) op o)
+        on : (o : Option (List ℕ)) → Does s st May (called space st (record { session = u; number = number }) op o)
         on None = rests
-        on (Some key) = hears key (replica_in_epoch st epoch (key_region space key)) refl
+        on (Some key) = hears key (replica_for st (key_region space key)) refl
+
+  -- where an epoch above the server's own is met, it asks first
+  meets : (epoch : Epoch) (step : ServerStep) → Does s st May step → Does s st May (meeting st epoch step)
+  meets epoch step does = record {
+    shaped = does.shaped;
+    change = does.change;
+    posts = λ p i. elim (in-append (provided (ltb st.config.epoch.0 epoch.0) (poll_post st ∷ [])) step.posts p i) [
+      | inl j ↦ one step.state (poll_post st) (ap Server shaped.id, no-earlier) p (in-provided (ltb st.config.epoch.0 epoch.0) (poll_post st ∷ []) p j).1
+      | inr j ↦ does.posts p j
+    ];
+    notes = does.notes;
+  }
+    where
+      no-earlier : st.config.epoch.0 ≤ step.state.config.epoch.0
+      no-earlier = elim does.change [
+        | inl k ↦ (let e = ap (λ (x : Config). x.epoch.0) k.config in omega (arith, e))
+        | inr (config, may, k) ↦ (let e = ap (λ (x : Config). x.epoch.0) k.config_is in let h = k.higher in omega (arith, h, e))
+      ]
 
   -- Update
-  updated-does : (epoch : Epoch) (g : RegionId) (u : Update) → Does s st May (updated space st u (if_installed (replica_in_epoch st epoch g)))
-  updated-does epoch g u = by (if_installed (replica_in_epoch st epoch g)) refl
+  updated-does : (from : Actor) (g : RegionId) (u : Update) → Does s st May (updated space st from u (if_installed (replica_for st g)))
+  updated-does from g u = by (if_installed (replica_for st g)) refl
     where
-      by : (o : Option Replica) → if_installed (replica_in_epoch st epoch g) ≡ o → Does s st May (updated space st u o)
+      by : (o : Option Replica) → if_installed (replica_for st g) ≡ o → Does s st May (updated space st from u o)
       by None e = rests
       by (Some r) e =
-          let i = installed-is (replica_in_epoch st epoch g) r e in
-          slot-does r (state_in space r u.key) (update_step (context_of space st r.region) (state_in space r u.key) u) (own-name g r (replica_in_epoch-is st epoch g r i.0).found) i.1
-          (update-tells (context_of space st r.region) (state_in space r u.key) u)
+          let i = installed-is (replica_for st g) r e in
+          cond_both (hears_update st.config u (place_number r.region u.places) st.id from)
+          (at_slot st r (state_in space r u.key) (update_step (context_of space st r.region) (state_in space r u.key) u)) (unmoved st) (Does s st May)
+          (λ t. slot-does r (state_in space r u.key) (update_step (context_of space st r.region) (state_in space r u.key) u) (own-name g r (replica_for-is st g r i.0).found) i.1
+          (update-tells (context_of space st r.region) (state_in space r u.key) u))
+          (λ t. rests)
 
   -- Ack
-  acked-does : (epoch : Epoch) (g : RegionId) (key : List ℕ) (v : ℕ) → Does s st May (acked space st key v (if_installed (replica_in_epoch st epoch g)))
-  acked-does epoch g key v = by (if_installed (replica_in_epoch st epoch g)) refl
+  acked-does : (from : Actor) (g : RegionId) (key : List ℕ) (v : ℕ) (by : RegionId) → Does s st May (acked space st from key v by (if_installed (replica_for st g)))
+  acked-does from g key v by = at (if_installed (replica_for st g)) refl
     where
-      by : (o : Option Replica) → if_installed (replica_in_epoch st epoch g) ≡ o → Does s st May (acked space st key v o)
-      by None e = rests
-      by (Some r) e =
-          let i = installed-is (replica_in_epoch st epoch g) r e in
-          slot-does r (state_in space r key) (ack_step (context_of space st r.region) (state_in space r key) v) (own-name g r (replica_in_epoch-is st epoch g r i.0).found) i.1
-          (ack-tells (context_of space st r.region) (state_in space r key) v)
+      at : (o : Option Replica) → if_installed (replica_for st g) ≡ o → Does s st May (acked space st from key v by o)
+      at None e = rests
+      at (Some r) e = of (pending_with v (state_in space r key))
+        where
+          of : (o : Option Update) → Does s st May (acked_of space st from by r (state_in space r key) v o)
+          of None = rests
+          of (Some u) =
+              let i = installed-is (replica_for st g) r e in
+              cond_both (hears_ack st.config u (place_number r.region u.places) st.id from by)
+              (at_slot st r (state_in space r key) (ack_step (context_of space st r.region) (state_in space r key) v)) (unmoved st) (Does s st May)
+              (λ t. slot-does r (state_in space r key) (ack_step (context_of space st r.region) (state_in space r key) v) (own-name g r (replica_for-is st g r i.0).found) i.1
+              (ack-tells (context_of space st r.region) (state_in space r key) v))
+              (λ t. rests)
 
   -- Ask
-  asked-does : (from : Actor) (epoch : Epoch) (number : ℕ) (g : RegionId) (terms : List Term) → Does s st May (asked st from epoch number terms (if_installed (replica_in_epoch st epoch g)))
-  asked-does from epoch number g terms = by (if_installed (replica_in_epoch st epoch g)) refl
+  asked-does : (from : Actor) (epoch : Epoch) (number : ℕ) (g : RegionId) (terms : List Term) → Does s st May (asked st from epoch number terms (if_installed (replica_for st g)))
+  asked-does from epoch number g terms = by (if_installed (replica_for st g))
     where
-      by : (o : Option Replica) → if_installed (replica_in_epoch st epoch g) ≡ o → Does s st May (asked st from epoch number terms o)
-      by None e = rests
-      by (Some r) e =
-          let h = replica_in_epoch-is st epoch g r (installed-is (replica_in_epoch st epoch g) r e).0 in
-          says _ (λ p i. one st _ (ap Server shaped.id, (let q = h.own in λ j. record { 0 = q j })) p (in-provided (lists_ready st.config r.region st.id) _ p i).1)
+      by : (o : Option Replica) → Does s st May (asked st from epoch number terms o)
+      by None = rests
+      by (Some r) = says _ (λ p i. one st _ (ap Server shaped.id, tt) p (in-provided (lists_ready st.config r.region st.id) _ p i).1)
 
   -- a post that says that a joiner is ready
   ready-mine : (after : ServerState) (g : RegionId) → after.config ≡ st.config → Installed after g → (p : Post) → IsIn p (ready_post st g) → Mine after p
@@ -194,23 +227,25 @@ module _ (space : Space) (s : ServerId) (st : ServerState) (shaped : Shaped s st
       (λ p i. elim (in-append slots.posts (flat_map (move_posts context) (accepting context state (offered_all context.region state mine))) p i) [ inl j ↦ f p j | inr j ↦ moves-of context (accepting context state (offered_all context.region state mine)) p j ])
 
   -- Snap
-  snapped-does : (epoch : Epoch) (g : RegionId) (snapshot : List Kept) (pending : List Update) → Does s st May (snapped space st snapshot pending (replica_in_epoch st epoch g))
-  snapped-does epoch g snapshot pending = by (replica_in_epoch st epoch g) refl
+  snapped-does : (from : Actor) (g : RegionId) (snapshot : List Kept) (pending : List Update) → Does s st May (snapped space st from snapshot pending (replica_for st g))
+  snapped-does from g snapshot pending = by (replica_for st g) refl
     where
-      by : (o : Option Replica) → replica_in_epoch st epoch g ≡ o → Does s st May (snapped space st snapshot pending o)
+      by : (o : Option Replica) → replica_for st g ≡ o → Does s st May (snapped space st from snapshot pending o)
       by None e = rests
       by (Some r) e =
-          let found = own-name g r (replica_in_epoch-is st epoch g r e).found in
+          let found = own-name g r (replica_for-is st g r e).found in
           let slots = installed_slots (context_of space st r.region) snapshot pending in
-          cond_both r.installed (saying st (ready_post st r.region)) (with_slots st r slots) (Does s st May)
+          cond_both (not (hears_snap st.config r.region st.id from)) (unmoved st) _ (Does s st May)
+          (λ t. rests)
+          (λ u. cond_both r.installed (saying st (ready_post st r.region)) (with_slots st r slots) (Does s st May)
           (λ t. says (ready_post st r.region) (ready-mine st r.region refl (record { replica = r; found = found; installed = t })))
           (λ t. installs r found slots
-          (join-posts (context_of space st r.region) pending (keys_of pending) (record { states = map (state_from (is_key_region space r.region)) snapshot; posts = [] }) (λ p i. absurd i)))
+          (join-posts (context_of space st r.region) pending (keys_of pending) (record { states = map (state_from (is_key_region space r.region)) snapshot; posts = [] }) (λ p i. absurd i))))
         where
           installs : (r : Replica) → replica_of r.region st.replicas ≡ Some r → (slots : Slots) → ((p : Post) → IsIn p slots.posts → OfSlot (context_of space st r.region) p) → Does s st May (with_slots st r slots)
           installs r found slots f = record {
             shaped = replaced-shaped s st shaped r x found (λ e. absurd (false≢true (sym e)));
-            change = inl (record { config = refl; sealed = λ e. e; halted = λ e. e; installed = replaced-installed s st shaped r x found (λ e. refl) });
+            change = inl (record { config = refl; halted = λ e. e; installed = replaced-installed s st shaped r x found (λ e. refl) });
             posts = λ p i. elim (in-append slots.posts (ready_post st r.region) p i) [
               | inl j ↦ of-slot (with_slots st r slots).state r.region refl p (f p j)
               | inr j ↦ ready-mine (with_slots st r slots).state r.region refl (record { replica = x; found = replica-here r.region x st.replicas r refl found; installed = refl }) p j
@@ -221,25 +256,12 @@ module _ (space : Space) (s : ServerId) (st : ServerState) (shaped : Shaped s st
               x : Replica
               x = record { region = r.region; installed = true; states = slots.states }
 
-  -- ---- seals and halts
-
-  sealed-does : (epoch : Epoch) → Does s st May (seal_at st epoch)
-  sealed-does epoch =
-      cond_both (eqb epoch.0 st.config.epoch.0) (record { state = record st { sealed = true }; posts = post (Server st.id) Coordinator (a_message.Sealed epoch) ∷ []; notes = [] }) (unmoved st) (Does s st May)
-      (
-      λ t. record {
-        shaped = record { id = shaped.id; there = shaped.there; only = shaped.only; once = shaped.once; empty = shaped.empty };
-        change = inl (record { config = refl; sealed = λ e. refl; halted = λ e. e; installed = λ g i. record { replica = i.replica; found = i.found; installed = i.installed } });
-        posts = one (record st { sealed = true }) _ (ap Server shaped.id, ((let q = eqb-true epoch.0 st.config.epoch.0 t in λ j. record { 0 = q j }), refl));
-        notes = λ epoch. refl;
-      }
-      )
-      (λ t. rests)
+  -- ---- halts
 
   halts : Does s st May (halting st)
   halts = record {
     shaped = record { id = shaped.id; there = shaped.there; only = shaped.only; once = shaped.once; empty = shaped.empty };
-    change = inl (record { config = refl; sealed = λ e. e; halted = λ e. refl; installed = λ g i. record { replica = i.replica; found = i.found; installed = i.installed } });
+    change = inl (record { config = refl; halted = λ e. refl; installed = λ g i. record { replica = i.replica; found = i.found; installed = i.installed } });
     posts = one (record st { halted = true }) _ (ap Server shaped.id, refl);
     notes = λ epoch. refl;
   }
@@ -265,9 +287,11 @@ module _ (space : Space) (s : ServerId) (st : ServerState) (shaped : Shaped s st
         (
           ap (λ (c : Config). c.epoch) (sym e),
           record {
-            config = refl;
-            sender = subst (λ (c : Config). joiner_for c r.region s ≡ Some j) (sym e) (subst (λ (x : ServerId). joiner_for st.config r.region x ≡ Some j) shaped.id q);
-            not_lost = subst (λ (c : Config). is_lost c r.region ≡ false) (sym e) l;
+            config = st.config;
+            known = sym e;
+            epoch_is = refl;
+            sender = subst (λ (x : ServerId). joiner_for st.config r.region x ≡ Some j) shaped.id q;
+            not_lost = l;
             installed = h;
           },
         ),
@@ -292,12 +316,17 @@ module _ (space : Space) (s : ServerId) (st : ServerState) (shaped : Shaped s st
         | inr k ↦ ready-mine st r.region refl h p k
       ]
 
+  -- where anything is posted, it asks last
+  asking-mine : (ps : List Post) → ((p : Post) → IsIn p ps → Mine st p) → (p : Post) → IsIn p (asking_last st ps) → Mine st p
+  asking-mine [] f p i = absurd i
+  asking-mine (q ∷ rest) f p i = elim (in-append (q ∷ rest) (poll_post st ∷ []) p i) [
+    | inl j ↦ f p j
+    | inr j ↦ one st (poll_post st) (ap Server shaped.id, omega arith) p j
+  ]
+
   -- Tick
   ticks : Does s st May (tick_step space st)
-  ticks =
-      cond_both st.sealed (post (Server st.id) Coordinator (a_message.Sealed st.config.epoch) ∷ []) (flat_map (replica_tick space st) st.replicas) (λ (ps : List Post). Does s st May (saying st ps))
-      (λ t. says _ (one st _ (ap Server shaped.id, (refl, t))))
-      (λ t. says _ (λ p i. (let r = in-flat_map (replica_tick space st) st.replicas p i in replica-mine r.0 r.1 p r.2)))
+  ticks = says _ (asking-mine (flat_map (replica_tick space st) st.replicas) (λ p i. (let r = in-flat_map (replica_tick space st) st.replicas p i in replica-mine r.0 r.1 p r.2)))
 
   -- what a replica posts when a configuration is adopted, with the server that it has become
   adopted-mine : (after : ServerState) → after.config ≡ st.config → ((g : RegionId) → Installed st g → Installed after g) → (r : Replica) → IsIn r st.replicas → (p : Post) → IsIn p (adopted_posts space st r) → Mine after p
@@ -338,20 +367,23 @@ installs-does space s st shaped May config may =
     (λ t. rests space s st shaped May)
 
 -- each message to a server
-message-does : (space : Space) (s : ServerId) (st : ServerState) → Shaped s st → ((g : RegionId) → st.sealed ≡ false → leads space st.config st.id g ≡ true → Installed st g)
+message-does : (space : Space) (s : ServerId) (st : ServerState) → Shaped s st → ((g : RegionId) → leads space st.config st.id g ≡ true → Installed st g)
     → (May : Config → Type 0) (from : Actor) (m : Message) → ((config : Config) → m ≡ a_message.Install config → May config) → Does s st May (message_step space st from m)
-message-does space s st shaped l May from (a_message.Call epoch number op) f = called-does space s st shaped May l from epoch number op
-message-does space s st shaped l May from (a_message.Update epoch g u) f = updated-does space s st shaped May epoch g u
-message-does space s st shaped l May from (a_message.Ack epoch g key version) f = acked-does space s st shaped May epoch g key version.0
-message-does space s st shaped l May from (a_message.Ask epoch number g terms) f = asked-does space s st shaped May from epoch number g terms
-message-does space s st shaped l May from (a_message.Seal epoch) f = sealed-does space s st shaped May epoch
+message-does space s st shaped l May from (a_message.Call epoch number op) f = meets space s st shaped May epoch (called_by space st from number op) (called-does space s st shaped May l from number op)
+message-does space s st shaped l May from (a_message.Update epoch g u) f =
+    meets space s st shaped May epoch (updated space st from u (if_installed (replica_for st g))) (updated-does space s st shaped May from g u)
+message-does space s st shaped l May from (a_message.Ack epoch g key version by) f =
+    meets space s st shaped May epoch (acked space st from key version.0 by (if_installed (replica_for st g))) (acked-does space s st shaped May from g key version.0 by)
+message-does space s st shaped l May from (a_message.Ask epoch number g terms) f =
+    meets space s st shaped May epoch (asked st from epoch number terms (if_installed (replica_for st g))) (asked-does space s st shaped May from epoch number g terms)
 message-does space s st shaped l May from (a_message.Install config) f = installs-does space s st shaped May config (f config refl)
 message-does space s st shaped l May from a_message.Die f = halts space s st shaped May
-message-does space s st shaped l May from (a_message.Snap epoch g snapshot pending) f = snapped-does space s st shaped May epoch g snapshot pending
+message-does space s st shaped l May from (a_message.Snap epoch g snapshot pending) f =
+    meets space s st shaped May epoch (snapped space st from snapshot pending (replica_for st g)) (snapped-does space s st shaped May from g snapshot pending)
 message-does space s st shaped l May from other f = rests space s st shaped May
 
 -- each step of a server
-pub server-does : (space : Space) (s : ServerId) (st : ServerState) → Shaped s st → ((g : RegionId) → st.sealed ≡ false → leads space st.config st.id g ≡ true → Installed st g)
+pub server-does : (space : Space) (s : ServerId) (st : ServerState) → Shaped s st → ((g : RegionId) → leads space st.config st.id g ≡ true → Installed st g)
     → (May : Config → Type 0) (input : Input) → ((id : PostId) (from : Actor) (config : Config) → input ≡ Deliver id from (a_message.Install config) → May config) → Does s st May (server_step space st input)
 server-does space s st shaped l May input f = cond_both st.halted (unmoved st) (input_step space st input) (Does s st May) (λ t. rests space s st shaped May) (λ t. by input f)
   where

@@ -32,13 +32,13 @@ use Rattle.hx_law_lemmas.proofs.Lemmas.{CallStop, began_notes, end_notes, starte
 use Rattle.hx_law_epochs.proofs.Facts.{Says}
 
 -- what a session posts says nothing of epochs
-pub session-says : (S : _) (c : Config) (s : SessionState) (sent way : Bool) (from to : Actor) (m : Message) → SaysOf s sent way m → Says S c from to m
-session-says S c s sent way from to (a_message.Call epoch number op) h = tt
-session-says S c s sent way from to (a_message.Ask epoch number g terms) h = tt
-session-says S c s sent way from to (a_message.StopServer number server) h = tt
-session-says S c s sent way from to (a_message.AddReplica number server g) h = tt
-session-says S c s sent way from to (a_message.Poll epoch) h = tt
-session-says S c s sent way from to other h = absurd h
+pub session-says : (S : _) (known : _) (c : Config) (s : SessionState) (sent way : Bool) (from to : Actor) (m : Message) → SaysOf s sent way m → Says S known c from to m
+session-says S known c s sent way from to (a_message.Call epoch number op) h = tt
+session-says S known c s sent way from to (a_message.Ask epoch number g terms) h = tt
+session-says S known c s sent way from to (a_message.StopServer number server) h = tt
+session-says S known c s sent way from to (a_message.AddReplica number server g) h = tt
+session-says S known c s sent way from to (a_message.Poll epoch) h = tt
+session-says S known c s sent way from to other h = absurd h
 
 -- a session issues nothing
 turn-issues : (epoch : Epoch) (b : Bool) (m n : ℕ) (stop : Option CallStop) → config_noted epoch (began_notes b m ++ end_notes n stop) ≡ None

@@ -1,5 +1,5 @@
--- Configurations of every run: how each follows on the one before, and when it is issued.
-use Rattle.std.specs.Prelude.{◌≡◌, ◌+◌, ◌<◌, ◌≤◌, ◌⊎◌, true, false, List, ◌∷◌, map, is_some, ⊤, Some}
+-- Configurations of every run: how each follows on the one before, and which servers have halted where it is issued.
+use Rattle.std.specs.Prelude.{◌≡◌, ◌+◌, ◌≤◌, ◌⊎◌, true, false, List, ◌∷◌, map, is_some, ⊤, Some}
 use Rattle.hx_types.specs.declared.configs.Config.{Config}
 use Rattle.hx_types.specs.declared.configs.Member.{Member}
 use Rattle.hx_types.specs.declared.ids.Actor.{Actor}
@@ -18,7 +18,6 @@ use Rattle.hx_types.specs.Configs.{is_lost, lists, lists_joining, lists_ready, m
 use Rattle.hx_types.specs.Fitting.{IsScript}
 use Rattle.hx_model.specs.Runs.{IsRun, coordinator_of, is_actor, server_of, session_of}
 use Rattle.hx_model.specs.Causes.{config_of}
-use Rattle.hx_model.specs.CoordinatorSteps.{Joined, Phase, Sealing, Steady}
 use Rattle.hx_model.specs.Holders.{IsPosted}
 use Rattle.hx_model.specs.ServerSteps.{ServerState, if_installed, replica_of}
 
@@ -37,21 +36,17 @@ pub record FollowsOn (c next : Config) : Type 0 where
   pub ready : (g : RegionId) (s : ServerId) → IsIn s next.servers → lists_ready c g s ≡ true → lists_ready next g s ≡ true
   pub lost : (g : RegionId) → is_lost c g ≡ true → is_lost next g ≡ true
 
--- the server has halted, or is sealed in the epoch
-abbrev pub IsSealedOrHalted : ServerState → Epoch → Type 0
-IsSealedOrHalted s epoch = (s.halted ≡ true) ⊎ ((s.sealed ≡ true) × (s.config.epoch ≡ epoch))
-
--- a configuration was issued where each server of the one before, on which it follows, was sealed in its epoch or had halted
+-- a configuration was issued: it follows on the newest one before, and each server that it leaves out has halted
 pub record WasIssued (script : Script) (older : List Entry) (next : Config) : Type 0 where
   pub before : Config
   pub newest : (coordinator_of script older).config ≡ before
   pub known : config_of script before.epoch older ≡ Some before
   pub follows : FollowsOn before next
-  pub sealed : (s : ServerId) → IsIn s before.servers → IsSealedOrHalted (server_of script s older) before.epoch
+  pub departed : (s : ServerId) → IsIn s before.servers → (IsIn s next.servers → ⊥) → (server_of script s older).halted ≡ true
 
 -- in every run each configuration is issued so
-abbrev pub RunsSealEpochs : Type 0
-RunsSealEpochs =
+abbrev pub RunsFollowOn : Type 0
+RunsFollowOn =
     (script : Script) → IsScript script
     → (x : Entry) (older : List Entry) → IsRun script (x ∷ older)
     → (next : Config) → IsIn (a_note.Issued next) x.notes → WasIssued script older next
@@ -68,32 +63,21 @@ RunsNumberEpochs = (script : Script) → IsScript script → (trace : List Entry
 abbrev pub IsInstalled : ServerState → RegionId → Type 0
 IsInstalled s g = is_some (if_installed (replica_of g s.replicas)) ≡ true
 
--- what a server told of epochs stays: who told that it is gone has halted; who told that it is sealed has halted, is sealed in that epoch or in a later one; who told in the newest epoch that it is ready is installed
+-- what a server told stays: who told that it is gone has halted; who told that it is ready, in whatever epoch, is installed
 abbrev pub HasTold : Script → List Entry → ServerId → Message → Type 0
 HasTold script trace s a_message.Gone = (server_of script s trace).halted ≡ true
-HasTold script trace s (a_message.Sealed epoch) =
-    ((server_of script s trace).halted ≡ true) ⊎ ((epoch.0 < (server_of script s trace).config.epoch.0) ⊎ ((epoch.0 ≡ (server_of script s trace).config.epoch.0) × ((server_of script s trace).sealed ≡ true)))
-HasTold script trace s (a_message.Ready epoch g) = epoch.0 ≡ (coordinator_of script trace).config.epoch.0 → IsInstalled (server_of script s trace) g
+HasTold script trace s (a_message.Ready epoch g) = IsInstalled (server_of script s trace) g
 HasTold script trace s other = ⊤
 
--- while servers are sealed, each that isn't waited for is sealed or has halted
-abbrev pub OthersAreSealed : Script → List Entry → Phase → Type 0
-OthersAreSealed script trace Steady = ⊤
-OthersAreSealed script trace (Sealing waited) =
-    (s : ServerId) → IsIn s (coordinator_of script trace).config.servers → IsIn s waited ⊎ IsSealedOrHalted (server_of script s trace) (coordinator_of script trace).config.epoch
-
--- what holds of epochs after a run: configurations of actors are known; a server that hasn't halted is in the newest configuration, and has it, or is sealed in the one on which it follows; the departed have halted; ready members and joiners that became ready are installed
+-- what holds of epochs after a run: configurations of actors are known, and none is newer than the coordinator's; a server that hasn't halted is in the newest; installed replicas are listed by their server's own configuration; ready members of every known configuration are installed
 pub record EpochsHold (script : Script) (trace : List Entry) : Type 0 where
   pub servers_known : (s : ServerId) → config_of script (server_of script s trace).config.epoch trace ≡ Some (server_of script s trace).config
   pub sessions_known : (u : SessionId) → config_of script (session_of script u trace).config.epoch trace ≡ Some (session_of script u trace).config
   pub newest_known : config_of script (coordinator_of script trace).config.epoch trace ≡ Some (coordinator_of script trace).config
+  pub older : (s : ServerId) → (server_of script s trace).config.epoch.0 ≤ (coordinator_of script trace).config.epoch.0
   pub listed : (s : ServerId) → is_actor script (Server s) ≡ true → (server_of script s trace).halted ≡ false → IsIn s (coordinator_of script trace).config.servers
-  pub near : (s : ServerId) → is_actor script (Server s) ≡ true → (server_of script s trace).halted ≡ false
-      → ((server_of script s trace).config ≡ (coordinator_of script trace).config) ⊎ (FollowsOn (server_of script s trace).config (coordinator_of script trace).config × ((server_of script s trace).sealed ≡ true))
-  pub departed : (s : ServerId) → IsIn s (coordinator_of script trace).gone → (server_of script s trace).halted ≡ true
-  pub sealed : OthersAreSealed script trace (coordinator_of script trace).phase
-  pub ready : (g : RegionId) (s : ServerId) → lists_ready (coordinator_of script trace).config g s ≡ true → IsInstalled (server_of script s trace) g
-  pub became_ready : (j : Joined) → IsIn j (coordinator_of script trace).joined → (lists_joining (coordinator_of script trace).config j.region j.server ≡ true) × (is_lost (coordinator_of script trace).config j.region ≡ false) × IsInstalled (server_of script j.server trace) j.region
+  pub home : (s : ServerId) (g : RegionId) → IsInstalled (server_of script s trace) g → lists (server_of script s trace).config g s ≡ true
+  pub ready : (epoch : Epoch) (c : Config) → config_of script epoch trace ≡ Some c → (g : RegionId) (s : ServerId) → lists_ready c g s ≡ true → IsInstalled (server_of script s trace) g
   pub told : (s : ServerId) (to : Actor) (m : Message) → IsPosted trace (post (Server s) to m) → HasTold script trace s m
   pub installs : (from to : Actor) (config : Config) → IsPosted trace (post from to (a_message.Install config)) → (config_of script config.epoch trace ≡ Some config) × (config.epoch.0 ≤ (coordinator_of script trace).config.epoch.0)
 

@@ -2,14 +2,14 @@
 //! stopped or added.
 #![tactic(auto)]
 
-ghost use Rattle.hx_law_epochs.specs.Epochs.{RunsKeepEpochs, RunsLoseReplicas, RunsNumberEpochs, RunsSealEpochs};
+ghost use Rattle.hx_law_epochs.specs.Epochs.{RunsFollowOn, RunsKeepEpochs, RunsLoseReplicas, RunsNumberEpochs};
 
-/// In every run of a valid script a configuration is issued only where each server of the one
-/// before is sealed in its epoch or has halted; and it follows on that one: servers only leave
-/// it, each region's list is the one before without the departed, with at most one joiner more at
-/// its end, who is ready stays so, and what is lost stays lost.
-pub fn epochs_are_sealed()
-    ensures { RunsSealEpochs }
+/// In every run of a valid script a configuration follows on the one before it: servers only
+/// leave, each region's list is the one before without the departed, with at most one joiner more
+/// at its end, who is ready stays so, and what is lost stays lost; and each server that it leaves
+/// out had halted before it was issued.
+pub fn configurations_follow_on()
+    ensures { RunsFollowOn }
 {}
 
 /// In every run of a valid script the epochs run 1, 2, 3 and so on up to the coordinator's, each
@@ -19,11 +19,10 @@ pub fn epochs_are_numbered()
 {}
 
 /// After every run of a valid script: the configurations of all actors are that of epoch 1 or
-/// issued ones; each server that hasn't halted is in the newest configuration, and has it, or has
-/// the one before and is sealed; the servers that the coordinator holds as gone have halted;
-/// while it seals, each server that it doesn't wait for is sealed or has halted; each ready
-/// member and each joiner that became ready is installed; and what servers told of halts, seals
-/// and readiness stays so.
+/// issued ones, and so is the configuration of each Install that was posted; no server has a
+/// newer one than the coordinator; each server that hasn't halted is in the newest configuration;
+/// a replica is installed only where its server's own configuration lists it; each ready member
+/// of whatever configuration is installed; and what servers told of halts and readiness stays so.
 pub fn epochs_hold()
     ensures { RunsKeepEpochs }
 {}

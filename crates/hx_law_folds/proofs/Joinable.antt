@@ -1,6 +1,6 @@
 -- In every run each slot of a server can be sent to a joiner: each step keeps it so.
-use Rattle.std.proofs.Common.{◌≡◌, ℕ, ◌<◌, Bool, true, false, List, [], ◌∷◌, map, Option, Some, None, refl, ap, sym, ◌∙◌, subst, cond, eqb, ltb}
-use Rattle.std.specs.Prelude.{◌||◌, not}
+use Rattle.std.proofs.Common.{◌≡◌, ℕ, ◌<◌, Bool, true, false, List, [], ◌∷◌, map, Option, Some, None, refl, ap, sym, ◌∙◌, subst, cond, ltb}
+use Rattle.std.specs.Prelude.{not}
 use Rattle.std.specs.List.{AllByRecursion, filter}
 use Rattle.std.specs.Option.{IfSome}
 use Rattle.std.proofs.lemmas.Bool.{cond_both, eqb-true, ltb-true}
@@ -25,8 +25,15 @@ use Rattle.hx_types.specs.Effects.{key_of}
 use Rattle.hx_types.specs.Subspaces.{is_key_region}
 use Rattle.hx_types.specs.Words.{same_region, same_text, text_below, when_some}
 use Rattle.hx_model.proofs.Lemmas.{base-moved_all, eq_of_same_text}
+use Rattle.hx_model.specs.Hearing.{hears_ack, hears_snap, hears_update}
+use Rattle.hx_model.specs.Neighbours.{place_number}
 use Rattle.hx_model.specs.Regions.{key_region}
-use Rattle.hx_model.specs.ServerSteps.{Replica, ServerState, ServerStep, SlotStep, Slots, SlotContext, accepting, ack_step, acked, adopted, adopted_replica, adopted_state, asked, at_slot, call_at, call_step, called, called_by, replica_in_epoch, if_installed, input_step, install_at, installed_slots, is_active, join_keys, join_slot, keys_of, listed_regions, message_step, offered_all, ready_post, replica_of, replica_or_new, resumed, saying, seal_at, server_at_start, server_step, snapped, context_of, state_from, state_in, unmoved, update_step, updated, with_config, with_slots}
+use Rattle.hx_model.specs.ServerSteps.{Replica, ServerState, ServerStep, SlotContext, SlotStep, Slots, accepting, ack_step, acked, acked_of}
+use Rattle.hx_model.specs.ServerSteps.{adopted, adopted_replica, adopted_state, asked, at_slot, call_at, call_step, called, called_by}
+use Rattle.hx_model.specs.ServerSteps.{context_of, if_installed, input_step, install_at, installed_slots, is_active, join_keys, join_slot}
+use Rattle.hx_model.specs.ServerSteps.{keys_of, listed_regions, message_step, offered_all, pending_with, ready_post, replica_for}
+use Rattle.hx_model.specs.ServerSteps.{replica_of, replica_or_new, resumed, saying, server_at_start, server_step, snapped, state_from}
+use Rattle.hx_model.specs.ServerSteps.{state_in, unmoved, update_step, updated, with_config, with_slots}
 use Rattle.hx_model.specs.Slots.{KeyState, kept_of, snapshot_of, moved_all, state_among, with_state}
 use Rattle.hx_law_folds.specs.Folding.{CanJoin, KeysDiffer, InputJoins, IsAfter, IsJoinable, IsJoinableReplica, IsJoinableServer, KeptsAscend, KeysAscend, MessageJoins}
 use Rattle.hx_law_folds.proofs.Owning.{ack-joinable, adopted-joinable, call-joinable, join-joinable, joinable-from, joinable-new, joinable-sent, update-joinable}
@@ -62,28 +69,31 @@ among-joinable : (g : RegionId) (b : Bool) (key : List ℕ) (states : List KeySt
 among-joinable g b key [] h = joinable-new g b key
 among-joinable g b key (s ∷ rest) h = cond_both (same_text s.base.key key) s (state_among b key rest) (IsJoinable g b) (λ e. h.0) (λ e. among-joinable g b key rest h.1)
 
--- the replica that hears a message
-pub record IsHeard (space : Space) (g : RegionId) (r : Replica) : Type 0 where
+-- the replica that takes messages for a region
+pub record IsTaking (space : Space) (g : RegionId) (r : Replica) : Type 0 where
   pub replica : IsJoinableReplica space r
   pub region : r.region ≡ g
 
-replica-heard : (space : Space) (g : RegionId) (rs : List Replica) → AllByRecursion (IsJoinableReplica space) rs → IfSome (replica_of g rs) (IsHeard space g)
-replica-heard space g [] h = tt
-replica-heard space g (r ∷ rest) h =
-    cond_both (same_region r.region g) (Some r) (replica_of g rest) (λ (o : Option Replica). IfSome o (IsHeard space g))
+replica-taking : (space : Space) (g : RegionId) (rs : List Replica) → AllByRecursion (IsJoinableReplica space) rs → IfSome (replica_of g rs) (IsTaking space g)
+replica-taking space g [] h = tt
+replica-taking space g (r ∷ rest) h =
+    cond_both (same_region r.region g) (Some r) (replica_of g rest) (λ (o : Option Replica). IfSome o (IsTaking space g))
     (λ e. record { replica = h.0; region = λ j. record { 0 = eqb-true r.region.0 g.0 e j } })
-    (λ e. replica-heard space g rest h.1)
+    (λ e. replica-taking space g rest h.1)
 
-heard : (space : Space) (s : ServerState) → IsJoinableServer space s → (epoch : Epoch) (g : RegionId) → IfSome (replica_in_epoch s epoch g) (IsHeard space g)
-heard space s h epoch g =
-    cond_both (s.sealed || not (eqb epoch.0 s.config.epoch.0) || is_lost s.config g) None (replica_of g s.replicas) (λ (o : Option Replica). IfSome o (IsHeard space g))
+taking : (space : Space) (s : ServerState) → IsJoinableServer space s → (g : RegionId) → IfSome (replica_for s g) (IsTaking space g)
+taking space s h g =
+    cond_both (is_lost s.config g) None (replica_of g s.replicas) (λ (o : Option Replica). IfSome o (IsTaking space g))
     (λ e. tt)
-    (λ e. replica-heard space g s.replicas h)
+    (λ e. replica-taking space g s.replicas h)
 
 -- the replica that is installed
-installed-heard : (P : Replica → Type 0) (o : Option Replica) → IfSome o P → IfSome (if_installed o) P
-installed-heard P None h = tt
-installed-heard P (Some r) h = cond_both r.installed (Some r) None (λ (o : Option Replica). IfSome o P) (λ e. h) (λ e. tt)
+installed-taking : (P : Replica → Type 0) (o : Option Replica) → IfSome o P → IfSome (if_installed o) P
+installed-taking P None h = tt
+installed-taking P (Some r) h = cond_both r.installed (Some r) None (λ (o : Option Replica). IfSome o P) (λ e. h) (λ e. tt)
+
+taking_installed : (space : Space) (s : ServerState) → IsJoinableServer space s → (g : RegionId) → IfSome (if_installed (replica_for s g)) (IsTaking space g)
+taking_installed space s h g = installed-taking (IsTaking space g) (replica_for s g) (taking space s h g)
 
 module _ (space : Space) (s : ServerState) (h : IsJoinableServer space s) where
   abbrev Stays : ServerStep → Type 0
@@ -103,7 +113,8 @@ module _ (space : Space) (s : ServerState) (h : IsJoinableServer space s) where
       h
 
   -- Call
-  call-stays : (key : List ℕ) (caller : Caller) (op : Op) (o : Option Replica) → IfSome o (IsHeard space (key_region space key)) → Stays (when_some o (unmoved s) (λ (r : Replica). call_at space s r key caller op))
+  call-stays : (key : List ℕ) (caller : Caller) (op : Op) (o : Option Replica) → IfSome o (IsTaking space (key_region space key))
+      → Stays (when_some o (unmoved s) (λ (r : Replica). call_at space s r key caller op))
   call-stays key caller op None k = h
   call-stays key caller op (Some r) k =
       cond_both (leads space s.config s.id r.region) _ (unmoved s) Stays
@@ -113,24 +124,44 @@ module _ (space : Space) (s : ServerState) (h : IsJoinableServer space s) where
       )
       (λ e. h)
 
-  called-stays : (epoch : Epoch) (caller : Caller) (op : Op) (key : Option (List ℕ)) → Stays (called space s epoch caller op key)
-  called-stays epoch caller op None = h
-  called-stays epoch caller op (Some key) = call-stays key caller op (replica_in_epoch s epoch (key_region space key)) (heard space s h epoch (key_region space key))
+  called-stays : (caller : Caller) (op : Op) (key : Option (List ℕ)) → Stays (called space s caller op key)
+  called-stays caller op None = h
+  called-stays caller op (Some key) = call-stays key caller op (replica_for s (key_region space key)) (taking space s h (key_region space key))
 
-  called_by-stays : (from : Actor) (epoch : Epoch) (number : ℕ) (op : Op) → Stays (called_by space s from epoch number op)
-  called_by-stays Coordinator epoch number op = h
-  called_by-stays (Server other) epoch number op = h
-  called_by-stays (Session session) epoch number op = called-stays epoch (record { session = session; number = number }) op (key_of op)
+  called_by-stays : (from : Actor) (number : ℕ) (op : Op) → Stays (called_by space s from number op)
+  called_by-stays Coordinator number op = h
+  called_by-stays (Server other) number op = h
+  called_by-stays (Session session) number op = called-stays (record { session = session; number = number }) op (key_of op)
 
   -- Update
-  updated-stays : (u : Update) → IsAfter u → (g : RegionId) (o : Option Replica) → IfSome o (IsHeard space g) → Stays (updated space s u o)
-  updated-stays u after g None k = h
-  updated-stays u after g (Some r) k = slot-stays r k.replica u.key (update_step (context_of space s r.region) (state_in space r u.key) u) (update-joinable (context_of space s r.region) (is_key_region space r.region) (state_in space r u.key) (here r k.replica u.key) u (later-of r.region u after) (sym (among-key (is_key_region space r.region) u.key r.states)))
+  updated-stays : (from : Actor) (u : Update) → IsAfter u → (g : RegionId) (o : Option Replica) → IfSome o (IsTaking space g) → Stays (updated space s from u o)
+  updated-stays from u after g None k = h
+  updated-stays from u after g (Some r) k =
+      cond_both (hears_update s.config u (place_number r.region u.places) s.id from) _ (unmoved s) Stays
+      (
+      λ e. let at_key = is_key_region space r.region in
+      let state = state_in space r u.key in
+      slot-stays r k.replica u.key (update_step (context_of space s r.region) state u)
+      (update-joinable (context_of space s r.region) at_key state (here r k.replica u.key) u (later-of r.region u after)
+      (sym (among-key at_key u.key r.states)))
+      )
+      (λ e. h)
 
   -- Ack
-  acked-stays : (key : List ℕ) (v : ℕ) (g : RegionId) (o : Option Replica) → IfSome o (IsHeard space g) → Stays (acked space s key v o)
-  acked-stays key v g None k = h
-  acked-stays key v g (Some r) k = slot-stays r k.replica key (ack_step (context_of space s r.region) (state_in space r key) v) (ack-joinable (context_of space s r.region) (is_key_region space r.region) (state_in space r key) (here r k.replica key) v)
+  acked-stays : (from : Actor) (key : List ℕ) (v : ℕ) (region g : RegionId) (o : Option Replica) → IfSome o (IsTaking space g)
+      → Stays (acked space s from key v region o)
+  acked-stays from key v region g None k = h
+  acked-stays from key v region g (Some r) k = of (pending_with v (state_in space r key))
+    where
+      of : (o : Option Update) → Stays (acked_of space s from region r (state_in space r key) v o)
+      of None = h
+      of (Some u) =
+          cond_both (hears_ack s.config u (place_number r.region u.places) s.id from region) _ (unmoved s) Stays
+          (
+          λ e. slot-stays r k.replica key (ack_step (context_of space s r.region) (state_in space r key) v)
+          (ack-joinable (context_of space s r.region) (is_key_region space r.region) (state_in space r key) (here r k.replica key) v)
+          )
+          (λ e. h)
 
   -- Ask
   asked-stays : (from : Actor) (epoch : Epoch) (number : ℕ) (terms : List Term) (o : Option Replica) → Stays (asked s from epoch number terms o)
@@ -185,16 +216,22 @@ join-slots context us after slots (key ∷ rest) k =
 
 module _ (space : Space) (s : ServerState) (h : IsJoinableServer space s) where
   -- Snap
-  snapped-stays : (snapshot : List Kept) (pending : List Update) → AllByRecursion (λ (k : Kept). 0 < k.floor.0) snapshot → KeptsAscend snapshot → AllByRecursion IsAfter pending → (o : Option Replica)
-      → IsJoinableServer space (snapped space s snapshot pending o).state
-  snapped-stays snapshot pending floors keys after None = h
-  snapped-stays snapshot pending floors keys after (Some r) =
-      cond_both r.installed (saying s (ready_post s r.region)) (with_slots s r (installed_slots (context_of space s r.region) snapshot pending)) (λ (x : ServerStep). IsJoinableServer space x.state)
+  snapped-stays : (from : Actor) (snapshot : List Kept) (pending : List Update) → AllByRecursion (λ (k : Kept). 0 < k.floor.0) snapshot
+      → KeptsAscend snapshot → AllByRecursion IsAfter pending → (o : Option Replica)
+      → IsJoinableServer space (snapped space s from snapshot pending o).state
+  snapped-stays from snapshot pending floors keys after None = h
+  snapped-stays from snapshot pending floors keys after (Some r) =
+      cond_both (not (hears_snap s.config r.region s.id from)) (unmoved s) _ (λ (x : ServerStep). IsJoinableServer space x.state)
+      (λ e. h)
+      (
+      λ d. cond_both r.installed (saying s (ready_post s r.region)) (with_slots s r (installed_slots (context_of space s r.region) snapshot pending))
+      (λ (x : ServerStep). IsJoinableServer space x.state)
       (λ e. h)
       (
       λ e. let b = is_key_region space r.region in
       let j = join-slots (context_of space s r.region) pending after (record { states = map (state_from b) snapshot; posts = [] }) (keys_of pending) (record { slots = from-joinable r.region b snapshot floors; ascend = from-ascends b snapshot keys }) in
       with-replicas (IsJoinableReplica space) _ s.replicas (record { slots = j.slots; ascend = j.ascend }) h
+      )
       )
 
 -- Install
@@ -218,9 +255,10 @@ adopted-stays space s (r ∷ rest) h = (
 
 new-replica : (space : Space) (rs : List Replica) (g : RegionId) → AllByRecursion (IsJoinableReplica space) rs → IsJoinableReplica space (replica_or_new rs g)
 new-replica space rs g h =
-    by (replica_of g rs) (replica-heard space g rs h)
+    by (replica_of g rs) (replica-taking space g rs h)
   where
-    by : (o : Option Replica) → IfSome o (IsHeard space g) → IsJoinableReplica space (when_some o (record { region = g; installed = false; states = [] }) (λ (r : Replica). r))
+    by : (o : Option Replica) → IfSome o (IsTaking space g)
+        → IsJoinableReplica space (when_some o (record { region = g; installed = false; states = [] }) (λ (r : Replica). r))
     by None k = record { slots = tt; ascend = tt }
     by (Some r) k = k.replica
 
@@ -238,17 +276,14 @@ module _ (space : Space) (s : ServerState) (h : IsJoinableServer space s) where
       (λ e. adopted-stays space (with_config s config) (with_config s config).replicas (config-server space s config h))
       (λ e. h)
 
-  seal-stays : (epoch : Epoch) → IsJoinableServer space (seal_at s epoch).state
-  seal-stays epoch = cond_both (eqb epoch.0 s.config.epoch.0) _ (unmoved s) (λ (x : ServerStep). IsJoinableServer space x.state) (λ e. h) (λ e. h)
-
   message-stays : (from : Actor) (m : Message) → MessageJoins m → IsJoinableServer space (message_step space s from m).state
-  message-stays from (a_message.Call epoch number op) f = called_by-stays space s h from epoch number op
-  message-stays from (a_message.Update epoch g u) f = updated-stays space s h u f g (if_installed (replica_in_epoch s epoch g)) (installed-heard (IsHeard space g) (replica_in_epoch s epoch g) (heard space s h epoch g))
-  message-stays from (a_message.Ack epoch g key version) f = acked-stays space s h key version.0 g (if_installed (replica_in_epoch s epoch g)) (installed-heard (IsHeard space g) (replica_in_epoch s epoch g) (heard space s h epoch g))
-  message-stays from (a_message.Ask epoch number g terms) f = asked-stays space s h from epoch number terms (if_installed (replica_in_epoch s epoch g))
-  message-stays from (a_message.Seal epoch) f = seal-stays epoch
+  message-stays from (a_message.Call epoch number op) f = called_by-stays space s h from number op
+  message-stays from (a_message.Update epoch g u) f = updated-stays space s h from u f g (if_installed (replica_for s g)) (taking_installed space s h g)
+  message-stays from (a_message.Ack epoch g key version region) f =
+      acked-stays space s h from key version.0 region g (if_installed (replica_for s g)) (taking_installed space s h g)
+  message-stays from (a_message.Ask epoch number g terms) f = asked-stays space s h from epoch number terms (if_installed (replica_for s g))
   message-stays from (a_message.Install config) f = install-stays config
-  message-stays from (a_message.Snap epoch g snapshot pending) f = snapped-stays space s h snapshot pending f.0 f.1 f.2 (replica_in_epoch s epoch g)
+  message-stays from (a_message.Snap epoch g snapshot pending) f = snapped-stays space s h from snapshot pending f.0 f.1 f.2 (replica_for s g)
   message-stays from other f = h
 
   input-stays : (input : Input) → InputJoins input → IsJoinableServer space (input_step space s input).state

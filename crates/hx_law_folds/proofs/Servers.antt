@@ -1,7 +1,7 @@
 -- The steps of a server from the server whose slots have no past.
 use Rattle.std.proofs.Common.{◌≡◌, ℕ, zero, suc, Bool, true, false, not, List, [], ◌∷◌, ◌++◌, map, Option, Some, None, refl, ap, sym, ◌∙◌, cond, eqb, ltb}
-use Rattle.std.specs.Prelude.{◌||◌, ◌&&◌}
-use Rattle.std.specs.List.{AllByRecursion, flat_map, slice_get}
+use Rattle.std.specs.Prelude.{◌&&◌}
+use Rattle.std.specs.List.{AllByRecursion, find, flat_map, slice_get}
 use Rattle.std.specs.Option.{IfSome, option_map}
 use Rattle.std.proofs.lemmas.Bool.{cond_both, cond-true, cond-false, eqb-true}
 use Rattle.hx_types.specs.declared.calls.Caller.{Caller}
@@ -26,9 +26,18 @@ use Rattle.hx_types.specs.Effects.{key_of}
 use Rattle.hx_types.specs.Subspaces.{is_key_region}
 use Rattle.hx_types.specs.Words.{post, provided, same_region, when_some}
 use Rattle.hx_model.specs.Regions.{key_region}
-use Rattle.hx_model.specs.ServerSteps.{Replica, ServerState, ServerStep, SlotStep, ack_step, acked, adopted, adopted_posts, adopted_replica, asked, at_slot, call_at, call_step, called, called_by, halting, replica_in_epoch, if_installed, input_step, install_at, installed_slots, is_active, listed_regions, message_step, ready_post, replica_of, replica_or_new, replica_tick, saying, seal_at, server_step, snap_posts, snap_to, snapped, context_of, state_in, tick_step, unmoved, update_step, updated, with_config, with_replica, with_slot, with_slots}
+use Rattle.hx_model.specs.Hearing.{hears_ack, hears_snap, hears_update}
+use Rattle.hx_model.specs.Neighbours.{place_number}
+use Rattle.hx_model.specs.ServerSteps.{Replica, ServerState, ServerStep, SlotStep, ack_step, acked, acked_of, adopted, adopted_posts}
+use Rattle.hx_model.specs.ServerSteps.{adopted_replica, asked, asking_last, at_slot, call_at, call_step, called, called_by, context_of}
+use Rattle.hx_model.specs.ServerSteps.{halting, if_installed, input_step, install_at, installed_slots, is_active, listed_regions, meeting}
+use Rattle.hx_model.specs.ServerSteps.{message_step, pending_with, ready_post, replica_for, replica_of, replica_or_new, replica_tick}
+use Rattle.hx_model.specs.ServerSteps.{saying, server_step, snap_posts, snap_to, snapped, state_in, tick_step, unmoved, update_step}
+use Rattle.hx_model.specs.ServerSteps.{updated, with_config, with_replica, with_slot}
 use Rattle.hx_model.specs.Slots.{KeyState, state_among, moved_all, with_state}
-use Rattle.hx_law_folds.specs.Folding.{InputFits, IsAfter, IsReplicaOf, IsServerOf, MessageFits, StepFolds, folded, folded_replica, folded_server, folded_step}
+use Rattle.hx_law_folds.specs.Folding.{InputFits, IsAfter, IsReplicaOf, IsServerOf, IsSlotOf, MessageFits, StepFolds}
+use Rattle.hx_law_folds.specs.Folding.{folded, folded_replica, folded_server, folded_step}
+use Rattle.hx_law_folds.proofs.Folds.{pending-folded}
 use Rattle.hx_law_folds.proofs.Slots.{later-of}
 use Rattle.std.proofs.lemmas.Option.{same_Some}
 use Rattle.hx_law_folds.proofs.States.{adopted-all-folded, among-key, among-slot, folded-among, folded-put, folded-with, folded-states-twice, found-folded, pending-posts-folded, pending_all-folded, resumed-all-folded, snapshot-folded}
@@ -69,12 +78,23 @@ unmoved-folds s = ap (λ (x : ServerState). unmoved x) (folded-server-twice s)
 saying-folds : (s : ServerState) (ps qs : List Post) → ps ≡ qs → folded_step (saying (folded_server s) ps) ≡ folded_step (saying s qs)
 saying-folds s ps qs e = λ j. record { state = folded-server-twice s j; posts = e j; notes = [] }
 
--- the replica that hears a message
-replica_in_epoch-folded : (s : ServerState) (epoch : Epoch) (g : RegionId) → replica_in_epoch (folded_server s) epoch g ≡ option_map folded_replica (replica_in_epoch s epoch g)
-replica_in_epoch-folded s epoch g =
-    cond_both (s.sealed || not (eqb epoch.0 s.config.epoch.0) || is_lost s.config g) None (replica_of g s.replicas) (λ (o : Option Replica). replica_in_epoch (folded_server s) epoch g ≡ option_map folded_replica o)
-    (λ e. cond-true (s.sealed || not (eqb epoch.0 s.config.epoch.0) || is_lost s.config g) _ _ e)
-    (λ e. cond-false (s.sealed || not (eqb epoch.0 s.config.epoch.0) || is_lost s.config g) _ _ e ∙ replica-folded g s.replicas)
+-- a step by a test
+cond-folds : (b : Bool) (x y z w : ServerStep) → folded_step x ≡ folded_step z → folded_step y ≡ folded_step w
+    → folded_step (cond b x y) ≡ folded_step (cond b z w)
+cond-folds true x y z w e f = e
+cond-folds false x y z w e f = f
+
+-- a step of a server that asks first where the message's epoch is above its own
+meeting-folds : (s : ServerState) (epoch : Epoch) (x y : ServerStep) → folded_step x ≡ folded_step y
+    → folded_step (meeting (folded_server s) epoch x) ≡ folded_step (meeting s epoch y)
+meeting-folds s epoch x y e = ap (meeting s epoch) e
+
+-- the replica that takes messages for a region
+replica_for-folded : (s : ServerState) (g : RegionId) → replica_for (folded_server s) g ≡ option_map folded_replica (replica_for s g)
+replica_for-folded s g =
+    cond_both (is_lost s.config g) None (replica_of g s.replicas) (λ (o : Option Replica). replica_for (folded_server s) g ≡ option_map folded_replica o)
+    (λ e. cond-true (is_lost s.config g) _ _ e)
+    (λ e. cond-false (is_lost s.config g) _ _ e ∙ replica-folded g s.replicas)
 
 installed-folded : (o : Option Replica) → if_installed (option_map folded_replica o) ≡ option_map folded_replica (if_installed o)
 installed-folded None = refl
@@ -83,51 +103,63 @@ installed-folded (Some r) =
     (λ e. cond-true r.installed _ _ e)
     (λ e. cond-false r.installed _ _ e)
 
+installed_for-folded : (s : ServerState) (g : RegionId)
+    → if_installed (replica_for (folded_server s) g) ≡ option_map folded_replica (if_installed (replica_for s g))
+installed_for-folded s g = ap if_installed (replica_for-folded s g) ∙ installed-folded (replica_for s g)
+
 -- it is one of the server's, of that region
-pub record IsHeard (space : Space) (g : RegionId) (r : Replica) : Type 0 where
+pub record IsTaking (space : Space) (g : RegionId) (r : Replica) : Type 0 where
   pub replica : IsReplicaOf space r
   pub region : r.region ≡ g
 
-replica-heard : (space : Space) (g : RegionId) (rs : List Replica) → AllByRecursion (IsReplicaOf space) rs → IfSome (replica_of g rs) (IsHeard space g)
-replica-heard space g [] h = tt
-replica-heard space g (r ∷ rest) h =
-    cond_both (same_region r.region g) (Some r) (replica_of g rest) (λ (o : Option Replica). IfSome o (IsHeard space g))
+replica-taking : (space : Space) (g : RegionId) (rs : List Replica) → AllByRecursion (IsReplicaOf space) rs → IfSome (replica_of g rs) (IsTaking space g)
+replica-taking space g [] h = tt
+replica-taking space g (r ∷ rest) h =
+    cond_both (same_region r.region g) (Some r) (replica_of g rest) (λ (o : Option Replica). IfSome o (IsTaking space g))
     (λ e. record { replica = h.0; region = λ j. record { 0 = eqb-true r.region.0 g.0 e j } })
-    (λ e. replica-heard space g rest h.1)
+    (λ e. replica-taking space g rest h.1)
 
-pub heard : (space : Space) (s : ServerState) → IsServerOf space s → (epoch : Epoch) (g : RegionId) → IfSome (replica_in_epoch s epoch g) (IsHeard space g)
-heard space s h epoch g =
-    cond_both (s.sealed || not (eqb epoch.0 s.config.epoch.0) || is_lost s.config g) None (replica_of g s.replicas) (λ (o : Option Replica). IfSome o (IsHeard space g))
+pub taking : (space : Space) (s : ServerState) → IsServerOf space s → (g : RegionId) → IfSome (replica_for s g) (IsTaking space g)
+taking space s h g =
+    cond_both (is_lost s.config g) None (replica_of g s.replicas) (λ (o : Option Replica). IfSome o (IsTaking space g))
     (λ e. tt)
-    (λ e. replica-heard space g s.replicas h)
+    (λ e. replica-taking space g s.replicas h)
 
-pub installed-heard : (P : Replica → Type 0) (o : Option Replica) → IfSome o P → IfSome (if_installed o) P
-installed-heard P None h = tt
-installed-heard P (Some r) h = cond_both r.installed (Some r) None (λ (o : Option Replica). IfSome o P) (λ e. h) (λ e. tt)
+-- so is the one that is installed
+pub installed-taking : (P : Replica → Type 0) (o : Option Replica) → IfSome o P → IfSome (if_installed o) P
+installed-taking P None h = tt
+installed-taking P (Some r) h = cond_both r.installed (Some r) None (λ (o : Option Replica). IfSome o P) (λ e. h) (λ e. tt)
 
--- a step of one slot
+pub taking_installed : (space : Space) (s : ServerState) → IsServerOf space s → (g : RegionId) → IfSome (if_installed (replica_for s g)) (IsTaking space g)
+taking_installed space s h g = installed-taking (IsTaking space g) (replica_for s g) (taking space s h g)
+
+-- a step of one slot, from what it is
+state-folds : (s : ServerState) (r : Replica) (step : KeyState → SlotStep) (state : KeyState) → StepFolds r.region step state
+    → folded_step (at_slot (folded_server s) (folded_replica r) (folded r.region state) (step (folded r.region state)))
+    ≡ folded_step (at_slot s r state (step state))
+state-folds s r step state h =
+    let x = moved_all (step (folded r.region state)).moves (folded r.region state) in
+    let y = moved_all (step state).moves state in
+    let states = folded-put r.region x y r.states h.after in
+    let lean : Replica = record (folded_replica r) { states = with_state x (map (folded r.region) r.states) } in
+    let replicas = replica-put lean (record r { states = with_state y r.states }) s.replicas (λ j. record r { states = states j }) in
+    let same = h.same in
+    λ j. record { state = record s { replicas = replicas j }; posts = (same j).posts; notes = (same j).notes }
+
+-- a step of one slot, by its key
 slot-folds : (space : Space) (s : ServerState) (r : Replica) (key : List ℕ) (step : KeyState → SlotStep) → StepFolds r.region step (state_in space r key)
     → folded_step (at_slot (folded_server s) (folded_replica r) (state_in space (folded_replica r) key) (step (state_in space (folded_replica r) key))) ≡ folded_step (at_slot s r (state_in space r key) (step (state_in space r key)))
 slot-folds space s r key step h =
     let state = state_in space r key in
     ap (λ (x : KeyState). folded_step (at_slot (folded_server s) (folded_replica r) x (step x))) (folded-among r.region (is_key_region space r.region) key r.states)
-    ∙ by state h
-  where
-    by : (state : KeyState) → StepFolds r.region step state → folded_step (at_slot (folded_server s) (folded_replica r) (folded r.region state) (step (folded r.region state))) ≡ folded_step (at_slot s r state (step state))
-    by state h =
-        let x = moved_all (step (folded r.region state)).moves (folded r.region state) in
-        let y = moved_all (step state).moves state in
-        let states = folded-put r.region x y r.states h.after in
-        let replicas = replica-put (record (folded_replica r) { states = with_state x (map (folded r.region) r.states) }) (record r { states = with_state y r.states }) s.replicas (λ j. record r { states = states j }) in
-        let same = h.same in
-        λ j. record { state = record s { replicas = replicas j }; posts = (same j).posts; notes = (same j).notes }
+    ∙ state-folds s r step state h
 
 pub and-left : (a b : Bool) → a && b ≡ true → a ≡ true
 and-left true b e = refl
 and-left false b e = e
 
 -- Call
-call_at-folds : (space : Space) (s : ServerState) (r : Replica) (key : List ℕ) (caller : Caller) (op : Op) → IsHeard space (key_region space key) r
+call_at-folds : (space : Space) (s : ServerState) (r : Replica) (key : List ℕ) (caller : Caller) (op : Op) → IsTaking space (key_region space key) r
     → folded_step (call_at space (folded_server s) (folded_replica r) key caller op) ≡ folded_step (call_at space s r key caller op)
 call_at-folds space s r key caller op h =
     let context = context_of space s r.region in
@@ -146,39 +178,64 @@ call_at-folds space s r key caller op h =
     )
     (λ e. ap folded_step (cond-false (leads space s.config s.id r.region) _ _ e) ∙ unmoved-folds s)
 
-called-folds : (space : Space) (s : ServerState) → IsServerOf space s → (epoch : Epoch) (caller : Caller) (op : Op) (key : Option (List ℕ))
-    → folded_step (called space (folded_server s) epoch caller op key) ≡ folded_step (called space s epoch caller op key)
-called-folds space s h epoch caller op None = unmoved-folds s
-called-folds space s h epoch caller op (Some key) =
-    ap (λ (o : Option Replica). folded_step (when_some o (unmoved (folded_server s)) (λ (r : Replica). call_at space (folded_server s) r key caller op))) (replica_in_epoch-folded s epoch (key_region space key))
-    ∙ by (replica_in_epoch s epoch (key_region space key)) (heard space s h epoch (key_region space key))
+called-folds : (space : Space) (s : ServerState) → IsServerOf space s → (caller : Caller) (op : Op) (key : Option (List ℕ))
+    → folded_step (called space (folded_server s) caller op key) ≡ folded_step (called space s caller op key)
+called-folds space s h caller op None = unmoved-folds s
+called-folds space s h caller op (Some key) =
+    ap (λ (o : Option Replica). folded_step (when_some o (unmoved (folded_server s)) (λ (r : Replica). call_at space (folded_server s) r key caller op)))
+    (replica_for-folded s (key_region space key))
+    ∙ by (replica_for s (key_region space key)) (taking space s h (key_region space key))
   where
-    by : (o : Option Replica) → IfSome o (IsHeard space (key_region space key))
+    by : (o : Option Replica) → IfSome o (IsTaking space (key_region space key))
         → folded_step (when_some (option_map folded_replica o) (unmoved (folded_server s)) (λ (r : Replica). call_at space (folded_server s) r key caller op)) ≡ folded_step (when_some o (unmoved s) (λ (r : Replica). call_at space s r key caller op))
     by None k = unmoved-folds s
     by (Some r) k = call_at-folds space s r key caller op k
 
-called_by-folds : (space : Space) (s : ServerState) → IsServerOf space s → (from : Actor) (epoch : Epoch) (number : ℕ) (op : Op)
-    → folded_step (called_by space (folded_server s) from epoch number op) ≡ folded_step (called_by space s from epoch number op)
-called_by-folds space s h Coordinator epoch number op = unmoved-folds s
-called_by-folds space s h (Server other) epoch number op = unmoved-folds s
-called_by-folds space s h (Session session) epoch number op = called-folds space s h epoch (record { session = session; number = number }) op (key_of op)
+called_by-folds : (space : Space) (s : ServerState) → IsServerOf space s → (from : Actor) (number : ℕ) (op : Op)
+    → folded_step (called_by space (folded_server s) from number op) ≡ folded_step (called_by space s from number op)
+called_by-folds space s h Coordinator number op = unmoved-folds s
+called_by-folds space s h (Server other) number op = unmoved-folds s
+called_by-folds space s h (Session session) number op = called-folds space s h (record { session = session; number = number }) op (key_of op)
 
--- Update
-updated-folds : (space : Space) (s : ServerState) (u : Update) → IsAfter u → (g : RegionId) (o : Option Replica) → IfSome o (IsHeard space g)
-    → folded_step (updated space (folded_server s) u (option_map folded_replica o)) ≡ folded_step (updated space s u o)
-updated-folds space s u after g None k = unmoved-folds s
-updated-folds space s u after g (Some r) k =
+-- Update: whom it hears stays the same
+updated-folds : (space : Space) (s : ServerState) (from : Actor) (u : Update) → IsAfter u → (g : RegionId) (o : Option Replica) → IfSome o (IsTaking space g)
+    → folded_step (updated space (folded_server s) from u (option_map folded_replica o)) ≡ folded_step (updated space s from u o)
+updated-folds space s from u after g None k = unmoved-folds s
+updated-folds space s from u after g (Some r) k =
+    cond-folds (hears_update s.config u (place_number r.region u.places) s.id from) _ _ _ _
+    (
     slot-folds space s r u.key (λ x. update_step (context_of space s r.region) x u)
     (update-folds (context_of space s r.region) (state_in space r u.key) (among-slot r.region (is_key_region space r.region) u.key r.states k.replica).slot u (later-of r.region u after))
+    )
+    (unmoved-folds s)
+
+-- what is pending of a version stays the same
+pending_with-folded : (g : RegionId) (v : ℕ) (state : KeyState) → pending_with v (folded g state) ≡ pending_with v state
+pending_with-folded g v state = ap (find (λ (u : Update). eqb u.version.0 v)) (pending-folded g state)
+
+-- Ack of a pending update
+acked_of-folds : (space : Space) (s : ServerState) (from : Actor) (region : RegionId) (r : Replica) (state : KeyState) (v : ℕ)
+    → IsSlotOf r.region state → (o : Option Update)
+    → folded_step (acked_of space (folded_server s) from region (folded_replica r) (folded r.region state) v o)
+    ≡ folded_step (acked_of space s from region r state v o)
+acked_of-folds space s from region r state v h None = unmoved-folds s
+acked_of-folds space s from region r state v h (Some u) =
+    cond-folds (hears_ack s.config u (place_number r.region u.places) s.id from region) _ _ _ _
+    (state-folds s r (λ x. ack_step (context_of space s r.region) x v) state (ack-folds (context_of space s r.region) state h v))
+    (unmoved-folds s)
 
 -- Ack
-acked-folds : (space : Space) (s : ServerState) (key : List ℕ) (v : ℕ) (g : RegionId) (o : Option Replica) → IfSome o (IsHeard space g)
-    → folded_step (acked space (folded_server s) key v (option_map folded_replica o)) ≡ folded_step (acked space s key v o)
-acked-folds space s key v g None k = unmoved-folds s
-acked-folds space s key v g (Some r) k =
-    slot-folds space s r key (λ x. ack_step (context_of space s r.region) x v)
-    (ack-folds (context_of space s r.region) (state_in space r key) (among-slot r.region (is_key_region space r.region) key r.states k.replica).slot v)
+acked-folds : (space : Space) (s : ServerState) (from : Actor) (key : List ℕ) (v : ℕ) (region g : RegionId) (o : Option Replica) → IfSome o (IsTaking space g)
+    → folded_step (acked space (folded_server s) from key v region (option_map folded_replica o)) ≡ folded_step (acked space s from key v region o)
+acked-folds space s from key v region g None k = unmoved-folds s
+acked-folds space s from key v region g (Some r) k =
+    let at_key = is_key_region space r.region in
+    let state = state_in space r key in
+    ap (λ (x : KeyState). folded_step (acked_of space (folded_server s) from region (folded_replica r) x v (pending_with v x)))
+    (folded-among r.region at_key key r.states)
+    ∙ ap (λ (o : Option Update). folded_step (acked_of space (folded_server s) from region (folded_replica r) (folded r.region state) v o))
+    (pending_with-folded r.region v state)
+    ∙ acked_of-folds space s from region r state v (among-slot r.region at_key key r.states k.replica).slot (pending_with v state)
 
 -- Ask
 asked-folds : (s : ServerState) (from : Actor) (epoch : Epoch) (number : ℕ) (terms : List Term) (o : Option Replica)
@@ -189,35 +246,22 @@ asked-folds s from epoch number terms (Some r) =
     (ap (λ rows. provided (lists_ready s.config r.region s.id) (post (Server s.id) from (a_message.Found epoch number r.region rows) ∷ [])) (found-folded r.region terms r.states))
 
 -- Snap
-snapped-folds : (space : Space) (s : ServerState) (snapshot : List Kept) (pending : List Update) (o : Option Replica)
-    → folded_step (snapped space (folded_server s) snapshot pending (option_map folded_replica o)) ≡ folded_step (snapped space s snapshot pending o)
-snapped-folds space s snapshot pending None = unmoved-folds s
-snapped-folds space s snapshot pending (Some r) =
+snapped-folds : (space : Space) (s : ServerState) (from : Actor) (snapshot : List Kept) (pending : List Update) (o : Option Replica)
+    → folded_step (snapped space (folded_server s) from snapshot pending (option_map folded_replica o)) ≡ folded_step (snapped space s from snapshot pending o)
+snapped-folds space s from snapshot pending None = unmoved-folds s
+snapped-folds space s from snapshot pending (Some r) =
     let slots = installed_slots (context_of space s r.region) snapshot pending in
-    cond_both r.installed (saying s (ready_post s r.region)) (with_slots s r slots) (λ (x : ServerStep). folded_step (snapped space (folded_server s) snapshot pending (Some (folded_replica r))) ≡ folded_step x)
-    (λ e. ap folded_step (cond-true r.installed _ _ e) ∙ saying-folds s _ _ refl)
-    (
-    λ e. ap folded_step (cond-false r.installed _ _ e)
-    ∙ (
     let new : Replica = record { region = r.region; installed = true; states = slots.states } in
     let replicas = replica-put new new s.replicas refl in
-    λ j. record { state = record s { replicas = replicas j }; posts = slots.posts ++ ready_post s r.region; notes = [] }
-    )
-    )
-
--- a step by a test
-cond-folds : (b : Bool) (x y z w : ServerStep) → folded_step x ≡ folded_step z → folded_step y ≡ folded_step w → folded_step (cond b x y) ≡ folded_step (cond b z w)
-cond-folds true x y z w e f = e
-cond-folds false x y z w e f = f
-
--- Seal, Die and Halt
-seal-folds : (s : ServerState) (epoch : Epoch) → folded_step (seal_at (folded_server s) epoch) ≡ folded_step (seal_at s epoch)
-seal-folds s epoch =
-    let twice = folded-replicas-twice s.replicas in
-    cond-folds (eqb epoch.0 s.config.epoch.0) _ _ _ _
-    (λ j. record { state = record s { sealed = true; replicas = twice j }; posts = post (Server s.id) Coordinator (a_message.Sealed epoch) ∷ []; notes = [] })
+    cond-folds (not (hears_snap s.config r.region s.id from)) _ _ _ _
     (unmoved-folds s)
+    (
+    cond-folds r.installed _ _ _ _
+    (saying-folds s _ _ refl)
+    (λ j. record { state = record s { replicas = replicas j }; posts = slots.posts ++ ready_post s r.region; notes = [] })
+    )
 
+-- Die and Halt
 halting-folds : (s : ServerState) → folded_step (halting (folded_server s)) ≡ folded_step (halting s)
 halting-folds s =
     let twice = folded-replicas-twice s.replicas in
@@ -242,8 +286,14 @@ ticks-folded : (space : Space) (s : ServerState) (rs : List Replica) → flat_ma
 ticks-folded space s [] = refl
 ticks-folded space s (r ∷ rest) = λ j. replica-tick-folded space s r j ++ ticks-folded space s rest j
 
+asking-folded : (s : ServerState) (ps : List Post) → asking_last (folded_server s) ps ≡ asking_last s ps
+asking-folded s [] = refl
+asking-folded s (p ∷ rest) = refl
+
 tick-folds : (space : Space) (s : ServerState) → folded_step (tick_step space (folded_server s)) ≡ folded_step (tick_step space s)
-tick-folds space s = saying-folds s _ _ (ap (cond s.sealed (post (Server s.id) Coordinator (a_message.Sealed s.config.epoch) ∷ [])) (ticks-folded space s s.replicas))
+tick-folds space s =
+    saying-folds s _ _
+    (ap (asking_last (folded_server s)) (ticks-folded space s s.replicas) ∙ asking-folded s (flat_map (replica_tick space s) s.replicas))
 
 -- Install
 pub new-folded : (rs : List Replica) (g : RegionId) → replica_or_new (map folded_replica rs) g ≡ folded_replica (replica_or_new rs g)
@@ -262,7 +312,7 @@ news-folded rs (g ∷ gs) = λ j. new-folded rs g j ∷ news-folded rs gs j
 config-folded : (s : ServerState) (config : Config) → with_config (folded_server s) config ≡ folded_server (with_config s config)
 config-folded s config =
     let replicas = news-folded s.replicas (listed_regions config s.id) in
-    λ j. record { id = s.id; config = config; sealed = false; halted = s.halted; replicas = replicas j }
+    λ j. record { id = s.id; config = config; halted = s.halted; replicas = replicas j }
 
 adopted-posts-folded : (space : Space) (s : ServerState) (r : Replica) → IsReplicaOf space r → adopted_posts space (folded_server s) (folded_replica r) ≡ adopted_posts space s r
 adopted-posts-folded space s r h =
@@ -293,9 +343,10 @@ adopted-folds space s h =
 
 new-replica : (space : Space) (rs : List Replica) (g : RegionId) → AllByRecursion (IsReplicaOf space) rs → IsReplicaOf space (replica_or_new rs g)
 new-replica space rs g h =
-    by (replica_of g rs) (replica-heard space g rs h)
+    by (replica_of g rs) (replica-taking space g rs h)
   where
-    by : (o : Option Replica) → IfSome o (IsHeard space g) → IsReplicaOf space (when_some o (record { region = g; installed = false; states = [] }) (λ (r : Replica). r))
+    by : (o : Option Replica) → IfSome o (IsTaking space g)
+        → IsReplicaOf space (when_some o (record { region = g; installed = false; states = [] }) (λ (r : Replica). r))
     by None k = tt
     by (Some r) k = k.replica
 
@@ -314,22 +365,33 @@ install-folds space s h config =
 
 -- the rows of the table
 message-folds : (space : Space) (s : ServerState) → IsServerOf space s → (from : Actor) (m : Message) → MessageFits m → folded_step (message_step space (folded_server s) from m) ≡ folded_step (message_step space s from m)
-message-folds space s h from (a_message.Call epoch number op) f = called_by-folds space s h from epoch number op
+message-folds space s h from (a_message.Call epoch number op) f = meeting-folds s epoch _ _ (called_by-folds space s h from number op)
 message-folds space s h from (a_message.Update epoch g u) f =
-    ap (λ (o : Option Replica). folded_step (updated space (folded_server s) u o)) (ap if_installed (replica_in_epoch-folded s epoch g) ∙ installed-folded (replica_in_epoch s epoch g))
-    ∙ updated-folds space s u f g (if_installed (replica_in_epoch s epoch g)) (installed-heard (IsHeard space g) (replica_in_epoch s epoch g) (heard space s h epoch g))
-message-folds space s h from (a_message.Ack epoch g key version) f =
-    ap (λ (o : Option Replica). folded_step (acked space (folded_server s) key version.0 o)) (ap if_installed (replica_in_epoch-folded s epoch g) ∙ installed-folded (replica_in_epoch s epoch g))
-    ∙ acked-folds space s key version.0 g (if_installed (replica_in_epoch s epoch g)) (installed-heard (IsHeard space g) (replica_in_epoch s epoch g) (heard space s h epoch g))
+    meeting-folds s epoch _ _
+    (
+    ap (λ (o : Option Replica). folded_step (updated space (folded_server s) from u o)) (installed_for-folded s g)
+    ∙ updated-folds space s from u f g (if_installed (replica_for s g)) (taking_installed space s h g)
+    )
+message-folds space s h from (a_message.Ack epoch g key version region) f =
+    meeting-folds s epoch _ _
+    (
+    ap (λ (o : Option Replica). folded_step (acked space (folded_server s) from key version.0 region o)) (installed_for-folded s g)
+    ∙ acked-folds space s from key version.0 region g (if_installed (replica_for s g)) (taking_installed space s h g)
+    )
 message-folds space s h from (a_message.Ask epoch number g terms) f =
-    ap (λ (o : Option Replica). folded_step (asked (folded_server s) from epoch number terms o)) (ap if_installed (replica_in_epoch-folded s epoch g) ∙ installed-folded (replica_in_epoch s epoch g))
-    ∙ asked-folds s from epoch number terms (if_installed (replica_in_epoch s epoch g))
-message-folds space s h from (a_message.Seal epoch) f = seal-folds s epoch
+    meeting-folds s epoch _ _
+    (
+    ap (λ (o : Option Replica). folded_step (asked (folded_server s) from epoch number terms o)) (installed_for-folded s g)
+    ∙ asked-folds s from epoch number terms (if_installed (replica_for s g))
+    )
 message-folds space s h from (a_message.Install config) f = install-folds space s h config
 message-folds space s h from a_message.Die f = halting-folds s
 message-folds space s h from (a_message.Snap epoch g snapshot pending) f =
-    ap (λ (o : Option Replica). folded_step (snapped space (folded_server s) snapshot pending o)) (replica_in_epoch-folded s epoch g)
-    ∙ snapped-folds space s snapshot pending (replica_in_epoch s epoch g)
+    meeting-folds s epoch _ _
+    (
+    ap (λ (o : Option Replica). folded_step (snapped space (folded_server s) from snapshot pending o)) (replica_for-folded s g)
+    ∙ snapped-folds space s from snapshot pending (replica_for s g)
+    )
 message-folds space s h from other f = unmoved-folds s
 
 input-folds : (space : Space) (s : ServerState) → IsServerOf space s → (input : Input) → InputFits input → folded_step (input_step space (folded_server s) input) ≡ folded_step (input_step space s input)

@@ -1,5 +1,5 @@
 -- The slots of a server stay in order by each of its steps.
-use Rattle.std.proofs.Common.{ℕ, Bool, List, [], ◌∷◌, map, Option, Some, None, refl, ap, sym, ◌∙◌, cond, eqb, ltb}
+use Rattle.std.proofs.Common.{ℕ, Bool, not, List, [], ◌∷◌, map, Option, Some, None, refl, ap, sym, ◌∙◌, cond, ltb}
 use Rattle.std.specs.List.{AllByRecursion, filter}
 use Rattle.std.specs.Option.{IfSome}
 use Rattle.std.proofs.lemmas.Bool.{cond_both}
@@ -22,11 +22,17 @@ use Rattle.hx_types.specs.Configs.{leads}
 use Rattle.hx_types.specs.Effects.{key_of}
 use Rattle.hx_types.specs.Subspaces.{is_key_region}
 use Rattle.hx_types.specs.Words.{same_region, same_text, when_some}
+use Rattle.hx_model.specs.Hearing.{hears_ack, hears_snap, hears_update}
+use Rattle.hx_model.specs.Neighbours.{place_number}
 use Rattle.hx_model.specs.Regions.{key_region}
-use Rattle.hx_model.specs.ServerSteps.{Replica, ServerState, ServerStep, SlotStep, Slots, SlotContext, accepting, ack_step, acked, adopted, adopted_replica, asked, at_slot, call_at, call_step, called, called_by, replica_in_epoch, if_installed, input_step, install_at, installed_slots, is_active, join_keys, join_slot, keys_of, message_step, offered_all, ready_post, saying, seal_at, server_step, snapped, context_of, state_from, state_in, unmoved, update_step, updated, with_config, with_replica, with_slots}
+use Rattle.hx_model.specs.ServerSteps.{Replica, ServerState, ServerStep, SlotContext, SlotStep, Slots, accepting, ack_step, acked, acked_of}
+use Rattle.hx_model.specs.ServerSteps.{adopted, adopted_replica, asked, at_slot, call_at, call_step, called, called_by, context_of}
+use Rattle.hx_model.specs.ServerSteps.{if_installed, input_step, install_at, installed_slots, is_active, join_keys, join_slot, keys_of}
+use Rattle.hx_model.specs.ServerSteps.{message_step, offered_all, pending_with, ready_post, replica_for, saying, server_step, snapped}
+use Rattle.hx_model.specs.ServerSteps.{state_from, state_in, unmoved, update_step, updated, with_config, with_replica, with_slots}
 use Rattle.hx_model.specs.Slots.{moved_all, state_among, state_of_kept}
 use Rattle.hx_law_folds.specs.Folding.{InputFits, IsAfter, IsLater, IsReplicaOf, IsServerOf, IsSlotIn, IsSlotOf, MessageFits}
-use Rattle.hx_law_folds.proofs.Servers.{IsHeard, config-server, heard, installed-heard}
+use Rattle.hx_law_folds.proofs.Servers.{IsTaking, config-server, taking, taking_installed}
 use Rattle.hx_law_folds.proofs.Slots.{AllFit, accepting-fit, all-filter, all-weaker, later-of, offered_all-fit, slot-moved_all}
 use Rattle.hx_law_folds.proofs.States.{adopted-all-slots, among-key, among-slot, marks-moved_all, with-slots}
 use Rattle.hx_law_folds.proofs.Steps.{ack-fit, call-fit, update-fit}
@@ -57,7 +63,8 @@ module _ (space : Space) (s : ServerState) (h : IsServerOf space s) where
   of_slot r k key = among-slot r.region (is_key_region space r.region) key r.states k
 
   -- Call
-  call-stays : (key : List ℕ) (caller : Caller) (op : Op) (o : Option Replica) → IfSome o (IsHeard space (key_region space key)) → Stays (when_some o (unmoved s) (λ (r : Replica). call_at space s r key caller op))
+  call-stays : (key : List ℕ) (caller : Caller) (op : Op) (o : Option Replica) → IfSome o (IsTaking space (key_region space key))
+      → Stays (when_some o (unmoved s) (λ (r : Replica). call_at space s r key caller op))
   call-stays key caller op None k = h
   call-stays key caller op (Some r) k =
       cond_both (leads space s.config s.id r.region) _ (unmoved s) Stays
@@ -67,24 +74,41 @@ module _ (space : Space) (s : ServerState) (h : IsServerOf space s) where
       )
       (λ e. h)
 
-  called-stays : (epoch : Epoch) (caller : Caller) (op : Op) (key : Option (List ℕ)) → Stays (called space s epoch caller op key)
-  called-stays epoch caller op None = h
-  called-stays epoch caller op (Some key) = call-stays key caller op (replica_in_epoch s epoch (key_region space key)) (heard space s h epoch (key_region space key))
+  called-stays : (caller : Caller) (op : Op) (key : Option (List ℕ)) → Stays (called space s caller op key)
+  called-stays caller op None = h
+  called-stays caller op (Some key) = call-stays key caller op (replica_for s (key_region space key)) (taking space s h (key_region space key))
 
-  called_by-stays : (from : Actor) (epoch : Epoch) (number : ℕ) (op : Op) → Stays (called_by space s from epoch number op)
-  called_by-stays Coordinator epoch number op = h
-  called_by-stays (Server other) epoch number op = h
-  called_by-stays (Session session) epoch number op = called-stays epoch (record { session = session; number = number }) op (key_of op)
+  called_by-stays : (from : Actor) (number : ℕ) (op : Op) → Stays (called_by space s from number op)
+  called_by-stays Coordinator number op = h
+  called_by-stays (Server other) number op = h
+  called_by-stays (Session session) number op = called-stays (record { session = session; number = number }) op (key_of op)
 
   -- Update
-  updated-stays : (u : Update) → IsAfter u → (g : RegionId) (o : Option Replica) → IfSome o (IsHeard space g) → Stays (updated space s u o)
-  updated-stays u after g None k = h
-  updated-stays u after g (Some r) k = slot-stays r k.replica u.key (update_step (context_of space s r.region) (state_in space r u.key) u) (update-fit (context_of space s r.region) (state_in space r u.key) (of_slot r k.replica u.key).slot u (later-of r.region u after))
+  updated-stays : (from : Actor) (u : Update) → IsAfter u → (g : RegionId) (o : Option Replica) → IfSome o (IsTaking space g) → Stays (updated space s from u o)
+  updated-stays from u after g None k = h
+  updated-stays from u after g (Some r) k =
+      cond_both (hears_update s.config u (place_number r.region u.places) s.id from) _ (unmoved s) Stays
+      (
+      λ e. slot-stays r k.replica u.key (update_step (context_of space s r.region) (state_in space r u.key) u)
+      (update-fit (context_of space s r.region) (state_in space r u.key) (of_slot r k.replica u.key).slot u (later-of r.region u after))
+      )
+      (λ e. h)
 
   -- Ack
-  acked-stays : (key : List ℕ) (v : ℕ) (g : RegionId) (o : Option Replica) → IfSome o (IsHeard space g) → Stays (acked space s key v o)
-  acked-stays key v g None k = h
-  acked-stays key v g (Some r) k = slot-stays r k.replica key (ack_step (context_of space s r.region) (state_in space r key) v) (ack-fit (context_of space s r.region) (state_in space r key) (of_slot r k.replica key).slot v)
+  acked-stays : (from : Actor) (key : List ℕ) (v : ℕ) (region g : RegionId) (o : Option Replica) → IfSome o (IsTaking space g)
+      → Stays (acked space s from key v region o)
+  acked-stays from key v region g None k = h
+  acked-stays from key v region g (Some r) k = of (pending_with v (state_in space r key))
+    where
+      of : (o : Option Update) → Stays (acked_of space s from region r (state_in space r key) v o)
+      of None = h
+      of (Some u) =
+          cond_both (hears_ack s.config u (place_number r.region u.places) s.id from region) _ (unmoved s) Stays
+          (
+          λ e. slot-stays r k.replica key (ack_step (context_of space s r.region) (state_in space r key) v)
+          (ack-fit (context_of space s r.region) (state_in space r key) (of_slot r k.replica key).slot v)
+          )
+          (λ e. h)
 
   -- Ask
   asked-stays : (from : Actor) (epoch : Epoch) (number : ℕ) (terms : List Term) (o : Option Replica) → Stays (asked s from epoch number terms o)
@@ -119,15 +143,21 @@ join-slots context us after slots (key ∷ rest) k =
 
 module _ (space : Space) (s : ServerState) (h : IsServerOf space s) where
   -- Snap
-  snapped-stays : (snapshot : List Kept) (pending : List Update) → AllByRecursion IsAfter pending → (o : Option Replica) → IsServerOf space (snapped space s snapshot pending o).state
-  snapped-stays snapshot pending after None = h
-  snapped-stays snapshot pending after (Some r) =
-      cond_both r.installed (saying s (ready_post s r.region)) (with_slots s r (installed_slots (context_of space s r.region) snapshot pending)) (λ (x : ServerStep). IsServerOf space x.state)
+  snapped-stays : (from : Actor) (snapshot : List Kept) (pending : List Update) → AllByRecursion IsAfter pending → (o : Option Replica)
+      → IsServerOf space (snapped space s from snapshot pending o).state
+  snapped-stays from snapshot pending after None = h
+  snapped-stays from snapshot pending after (Some r) =
+      cond_both (not (hears_snap s.config r.region s.id from)) (unmoved s) _ (λ (x : ServerStep). IsServerOf space x.state)
+      (λ e. h)
+      (
+      λ d. cond_both r.installed (saying s (ready_post s r.region)) (with_slots s r (installed_slots (context_of space s r.region) snapshot pending))
+      (λ (x : ServerStep). IsServerOf space x.state)
       (λ e. h)
       (
       λ e. with-replicas (IsReplicaOf space) _ s.replicas
       (join-slots (context_of space s r.region) pending after (record { states = map (state_from (is_key_region space r.region)) snapshot; posts = [] }) (keys_of pending) (from-slots r.region (is_key_region space r.region) snapshot))
       h
+      )
       )
 
 -- Install
@@ -142,17 +172,14 @@ module _ (space : Space) (s : ServerState) (h : IsServerOf space s) where
       (λ e. adopted-stays space (with_config s config) (with_config s config).replicas (config-server space s config h))
       (λ e. h)
 
-  seal-stays : (epoch : Epoch) → IsServerOf space (seal_at s epoch).state
-  seal-stays epoch = cond_both (eqb epoch.0 s.config.epoch.0) _ (unmoved s) (λ (x : ServerStep). IsServerOf space x.state) (λ e. h) (λ e. h)
-
   message-stays : (from : Actor) (m : Message) → MessageFits m → IsServerOf space (message_step space s from m).state
-  message-stays from (a_message.Call epoch number op) f = called_by-stays space s h from epoch number op
-  message-stays from (a_message.Update epoch g u) f = updated-stays space s h u f g (if_installed (replica_in_epoch s epoch g)) (installed-heard (IsHeard space g) (replica_in_epoch s epoch g) (heard space s h epoch g))
-  message-stays from (a_message.Ack epoch g key version) f = acked-stays space s h key version.0 g (if_installed (replica_in_epoch s epoch g)) (installed-heard (IsHeard space g) (replica_in_epoch s epoch g) (heard space s h epoch g))
-  message-stays from (a_message.Ask epoch number g terms) f = asked-stays space s h from epoch number terms (if_installed (replica_in_epoch s epoch g))
-  message-stays from (a_message.Seal epoch) f = seal-stays epoch
+  message-stays from (a_message.Call epoch number op) f = called_by-stays space s h from number op
+  message-stays from (a_message.Update epoch g u) f = updated-stays space s h from u f g (if_installed (replica_for s g)) (taking_installed space s h g)
+  message-stays from (a_message.Ack epoch g key version region) f =
+      acked-stays space s h from key version.0 region g (if_installed (replica_for s g)) (taking_installed space s h g)
+  message-stays from (a_message.Ask epoch number g terms) f = asked-stays space s h from epoch number terms (if_installed (replica_for s g))
   message-stays from (a_message.Install config) f = install-stays config
-  message-stays from (a_message.Snap epoch g snapshot pending) f = snapped-stays space s h snapshot pending f (replica_in_epoch s epoch g)
+  message-stays from (a_message.Snap epoch g snapshot pending) f = snapped-stays space s h from snapshot pending f (replica_for s g)
   message-stays from other f = h
 
   input-stays : (input : Input) → InputFits input → IsServerOf space (input_step space s input).state

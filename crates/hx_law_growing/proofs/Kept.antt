@@ -105,24 +105,12 @@ installs space s config true (Some op) le = by (is_administrative op)
     by false = kept (record s { config = config }) (send space (record s { config = config }) op).state le (sends space (record s { config = config }) op)
 
 hears : (space : Space) (s : SessionState) (m : Message) → s.begun ≤ length s.calls → Within s.calls (session_message space s m).state
-hears space s (a_message.Call epoch number op) le = same s le
 hears space s (a_message.Reply number version answer) le = ends s (awaits s number is_key_call) version answer le
-hears space s (a_message.Update epoch region update) le = same s le
-hears space s (a_message.Ack epoch region key version) le = same s le
-hears space s (a_message.Ask epoch number region terms) le = same s le
 hears space s (a_message.Found epoch number g rows) le =
     finds s (awaits s number is_search && eqb epoch.0 s.config.epoch.0 && list_any (lacks_part g) s.parts) g rows le
-hears space s (a_message.Seal epoch) le = same s le
-hears space s (a_message.Sealed epoch) le = same s le
 hears space s (a_message.Install config) le = installs space s config (ltb s.config.epoch.0 config.epoch.0) (call_under_way s) le
-hears space s a_message.Die le = same s le
-hears space s a_message.Gone le = same s le
-hears space s (a_message.StopServer number server) le = same s le
-hears space s (a_message.AddReplica number server region) le = same s le
 hears space s (a_message.Outcome number answer) le = ends s (awaits s number is_administrative) no_version answer le
-hears space s (a_message.Snap epoch region snapshot pending) le = same s le
-hears space s (a_message.Ready epoch region) le = same s le
-hears space s (a_message.Poll epoch) le = same s le
+hears space s other le = same s le
 
 pub steps : (space : Space) (s : SessionState) (input : Input) → s.begun ≤ length s.calls → Within s.calls (session_step space s input).state
 steps space s Tick le = ticks space s le

@@ -164,23 +164,11 @@ installs space calls s config p le =
 
 hears : (space : Space) (calls : List Op) (s : SessionState) (m : Message) → IsPrefix s.calls calls → s.begun ≤ length s.calls
     → session_message space (with_calls calls s) m ≡ grown calls (session_message space s m)
-hears space calls s (a_message.Call epoch number op) p le = refl
 hears space calls s (a_message.Reply number version answer) p le = ends calls s number is_key_call version answer p le
-hears space calls s (a_message.Update epoch region update) p le = refl
-hears space calls s (a_message.Ack epoch region key version) p le = refl
-hears space calls s (a_message.Ask epoch number region terms) p le = refl
 hears space calls s (a_message.Found epoch number g rows) p le = finds calls s epoch number g rows p le
-hears space calls s (a_message.Seal epoch) p le = refl
-hears space calls s (a_message.Sealed epoch) p le = refl
 hears space calls s (a_message.Install config) p le = installs space calls s config p le
-hears space calls s a_message.Die p le = refl
-hears space calls s a_message.Gone p le = refl
-hears space calls s (a_message.StopServer number server) p le = refl
-hears space calls s (a_message.AddReplica number server region) p le = refl
 hears space calls s (a_message.Outcome number answer) p le = ends calls s number is_administrative no_version answer p le
-hears space calls s (a_message.Snap epoch region snapshot pending) p le = refl
-hears space calls s (a_message.Ready epoch region) p le = refl
-hears space calls s (a_message.Poll epoch) p le = refl
+hears space calls s other p le = refl
 
 -- a step that does something is the same
 pub steps : (space : Space) (calls : List Op) (s : SessionState) (input : Input) → IsPrefix s.calls calls → s.begun ≤ length s.calls

@@ -12,7 +12,7 @@ pub use Rattle.hx_law_lemmas.proofs.FactLines.{caller-once, line-made, line-numb
 pub use Rattle.hx_law_lemmas.proofs.FirstMembers.{all-ready, first-listed, last-some}
 pub use Rattle.hx_law_lemmas.proofs.FoundRows.{TouchedBy, filter-in, found-row}
 pub use Rattle.hx_law_lemmas.proofs.Gets.{GetEnd, GetNote, entry_got, entry_short, gets-in, in-gets}
-pub use Rattle.hx_law_lemmas.proofs.Hearing.{installed-found, replica_in_epoch-found, replica_in_epoch-open}
+pub use Rattle.hx_law_lemmas.proofs.Hearing.{installed-found, replica_for-alive, replica_for-found}
 pub use Rattle.hx_law_lemmas.proofs.HeldUpdates.{AllKnown, Held, Known, accepting-known, acknowledged-known, offered-known, resumed-known}
 pub use Rattle.hx_law_lemmas.proofs.Joins.{IsCovered, merged-ascends, merged-covers, merged-in, part_rows, row_key}
 pub use Rattle.hx_law_lemmas.proofs.KnownUpdates.{AllKnown as AllKnownInLine, Held as HeldInLine, Known as KnownInLine}

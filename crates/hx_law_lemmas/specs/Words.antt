@@ -1,5 +1,5 @@
--- Words that proofs share: all posts of a trace, a server's slot of a key, lines after notes, what a slot counts for in an epoch.
-use Rattle.std.specs.Prelude.{ℕ, true, false, List, [], ◌∷◌, ◌++◌, cond, eqb}
+-- Words that proofs share: all posts of a trace, a server's slot of a key, lines after notes, what a slot counts for.
+use Rattle.std.specs.Prelude.{ℕ, true, false, List, [], ◌∷◌, ◌++◌, cond}
 use Rattle.hx_types.specs.declared.configs.Config.{Config}
 use Rattle.hx_types.specs.declared.messages.Post.{Post}
 use Rattle.hx_types.specs.declared.ids.RegionId.{RegionId}
@@ -13,13 +13,13 @@ use Rattle.hx_types.specs.declared.traces.Note.{Note}
 use Rattle.hx_model.specs.Histories.{line_notes}
 use Rattle.hx_types.specs.declared.traces.Entry.{Entry}
 
--- what a slot is worth in an epoch
-abbrev pub view : Config → ServerState → KeyState → KeyState
-view c p t = cond (eqb p.config.epoch.0 c.epoch.0) t (moved Forget t)
+-- what a slot is worth: where its server has halted, without acknowledgements and early updates
+abbrev pub view : ServerState → KeyState → KeyState
+view p t = cond p.halted (moved Forget t) t
 
--- a server that hasn't halted and isn't sealed
+-- a server that hasn't halted
 abbrev pub standing : Config → ServerId → List Replica → ServerState
-standing c i rs = record { id = i; config = c; sealed = false; halted = false; replicas = rs }
+standing c i rs = record { id = i; config = c; halted = false; replicas = rs }
 
 -- the lines after notes
 abbrev pub noted : (List ℕ → List Update) → List Note → List ℕ → List Update

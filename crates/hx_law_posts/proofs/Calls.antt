@@ -15,16 +15,18 @@ use Rattle.hx_types.specs.declared.updates.Update.{Update}
 use Rattle.hx_types.specs.declared.values.Term.{Term}
 use Rattle.hx_types.specs.declared.outcomes.Decision.TheVariants as a_decision
 use Rattle.hx_types.specs.declared.messages.Message.TheVariants as a_message
-use Rattle.hx_types.specs.declared.ids.Actor.TheVariants.{Coordinator, Server, Session}
+use Rattle.hx_types.specs.declared.ids.Actor.TheVariants.{Server, Session}
 use Rattle.hx_types.specs.Words.{IsIn, post}
 use Rattle.hx_types.specs.Effects.{is_write, key_of}
 use Rattle.hx_types.specs.Configs.{leads, lists_ready}
 use Rattle.hx_types.specs.Spaces.{Fits, IsMaybeObjectOf, IsMaybeRowUpTo, IsRowOf, KeyFits}
 use Rattle.hx_types.specs.Posts.{ActorExists, IsSessionOf, IsSoundPost, is_session_actor}
 use Rattle.hx_model.specs.Regions.{key_region}
+use Rattle.hx_model.specs.Hearing.{hears_ack, hears_update}
+use Rattle.hx_model.specs.Neighbours.{place_number}
 use Rattle.hx_model.specs.Slots.{KeyState, acknowledged, found_in, object_in, object_of, offered, top_of}
 use Rattle.hx_model.specs.Leading.{decide, stuck_of}
-use Rattle.hx_model.specs.ServerSteps.{Replica, ServerState, ServerStep, SlotStep, accepting, ack_step, acked, asked, at_slot, by_moves, by_posts, call_at, call_step, called, called_by, decided, doubt_in, get_answer, get_step, replica_in_epoch, known_to, replica_of, reply, context_of, state_in, unmoved, update_step, updated, waiting_doubt, write_step}
+use Rattle.hx_model.specs.ServerSteps.{Replica, ServerState, ServerStep, SlotStep, accepting, ack_step, acked, acked_of, asked, at_slot, by_moves, by_posts, call_at, call_step, called, called_by, decided, doubt_in, get_answer, get_step, known_to, pending_with, replica_for, replica_of, reply, context_of, state_in, unmoved, update_step, updated, waiting_doubt, write_step}
 use Rattle.hx_law_lemmas.proofs.Lemmas.{all-of, in-provided, when_some_both, accepting-known-in_line as accepting-known}
 use Rattle.hx_law_lemmas.proofs.Lemmas.{acknowledged-known-in_line as acknowledged-known, offered-known-in_line as offered-known, replica-found, state-key}
 use Rattle.hx_law_lemmas.proofs.Lemmas.{fits-key, get-sound, found-row}
@@ -35,7 +37,7 @@ use Rattle.hx_law_posts.proofs.Kept.{object-sound}
 use Rattle.hx_law_posts.proofs.SlotPosts.{ack_to-sound, reply-sound}
 use Rattle.hx_law_posts.proofs.Doubts.{doubt-sound, waiting-sound}
 use Rattle.hx_law_posts.proofs.Deciding.{IsSoundDecision, decide-at}
-use Rattle.hx_law_posts.proofs.Servers.{DoesWell, IsSoundServer, Relies, replica_in_epoch-found, here, moves-good, posts-good, saying-good, slot-sound, unmoved-good}
+use Rattle.hx_law_posts.proofs.Servers.{DoesWell, IsSoundServer, Relies, replica_for-found, here, moves-good, posts-good, saying-good, slot-sound, unmoved-good}
 
 module _ (space : Space) (sessions n : ℕ) (s : ServerId) (st : ServerState) (relies : Relies space sessions n s st) where
   -- a step that does well
@@ -106,19 +108,32 @@ module _ (space : Space) (sessions n : ℕ) (s : ServerId) (st : ServerState) (r
         moves-good space sessions n s st relies r i [] (λ w j. absurd j) t h (acknowledged t v)
         (acknowledged-known (together [] t) t v (held-together [] t)) (acknowledged-rise t v h.ordered)
 
-  -- an update, where a replica hears it
-  pub updated-good : (g : RegionId) (u : Update) → IsSoundAt space sessions n g u → (o : Option Replica) → ((r : Replica) → o ≡ Some r → replica_of g st.replicas ≡ Some r) → IsGood (updated space st u o)
-  updated-good g u a None f = unmoved-good space sessions n s st relies
-  updated-good g u a (Some r) f =
+  -- an update, where a replica takes it
+  pub updated-good : (from : Actor) (g : RegionId) (u : Update) → IsSoundAt space sessions n g u → (o : Option Replica) → ((r : Replica) → o ≡ Some r → replica_of g st.replicas ≡ Some r) → IsGood (updated space st from u o)
+  updated-good from g u a None f = unmoved-good space sessions n s st relies
+  updated-good from g u a (Some r) f =
       let k = replica-found g st.replicas r (f r refl) in
-      update-good r k.0 (state_in space r u.key) (slot-sound space sessions n r (relies.sound.replicas r k.0) u.key a.sound.of_space.key) u (subst (λ (h : RegionId). IsSoundAt space sessions n h u) (sym k.1) a)
+      cond_both (hears_update st.config u (place_number r.region u.places) st.id from) (at_slot st r (state_in space r u.key) (update_step (context_of space st r.region) (state_in space r u.key) u)) (unmoved st) IsGood
+      (
+      λ t. update-good r k.0 (state_in space r u.key) (slot-sound space sessions n r (relies.sound.replicas r k.0) u.key a.sound.of_space.key) u
+      (subst (λ (h : RegionId). IsSoundAt space sessions n h u) (sym k.1) a)
+      )
+      (λ t. unmoved-good space sessions n s st relies)
 
-  -- an acknowledgement, where a replica hears it
-  pub acked-good : (g : RegionId) (key : List ℕ) → KeyFits key → (v : ℕ) (o : Option Replica) → ((r : Replica) → o ≡ Some r → replica_of g st.replicas ≡ Some r) → IsGood (acked space st key v o)
-  acked-good g key fits v None f = unmoved-good space sessions n s st relies
-  acked-good g key fits v (Some r) f =
+  -- an acknowledgement of a pending update
+  acked_of-good : (from : Actor) (by : RegionId) (r : Replica) → IsIn r st.replicas → (t : KeyState) → IsSoundSlot space sessions n r.region t → (v : ℕ) (o : Option Update) → IsGood (acked_of space st from by r t v o)
+  acked_of-good from by r i t h v None = unmoved-good space sessions n s st relies
+  acked_of-good from by r i t h v (Some u) =
+      cond_both (hears_ack st.config u (place_number r.region u.places) st.id from by) (at_slot st r t (ack_step (context_of space st r.region) t v)) (unmoved st) IsGood
+      (λ b. ack-good r i t h v)
+      (λ b. unmoved-good space sessions n s st relies)
+
+  -- an acknowledgement, where a replica takes it
+  pub acked-good : (from : Actor) (g : RegionId) (key : List ℕ) → KeyFits key → (v : ℕ) (by : RegionId) (o : Option Replica) → ((r : Replica) → o ≡ Some r → replica_of g st.replicas ≡ Some r) → IsGood (acked space st from key v by o)
+  acked-good from g key fits v by None f = unmoved-good space sessions n s st relies
+  acked-good from g key fits v by (Some r) f =
       let k = replica-found g st.replicas r (f r refl) in
-      ack-good r k.0 (state_in space r key) (slot-sound space sessions n r (relies.sound.replicas r k.0) key fits) v
+      acked_of-good from by r k.0 (state_in space r key) (slot-sound space sessions n r (relies.sound.replicas r k.0) key fits) v (pending_with v (state_in space r key))
 
   -- a row that is found
   row-good : (r : Replica) → IsIn r st.replicas → (terms : List Term) (row : Row) → IsIn row (found_in r.region terms r.states) → IsRowOf space row × (row.version.0 ≤ n + 1)
@@ -128,7 +143,7 @@ module _ (space : Space) (sessions n : ℕ) (s : ServerId) (st : ServerState) (r
       let a = subst (IsMaybeRowUpTo space k.0.floor) k.2 (object-sound space sessions n r.region k.0 h) in
       (a.0, (let v = a.1 in let f = h.floor in omega (arith, v, f)))
 
-  -- a search, where a replica hears it
+  -- a search, where a replica takes it
   pub asked-good : (from : Actor) → ActorExists (bounds space sessions n) from → is_session_actor from ≡ true → (epoch : Epoch) → epoch.0 ≤ n + 1 → (number : ℕ) (g : RegionId) (terms : List Term) (o : Option Replica)
       → ((r : Replica) → o ≡ Some r → replica_of g st.replicas ≡ Some r) → IsGood (asked st from epoch number terms o)
   asked-good from x session epoch e number g terms None f = unmoved-good space sessions n s st relies
@@ -155,7 +170,7 @@ module _ (space : Space) (sessions n : ℕ) (s : ServerId) (st : ServerState) (r
         decided-good r i t h caller session (decide space st.config r.region t caller op)
         (decide-at space relies.valid sessions n st.config relies.sound.config r.region t (ap (key_region space) (state-key _ key r.states) ∙ sym e) h (omega (arith, low, less)) caller session op fits)
 
-    -- a call at the replica that hears it
+    -- a call at the replica that takes it
     call-good : (key : List ℕ) → KeyFits key → (r : Replica) → replica_of (key_region space key) st.replicas ≡ Some r → (caller : Caller) → IsSessionOf sessions caller.session → (op : Op) → Fits space op
         → IsGood (call_at space st r key caller op)
     call-good key key_fits r found caller session op fits =
@@ -170,15 +185,14 @@ module _ (space : Space) (sessions n : ℕ) (s : ServerId) (st : ServerState) (r
         (λ b. unmoved-good space sessions n s st relies)
 
     -- a call
-    called-good : (epoch : Epoch) (caller : Caller) → IsSessionOf sessions caller.session → (op : Op) → Fits space op → (o : Option (List ℕ)) → key_of op ≡ o → IsGood (called space st epoch caller op o)
-    called-good epoch caller session op fits None e = unmoved-good space sessions n s st relies
-    called-good epoch caller session op fits (Some key) e =
-        when_some_both (replica_in_epoch st epoch (key_region space key)) (unmoved st) (λ (r : Replica). call_at space st r key caller op) IsGood
+    called-good : (caller : Caller) → IsSessionOf sessions caller.session → (op : Op) → Fits space op → (o : Option (List ℕ)) → key_of op ≡ o → IsGood (called space st caller op o)
+    called-good caller session op fits None e = unmoved-good space sessions n s st relies
+    called-good caller session op fits (Some key) e =
+        when_some_both (replica_for st (key_region space key)) (unmoved st) (λ (r : Replica). call_at space st r key caller op) IsGood
         (λ q. unmoved-good space sessions n s st relies)
-        (λ (r : Replica) q. call-good key (fits-key space op key fits e) r (replica_in_epoch-found st epoch (key_region space key) r q) caller session op fits)
+        (λ (r : Replica) q. call-good key (fits-key space op key fits e) r (replica_for-found st (key_region space key) r q) caller session op fits)
 
     -- a call of a session
-    pub called_by-good : (from : Actor) → ActorExists (bounds space sessions n) from → (epoch : Epoch) (number : ℕ) (op : Op) → Fits space op → IsGood (called_by space st from epoch number op)
-    called_by-good Coordinator x epoch number op fits = unmoved-good space sessions n s st relies
-    called_by-good (Server y) x epoch number op fits = unmoved-good space sessions n s st relies
-    called_by-good (Session u) x epoch number op fits = called-good epoch (record { session = u; number = number }) x op fits (key_of op) refl
+    pub called_by-good : (from : Actor) → ActorExists (bounds space sessions n) from → (number : ℕ) (op : Op) → Fits space op → IsGood (called_by space st from number op)
+    called_by-good (Session u) x number op fits = called-good (record { session = u; number = number }) x op fits (key_of op) refl
+    called_by-good other x number op fits = unmoved-good space sessions n s st relies

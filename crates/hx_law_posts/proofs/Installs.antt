@@ -1,5 +1,5 @@
 -- A configuration is adopted: what a server keeps, posts and makes of its slots is sound.
-use Rattle.std.proofs.Common.{◌≡◌, ℕ, inl, inr, Bool, true, false, List, [], ◌∷◌, ◌++◌, map, length, refl, sym, ap, subst, arith, ltb}
+use Rattle.std.proofs.Common.{◌≡◌, ℕ, inl, inr, Bool, true, false, [], ◌∷◌, ◌++◌, map, length, refl, sym, ap, subst, arith, ltb}
 use Rattle.std.specs.List.{flat_map}
 use Rattle.std.proofs.lemmas.Bool.{cond_both}
 use Rattle.hx_types.specs.declared.configs.Config.{Config}
@@ -7,14 +7,12 @@ use Rattle.hx_types.specs.declared.messages.Post.{Post}
 use Rattle.hx_types.specs.declared.ids.RegionId.{RegionId}
 use Rattle.hx_types.specs.declared.ids.ServerId.{ServerId}
 use Rattle.hx_types.specs.declared.spaces.Space.{Space}
-use Rattle.hx_types.specs.declared.messages.Message.TheVariants as a_message
-use Rattle.hx_types.specs.declared.ids.Actor.TheVariants.{Coordinator, Server}
-use Rattle.hx_types.specs.Words.{IsIn, below, post}
+use Rattle.hx_types.specs.Words.{IsIn, below}
 use Rattle.hx_types.specs.Configs.{lists}
 use Rattle.hx_types.specs.Spaces.{IsRegionOf}
 use Rattle.hx_types.specs.Posts.{IsSoundPost}
 use Rattle.hx_model.specs.Slots.{Forget, KeyState, moved_all, pending_of}
-use Rattle.hx_model.specs.ServerSteps.{Replica, ServerState, SlotContext, adopted, adopted_posts, adopted_replica, adopted_state, tail_acks, install_at, is_active, leader_doubts, listed_regions, move_posts, passed_on, pending_posts, ready_post, replica_of, replica_or_new, replica_tick, resumed, resumed_posts, saying, snap_posts, context_of, tick_step, unmoved, with_config}
+use Rattle.hx_model.specs.ServerSteps.{Replica, ServerState, SlotContext, adopted, adopted_posts, adopted_replica, adopted_state, asking_last, tail_acks, install_at, is_active, leader_doubts, listed_regions, move_posts, passed_on, pending_posts, ready_post, replica_of, replica_or_new, replica_tick, resumed, resumed_posts, snap_posts, context_of, tick_step, unmoved, with_config}
 use Rattle.hx_model.proofs.Lemmas.{base-moved_all}
 use Rattle.hx_law_lemmas.proofs.Lemmas.{in-append, in-below, in-filter, in-flat_map, in-map, in-provided, when_some_both, AllKnownInLine as AllKnown}
 use Rattle.hx_law_lemmas.proofs.Lemmas.{KnownInLine as Known, marks-known-in_line as marks-known, with_commits-known-in_line as with_commits-known}
@@ -24,7 +22,7 @@ use Rattle.hx_law_posts.proofs.Moves.{resumed-rise}
 use Rattle.hx_law_posts.proofs.Slots.{IsSoundSlot, held-together, pending-sound, slot-moved, together, together-sound}
 use Rattle.hx_law_posts.proofs.SlotPosts.{moves-sound, update_to-sound}
 use Rattle.hx_law_posts.proofs.Doubts.{leader-sound}
-use Rattle.hx_law_posts.proofs.Servers.{DoesWell, IsSoundReplica, IsSoundServer, Relies, here, saying-good, unmoved-good}
+use Rattle.hx_law_posts.proofs.Servers.{DoesWell, IsSoundReplica, IsSoundServer, Relies, asking-sound, here, saying-good, unmoved-good}
 use Rattle.hx_law_posts.proofs.Snapshots.{map-ascends, ready-sound, snap-sound}
 
 -- what a slot does when it goes on in another configuration is known
@@ -108,12 +106,11 @@ module _ (space : Space) (sessions n : ℕ) (s : ServerId) (st : ServerState) (r
   -- a tick
   pub tick-good : DoesWell space sessions n s (tick_step space st)
   tick-good =
-      cond_both st.sealed (post (Server st.id) Coordinator (a_message.Sealed st.config.epoch) ∷ []) (flat_map (replica_tick space st) st.replicas) (λ (ps : List Post). DoesWell space sessions n s (saying st ps))
-      (λ t. saying-good space sessions n s st relies _ (λ p i. elim i [
-        | inl e ↦ subst IsSound (sym e) (record { from = relies.exists; to = tt; between = refl; message = relies.sound.config.epoch })
-        | inr j ↦ absurd j
-      ]))
-      (λ t. saying-good space sessions n s st relies (flat_map (replica_tick space st) st.replicas) (λ p i. let f = in-flat_map (replica_tick space st) st.replicas p i in tick-sound f.0 f.1 p f.2))
+      saying-good space sessions n s st relies (asking_last st (flat_map (replica_tick space st) st.replicas))
+      (
+      asking-sound space sessions n s st relies (flat_map (replica_tick space st) st.replicas)
+      (λ p i. let f = in-flat_map (replica_tick space st) st.replicas p i in tick-sound f.0 f.1 p f.2)
+      )
 
   -- the configuration of a server is adopted
   pub adopted-good : DoesWell space sessions n s (adopted space st)

@@ -70,7 +70,7 @@ kept-start : (script : Script) → IsScript script → KeptSound script 0 []
 kept-start script valid = record {
   servers = λ s. record { id = refl; config = first; replicas = empty s };
   own = λ u. record { id = refl; config = first; calls = refl };
-  coordinator = record { config = first; todo = λ t i. absurd i; newest = λ x i. absurd i; phase = tt; sessions_are = refl };
+  coordinator = record { config = first; todo = λ t i. absurd i; newest = λ x i. absurd i; sessions_are = refl };
   posts = tt;
 }
   where

@@ -1,24 +1,23 @@
 -- Each step of a server does well.
-use Rattle.std.proofs.Common.{◌≡◌, ℕ, ◌+◌, ◌<◌, ◌≤◌, inl, inr, true, [], ◌∷◌, refl, sym, subst, arith, eqb}
+use Rattle.std.proofs.Common.{◌≡◌, ℕ, ◌<◌, ◌≤◌, inl, inr, true, [], ◌∷◌, refl, sym, subst, arith}
 use Rattle.std.proofs.lemmas.Bool.{and_parts, cond_both}
 use Rattle.hx_types.specs.declared.messages.Message.{Message}
 use Rattle.hx_types.specs.declared.messages.Post.{Post}
 use Rattle.hx_types.specs.declared.messages.PostId.{PostId}
 use Rattle.hx_types.specs.declared.ids.Actor.{Actor}
-use Rattle.hx_types.specs.declared.ids.Epoch.{Epoch}
 use Rattle.hx_types.specs.declared.ids.ServerId.{ServerId}
 use Rattle.hx_types.specs.declared.spaces.Space.{Space}
 use Rattle.hx_types.specs.declared.traces.Input.{Input}
 use Rattle.hx_types.specs.declared.updates.Update.{Update}
 use Rattle.hx_types.specs.declared.messages.Message.TheVariants as a_message
-use Rattle.hx_types.specs.declared.ids.Actor.TheVariants.{Coordinator, Server}
+use Rattle.hx_types.specs.declared.ids.Actor.TheVariants.{Server}
 use Rattle.hx_types.specs.declared.traces.Input.TheVariants.{Tick, Halt, Deliver}
 use Rattle.hx_types.specs.Words.{IsIn, post}
 use Rattle.hx_types.specs.Posts.{IsSoundKept, IsSoundPost, IsSoundUpdate, has_place_in, is_session_actor}
-use Rattle.hx_model.specs.ServerSteps.{ServerState, ServerStep, halting, replica_in_epoch, if_installed, input_step, message_step, seal_at, server_step, unmoved}
+use Rattle.hx_model.specs.ServerSteps.{ServerState, ServerStep, halting, if_installed, input_step, message_step, replica_for, server_step, unmoved}
 use Rattle.hx_law_lemmas.proofs.Lemmas.{all-in}
 use Rattle.hx_law_posts.proofs.Bounds.{bounds, exists-up, received}
-use Rattle.hx_law_posts.proofs.Servers.{DoesWell, IsSoundServer, Relies, replica_in_epoch-found, installed-found, unmoved-good}
+use Rattle.hx_law_posts.proofs.Servers.{DoesWell, IsSoundServer, Relies, installed-found, meeting-good, replica_for-found, unmoved-good}
 use Rattle.hx_law_posts.proofs.Calls.{acked-good, asked-good, called_by-good, updated-good}
 use Rattle.hx_law_posts.proofs.Snapshots.{snapped-good}
 use Rattle.hx_law_posts.proofs.Installs.{install-good, tick-good}
@@ -36,18 +35,6 @@ module _ (space : Space) (sessions n : ℕ) (s : ServerId) (st : ServerState) (r
   one-sound : (p : Post) → IsSoundPost space sessions n p → (q : Post) → IsIn q (p ∷ []) → IsSoundPost space sessions n q
   one-sound p h q i = elim i [ inl e ↦ subst (IsSoundPost space sessions n) (sym e) h | inr j ↦ absurd j ]
 
-  -- a server is sealed in its own epoch
-  seal-good : (epoch : Epoch) → epoch.0 ≤ n + 1 → IsGood (seal_at st epoch)
-  seal-good epoch e =
-      cond_both (eqb epoch.0 st.config.epoch.0) (record { state = record st { sealed = true }; posts = post (Server st.id) Coordinator (a_message.Sealed epoch) ∷ []; notes = [] }) (unmoved st) IsGood
-      (
-      λ t. record {
-        state = record { id = relies.sound.id; config = relies.sound.config; replicas = relies.sound.replicas };
-        posts = one-sound _ (record { from = relies.exists; to = tt; between = refl; message = e });
-      }
-      )
-      (λ t. stays)
-
   -- a server halts
   halt-good : IsGood (halting st)
   halt-good = record {
@@ -57,19 +44,30 @@ module _ (space : Space) (sessions n : ℕ) (s : ServerId) (st : ServerState) (r
 
   -- each message of a sound post of an earlier entry
   message-good : (k : ℕ) → k ≤ m → (from : Actor) (message : Message) → IsSoundPost space sessions k (post from (Server s) message) → IsGood (message_step space st from message)
-  message-good k l from (a_message.Call epoch number op) h = called_by-good space sessions n s st relies m before less from (exists-up space sessions k n from h.from) epoch number op h.message.1
+  message-good k l from (a_message.Call epoch number op) h = meeting-good space sessions n s st relies epoch _ (called_by-good space sessions n s st relies m before less from (exists-up space sessions k n from h.from) number op h.message.1)
   message-good k l from (a_message.Update epoch g u) h =
-      updated-good space sessions n s st relies g u (received space sessions k n (omega (arith, l, less)) g u h.message.2 h.message.3) (if_installed (replica_in_epoch st epoch g)) (λ r e. installed-found st epoch g r e)
-  message-good k l from (a_message.Ack epoch g key version) h = acked-good space sessions n s st relies g key h.message.2 version.0 (if_installed (replica_in_epoch st epoch g)) (λ r e. installed-found st epoch g r e)
+      meeting-good space sessions n s st relies epoch _
+      (
+      updated-good space sessions n s st relies from g u (received space sessions k n (omega (arith, l, less)) g u h.message.2 h.message.3)
+      (if_installed (replica_for st g)) (λ r e. installed-found st g r e)
+      )
+  message-good k l from (a_message.Ack epoch g key version by) h =
+      meeting-good space sessions n s st relies epoch _
+      (acked-good space sessions n s st relies from g key h.message.3 version.0 by (if_installed (replica_for st g)) (λ r e. installed-found st g r e))
   message-good k l from (a_message.Ask epoch number g terms) h =
+      meeting-good space sessions n s st relies epoch _
+      (
       asked-good space sessions n s st relies from (exists-up space sessions k n from h.from) (and_parts (is_session_actor from) true h.between).0 epoch (let e = h.message.0 in omega (arith, e, l, less)) number g terms
-      (if_installed (replica_in_epoch st epoch g)) (λ r e. installed-found st epoch g r e)
-  message-good k l from (a_message.Seal epoch) h = seal-good epoch (let e = h.message in omega (arith, e, l, less))
+      (if_installed (replica_for st g)) (λ r e. installed-found st g r e)
+      )
   message-good k l from (a_message.Install config) h = install-good space sessions n s st relies config (record { of_space = h.message.1; epoch = (let e = h.message.0 in omega (arith, e, l, less)) })
   message-good k l from a_message.Die h = halt-good
   message-good k l from (a_message.Snap epoch g snapshot pending) h =
-      snapped-good space sessions n s st relies k (omega (arith, l, less)) g snapshot (λ x i. all-in (IsSoundKept (bounds space sessions k)) snapshot x h.message.2 i) h.message.3
-      pending (λ u i. all-in (λ (w : Update). IsSoundUpdate (bounds space sessions k) w × (has_place_in g w.places ≡ true)) pending u h.message.4 i) (replica_in_epoch st epoch g) (λ r e. replica_in_epoch-found st epoch g r e)
+      meeting-good space sessions n s st relies epoch _
+      (
+      snapped-good space sessions n s st relies from k (omega (arith, l, less)) g snapshot (λ x i. all-in (IsSoundKept (bounds space sessions k)) snapshot x h.message.2 i) h.message.3
+      pending (λ u i. all-in (λ (w : Update). IsSoundUpdate (bounds space sessions k) w × (has_place_in g w.places ≡ true)) pending u h.message.4 i) (replica_for st g) (λ r e. replica_for-found st g r e)
+      )
   message-good k l from other h = stays
 
   -- each input of a server

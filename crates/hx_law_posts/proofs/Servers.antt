@@ -1,5 +1,5 @@
 -- Sound servers: their configuration is of the space, and so is all that their replicas hold; what a step of one slot does.
-use Rattle.std.proofs.Common.{◌≡◌, ℕ, ◌≤◌, inl, inr, not, ◌||◌, List, [], Option, Some, None, sym, subst, eqb}
+use Rattle.std.proofs.Common.{◌≡◌, ℕ, ◌≤◌, inl, inr, List, [], ◌∷◌, Option, Some, None, refl, sym, subst, ltb}
 use Rattle.std.proofs.lemmas.Bool.{cond_both}
 use Rattle.hx_types.specs.declared.messages.Post.{Post}
 use Rattle.hx_types.specs.declared.ids.Epoch.{Epoch}
@@ -13,8 +13,8 @@ use Rattle.hx_types.specs.Configs.{is_lost}
 use Rattle.hx_types.specs.Spaces.{IsRegionOf, IsServerOf, IsSpace, KeyFits}
 use Rattle.hx_types.specs.Posts.{IsSoundPost}
 use Rattle.hx_model.specs.Slots.{KeyState, Move, moved_all}
-use Rattle.hx_model.specs.ServerSteps.{Replica, ServerState, ServerStep, SlotStep, at_slot, by_moves, by_posts, replica_in_epoch, if_installed, replica_of, saying, context_of, state_in, unmoved, with_replica}
-use Rattle.hx_law_lemmas.proofs.Lemmas.{AllKnownInLine as AllKnown, in-with_replica, in-with_state, state-from, with_slot_at, Ascend, state_key}
+use Rattle.hx_model.specs.ServerSteps.{Replica, ServerState, ServerStep, SlotStep, asking_last, at_slot, by_moves, by_posts, if_installed, meeting, poll_post, replica_for, replica_of, saying, context_of, state_in, unmoved, with_replica}
+use Rattle.hx_law_lemmas.proofs.Lemmas.{AllKnownInLine as AllKnown, in-append, in-provided, in-with_replica, in-with_state, state-from, with_slot_at, Ascend, state_key}
 use Rattle.hx_law_posts.proofs.Texts.{with_state-ascends}
 use Rattle.hx_law_posts.proofs.Bounds.{IsSoundAt, IsSoundConfig, config-up}
 use Rattle.hx_law_posts.proofs.Moves.{AllRise}
@@ -44,14 +44,13 @@ server-up space sessions m n l s st h = record {
   replicas = λ r i. replica-up space sessions m n l r (h.replicas r i);
 }
 
--- a replica that hears is found
-pub replica_in_epoch-found : (st : ServerState) (epoch : Epoch) (g : RegionId) (r : Replica) → replica_in_epoch st epoch g ≡ Some r → replica_of g st.replicas ≡ Some r
-replica_in_epoch-found st epoch g r =
-    cond_both (st.sealed || not (eqb epoch.0 st.config.epoch.0) || is_lost st.config g) None (replica_of g st.replicas) (λ o. o ≡ Some r → replica_of g st.replicas ≡ Some r) (λ t e. absurd (cc)) (λ t e. e)
+-- a replica that takes messages is found
+pub replica_for-found : (st : ServerState) (g : RegionId) (r : Replica) → replica_for st g ≡ Some r → replica_of g st.replicas ≡ Some r
+replica_for-found st g r = cond_both (is_lost st.config g) None (replica_of g st.replicas) (λ o. o ≡ Some r → replica_of g st.replicas ≡ Some r) (λ t e. absurd (cc)) (λ t e. e)
 
--- an installed replica that hears is found
-pub installed-found : (st : ServerState) (epoch : Epoch) (g : RegionId) (r : Replica) → if_installed (replica_in_epoch st epoch g) ≡ Some r → replica_of g st.replicas ≡ Some r
-installed-found st epoch g r e = replica_in_epoch-found st epoch g r (by (replica_in_epoch st epoch g) e)
+-- an installed replica that takes messages is found
+pub installed-found : (st : ServerState) (g : RegionId) (r : Replica) → if_installed (replica_for st g) ≡ Some r → replica_of g st.replicas ≡ Some r
+installed-found st g r e = replica_for-found st g r (by (replica_for st g) e)
   where
     by : (o : Option Replica) → if_installed o ≡ Some r → o ≡ Some r
     by None = λ e. absurd (cc)
@@ -95,6 +94,28 @@ module _ (space : Space) (sessions n : ℕ) (s : ServerId) (st : ServerState) (r
   -- nothing happens
   pub unmoved-good : IsGood (unmoved st)
   unmoved-good = saying-good [] (λ p i. absurd i)
+
+  -- the newest configuration is asked for
+  poll-sound : (p : Post) → IsIn p (poll_post st ∷ []) → IsSound p
+  poll-sound p i = elim i [
+    | inl e ↦ subst IsSound (sym e) (record { from = relies.exists; to = tt; between = refl; message = relies.sound.config.epoch })
+    | inr j ↦ absurd j
+  ]
+
+  -- a message of a higher epoch: it is asked for first
+  pub meeting-good : (epoch : Epoch) (step : ServerStep) → IsGood step → IsGood (meeting st epoch step)
+  meeting-good epoch step h = record {
+    state = h.state;
+    posts = λ p i. elim (in-append _ step.posts p i) [
+      | inl j ↦ poll-sound p (in-provided (ltb st.config.epoch.0 epoch.0) (poll_post st ∷ []) p j).1
+      | inr j ↦ h.posts p j
+    ];
+  }
+
+  -- where anything is posted, it is asked for last
+  pub asking-sound : (ps : List Post) → ((p : Post) → IsIn p ps → IsSound p) → (p : Post) → IsIn p (asking_last st ps) → IsSound p
+  asking-sound [] f p i = absurd i
+  asking-sound (x ∷ rest) f p i = elim (in-append (x ∷ rest) (poll_post st ∷ []) p i) [ inl j ↦ f p j | inr j ↦ poll-sound p j ]
 
   -- replicas with one of them changed
   pub with_replica-sound : (x : Replica) → IsSoundReplica space sessions n x → IsSoundServer space sessions n s (record st { replicas = with_replica x st.replicas })

@@ -78,7 +78,7 @@ module _ (space : Space) (sessions n : ℕ) (context : SlotContext) (here : IsCo
       let r = prev-reaches space context.config here.config.of_space u.places (place_number context.region u.places) context.server x m e in
       let q = reached-region u x m sound r in
       elim i [
-        | inl f ↦ subst IsSound (sym f) (record { from = here.exists; to = r.server; between = refl; message = (here.config.epoch, q.0, sound.of_space.key, sound.version) })
+        | inl f ↦ subst IsSound (sym f) (record { from = here.exists; to = r.server; between = refl; message = (here.config.epoch, q.0, here.region, sound.of_space.key, sound.version) })
         | inr j ↦ absurd j
       ]
 

@@ -1,10 +1,11 @@
 -- Snapshots: what a server posts to a joiner is sound, and what a joiner makes of it is too.
-use Rattle.std.proofs.Common.{◌≡◌, ℕ, ◌+◌, ◌≤◌, ◌⊎◌, inl, inr, Bool, true, false, ◌&&◌, List, [], ◌∷◌, ◌++◌, map, Option, Some, None, refl, sym, ap, ◌∙◌, subst, arith, cond, ltb}
+use Rattle.std.proofs.Common.{◌≡◌, ℕ, ◌+◌, ◌≤◌, ◌⊎◌, inl, inr, Bool, true, false, not, ◌&&◌, List, [], ◌∷◌, ◌++◌, map, Option, Some, None, refl, sym, ap, ◌∙◌, subst, arith, cond, ltb}
 use Rattle.std.specs.List.{filter, list_all}
 use Rattle.std.proofs.lemmas.Bool.{and_parts, cond_both}
 use Rattle.std.proofs.lemmas.List.Elements.{All-nil}
 use Rattle.hx_types.specs.declared.configs.Member.{Member}
 use Rattle.hx_types.specs.declared.messages.Post.{Post}
+use Rattle.hx_types.specs.declared.ids.Actor.{Actor}
 use Rattle.hx_types.specs.declared.ids.RegionId.{RegionId}
 use Rattle.hx_types.specs.declared.ids.ServerId.{ServerId}
 use Rattle.hx_types.specs.declared.snapshots.Kept.{Kept}
@@ -15,8 +16,9 @@ use Rattle.hx_types.specs.Subspaces.{is_key_region}
 use Rattle.hx_types.specs.Configs.{joiner_for, joiner_in, lists_joining, members_of, any_ready}
 use Rattle.hx_types.specs.Spaces.{IsServerOf, KeyFits}
 use Rattle.hx_types.specs.Posts.{IsSoundKept, IsSoundPost, IsSoundUpdate, has_place_in, keys_ascend}
+use Rattle.hx_model.specs.Hearing.{hears_snap}
 use Rattle.hx_model.specs.Slots.{KeyState, kept_of, moved_all, pending_of, pending_of_all, snapshot_of, state_among}
-use Rattle.hx_model.specs.ServerSteps.{Replica, ServerState, Slots, SlotContext, accepting, installed_slots, join_keys, join_slot, keys_of, offered_all, ready_post, replica_of, saying, snap_posts, snap_to, snapped, context_of, state_from, with_key, with_slots}
+use Rattle.hx_model.specs.ServerSteps.{Replica, ServerState, Slots, SlotContext, accepting, installed_slots, join_keys, join_slot, keys_of, offered_all, ready_post, replica_of, saying, snap_posts, snap_to, snapped, context_of, state_from, unmoved, with_key, with_slots}
 use Rattle.hx_law_lemmas.proofs.Lemmas.{all-of, in-append, in-filter, in-flat_map, in-map, in-provided, in_left, accepting-known-in_line as accepting-known}
 use Rattle.hx_law_lemmas.proofs.Lemmas.{in-with_state, replica-found, state-from, Ascend, ascend-test, state_key}
 use Rattle.hx_law_posts.proofs.Texts.{with_state-ascends}
@@ -224,21 +226,26 @@ from-key false k = refl
 
 module _ (space : Space) (sessions n : ℕ) (s : ServerId) (st : ServerState) (relies : Relies space sessions n s st) where
   -- a snapshot of an earlier entry
-  pub snapped-good : (k : ℕ) → k + 1 ≤ n → (g : RegionId) (snapshot : List Kept) → ((x : Kept) → IsIn x snapshot → IsSoundKept (bounds space sessions k) x) → keys_ascend (map kept_key snapshot) ≡ true
+  pub snapped-good : (from : Actor) (k : ℕ) → k + 1 ≤ n → (g : RegionId) (snapshot : List Kept) → ((x : Kept) → IsIn x snapshot → IsSoundKept (bounds space sessions k) x) → keys_ascend (map kept_key snapshot) ≡ true
       → (pending : List Update) → ((u : Update) → IsIn u pending → IsSoundUpdate (bounds space sessions k) u × (has_place_in g u.places ≡ true))
-      → (o : Option Replica) → ((r : Replica) → o ≡ Some r → replica_of g st.replicas ≡ Some r) → DoesWell space sessions n s (snapped space st snapshot pending o)
-  snapped-good k l g snapshot kept ascends pending updates None f = unmoved-good space sessions n s st relies
-  snapped-good k l g snapshot kept ascends pending updates (Some r) f =
-      cond_both r.installed (saying st (ready_post st r.region)) (with_slots st r (installed_slots (context_of space st r.region) snapshot pending)) (DoesWell space sessions n s)
-      (λ t. saying-good space sessions n s st relies (ready_post st r.region) (ready-sound space sessions n s st relies r inside))
+      → (o : Option Replica) → ((r : Replica) → o ≡ Some r → replica_of g st.replicas ≡ Some r) → DoesWell space sessions n s (snapped space st from snapshot pending o)
+  snapped-good from k l g snapshot kept ascends pending updates None f = unmoved-good space sessions n s st relies
+  snapped-good from k l g snapshot kept ascends pending updates (Some r) f =
+      let installs = with_slots st r (installed_slots (context_of space st r.region) snapshot pending) in
+      cond_both (not (hears_snap st.config r.region st.id from)) (unmoved st) (cond r.installed (saying st (ready_post st r.region)) installs) (DoesWell space sessions n s)
+      (λ t. unmoved-good space sessions n s st relies)
       (
-      λ t. record {
+      λ t. cond_both r.installed (saying st (ready_post st r.region)) installs (DoesWell space sessions n s)
+      (λ b. saying-good space sessions n s st relies (ready_post st r.region) (ready-sound space sessions n s st relies r inside))
+      (
+      λ b. record {
         state = with_replica-sound space sessions n s st relies _ (record { region = (relies.sound.replicas r inside).region; slots = all.each; ascend = all.ascend });
         posts = λ p i. elim (in-append (installed_slots (context_of space st r.region) snapshot pending).posts (ready_post st r.region) p i) [
           | inl j ↦ all.posts p j
           | inr j ↦ ready-sound space sessions n s st relies r inside p j
         ];
       }
+      )
       )
     where
       inside : IsIn r st.replicas
@@ -247,8 +254,8 @@ module _ (space : Space) (sessions n : ℕ) (s : ServerId) (st : ServerState) (r
       may-hold : (u : Update) → IsIn u pending → IsSoundAt space sessions n r.region u
       may-hold u i = let a = updates u i in subst (λ (h : RegionId). IsSoundAt space sessions n h u) (sym (replica-found g st.replicas r (f r refl)).1) (received space sessions k n l g u a.0 a.1)
 
-      from : (t : KeyState) → IsIn t (map (state_from (is_key_region space r.region)) snapshot) → IsSoundSlot space sessions n r.region t
-      from t i =
+      each : (t : KeyState) → IsIn t (map (state_from (is_key_region space r.region)) snapshot) → IsSoundSlot space sessions n r.region t
+      each t i =
           let m = in-map (state_from (is_key_region space r.region)) snapshot t i in
           let a = kept m.0 m.1 in
           subst (IsSoundSlot space sessions n r.region) (sym m.2) (from-sound space sessions n r.region (is_key_region space r.region) m.0 (kept-up space sessions k n (omega (arith, l)) m.0 a) (let b = a.floor in omega (arith, b, l)))
@@ -259,7 +266,7 @@ module _ (space : Space) (sessions n : ℕ) (s : ServerId) (st : ServerState) (r
           (keys-fit pending (λ u i. (may-hold u i).sound.of_space.key))
           (record { states = map (state_from (is_key_region space r.region)) snapshot; posts = [] })
           (record {
-            each = from;
+            each = each;
             ascend = map-ascends kept_key state_key (state_from (is_key_region space r.region)) (from-key (is_key_region space r.region)) snapshot (test-ascends snapshot ascends);
             posts = λ p i. absurd i;
           })

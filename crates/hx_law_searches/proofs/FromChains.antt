@@ -1,8 +1,7 @@
 -- What histories and searches need of runs, from what every run keeps of chains.
 use Rattle.hx_model.specs.Lines.{upto}
-use Rattle.std.specs.Prelude.{◌||◌, if◌then◌else◌}
-use Rattle.std.proofs.Common.{◌≡◌, ℕ, ◌≤◌, ◌⊎◌, inl, inr, true, false, List, [], ◌∷◌, length, Option, Some, None, refl, sym, ap, ◌∙◌, subst, arith, eqb}
-use Rattle.std.proofs.lemmas.Bool.{cond-true, cond_both, eq-eqb, false≢true}
+use Rattle.std.proofs.Common.{◌≡◌, ℕ, ◌≤◌, ◌⊎◌, inl, inr, true, false, List, [], ◌∷◌, length, Option, Some, None, refl, sym, ap, ◌∙◌, subst, arith}
+use Rattle.std.proofs.lemmas.Bool.{cond_both, false≢true}
 use Rattle.hx_types.specs.declared.calls.Answer.{Answer}
 use Rattle.hx_types.specs.declared.calls.Caller.{Caller}
 use Rattle.hx_types.specs.declared.calls.Op.{Op}
@@ -23,21 +22,21 @@ use Rattle.hx_types.specs.declared.ids.Actor.TheVariants.{Server, Session}
 use Rattle.hx_types.specs.declared.messages.Message.TheVariants as a_message
 use Rattle.hx_types.specs.declared.traces.Input.TheVariants.{Deliver}
 use Rattle.hx_types.specs.Words.{IsIn, post}
-use Rattle.hx_types.specs.Configs.{is_lost}
+use Rattle.hx_types.specs.Configs.{members_of}
 use Rattle.hx_types.specs.Effects.{key_of}
 use Rattle.hx_types.specs.Subspaces.{is_key_region}
 use Rattle.hx_types.specs.Fitting.{IsScript, call_of, is_refused}
 use Rattle.hx_model.specs.Runs.{IsRun, coordinator_of, has_halted, is_actor, server_of}
-use Rattle.hx_model.specs.ServerSteps.{Replica, ServerState, replica_in_epoch, if_installed, replica_of, state_in}
+use Rattle.hx_model.specs.ServerSteps.{Replica, ServerState, replica_for, if_installed, replica_of, state_in}
 use Rattle.hx_model.specs.Slots.{KeyState, found_in, kept_row, object_of}
 use Rattle.hx_model.specs.Histories.{line_of}
-use Rattle.hx_law_lemmas.specs.Words.{posts_of, view}
-use Rattle.hx_law_lemmas.proofs.Lemmas.{replica-found, state-there, AllMade, replica_in_epoch-found, replica_in_epoch-open, installed-found, rows-full}
+use Rattle.hx_law_lemmas.specs.Words.{posts_of}
+use Rattle.hx_law_lemmas.proofs.Lemmas.{replica-found, state-there, AllMade, Differ, replica_for-found, installed-found, rows-full}
 use Rattle.hx_law_lemmas.proofs.Lemmas.{rows-sound, stays-by, numbered-within as in-below}
 use Rattle.hx_law_folds.specs.Folding.{IsSlotOf}
-use Rattle.hx_law_chains.proofs.Lemmas.{seat-of, along-fixed, Seat, Scene, world, chained-run, fixed-run, late-run, lines-run, scene, replica-ascends}
+use Rattle.hx_law_chains.proofs.Lemmas.{Chained, Scene, Seat, along-fixed, chained-run, fixed-run, late-run, lines-run, replica-ascends, scene, seat-of, world}
 use Rattle.hx_law_chains.proofs.Lemmas.{replica-sent, snapshots-kept, Along, Fixed, KeyOk, Law, Lawful, Told, lawful-made, lawful-numbered}
-use Rattle.hx_law_epochs.proofs.Lemmas.{IsKnown, Real, epochs-run}
+use Rattle.hx_law_epochs.proofs.Lemmas.{IsKnown, Real}
 use Rattle.hx_law_lemmas.specs.Facts.{AnswersGet, AssignsNext, Facts, IsLine, IsUpdateAfter, ShowsRows, StaysUpTo, Tells, WasTold, part_at}
 use Rattle.hx_law_searches.proofs.Fronts.{front, front-fixed, front-kept, front-reaches, front-within}
 
@@ -60,16 +59,6 @@ after-law script known key older u l = record {
 line-lawful : (script : Script) (known : Config → Type 0) (key : List ℕ) (us : List Update) → Lawful script known key us → IsLine script key us
 line-lawful script known key [] h = tt
 line-lawful script known key (u ∷ us) h = (after-law script known key us u h.0, line-lawful script known key us h.1)
-
--- a replica that hears is of a region that isn't lost
-replica_in_epoch-alive : (s : ServerState) (epoch : Epoch) (g : RegionId) (r : Replica) → replica_in_epoch s epoch g ≡ Some r → is_lost s.config g ≡ false
-replica_in_epoch-alive s epoch g r = by (s.sealed) _ (is_lost s.config g)
-  where
-    by : (a b c : _) → (if a || b || c then None else replica_of g s.replicas) ≡ Some r → c ≡ false
-    by true b c e = absurd (cc)
-    by false true c e = absurd (cc)
-    by false false true e = absurd (cc)
-    by false false false e = refl
 
 module _ (script : Script) (valid : IsScript script) where
   -- where all stand after a trace
@@ -126,7 +115,8 @@ module _ (script : Script) (valid : IsScript script) where
 
   -- ---- rows that are found
 
-  module _ (older : List Entry) (run : IsRun script older) (i : ServerId) (real : Real script i) (up : (server_of script i older).halted ≡ false) (epoch : Epoch) (g : RegionId) (r : Replica) (heard : if_installed (replica_in_epoch (server_of script i older) epoch g) ≡ Some r) where
+  module _ (older : List Entry) (run : IsRun script older) (i : ServerId) (real : Real script i) (up : (server_of script i older).halted ≡ false)
+      (g : RegionId) (r : Replica) (heard : if_installed (replica_for (server_of script i older) g) ≡ Some r) where
     -- the server
     abbrev st : ServerState
     st = server_of script i older
@@ -135,53 +125,42 @@ module _ (script : Script) (valid : IsScript script) where
     abbrev c : Config
     c = (coordinator_of script older).config
 
-    -- the replica hears
-    hears : replica_in_epoch st epoch g ≡ Some r
-    hears = installed-found (replica_in_epoch st epoch g) r heard
-
-    -- and is the server's, of the region
+    -- the replica is the server's, of the region
     found : replica_of g st.replicas ≡ Some r
-    found = replica_in_epoch-found st epoch g r hears
+    found = replica_for-found st g r (installed-found (replica_for st g) r heard)
 
     region : IsIn r st.replicas × (r.region ≡ g)
     region = replica-found g st.replicas r found
 
     -- it is installed
     installed : r.installed ≡ true
-    installed = by (replica_in_epoch st epoch g) heard
+    installed = by (replica_for st g) heard
       where
         by : (o : Option Replica) → if_installed o ≡ Some r → r.installed ≡ true
         by None = λ e. absurd (cc)
         by (Some y) = cond_both y.installed (Some y) None (λ (o : Option Replica). o ≡ Some r → r.installed ≡ true) (λ t e. (let q : y ≡ r = cc in sym (ap (λ (z : Replica). z.installed) q) ∙ t)) (λ t e. absurd (cc))
 
-    -- the server has the newest configuration
-    newest : st.config ≡ c
-    newest = elim ((epochs-run script valid older run).epochs.near i real up) [ inl e ↦ e | inr e ↦ absurd (false≢true (sym (replica_in_epoch-open st epoch g r hears) ∙ e.1)) ]
+    -- all that every run keeps of chains
+    chained : Chained script (world (scene script older)) (posts_of older)
+    chained = chained-run script valid older run
 
-    -- so the region isn't lost there
-    alive : is_lost c g ≡ false
-    alive = ap (λ (d : Config). is_lost d g) (sym newest) ∙ replica_in_epoch-alive st epoch g r hears
+    -- members of a region are different servers
+    differ : (h : RegionId) → Differ (members_of c h)
+    differ = chained.ordered.differ c chained.ordered.newest
 
-    -- it is a seat
-    seat : Seat script (world (scene script older)) g i
-    seat = seat-of script (Real script) (λ s. server_of script s older) c (λ key. line_of key older) (posts_of older) (IsKnown script older) g i st refl (real, up) (record { replica = r; found = found; installed = installed }) alive
-
-    -- in the newest epoch a slot counts as it is
-    counts : (t : KeyState) → view c st t ≡ t
-    counts t = cond-true (eqb st.config.epoch.0 c.epoch.0) t _ (eq-eqb st.config.epoch.0 c.epoch.0 (ap (λ (d : Config). d.epoch.0) newest))
-
-    -- its slot of a key is the replica's
-    slot-is : (key : List ℕ) → seat.slot key ≡ state_in script.space r key
-    slot-is key =
-        sym (seat.only key (state_in script.space r key) (inl (record { up = (real, up); at = record { replica = r; found = found; installed = installed }; is = sym (counts (state_in script.space r key)) })))
+    -- the replica is a seat, whichever configuration its server has
+    abbrev seat : Seat script (world (scene script older)) g i
+    seat =
+        seat-of script (Real script) (λ s. server_of script s older) c (λ key. line_of key older) (posts_of older) (IsKnown script older)
+        (chained-run script valid older run).ordered g i st refl (real, up) (record { replica = r; found = found; installed = installed })
 
     -- all that holds of a key
     key-ok : (key : List ℕ) → KeyOk script (world (scene script older)) key
-    key-ok key = (chained-run script valid older run).keyed key
+    key-ok key = chained.keyed key
 
     -- how far it shows each line
     abbrev reach : List ℕ → ℕ
-    reach key = front script valid.space (world (scene script older)) ((epochs-run script valid older run).epochs.orderly.differ) g i seat key (key-ok key)
+    reach key = front script valid.space (world (scene script older)) differ g i seat key (key-ok key)
 
     -- the slot is one
     is-slot : (key : List ℕ) → IsSlotOf g (state_in script.space r key)
@@ -189,9 +168,7 @@ module _ (script : Script) (valid : IsScript script) where
 
     -- it keeps what its region keeps of the line up to there
     keeps : (key : List ℕ) → object_of g (state_in script.space r key) ≡ kept_row g None (upto (reach key) (part_at g (line_of key older)))
-    keeps key =
-        ap (object_of g) (sym (slot-is key))
-        ∙ front-kept script valid.space (world (scene script older)) ((epochs-run script valid older run).epochs.orderly.differ) g i seat key (key-ok key) (subst (IsSlotOf g) (sym (slot-is key)) (is-slot key))
+    keeps key = front-kept script valid.space (world (scene script older)) differ g i seat key (key-ok key) (is-slot key)
 
     -- its slots stand in order
     ordered : (t : KeyState) → IsIn t r.states → state_in script.space r t.base.key ≡ t
@@ -202,17 +179,19 @@ module _ (script : Script) (valid : IsScript script) where
     made key = lawful-made script (IsKnown script older) key (line_of key older) (key-ok key).lawful
 
     -- what it finds shows so much of each line
-    shows : (x : Entry) (to : Actor) (number : ℕ) (id : PostId) (terms : List Term) → x.input ≡ Deliver id to (a_message.Ask epoch number g terms) → ShowsRows script older x to epoch number g (found_in g terms r.states)
-    shows x to number id terms input = record {
+    shows : (x : Entry) (to : Actor) (epoch : Epoch) (number : ℕ) (id : PostId) (terms : List Term)
+        → x.input ≡ Deliver id to (a_message.Ask epoch number g terms) → ShowsRows script older x to epoch number g (found_in g terms r.states)
+    shows x to epoch number id terms input = record {
       id = id;
       terms = terms;
       input = input;
       front = reach;
-      within = λ key. front-within script valid.space (world (scene script older)) ((epochs-run script valid older run).epochs.orderly.differ) g i seat key (key-ok key);
-      stays = λ key. fixed-stays older key (reach key) (front-fixed script valid.space (world (scene script older)) ((epochs-run script valid older run).epochs.orderly.differ) g i seat key (key-ok key));
+      within = λ key. front-within script valid.space (world (scene script older)) differ g i seat key (key-ok key);
+      stays = λ key. fixed-stays older key (reach key) (front-fixed script valid.space (world (scene script older)) differ g i seat key (key-ok key));
       sound = rows-sound script.space g r (λ key. line_of key older) made reach keeps ordered terms;
       full = rows-full script.space g r (λ key. line_of key older) made reach keeps ordered terms;
-      reaches = λ key v told u j p l. front-reaches script valid.space (world (scene script older)) ((epochs-run script valid older run).epochs.orderly.differ) g i seat key (key-ok key) v (told-along older run key v told).1 u j p l;
+      reaches = λ key v told u j p l.
+          front-reaches script valid.space (world (scene script older)) differ g i seat key (key-ok key) v (told-along older run key v told).1 u j p l;
     }
 
   -- rows are those of a replica that shows so much
@@ -221,8 +200,9 @@ module _ (script : Script) (valid : IsScript script) where
   founds x older run s acts from to epoch number g rows j =
       let l = late-run script valid x older run s acts (post from to (a_message.Found epoch number g rows)) j in
       subst (ShowsRows script older x to epoch number g) (sym l.2.2)
-      (shows older run.1 s (subst (λ (a : Actor). is_actor script a ≡ true) acts run.0.actor) (subst (λ (a : Actor). has_halted script older a ≡ false) acts run.0.running) epoch g l.2.0 l.2.1
-      x to number l.1.0 l.0 l.1.1)
+      (shows older run.1 s (subst (λ (a : Actor). is_actor script a ≡ true) acts run.0.actor)
+      (subst (λ (a : Actor). has_halted script older a ≡ false) acts run.0.running) g l.2.0 l.2.1
+      x to epoch number l.1.0 l.0 l.1.1)
 
   -- all that histories and searches need
   pub facts : Facts script

@@ -124,7 +124,6 @@ module _ (script : Script) (facts : Facts script) (older : List Entry) (x : Entr
       (λ p i. quiet p.from p.to p.message (plain.posts p (subst (λ (ps : List Post). IsIn p ps) (sym (ap (λ (m : Output). m.posts) made)) i)))
     where
       quiet : (from to : Actor) (m : Message) → OfCoordinator m → TellsOf script (x ∷ older) from to m
-      quiet from to (a_message.Seal epoch) h = tt
       quiet from to (a_message.Install config) h = tt
       quiet from to a_message.Die h = tt
       quiet from to (a_message.Outcome number answer) h = tt
@@ -152,8 +151,8 @@ module _ (script : Script) (facts : Facts script) (older : List Entry) (x : Entr
           shown to epoch number g rows s (had.tells (post to (Server i) (a_message.Ask epoch number g s.terms)) (arrived s.id older (post to (Server i) (a_message.Ask epoch number g s.terms)) (subst (MayTake older (Server i)) s.input may)))
       says from to (a_message.Reply number version answer) j h = tt
       says from to (a_message.Update epoch g u) j h = tt
-      says from to (a_message.Ack epoch g key version) j h = tt
-      says from to (a_message.Sealed epoch) j h = tt
+      says from to (a_message.Ack epoch g key version by) j h = tt
+      says from to (a_message.Poll epoch) j h = tt
       says from to a_message.Gone j h = tt
       says from to (a_message.Snap epoch g snapshot pending) j h = tt
       says from to (a_message.Ready epoch g) j h = tt

@@ -1,6 +1,7 @@
 -- Where no server is halted and no call asks for another configuration, none is issued: the coordinator stays as it started, and no server halts.
-use Rattle.std.proofs.Common.{◌≡◌, ◌≢◌, ℕ, inl, inr, true, false, not, ◌&&◌, List, [], ◌∷◌, length, Option, Some, None, refl, sym, ap, ◌∙◌, subst, eqb, ltb, arith}
-use Rattle.std.specs.Prelude.{⊤}
+use Rattle.std.proofs.Common.{◌≡◌, ◌≢◌, ℕ, inl, inr, true, false, not, ◌&&◌, List, [], ◌∷◌, length, map, Option, Some, None, refl, sym, ap, ◌∙◌, subst, ltb, arith}
+use Rattle.std.specs.Prelude.{⊤, if◌then◌else◌}
+use Rattle.std.specs.List.{flat_map}
 use Rattle.std.proofs.lemmas.Bool.{and_parts, cond_both, false≢true}
 use Rattle.hx_types.specs.declared.calls.Caller.{Caller}
 use Rattle.hx_types.specs.declared.calls.Op.{Op}
@@ -17,21 +18,27 @@ use Rattle.hx_types.specs.declared.spaces.Space.{Space}
 use Rattle.hx_types.specs.declared.traces.Entry.{Entry}
 use Rattle.hx_types.specs.declared.traces.Input.{Input}
 use Rattle.hx_types.specs.declared.traces.Script.{Script}
+use Rattle.hx_types.specs.declared.updates.Update.{Update}
 use Rattle.hx_types.specs.declared.calls.Op.TheVariants.{Stop, Add}
 use Rattle.hx_types.specs.declared.messages.Message.TheVariants as a_message
 use Rattle.hx_types.specs.declared.ids.Actor.TheVariants.{Coordinator, Server, Session}
 use Rattle.hx_types.specs.declared.traces.Input.TheVariants.{Tick, Halt, Deliver}
-use Rattle.hx_types.specs.Words.{IsIn, post, same_server, server_in, when_some}
-use Rattle.hx_types.specs.Configs.{first_config, is_lost, leads, lists_joining, members_of}
+use Rattle.hx_types.specs.Words.{IsIn, post, same_server, when_some}
+use Rattle.hx_types.specs.Configs.{any_joining, any_ready, first_config, is_lost, leads, lists_joining, members_of}
 use Rattle.hx_types.specs.Fitting.{IsScript, call_of, calls_of, numbered}
-use Rattle.hx_model.specs.CoordinatorSteps.{CoordinatorState, CoordinatorStep, coordinator_at_start, coordinator_message, coordinator_step, resting, telling}
-use Rattle.hx_model.specs.ServerSteps.{Replica, ServerState, ServerStep, acked, asked, call_at, called, replica_in_epoch, if_installed, input_step, message_step, server_step, snapped, unmoved, updated}
+use Rattle.hx_model.specs.CoordinatorSteps.{CoordinatorState, CoordinatorStep, coordinator_at_start, coordinator_message, coordinator_step}
+use Rattle.hx_model.specs.CoordinatorSteps.{join_posts, last_ready_pair, resting, telling, to_server}
+use Rattle.hx_model.specs.ServerSteps.{Replica, ServerState, ServerStep, ack_step, acked, acked_of, asked, at_slot, call_at, called, context_of, if_installed}
+use Rattle.hx_model.specs.ServerSteps.{input_step, installed_slots, message_step, pending_with, ready_post, replica_for, saying, server_step, snapped, state_in}
+use Rattle.hx_model.specs.ServerSteps.{unmoved, update_step, updated, with_slots}
 use Rattle.hx_model.specs.SessionSteps.{SessionState, is_administrative}
 use Rattle.hx_model.specs.Causes.{config_of}
+use Rattle.hx_model.specs.Hearing.{hears_ack, hears_snap, hears_update}
+use Rattle.hx_model.specs.Neighbours.{place_number}
 use Rattle.hx_model.specs.Regions.{key_region}
 use Rattle.hx_model.specs.Runs.{IsRun, Output, MayTake, coordinator_after, coordinator_of, is_actor, made_of, server_after, server_of, session_of}
 use Rattle.hx_law_lemmas.specs.Words.{posts_of}
-use Rattle.hx_law_lemmas.proofs.Lemmas.{all-ready, any-in, in-append, arrived}
+use Rattle.hx_law_lemmas.proofs.Lemmas.{all-ready, any-in, in-append, in-flat_map, in-map, in-provided, arrived}
 use Rattle.hx_law_epochs.proofs.Lemmas.{epochs-run, server-does-well, Tells}
 use Rattle.hx_law_chains.proofs.Lemmas.{named}
 use Rattle.hx_law_searches.proofs.Lemmas.{step_is}
@@ -69,9 +76,9 @@ module _ (space : Space) (s : ServerState) (up : s.halted ≡ false) where
   abbrev Up : ServerStep → Type 0
   Up step = step.state.halted ≡ false
 
-  up-called : (epoch : Epoch) (c : Caller) (op : Op) (o : Option (List ℕ)) → Up (called space s epoch c op o)
-  up-called epoch c op None = up
-  up-called epoch c op (Some key) = by (replica_in_epoch s epoch (key_region space key))
+  up-called : (c : Caller) (op : Op) (o : Option (List ℕ)) → Up (called space s c op o)
+  up-called c op None = up
+  up-called c op (Some key) = by (replica_for s (key_region space key))
     where
       by : (o : Option Replica) → Up (when_some o (unmoved s) (λ (r : Replica). call_at space s r key c op))
       by None = up
@@ -80,39 +87,42 @@ module _ (space : Space) (s : ServerState) (up : s.halted ≡ false) where
   up-message : (from : Actor) (m : Message) → Calm m → Up (message_step space s from m)
   up-message Coordinator (a_message.Call epoch number op) c = up
   up-message (Server i) (a_message.Call epoch number op) c = up
-  up-message (Session u) (a_message.Call epoch number op) c = up-called epoch (record { session = u; number = number }) op _
-  up-message from (a_message.Update epoch g u) c = by (if_installed (replica_in_epoch s epoch g))
+  up-message (Session u) (a_message.Call epoch number op) c = up-called (record { session = u; number = number }) op _
+  up-message from (a_message.Update epoch g u) c = by (if_installed (replica_for s g))
     where
-      by : (o : Option Replica) → Up (updated space s u o)
+      by : (o : Option Replica) → Up (updated space s from u o)
       by None = up
-      by (Some r) = up
-  up-message from (a_message.Ack epoch g key version) c = by (if_installed (replica_in_epoch s epoch g))
+      by (Some r) =
+          cond_both (hears_update s.config u (place_number r.region u.places) s.id from)
+          (at_slot s r (state_in space r u.key) (update_step (context_of space s r.region) (state_in space r u.key) u)) (unmoved s) Up (λ t. up) (λ t. up)
+  up-message from (a_message.Ack epoch g key version region) c = by (if_installed (replica_for s g))
     where
-      by : (o : Option Replica) → Up (acked space s key version.0 o)
+      pending : (r : Replica) (o : Option Update) → Up (acked_of space s from region r (state_in space r key) version.0 o)
+      pending r None = up
+      pending r (Some u) =
+          cond_both (hears_ack s.config u (place_number r.region u.places) s.id from region)
+          (at_slot s r (state_in space r key) (ack_step (context_of space s r.region) (state_in space r key) version.0)) (unmoved s) Up (λ t. up) (λ t. up)
+
+      by : (o : Option Replica) → Up (acked space s from key version.0 region o)
       by None = up
-      by (Some r) = up
-  up-message from (a_message.Ask epoch number g terms) c = by (if_installed (replica_in_epoch s epoch g))
+      by (Some r) = pending r (pending_with version.0 (state_in space r key))
+  up-message from (a_message.Ask epoch number g terms) c = by (if_installed (replica_for s g))
     where
       by : (o : Option Replica) → Up (asked s from epoch number terms o)
       by None = up
       by (Some r) = up
-  up-message from (a_message.Seal epoch) c = cond_both (eqb epoch.0 s.config.epoch.0) _ (unmoved s) Up (λ t. up) (λ t. up)
   up-message from (a_message.Install config) c = cond_both (ltb s.config.epoch.0 config.epoch.0) _ (unmoved s) Up (λ t. up) (λ t. up)
-  up-message from (a_message.Snap epoch g snapshot pending) c = by (replica_in_epoch s epoch g)
+  up-message from (a_message.Snap epoch g snapshot pending) c = by (replica_for s g)
     where
-      by : (o : Option Replica) → Up (snapped space s snapshot pending o)
+      by : (o : Option Replica) → Up (snapped space s from snapshot pending o)
       by None = up
-      by (Some r) = cond_both r.installed _ _ Up (λ t. up) (λ t. up)
+      by (Some r) =
+          let now = saying s (ready_post s r.region) in
+          let joined = with_slots s r (installed_slots (context_of space s r.region) snapshot pending) in
+          cond_both (not (hears_snap s.config r.region s.id from)) (unmoved s) (if r.installed then now else joined) Up (λ t. up)
+          (λ t. cond_both r.installed now joined Up (λ q. up) (λ q. up))
   up-message from a_message.Die c = absurd c
-  up-message from a_message.Gone c = up
-  up-message from (a_message.StopServer number server) c = up
-  up-message from (a_message.AddReplica number server g) c = up
-  up-message from (a_message.Reply number version answer) c = up
-  up-message from (a_message.Found epoch number g rows) c = up
-  up-message from (a_message.Sealed epoch) c = up
-  up-message from (a_message.Outcome number answer) c = up
-  up-message from (a_message.Ready epoch g) c = up
-  up-message from (a_message.Poll epoch) c = up
+  up-message from other c = up
 
   -- a server that hasn't halted goes on
   pub up-step : (input : Input) → HaltsNone input → Up (server_step space s input)
@@ -142,18 +152,7 @@ calm-asked script none u s calls (a_message.AddReplica number server g) h =
     false≢true (sym (none (record { session = u; number = s.begun }) (Add server g) (ap (λ (ops : List Op). numbered ops s.begun) (sym calls) ∙ h.1)))
 calm-asked script none u s calls (a_message.Ask epoch number g terms) h = tt
 calm-asked script none u s calls (a_message.Poll epoch) h = tt
-calm-asked script none u s calls (a_message.Reply number version answer) h = absurd h
-calm-asked script none u s calls (a_message.Update epoch g w) h = absurd h
-calm-asked script none u s calls (a_message.Ack epoch g key version) h = absurd h
-calm-asked script none u s calls (a_message.Found epoch number g rows) h = absurd h
-calm-asked script none u s calls (a_message.Seal epoch) h = absurd h
-calm-asked script none u s calls (a_message.Sealed epoch) h = absurd h
-calm-asked script none u s calls (a_message.Install config) h = absurd h
-calm-asked script none u s calls a_message.Die h = absurd h
-calm-asked script none u s calls a_message.Gone h = absurd h
-calm-asked script none u s calls (a_message.Outcome number answer) h = absurd h
-calm-asked script none u s calls (a_message.Snap epoch g snapshot pending) h = absurd h
-calm-asked script none u s calls (a_message.Ready epoch g) h = absurd h
+calm-asked script none u s calls other h = absurd h
 
 -- ---- the coordinator
 
@@ -180,35 +179,28 @@ module _ (space : Space) (n : ℕ) where
   installs to = record { state = refl; calm = λ p i. elim i [ inl e ↦ subst (λ (q : Post). Calm q.message) (sym e) tt | inr j ↦ absurd j ] }
 
   rests-message : (from : Actor) (m : Message) → Calm m → Rests (coordinator_message d from m)
-  rests-message Coordinator (a_message.Sealed epoch) c = nothing
-  rests-message (Session u) (a_message.Sealed epoch) c = nothing
-  rests-message (Server s) (a_message.Sealed epoch) c =
-      cond_both (eqb epoch.0 d.config.epoch.0) _ _ Rests (λ t. nothing)
-      (λ t. cond_both (ltb epoch.0 d.config.epoch.0 && server_in s d.config.servers) _ (resting d) Rests (λ u. installs (Server s)) (λ u. nothing))
   rests-message Coordinator (a_message.Ready epoch g) c = nothing
   rests-message (Session u) (a_message.Ready epoch g) c = nothing
   rests-message (Server s) (a_message.Ready epoch g) c =
-      cond_both (eqb epoch.0 d.config.epoch.0) _ (resting d) Rests
-      (λ t. cond_both (not (is_lost d.config g) && lists_joining d.config g s) _ (resting d) Rests (λ u. absurd (none-joins space g s (and_parts (not (is_lost d.config g)) (lists_joining d.config g s) u).1)) (λ u. nothing))
-      (λ t. nothing)
+      cond_both (not (is_lost d.config g) && lists_joining d.config g s) _ (resting d) Rests
+      (λ u. absurd (none-joins space g s (and_parts (not (is_lost d.config g)) (lists_joining d.config g s) u).1)) (λ u. nothing)
   rests-message from (a_message.Poll epoch) c = cond_both (ltb epoch.0 d.config.epoch.0) _ (resting d) Rests (λ t. installs from) (λ t. nothing)
   rests-message from a_message.Die c = absurd c
   rests-message from a_message.Gone c = absurd c
   rests-message from (a_message.StopServer number server) c = absurd c
   rests-message from (a_message.AddReplica number server g) c = absurd c
-  rests-message from (a_message.Call epoch number op) c = nothing
-  rests-message from (a_message.Reply number version answer) c = nothing
-  rests-message from (a_message.Update epoch g u) c = nothing
-  rests-message from (a_message.Ack epoch g key version) c = nothing
-  rests-message from (a_message.Ask epoch number g terms) c = nothing
-  rests-message from (a_message.Found epoch number g rows) c = nothing
-  rests-message from (a_message.Seal epoch) c = nothing
-  rests-message from (a_message.Install config) c = nothing
-  rests-message from (a_message.Outcome number answer) c = nothing
-  rests-message from (a_message.Snap epoch g snapshot pending) c = nothing
+  rests-message from other c = nothing
+
+  -- what is posted for joiners is calm
+  joins-calm : (lists : List (List Member)) (p : Post) → IsIn p (flat_map (join_posts d.config) lists) → Calm p.message
+  joins-calm lists p i =
+      let r = in-flat_map (join_posts d.config) lists p i in
+      let install = to_server (a_message.Install d.config) in
+      let m = in-map install (last_ready_pair r.0) p (in-provided (any_ready r.0 && any_joining r.0) (map install (last_ready_pair r.0)) p r.2).1 in
+      subst (λ (q : Post). Calm q.message) (sym m.2) tt
 
   rests-step : (input : Input) → HaltsNone input → Rests (coordinator_step d input)
-  rests-step Tick h = record { state = refl; calm = λ p i. absurd i }
+  rests-step Tick h = record { state = refl; calm = joins-calm d.config.regions }
   rests-step Halt h = absurd h
   rests-step (Deliver id from m) h = rests-message from m h
 
