@@ -1,6 +1,6 @@
 ghost use Rattle.std.specs.Prelude.{◌≡◌, ◌<◌, ◌^◌, length, is_some, IfSome};
 ghost use Rattle.std.specs.Option.{option_copied};
-ghost use Rattle.hx_model.specs.Neighbours.{enters, enters_last, hop_at, last_member, member_after, member_before, members_at, next_of, preceding_place, place_number, prev_of};
+ghost use Rattle.hx_model.specs.Neighbours.{enters, enters_last, hop_at, last_member, member_after, member_before, members_at, next_of, preceding_place, place_number, prev_of, region_at};
 ghost use Rattle.hx_model.specs.Slots.{has_place};
 
 use hx_types::{Config, Hop, Member, Place, Places, RegionId, ServerId, Update};
@@ -62,6 +62,17 @@ pub fn place_number(update: &Update, region: RegionId) -> Option<u32>
     None
 }
 
+/// The region of a place.
+#[inline]
+pub fn region_at(places: &Places, place: u32) -> RegionId
+    ensures { result ≡ region_at places.now place }
+{
+    match places.get(place as usize) {
+        Some(found) => found.region,
+        None => RegionId(0),
+    }
+}
+
 /// The members of the region of a place.
 fn members_at<'a>(config: &'a Config, places: &Places, place: u32) -> &'a [Member]
     ensures { result.now ≡ members_at config.now places.now place }
@@ -86,7 +97,9 @@ fn member_after(members: &[Member], server: ServerId) -> Option<ServerId>
     None
 }
 
-fn member_before(members: &[Member], server: ServerId) -> Option<ServerId>
+/// The member right before a server in a list. Before the first there is none, and none before a
+/// server that isn't a member.
+pub fn member_before(members: &[Member], server: ServerId) -> Option<ServerId>
     ensures { result ≡ member_before None server members.now }
 {
     let mut before = None;

@@ -1,6 +1,8 @@
 -- Rows of a server's table, as what is made of a slot.
-use Rattle.std.proofs.Common.{◌≡◌, ℕ, ◌≤◌, true, false, not, cond, ◌==◌, Bool, List, [], ◌∷◌, ◌++◌, length, take, refl, ap, arith}
-use Rattle.std.specs.List.{flat_map, list_any}
+use Rattle.std.proofs.Common.{◌≡◌, ℕ, ◌+◌, ◌≤◌, true, false, not, cond, ◌==◌, Bool, List, [], ◌∷◌, ◌++◌, drop, length, take, None, Some, refl, ap, sym, ◌∙◌, arith}
+use Rattle.std.specs.List.{find, flat_map, list_any, slice_get}
+use Rattle.std.proofs.lemmas.Bool.{cond-false, cond-true}
+use Rattle.std.proofs.lemmas.List.{drop_all}
 use Rattle.hx_types.specs.declared.messages.Post.{Post}
 use Rattle.hx_types.specs.declared.ids.Version.{Version}
 use Rattle.hx_types.specs.declared.outcomes.Acked.TheVariants as an_ack
@@ -11,6 +13,7 @@ use Rattle.hx_model.specs.Slots.{Acknowledge, Commit, KeyState, Move, ack_answer
 use Rattle.hx_slot.specs.States.{committed_count}
 use Rattle.hx_store.specs.Stores.{accepted}
 use Rattle.hx_replica.specs.Outputs.{AreEnds, told_of}
+use Rattle.hx_replica.proofs.Walking.{drop_at}
 
 -- the moves of an accepted update are the step's
 pub accepted_moves : (context : ModelContext) (s : KeyState) (u : Update) (tail_versions : List Version) → AreEnds context s u tail_versions
@@ -52,3 +55,22 @@ ack_within s v = by (is_pending v s) (waits_below s.acked v (pending_of s))
     by true true = omega arith
     by true false = commits_within (moved (Acknowledge v) s).acked (pending_of s)
     by false w = omega arith
+
+-- ---- the pending update of a version, searched from the lowest on
+
+abbrev pub has_number : ℕ → Update → Bool
+has_number v u = u.version.0 == v
+
+-- it is this one
+pub found_at : (v : ℕ) (us : List Update) (i : ℕ) (u : Update) → slice_get us i ≡ Some u → has_number v u ≡ true
+    → find (has_number v) (drop i us) ≡ find (has_number v) us → Some u ≡ find (has_number v) us
+found_at v us i u at is before = sym (cond-true (has_number v u) (Some u) (find (has_number v) (drop (i + 1) us)) is) ∙ sym (ap (find (has_number v)) (drop_at us i u at)) ∙ before
+
+-- it isn't this one
+pub found_later : (v : ℕ) (us : List Update) (i : ℕ) (u : Update) → slice_get us i ≡ Some u → has_number v u ≡ false
+    → find (has_number v) (drop i us) ≡ find (has_number v) us → find (has_number v) (drop (i + 1) us) ≡ find (has_number v) us
+found_later v us i u at out before = sym (cond-false (has_number v u) (Some u) (find (has_number v) (drop (i + 1) us)) out) ∙ sym (ap (find (has_number v)) (drop_at us i u at)) ∙ before
+
+-- there is none
+pub found_none : (v : ℕ) (us : List Update) (i : ℕ) → length us ≤ i → find (has_number v) (drop i us) ≡ find (has_number v) us → None ≡ find (has_number v) us
+found_none v us i l before = ap (find (has_number v)) (sym (drop_all i us l)) ∙ before

@@ -18,7 +18,7 @@ use Rattle.hx_replica.specs.Ticking.{standing}
 pub bare_seen : (i : Inside) (v : ServerValue) → value_of i ≡ v → IsServer i → folded_server v.state ≡ v.state
 bare_seen i v seen is =
     subst (λ (x : ServerValue). folded_server x.state ≡ x.state) seen
-    (λ j. record { id = i.id; config = i.config; sealed = i.sealed; halted = i.halted; replicas = is.bare j })
+    (λ j. record { id = i.id; config = i.config; halted = i.halted; replicas = is.bare j })
 
 -- what was folded once is the same if it is folded again
 pub bare_again : (views : List ReplicaState) (s : ServerState) → views ≡ (folded_server s).replicas → map folded_replica views ≡ views

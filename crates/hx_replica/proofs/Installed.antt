@@ -87,7 +87,7 @@ module _ (v : ServerValue) (config : Config) (newer : v.state.config.epoch.0 < c
       record {
         new = new;
         state = ap (λ (t : ServerStep). folded_server t.state) step_is
-            ∙ ap (λ (l : List ReplicaState). record { id = s.id; config = config; sealed = next.sealed; halted = s.halted; replicas = l }) (sym views);
+            ∙ ap (λ (l : List ReplicaState). record { id = s.id; config = config; halted = s.halted; replicas = l }) (sym views);
       }
       )
 

@@ -48,7 +48,7 @@ within i v place seen l =
 
 -- the state with these replicas
 abbrev pub with_views : Inside → List ReplicaState → ServerState
-with_views i views = record { id = i.id; config = i.config; sealed = i.sealed; halted = i.halted; replicas = views }
+with_views i views = record { id = i.id; config = i.config; halted = i.halted; replicas = views }
 
 pub at_some : {A : Type 0} (P : A → Type 0) (o : Option A) (x : A) → o ≡ Some x → P x → IsSomeAnd o P
 at_some P o x e p = subst (λ (z : Option _). IsSomeAnd z P) (sym e) p
@@ -110,7 +110,7 @@ placed_at i v number key n place y seen l is room =
     is_room_for y.store key n place (subst (λ (o : Option (List Room)). IsSomeAnd o (HasRoomFor key n place)) at room)
 
 -- what its slot made
-pub made_at : (IsMade : RegionId → KeyState → SlotStep → Type 0) (i : Inside) (v : ServerValue) (number : ℕ) (key : List ℕ) (from : Actor) (m : Message)
+pub made_at : (IsMade : RegionId → KeyState → Option SlotStep → Type 0) (i : Inside) (v : ServerValue) (number : ℕ) (key : List ℕ) (from : Actor) (m : Message)
     (y : Replica) (state : KeyState)
     → value_of i ≡ v → number < length i.replicas.items
     → y ≡ get_or i.replicas.items number y → state ≡ state_in i.space (view_of y) key → key ≡ key_in m

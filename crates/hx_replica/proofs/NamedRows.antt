@@ -1,5 +1,5 @@
 -- The rows of a server's table: where whom the server and its input name is known, each step's posts name known actors alone.
-use Rattle.std.proofs.Common.{◌≡◌, ℕ, inl, false, List, [], ◌∷◌, map, Option, Some, None, refl, sym, subst, eqb, ltb}
+use Rattle.std.proofs.Common.{◌≡◌, ℕ, inl, false, not, List, [], ◌∷◌, map, nat_lt, Option, Some, None, refl, sym, subst, ltb}
 use Rattle.std.specs.Prelude.{⊤}
 use Rattle.std.specs.List.{flat_map, slice_get}
 use Rattle.std.proofs.lemmas.Bool.{cond_both}
@@ -13,6 +13,7 @@ use Rattle.hx_types.specs.declared.ids.Epoch.{Epoch}
 use Rattle.hx_types.specs.declared.ids.RegionId.{RegionId}
 use Rattle.hx_types.specs.declared.ids.ServerId.{ServerId}
 use Rattle.hx_types.specs.declared.messages.Message.{Message}
+use Rattle.hx_types.specs.declared.messages.Post.{Post}
 use Rattle.hx_types.specs.declared.messages.Message.TheVariants as a_message
 use Rattle.hx_types.specs.declared.snapshots.Kept.{Kept}
 use Rattle.hx_types.specs.declared.snapshots.Mark.{Mark}
@@ -25,12 +26,14 @@ use Rattle.hx_types.specs.Configs.{leads, lists_ready, members_of}
 use Rattle.hx_types.specs.Effects.{key_of}
 use Rattle.hx_types.specs.Posted.{actors_of_config, actors_of_message, servers_among, sessions_marked}
 use Rattle.hx_types.specs.Subspaces.{is_key_region}
-use Rattle.hx_types.specs.Words.{IsIn, post, when_some}
+use Rattle.hx_types.specs.Words.{IsIn, post, provided, when_some}
+use Rattle.hx_model.specs.Hearing.{hears_ack, hears_snap, hears_update}
+use Rattle.hx_model.specs.Neighbours.{place_number}
 use Rattle.hx_model.specs.Regions.{key_region}
-use Rattle.hx_model.specs.ServerSteps.{Replica, ServerState, ServerStep, acked, adopted, adopted_posts, asked, call_at, called, called_by, halting, replica_in_epoch, if_installed, input_step, install_at, installed_slots, listed_regions, message_step, ready_post, replica_of, replica_or_new, replica_tick, saying, seal_at, server_step, snapped, context_of, state_in, tick_step, unmoved, updated, with_config}
+use Rattle.hx_model.specs.ServerSteps.{Replica, ServerState, ServerStep, acked, acked_of, adopted, adopted_posts, asked, asking_last, call_at, called, called_by, context_of, halting, if_installed, input_step, install_at, installed_slots, listed_regions, meeting, message_step, pending_with, poll_post, ready_post, replica_for, replica_of, replica_or_new, replica_tick, saying, server_step, snapped, state_in, tick_step, unmoved, updated, with_config}
 use Rattle.hx_model.specs.Slots.{KeyState}
 use Rattle.hx_law_lemmas.proofs.Lemmas.{in-flat, in-map, in-slice_get, in_left, in_right, map-in, when_some_both, replica-found}
-use Rattle.hx_law_posts.proofs.Lemmas.{replica_in_epoch-found, installed-found}
+use Rattle.hx_law_posts.proofs.Lemmas.{installed-found, replica_for-found}
 use Rattle.hx_replica.proofs.NamedReplicas.{Knows, adopted-good, installed-good, ready-good, tick-good}
 use Rattle.hx_replica.proofs.NamedSlots.{AreGood, KnowsSlot, among-known, both-good, each-good, none-good, one-good, provided-good}
 use Rattle.hx_replica.proofs.NamedSteps.{ack-good, call-good, update-good}
@@ -73,67 +76,86 @@ module _ (Known : Actor → Type 0) where
     slot-known : (r : Replica) → IsIn r s.replicas → (key : List ℕ) → KnowsSlot Known (state_in space r key)
     slot-known r i key = among-known Known (is_key_region space r.region) key r.states (knows.slots r i)
 
-    -- a replica that hears is one of the server's
-    heard-in : (epoch : Epoch) (g : RegionId) (r : Replica) → replica_in_epoch s epoch g ≡ Some r → IsIn r s.replicas
-    heard-in epoch g r e = (replica-found g s.replicas r (replica_in_epoch-found s epoch g r e)).0
+    -- a replica that takes messages is one of the server's
+    taking-in : (g : RegionId) (r : Replica) → replica_for s g ≡ Some r → IsIn r s.replicas
+    taking-in g r e = (replica-found g s.replicas r (replica_for-found s g r e)).0
 
-    installed-in : (epoch : Epoch) (g : RegionId) (r : Replica) → if_installed (replica_in_epoch s epoch g) ≡ Some r → IsIn r s.replicas
-    installed-in epoch g r e = (replica-found g s.replicas r (installed-found s epoch g r e)).0
+    installed-in : (g : RegionId) (r : Replica) → if_installed (replica_for s g) ≡ Some r → IsIn r s.replicas
+    installed-in g r e = (replica-found g s.replicas r (installed-found s g r e)).0
 
-    called-good : (epoch : Epoch) (caller : Caller) → Known (Session caller.session) → (op : Op) (o : Option (List ℕ)) → IsGoodStep (called space s epoch caller op o)
-    called-good epoch caller known op None = stays s
-    called-good epoch caller known op (Some key) =
-        when_some_both (replica_in_epoch s epoch (key_region space key)) (unmoved s) (λ (r : Replica). call_at space s r key caller op) IsGoodStep
+    -- the newest configuration is asked for first
+    meeting-good : (epoch : Epoch) (step : ServerStep) → IsGoodStep step → IsGoodStep (meeting s epoch step)
+    meeting-good epoch step good =
+        both-good Known (provided (nat_lt s.config.epoch.0 epoch.0) (poll_post s ∷ [])) step.posts
+        (provided-good Known (nat_lt s.config.epoch.0 epoch.0) (poll_post s ∷ []) (tells-coordinator s knows (a_message.Poll s.config.epoch) (λ a i. absurd i)))
+        good
+
+    called-good : (caller : Caller) → Known (Session caller.session) → (op : Op) (o : Option (List ℕ)) → IsGoodStep (called space s caller op o)
+    called-good caller known op None = stays s
+    called-good caller known op (Some key) =
+        when_some_both (replica_for s (key_region space key)) (unmoved s) (λ (r : Replica). call_at space s r key caller op) IsGoodStep
         (λ e. stays s)
         (
         λ (r : Replica) e. cond_both (leads space s.config s.id r.region) _ (unmoved s) IsGoodStep
-        (λ t. call-good Known (context_of space s r.region) knows.members (state_in space r key) (slot-known r (heard-in epoch (key_region space key) r e) key) caller known op)
+        (λ t. call-good Known (context_of space s r.region) knows.members (state_in space r key) (slot-known r (taking-in (key_region space key) r e) key) caller known op)
         (λ t. stays s)
         )
 
-    called_by-good : (from : Actor) → Known from → (epoch : Epoch) (number : ℕ) (op : Op) → IsGoodStep (called_by space s from epoch number op)
-    called_by-good Coordinator known epoch number op = stays s
-    called_by-good (Server x) known epoch number op = stays s
-    called_by-good (Session u) known epoch number op = called-good epoch (record { session = u; number = number }) known op (key_of op)
+    called_by-good : (from : Actor) → Known from → (number : ℕ) (op : Op) → IsGoodStep (called_by space s from number op)
+    called_by-good (Session u) known number op = called-good (record { session = u; number = number }) known op (key_of op)
+    called_by-good other known number op = stays s
 
-    updated-good : (u : Update) → Known (Session u.caller.session) → (o : Option Replica) → ((r : Replica) → o ≡ Some r → IsIn r s.replicas) → IsGoodStep (updated space s u o)
-    updated-good u known None f = stays s
-    updated-good u known (Some r) f = update-good Known (context_of space s r.region) knows.members (state_in space r u.key) (slot-known r (f r refl) u.key) u known
+    updated-good : (from : Actor) (u : Update) → Known (Session u.caller.session) → (o : Option Replica) → ((r : Replica) → o ≡ Some r → IsIn r s.replicas) → IsGoodStep (updated space s from u o)
+    updated-good from u known None f = stays s
+    updated-good from u known (Some r) f =
+        cond_both (hears_update s.config u (place_number r.region u.places) s.id from) _ (unmoved s) IsGoodStep
+        (λ t. update-good Known (context_of space s r.region) knows.members (state_in space r u.key) (slot-known r (f r refl) u.key) u known)
+        (λ t. stays s)
 
-    acked-good : (key : List ℕ) (v : ℕ) (o : Option Replica) → ((r : Replica) → o ≡ Some r → IsIn r s.replicas) → IsGoodStep (acked space s key v o)
-    acked-good key v None f = stays s
-    acked-good key v (Some r) f = ack-good Known (context_of space s r.region) knows.members (state_in space r key) (slot-known r (f r refl) key) v
+    acked_of-good : (from : Actor) (by : RegionId) (r : Replica) (state : KeyState) → KnowsSlot Known state → (v : ℕ) (o : Option Update) → IsGoodStep (acked_of space s from by r state v o)
+    acked_of-good from by r state known v None = stays s
+    acked_of-good from by r state known v (Some u) =
+        cond_both (hears_ack s.config u (place_number r.region u.places) s.id from by) _ (unmoved s) IsGoodStep
+        (λ t. ack-good Known (context_of space s r.region) knows.members state known v)
+        (λ t. stays s)
+
+    acked-good : (from : Actor) (key : List ℕ) (v : ℕ) (by : RegionId) (o : Option Replica) → ((r : Replica) → o ≡ Some r → IsIn r s.replicas) → IsGoodStep (acked space s from key v by o)
+    acked-good from key v by None f = stays s
+    acked-good from key v by (Some r) f = acked_of-good from by r (state_in space r key) (slot-known r (f r refl) key) v (pending_with v (state_in space r key))
 
     asked-good : (from : Actor) → Known from → (epoch : Epoch) (number : ℕ) (terms : List Term) (o : Option Replica) → IsGoodStep (asked s from epoch number terms o)
     asked-good from known epoch number terms None = stays s
     asked-good from known epoch number terms (Some r) = provided-good Known (lists_ready s.config r.region s.id) _ (one-good Known _ (record { to = known; names = λ a i. absurd i }))
 
-    -- ---- ticks, seals, snapshots and configurations
+    -- ---- ticks, snapshots and configurations
+
+    -- the newest configuration is asked for last
+    asking-good : (ps : List Post) → AreGood Known ps → AreGood Known (asking_last s ps)
+    asking-good [] good = none-good Known
+    asking-good (p ∷ rest) good =
+        both-good Known (p ∷ rest) (poll_post s ∷ []) good (tells-coordinator s knows (a_message.Poll s.config.epoch) (λ a i. absurd i))
 
     ticked-good : IsGoodStep (tick_step space s)
     ticked-good =
-        cond_both s.sealed _ (flat_map (replica_tick space s) s.replicas) (AreGood Known)
-        (λ t. tells-coordinator s knows (a_message.Sealed s.config.epoch) (λ a i. absurd i))
-        (λ t. each-good Known (replica_tick space s) s.replicas (λ r i. tick-good Known space s knows r i))
+        asking-good (flat_map (replica_tick space s) s.replicas)
+        (each-good Known (replica_tick space s) s.replicas (λ r i. tick-good Known space s knows r i))
 
     halt-good : IsGoodStep (halting s)
     halt-good = tells-coordinator s knows a_message.Gone (λ a i. absurd i)
 
-    sealed-good : (epoch : Epoch) → IsGoodStep (seal_at s epoch)
-    sealed-good epoch =
-        cond_both (eqb epoch.0 s.config.epoch.0) _ (unmoved s) IsGoodStep
-        (λ t. tells-coordinator s knows (a_message.Sealed epoch) (λ a i. absurd i))
+    snapped-good : (from : Actor) (snapshot : List Kept) (pending : List Update) (epoch : Epoch) (g : RegionId) → KnowsMessage (a_message.Snap epoch g snapshot pending) → (o : Option Replica) → IsGoodStep (snapped space s from snapshot pending o)
+    snapped-good from snapshot pending epoch g names None = stays s
+    snapped-good from snapshot pending epoch g names (Some r) =
+        cond_both (not (hears_snap s.config r.region s.id from)) (unmoved s) _ IsGoodStep
         (λ t. stays s)
-
-    snapped-good : (snapshot : List Kept) (pending : List Update) (epoch : Epoch) (g : RegionId) → KnowsMessage (a_message.Snap epoch g snapshot pending) → (o : Option Replica) → IsGoodStep (snapped space s snapshot pending o)
-    snapped-good snapshot pending epoch g names None = stays s
-    snapped-good snapshot pending epoch g names (Some r) =
-        cond_both r.installed (saying s (ready_post s r.region)) _ IsGoodStep
-        (λ t. ready-good Known space s knows r.region)
         (
-        λ t. both-good Known (installed_slots (context_of space s r.region) snapshot pending).posts (ready_post s r.region)
+        λ t. cond_both r.installed (saying s (ready_post s r.region)) _ IsGoodStep
+        (λ b. ready-good Known space s knows r.region)
+        (
+        λ b. both-good Known (installed_slots (context_of space s r.region) snapshot pending).posts (ready_post s r.region)
         (installed-good Known (context_of space s r.region) knows.members pending callers snapshot marks)
         (ready-good Known space s knows r.region)
+        )
         )
       where
         marked : List Actor
@@ -175,23 +197,20 @@ module _ (Known : Actor → Type 0) where
     -- ---- each input
 
     message-good : (from : Actor) → Known from → (m : Message) → KnowsMessage m → IsGoodStep (message_step space s from m)
-    message-good from known (a_message.Call epoch number op) names = called_by-good from known epoch number op
-    message-good from known (a_message.Reply number version answer) names = stays s
-    message-good from known (a_message.Update epoch g u) names = updated-good u (names (Session u.caller.session) (inl refl)) (if_installed (replica_in_epoch s epoch g)) (installed-in epoch g)
-    message-good from known (a_message.Ack epoch g key version) names = acked-good key version.0 (if_installed (replica_in_epoch s epoch g)) (installed-in epoch g)
-    message-good from known (a_message.Ask epoch number g terms) names = asked-good from known epoch number terms (if_installed (replica_in_epoch s epoch g))
-    message-good from known (a_message.Found epoch number g rows) names = stays s
-    message-good from known (a_message.Seal epoch) names = sealed-good epoch
-    message-good from known (a_message.Sealed epoch) names = stays s
+    message-good from known (a_message.Call epoch number op) names = meeting-good epoch (called_by space s from number op) (called_by-good from known number op)
+    message-good from known (a_message.Update epoch g u) names =
+        meeting-good epoch (updated space s from u (if_installed (replica_for s g)))
+        (updated-good from u (names (Session u.caller.session) (inl refl)) (if_installed (replica_for s g)) (installed-in g))
+    message-good from known (a_message.Ack epoch g key version by) names =
+        meeting-good epoch (acked space s from key version.0 by (if_installed (replica_for s g)))
+        (acked-good from key version.0 by (if_installed (replica_for s g)) (installed-in g))
+    message-good from known (a_message.Ask epoch number g terms) names =
+        meeting-good epoch (asked s from epoch number terms (if_installed (replica_for s g))) (asked-good from known epoch number terms (if_installed (replica_for s g)))
     message-good from known (a_message.Install config) names = install-good config names
     message-good from known a_message.Die names = halt-good
-    message-good from known a_message.Gone names = stays s
-    message-good from known (a_message.StopServer number server) names = stays s
-    message-good from known (a_message.AddReplica number server g) names = stays s
-    message-good from known (a_message.Outcome number answer) names = stays s
-    message-good from known (a_message.Snap epoch g snapshot pending) names = snapped-good snapshot pending epoch g names (replica_in_epoch s epoch g)
-    message-good from known (a_message.Ready epoch g) names = stays s
-    message-good from known (a_message.Poll epoch) names = stays s
+    message-good from known (a_message.Snap epoch g snapshot pending) names =
+        meeting-good epoch (snapped space s from snapshot pending (replica_for s g)) (snapped-good from snapshot pending epoch g names (replica_for s g))
+    message-good from known other names = stays s
 
     input-good : (input : Input) → KnowsInput input → IsGoodStep (input_step space s input)
     input-good Tick k = ticked-good

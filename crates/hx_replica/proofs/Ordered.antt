@@ -90,12 +90,12 @@ ordered_there rs g place y h at found =
 
 -- a server whose replicas are the same to the definitions, with the same rooms
 pub same_value : (i : Inside) (v : ServerValue) (rs : List Replica) → value_of i ≡ v → views_of rs ≡ views_of i.replicas.items → rooms_of rs ≡ rooms_of i.replicas.items
-    → record { space = i.space; state = record { id = i.id; config = i.config; sealed = i.sealed; halted = i.halted; replicas = views_of rs }; rooms = rooms_of rs } ≡ v
+    → record { space = i.space; state = record { id = i.id; config = i.config; halted = i.halted; replicas = views_of rs }; rooms = rooms_of rs } ≡ v
 same_value i v rs seen views rooms =
-    (λ j. record { space = i.space; state = record { id = i.id; config = i.config; sealed = i.sealed; halted = i.halted; replicas = views j }; rooms = rooms j })
+    (λ j. record { space = i.space; state = record { id = i.id; config = i.config; halted = i.halted; replicas = views j }; rooms = rooms j })
     ∙ seen
 
 -- a server whose stores have put their slots in order
 pub ordered_value : (i : Inside) (v : ServerValue) (rs : List Replica) → value_of i ≡ v → rs ≡ map in_order i.replicas.items
-    → record { space = i.space; state = record { id = i.id; config = i.config; sealed = i.sealed; halted = i.halted; replicas = views_of rs }; rooms = rooms_of rs } ≡ v
+    → record { space = i.space; state = record { id = i.id; config = i.config; halted = i.halted; replicas = views_of rs }; rooms = rooms_of rs } ≡ v
 ordered_value i v rs seen is = same_value i v rs seen (ap views_of is ∙ ordered_views i.replicas.items) (ap rooms_of is ∙ ordered_rooms i.replicas.items)

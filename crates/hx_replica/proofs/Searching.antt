@@ -1,4 +1,4 @@
--- What a server answers to a search in a region, where one of its replicas hears it.
+-- What a server answers to a search in a region, where one of its replicas takes it.
 use Rattle.std.proofs.Common.{◌≡◌, ℕ, zero, suc, ◌<◌, true, false, List, [], ◌∷◌, get_or, length, IfOk, Option, Result, Ok, Err, Some, ap, sym, ◌∙◌, subst, arith}
 use Rattle.std.specs.List.{slice_get}
 use Rattle.std.specs.Option.{IsSomeAnd, option_map}
@@ -12,7 +12,7 @@ use Rattle.hx_types.specs.declared.messages.Message.TheVariants as a_message
 use Rattle.hx_types.specs.declared.ids.Actor.TheVariants.{Server}
 use Rattle.hx_types.specs.Configs.{lists_ready}
 use Rattle.hx_types.specs.Words.{post, provided}
-use Rattle.hx_model.specs.ServerSteps.{Replica as ReplicaState, ServerState, asked, replica_in_epoch, if_installed}
+use Rattle.hx_model.specs.ServerSteps.{Replica as ReplicaState, ServerState, asked, if_installed, replica_for}
 use Rattle.hx_model.specs.Slots.{KeyState, found_in}
 use Rattle.hx_replica.specs.declared.replicas.Replica.{Replica}
 use Rattle.hx_replica.specs.declared.servers.Server.TheInside.{Inside}
@@ -20,33 +20,33 @@ use Rattle.hx_replica.specs.Invariant.{IsServer, value_of}
 use Rattle.hx_replica.specs.Replicas.{IsReplicaIn, view_of, views_of}
 use Rattle.hx_replica.specs.Servers.{ServerValue}
 use Rattle.hx_replica.proofs.Changing.{replica_at}
-use Rattle.hx_replica.proofs.Hearing.{found_region, replica_in_epoch_found, installed_some}
+use Rattle.hx_replica.proofs.Hearing.{found_region, replica_for_found, installed_some}
 use Rattle.hx_replica.proofs.Planning.{IsFound, found_there}
 
 module _ (i : Inside) (v : ServerValue) (from : Actor) (epoch : Epoch) (number : ℕ) (g : RegionId) (terms : List Term) (place : ℕ) (seen : value_of i ≡ v)
-    (at : Some (slice_get v.state.replicas place) ≡ option_map (λ (r : ReplicaState). Some r) (if_installed (replica_in_epoch v.state epoch g))) where
-  there : IsFound v.state.replicas place (if_installed (replica_in_epoch v.state epoch g))
-  there = found_there v.state.replicas place (if_installed (replica_in_epoch v.state epoch g)) at
+    (at : Some (slice_get v.state.replicas place) ≡ option_map (λ (r : ReplicaState). Some r) (if_installed (replica_for v.state g))) where
+  there : IsFound v.state.replicas place (if_installed (replica_for v.state g))
+  there = found_there v.state.replicas place (if_installed (replica_for v.state g)) at
 
   region : there.replica.region ≡ g
-  region = found_region g v.state.replicas there.replica (replica_in_epoch_found v.state epoch g there.replica (installed_some (replica_in_epoch v.state epoch g) there.replica there.is))
+  region = found_region g v.state.replicas there.replica (replica_for_found v.state g there.replica (installed_some (replica_for v.state g) there.replica there.is))
 
   abbrev answer : ServerState → RegionId → RegionId → List KeyState → List Post
   answer s h k states = provided (lists_ready s.config h s.id) (post (Server s.id) from (a_message.Found epoch number h (found_in k terms states)) ∷ [])
 
-  posts_are : (asked v.state from epoch number terms (if_installed (replica_in_epoch v.state epoch g))).posts ≡ answer (value_of i).state g g there.replica.states
+  posts_are : (asked v.state from epoch number terms (if_installed (replica_for v.state g))).posts ≡ answer (value_of i).state g g there.replica.states
   posts_are =
       ap (λ (o : Option ReplicaState). (asked v.state from epoch number terms o).posts) there.is
       ∙ ap (λ (x : RegionId). answer v.state x x there.replica.states) region
       ∙ ap (λ (x : ServerValue). answer x.state g g there.replica.states) (sym seen)
 
   -- it isn't a ready member
-  pub not_ready : lists_ready i.config g i.id ≡ false → (asked v.state from epoch number terms (if_installed (replica_in_epoch v.state epoch g))).posts ≡ []
+  pub not_ready : lists_ready i.config g i.id ≡ false → (asked v.state from epoch number terms (if_installed (replica_for v.state g))).posts ≡ []
   not_ready out = posts_are ∙ ap (λ t. provided t (post (Server i.id) from (a_message.Found epoch number g (found_in g terms there.replica.states)) ∷ [])) out
 
   -- it is one
   pub ready : (rows : List Row) → IsSomeAnd (slice_get v.state.replicas place) (λ (r : ReplicaState). rows ≡ found_in r.region terms r.states) → lists_ready i.config g i.id ≡ true
-      → (asked v.state from epoch number terms (if_installed (replica_in_epoch v.state epoch g))).posts ≡ post (Server i.id) from (a_message.Found epoch number g rows) ∷ []
+      → (asked v.state from epoch number terms (if_installed (replica_for v.state g))).posts ≡ post (Server i.id) from (a_message.Found epoch number g rows) ∷ []
   ready rows is listed =
       let here : rows ≡ found_in there.replica.region terms there.replica.states = subst (λ (o : Option ReplicaState). IsSomeAnd o (λ (r : ReplicaState). rows ≡ found_in r.region terms r.states)) there.at_place is in
       posts_are

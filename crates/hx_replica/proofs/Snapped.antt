@@ -1,5 +1,5 @@
 -- What a server makes that gets a snapshot.
-use Rattle.std.proofs.Common.{◌≡◌, ℕ, ◌+◌, ◌≤◌, Bool, Box, Global, true, false, List, [], ◌∷◌, ◌++◌, map, get_or, Option, None, Some, ap, append_assoc, sym, ◌∙◌, subst}
+use Rattle.std.proofs.Common.{◌≡◌, ℕ, ◌+◌, ◌≤◌, Bool, Box, Global, true, false, not, cond, List, [], ◌∷◌, ◌++◌, map, get_or, Option, None, Some, refl, ap, append_assoc, sym, ◌∙◌, subst}
 use Rattle.std.specs.Prelude.{IsTrue}
 use Rattle.std.specs.List.{AllByRecursion, list_all, slice_get}
 use Rattle.std.specs.Option.{option_map}
@@ -22,7 +22,8 @@ use Rattle.hx_types.specs.Posts.{Bounds, IsSoundKept, IsSoundMessage, IsSoundUpd
 use Rattle.hx_types.specs.Spaces.{IsAnswerOf, IsMaybeRowUpTo, IsRegionOf, IsConfigOf}
 use Rattle.hx_types.specs.Subspaces.{is_key_region}
 use Rattle.hx_types.specs.Words.{text_below}
-use Rattle.hx_model.specs.ServerSteps.{Replica as ReplicaState, ServerState, ServerStep, Slots, replica_in_epoch, installed_slots, keys_of, ready_post, saying, snapped, context_of, state_from, with_replica, with_slots}
+use Rattle.hx_model.specs.Hearing.{hears_snap}
+use Rattle.hx_model.specs.ServerSteps.{Replica as ReplicaState, ServerState, ServerStep, Slots, context_of, installed_slots, keys_of, ready_post, replica_for, replica_of, saying, snapped, state_from, unmoved, with_replica, with_slots}
 use Rattle.hx_model.specs.Slots.{KeyState}
 use Rattle.hx_law_folds.specs.Folding.{KeptsAscend, folded, folded_replica, folded_server}
 use Rattle.hx_law_folds.proofs.Lemmas.{with-replica-folded}
@@ -38,7 +39,7 @@ use Rattle.hx_replica.specs.Replicas.{view_of}
 use Rattle.hx_replica.specs.Servers.{ServerValue}
 use Rattle.hx_replica.proofs.Asking.{placed}
 use Rattle.hx_replica.proofs.Changing.{view_at}
-use Rattle.hx_replica.proofs.Hearing.{found_region, replica_in_epoch_found}
+use Rattle.hx_replica.proofs.Hearing.{found_region, replica_for_found}
 use Rattle.hx_replica.proofs.Joined.{from_marked, joined_marked}
 use Rattle.hx_replica.proofs.Planning.{found_there}
 
@@ -87,41 +88,61 @@ config_taken v from m config hears is =
     let sound = hears.can.input_to in
     (subst (IsSoundMessage (record { space = v.space; sessions = sound.sessions; most = sound.entry + 1 })) is sound.sound.message).1
 
--- the replica that hears it
-pub record IsHeardBy (v : ServerValue) (epoch : Epoch) (g : RegionId) (number : ℕ) (y : Replica) : Type 0 where
-  pub hears : replica_in_epoch v.state epoch g ≡ Some (view_of y)
+-- the replica that takes it
+pub record IsTakenBy (v : ServerValue) (g : RegionId) (number : ℕ) (y : Replica) : Type 0 where
+  pub takes : replica_for v.state g ≡ Some (view_of y)
   pub found : slice_get v.state.replicas number ≡ Some (view_of y)
   pub region : y.region ≡ g
 
-pub heard_by : (i : Inside) (epoch : Epoch) (g : RegionId) (number : ℕ) (y : Replica) → y ≡ get_or i.replicas.items number y
-    → Some (slice_get (value_of i).state.replicas number) ≡ option_map (λ (r : ReplicaState). Some r) (replica_in_epoch (value_of i).state epoch g) → IsHeardBy (value_of i) epoch g number y
-heard_by i epoch g number y is at =
+pub taken_by : (i : Inside) (g : RegionId) (number : ℕ) (y : Replica) → y ≡ get_or i.replicas.items number y
+    → Some (slice_get (value_of i).state.replicas number) ≡ option_map (λ (r : ReplicaState). Some r) (replica_for (value_of i).state g) → IsTakenBy (value_of i) g number y
+taken_by i g number y is at =
     let s : ServerState = (value_of i).state in
-    let there = found_there s.replicas number (replica_in_epoch s epoch g) at in
+    let there = found_there s.replicas number (replica_for s g) at in
     let same : there.replica ≡ view_of y = sym (ap view_of is ∙ view_at i.replicas.items number y there.replica there.at_place) in
     record {
-      hears = there.is ∙ ap (λ (r : ReplicaState). Some r) same;
+      takes = there.is ∙ ap (λ (r : ReplicaState). Some r) same;
       found = there.at_place ∙ ap (λ (r : ReplicaState). Some r) same;
-      region = ap (λ (r : ReplicaState). r.region) (sym same) ∙ found_region g s.replicas there.replica (replica_in_epoch_found s epoch g there.replica there.is);
+      region = ap (λ (r : ReplicaState). r.region) (sym same) ∙ found_region g s.replicas there.replica (replica_for_found s g there.replica there.is);
     }
 
 folded_marked : (g : RegionId) (b : Bool) (states : List KeyState) → AllByRecursion (λ (t : KeyState). t.marks ≡ b) states → AllByRecursion (λ (t : KeyState). t.marks ≡ b) (map (folded g) states)
 folded_marked g b [] h = tt
 folded_marked g b (s ∷ rest) h = (h.0, folded_marked g b rest h.1)
 
-module _ (v : ServerValue) (epoch : Epoch) (g : RegionId) (snapshot : List Kept) (pending : List Update) where
+-- whether the server hears it, by its parts
+pub unheard : (i : Inside) (v : ServerValue) (from : Actor) (g : RegionId) → value_of i ≡ v → hears_snap i.config g i.id from ≡ false → hears_snap v.state.config g v.state.id from ≡ false
+unheard i v from g seen out = ap (λ (x : ServerValue). hears_snap x.state.config g x.state.id from) (sym seen) ∙ out
+
+module _ (v : ServerValue) (from : Actor) (g : RegionId) (snapshot : List Kept) (pending : List Update) where
   abbrev s : ServerState
   s = v.state
 
   abbrev step : ServerStep
-  step = snapped v.space s snapshot pending (replica_in_epoch s epoch g)
+  step = snapped v.space s from snapshot pending (replica_for s g)
 
-  module _ (number : ℕ) (y : Replica) (heard : IsHeardBy v epoch g number y) where
+  -- it isn't heard
+  pub unheard_step : hears_snap s.config g s.id from ≡ false → step ≡ unmoved s
+  unheard_step out = by (replica_for s g) (replica_for_found s g)
+    where
+      by : (o : Option ReplicaState) → ((r : ReplicaState) → o ≡ Some r → replica_of g s.replicas ≡ Some r) → snapped v.space s from snapshot pending o ≡ unmoved s
+      by None f = refl
+      by (Some r) f =
+          cond-true _ (unmoved s) _
+          (ap not (ap (λ (h : RegionId). hears_snap s.config h s.id from) (found_region g s.replicas r (f r refl)) ∙ out))
+
+  module _ (number : ℕ) (y : Replica) (taken : IsTakenBy v g number y) (hears : hears_snap s.config g s.id from ≡ true) where
+    -- it is heard
+    heard_step : step ≡ cond y.installed (saying s (ready_post s y.region)) (with_slots s (view_of y) (installed_slots (context_of v.space s y.region) snapshot pending))
+    heard_step =
+        ap (snapped v.space s from snapshot pending) taken.takes
+        ∙ cond-false _ (unmoved s) _ (ap not (ap (λ (h : RegionId). hears_snap s.config h s.id from) taken.region ∙ hears))
+
     -- it was installed before
     pub ready_step : y.installed ≡ true → step ≡ saying s (ready_post s g)
     ready_step installed =
-        ap (snapped v.space s snapshot pending) heard.hears ∙ cond-true y.installed (saying s (ready_post s y.region)) _ installed
-        ∙ ap (λ (h : RegionId). saying s (ready_post s h)) heard.region
+        heard_step ∙ cond-true y.installed (saying s (ready_post s y.region)) _ installed
+        ∙ ap (λ (h : RegionId). saying s (ready_post s h)) taken.region
 
     -- it is installed now
     abbrev slots : Slots
@@ -131,7 +152,7 @@ module _ (v : ServerValue) (epoch : Epoch) (g : RegionId) (snapshot : List Kept)
     join_step out =
         let at : RegionId → ServerStep =
         λ h. with_slots s (record { region = h; installed = false; states = [] }) (installed_slots (context_of v.space s h) snapshot pending) in
-        ap (snapped v.space s snapshot pending) heard.hears ∙ cond-false y.installed (saying s (ready_post s y.region)) _ out ∙ ap at heard.region
+        heard_step ∙ cond-false y.installed (saying s (ready_post s y.region)) _ out ∙ ap at taken.region
 
     pub join_posts : (old new : List Post) → y.installed ≡ false → new ≡ (old ++ slots.posts) ++ ready_post s g → new ≡ old ++ step.posts
     join_posts old new out p = p ∙ append_assoc old slots.posts (ready_post s g) ∙ ap (λ (t : ServerStep). old ++ t.posts) (sym (join_step out))
@@ -145,8 +166,8 @@ module _ (v : ServerValue) (epoch : Epoch) (g : RegionId) (snapshot : List Kept)
         subst (λ (r : Replica). IsJoinOn v step.state number r) (sym held)
         (record {
           before = view_of y;
-          found = heard.found;
-          region = sym heard.region;
+          found = taken.found;
+          region = sym taken.region;
           is = record {
             region = region;
             marks = marks;

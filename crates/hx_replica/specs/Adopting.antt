@@ -52,7 +52,6 @@ abbrev pub lean_with_config : Space → ServerState → Config → ServerState
 lean_with_config space s config =
     record s {
       config = config;
-      sealed = false;
       replicas = map (λ (g : RegionId). lean_replica space (standing config s.id) (replica_or_new s.replicas g)) (listed_regions config s.id);
     }
 

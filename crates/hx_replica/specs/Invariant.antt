@@ -9,7 +9,7 @@ use Rattle.hx_replica.specs.Servers.{ServerValue}
 abbrev pub value_of : Inside → ServerValue
 value_of s = record {
   space = s.space;
-  state = record { id = s.id; config = s.config; sealed = s.sealed; halted = s.halted; replicas = views_of s.replicas.items };
+  state = record { id = s.id; config = s.config; halted = s.halted; replicas = views_of s.replicas.items };
   rooms = rooms_of s.replicas.items;
 }
 

@@ -1,5 +1,5 @@
 -- What a step makes of one slot: its posts, and the change by which the slot makes the step's moves.
-use Rattle.std.specs.Prelude.{◌≡◌, ℕ, ◌<◌, ◌≤◌, ◌==◌, ◌||◌, Bool, true, ⊤, ◌^◌, IsSome, IsSomeAnd, List, [], ◌∷◌, length, slice_get, take}
+use Rattle.std.specs.Prelude.{◌≡◌, ℕ, ◌<◌, ◌≤◌, ◌==◌, ◌||◌, Bool, true, false, ⊤, Option, None, Some, ◌^◌, IsSome, IsSomeAnd, List, [], ◌∷◌, length, slice_get, take}
 use Rattle.std.specs.Borrow.{Bor}
 use Rattle.std.specs.List.{All, flat_map, list_any, prefix_len}
 use Rattle.hx_types.specs.declared.messages.Message.{Message}
@@ -13,11 +13,13 @@ use Rattle.hx_types.specs.declared.updates.Update.{Update}
 use Rattle.hx_types.specs.declared.messages.Message.TheVariants as a_message
 use Rattle.hx_types.specs.declared.ids.Actor.TheVariants.{Coordinator, Server, Session}
 use Rattle.hx_types.specs.declared.spaces.Space.{Space}
+use Rattle.hx_types.specs.declared.traces.Note.{Note}
 use Rattle.hx_types.specs.Effects.{key_of}
 use Rattle.hx_model.specs.Regions.{key_region}
 use Rattle.hx_types.specs.Words.{provided, when_some}
-use Rattle.hx_model.specs.ServerSteps.{SlotStep, SlotContext as ModelContext, accepting, ack_step, by_moves, by_posts, call_step, tail_acks, move_posts, next_at, prev_at, told_to, update_step}
-use Rattle.hx_model.specs.Neighbours.{is_end}
+use Rattle.hx_model.specs.Hearing.{hears_ack, hears_update}
+use Rattle.hx_model.specs.ServerSteps.{SlotStep, SlotContext as ModelContext, accepting, ack_step, by_moves, call_step, tail_acks, move_posts, next_at, pending_with, prev_at, told_to, update_step}
+use Rattle.hx_model.specs.Neighbours.{is_end, place_number}
 use Rattle.hx_model.specs.Slots.{KeyState, Move, acknowledged, moved_all, offered, taken, top_of}
 use Rattle.hx_slot.specs.States.{IsPlacedIn}
 use Rattle.hx_store.specs.Stores.{ArePending, CanBeOffered, Room, accepted, accepted_at, acknowledged_at, acknowledging}
@@ -28,6 +30,11 @@ use Rattle.hx_replica.specs.declared.contexts.SlotContext.{SlotContext}
 -- where a slot stands, as the definitions say it
 abbrev pub context_seen : SlotContext → ModelContext
 context_seen s = record { space = s.space.now; config = s.config.now; server = s.server; region = s.region }
+
+-- this, if so
+abbrev pub some_if : Bool → SlotStep → Option SlotStep
+some_if true step = Some step
+some_if false step = None
 
 -- the updates that are lent
 abbrev pub seen : List (Bor Update) → List Update
@@ -63,9 +70,14 @@ abbrev pub room_of : SlotChange → ℕ
 room_of (Accept u place tail_versions) = 1
 room_of other = 0
 
+-- and where there is none
+abbrev pub room_wanted : Option SlotChange → ℕ
+room_wanted None = 0
+room_wanted (Some change) = room_of change
+
 -- for how many updates the step of a message needs room: an acknowledgement brings none
 abbrev pub room_by : Message → ℕ
-room_by (a_message.Ack epoch g key version) = 0
+room_by (a_message.Ack epoch g key version by) = 0
 room_by other = 1
 
 -- the place in a store is the key's, with room for n more updates at its slot
@@ -92,15 +104,44 @@ session_in (Session u) = u
 abbrev pub key_in : Message → List ℕ
 key_in (a_message.Call epoch number op) = when_some (key_of op) [] (λ k. k)
 key_in (a_message.Update epoch g u) = u.key
-key_in (a_message.Ack epoch g key version) = key
+key_in (a_message.Ack epoch g key version by) = key
 key_in other = []
 
--- the step of the slot to which a message goes
-abbrev pub slot_step_of : ModelContext → KeyState → Actor → Message → SlotStep
-slot_step_of context s from (a_message.Call epoch number op) = call_step context s (record { session = session_in from; number = number }) op
-slot_step_of context s from (a_message.Update epoch g u) = update_step context s u
-slot_step_of context s from (a_message.Ack epoch g key version) = ack_step context s version.0
-slot_step_of context s from other = by_posts []
+-- the step of an update that is heard
+abbrev pub update_heard : ModelContext → KeyState → Actor → Update → Option SlotStep
+update_heard context s from u = some_if (hears_update context.config u (place_number context.region u.places) context.server from) (update_step context s u)
+
+-- the acknowledgement of a pending update is heard
+abbrev pub hears_version : ModelContext → Actor → RegionId → Option Update → Bool
+hears_version context from by None = false
+hears_version context from by (Some u) = hears_ack context.config u (place_number context.region u.places) context.server from by
+
+-- the step of an acknowledgement that is heard
+abbrev pub ack_heard : ModelContext → KeyState → Actor → ℕ → RegionId → Option SlotStep
+ack_heard context s from v by = some_if (hears_version context from by (pending_with v s)) (ack_step context s v)
+
+-- the step of the slot to which a message goes; none where the slot's replica doesn't hear it
+abbrev pub slot_step_of : ModelContext → KeyState → Actor → Message → Option SlotStep
+slot_step_of context s from (a_message.Call epoch number op) = Some (call_step context s (record { session = session_in from; number = number }) op)
+slot_step_of context s from (a_message.Update epoch g u) = update_heard context s from u
+slot_step_of context s from (a_message.Ack epoch g key version by) = ack_heard context s from version.0 by
+slot_step_of context s from other = None
+
+-- what is posted and noted of a slot's step, if there is one
+abbrev pub posts_of : Option SlotStep → List Post
+posts_of None = []
+posts_of (Some step) = step.posts
+
+abbrev pub notes_of : Option SlotStep → List Note
+notes_of None = []
+notes_of (Some step) = step.notes
+
+-- the change is that of the slot's step, and there is none where there is no step
+abbrev pub IsMaybeChangeOf : RegionId → KeyState → List ℕ → Option SlotStep → Option SlotChange → Type 0
+IsMaybeChangeOf g s key None None = ⊤
+IsMaybeChangeOf g s key None (Some change) = ⊥
+IsMaybeChangeOf g s key (Some step) None = ⊥
+IsMaybeChangeOf g s key (Some step) (Some change) = IsChangeOf g s key step change
 
 -- a version is acknowledged, or one of those that are being acknowledged
 abbrev pub settles : List ℕ → List Version → Version → Bool
@@ -159,5 +200,5 @@ IsSlotInput space g s from (a_message.Call epoch number op) =
     IsSessionActor from × IsSome (key_of op) × IsLeading space g s × (s.base.key ≡ key_in (a_message.Call epoch number op))
 IsSlotInput space g s from (a_message.Update epoch h u) =
     IsPlacedIn g u × (length u.places ≤ 17) × All (λ (p : Place). p.after.0 < u.version.0) u.places
-IsSlotInput space g s from (a_message.Ack epoch h key version) = s.base.key ≡ key
+IsSlotInput space g s from (a_message.Ack epoch h key version by) = s.base.key ≡ key
 IsSlotInput space g s from other = ⊥

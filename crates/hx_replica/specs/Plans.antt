@@ -1,5 +1,5 @@
 -- A step of a server that is ready to be made.
-use Rattle.std.specs.Prelude.{◌≡◌, ℕ, zero, suc, ◌<◌, ⊤, true, List, [], ◌∷◌, IsSomeAnd, Some, length, map, slice_get}
+use Rattle.std.specs.Prelude.{◌≡◌, ℕ, zero, suc, ◌<◌, ⊤, true, List, [], ◌∷◌, IsSomeAnd, Option, None, Some, length, map, slice_get}
 use Rattle.hx_types.specs.declared.configs.Config.{Config}
 use Rattle.hx_types.specs.declared.messages.Message.{Message}
 use Rattle.hx_types.specs.declared.messages.PostId.{PostId}
@@ -10,9 +10,9 @@ use Rattle.hx_model.specs.ServerSteps.{Replica as ReplicaState, ServerState, Slo
 use Rattle.hx_law_folds.specs.Folding.{folded_server}
 use Rattle.hx_replica.specs.declared.outputs.SlotChange.{SlotChange}
 use Rattle.hx_replica.specs.declared.prepared.Change.{Change}
-use Rattle.hx_replica.specs.declared.prepared.Change.TheVariants.{Nothing, Seal, Halt, Adopt, Join, Slot}
+use Rattle.hx_replica.specs.declared.prepared.Change.TheVariants.{Nothing, Halt, Adopt, Join, Slot}
 use Rattle.hx_replica.specs.declared.prepared.Plan.{Plan}
-use Rattle.hx_replica.specs.Outputs.{ChangeFits, HasRoomFor, IsChangeOf, IsSlotInput, key_in, room_of, slot_step_of, stepped}
+use Rattle.hx_replica.specs.Outputs.{ChangeFits, HasRoomFor, IsMaybeChangeOf, IsSlotInput, key_in, room_of, slot_step_of, stepped}
 use Rattle.hx_replica.specs.declared.replicas.Replica.{Replica}
 use Rattle.hx_replica.specs.Adopting.{lean_with_config}
 use Rattle.hx_store.specs.Stores.{KeepsRooms, Room, UsesRoom}
@@ -34,8 +34,8 @@ pub record CanStep (space : Space) (s : ServerState) (place : ℕ) (key : List �
   pub asked : (r : ReplicaState) → slice_get s.replicas place ≡ Some r → IsSlotInput space r.region (state_in space r key) from m
   pub within : place < length s.replicas
 
--- the step of the slot to which a message goes, at a replica
-abbrev pub step_at : ServerValue → ReplicaState → Actor → Message → SlotStep
+-- the step of the slot to which a message goes, at a replica; none where the replica doesn't hear it
+abbrev pub step_at : ServerValue → ReplicaState → Actor → Message → Option SlotStep
 step_at s r from m = slot_step_of (context_of s.space s.state r.region) (state_in s.space r (key_in m)) from m
 
 -- what is so of the replica at the place
@@ -43,9 +43,14 @@ abbrev pub AtReplica : ServerValue → ℕ → (ReplicaState → Type 0) → Typ
 AtReplica s place IsSo = (r : ReplicaState) → slice_get s.state.replicas place ≡ Some r → IsSo r
 
 -- the change is that of the slot's step at the replica of the place
-abbrev pub IsChangeAt : ServerValue → ℕ → Actor → Message → SlotChange → Type 0
+abbrev pub IsChangeAt : ServerValue → ℕ → Actor → Message → Option SlotChange → Type 0
 IsChangeAt s place from m change =
-    AtReplica s place (λ (r : ReplicaState). IsChangeOf r.region (state_in s.space r (key_in m)) (key_in m) (step_at s r from m) change)
+    AtReplica s place (λ (r : ReplicaState). IsMaybeChangeOf r.region (state_in s.space r (key_in m)) (key_in m) (step_at s r from m) change)
+
+-- the slot at the place of the replica with this number changes so, or nothing does
+abbrev pub slot_change : ℕ → ℕ → Option SlotChange → Change
+slot_change number place None = Nothing
+slot_change number place (Some change) = Slot number place change
 
 -- the slot at the place of the replica with this number can make the change, and the server is then as after the step, without its past
 pub record IsChangeOn (s : ServerValue) (after : ServerState) (number place : ℕ) (change : SlotChange) : Type 0 where
@@ -72,7 +77,6 @@ pub record IsJoinOn (s : ServerValue) (after : ServerState) (number : ℕ) (repl
 -- the server can make the change, and has then this state, without its past
 abbrev pub IsChange : ServerValue → ServerState → Change → Type 0
 IsChange s after Nothing = folded_server after ≡ s.state
-IsChange s after Seal = folded_server after ≡ record s.state { sealed = true }
 IsChange s after Halt = folded_server after ≡ record s.state { halted = true }
 IsChange s after (Adopt config replicas) = IsAdoptionOn s after config replicas.items
 IsChange s after (Join number replica) = IsJoinOn s after number replica.value
@@ -100,7 +104,6 @@ KeepRoomsBut (suc number) (x ∷ old) (y ∷ new) = KeepsRooms x y × KeepRoomsB
 -- the rooms after a change: a slot uses some, and a replica that joins begins anew
 abbrev pub AreRoomsAfter : Change → ServerValue → ServerValue → Type 0
 AreRoomsAfter Nothing old new = new.rooms ≡ old.rooms
-AreRoomsAfter Seal old new = new.rooms ≡ old.rooms
 AreRoomsAfter Halt old new = new.rooms ≡ old.rooms
 AreRoomsAfter (Adopt config replicas) old new = KeepRegionRooms old.state.replicas old.rooms new.state.replicas new.rooms
 AreRoomsAfter (Join number replica) old new = KeepRoomsBut number old.rooms new.rooms

@@ -7,7 +7,7 @@ use Rattle.hx_model.specs.ServerSteps.{Replica as ReplicaState, ServerState}
 use Rattle.hx_model.specs.Slots.{KeyState}
 
 abbrev pub standing : Config → ServerId → ServerState
-standing config s = record { id = s; config = config; sealed = false; halted = false; replicas = [] }
+standing config s = record { id = s; config = config; halted = false; replicas = [] }
 
 -- an installed replica of these slots
 abbrev pub kept_here : RegionId → List KeyState → ReplicaState

@@ -2,12 +2,12 @@ ghost use Rattle.std.specs.Prelude.{◌≡◌, ◌≤◌, ◌<◌, ◌^◌, ◌+
 ghost use Rattle.std.specs.List.{flat_map};
 ghost use Rattle.hx_types.specs.declared.outcomes.Hop.TheVariants.{At};
 ghost use Rattle.hx_types.specs.Words.{list_of};
-ghost use Rattle.hx_model.specs.Neighbours.{place_number, region_at};
+ghost use Rattle.hx_model.specs.Neighbours.{place_number};
 ghost use Rattle.hx_model.specs.ServerSteps.{ack_to, doubt_in, next_at, passed_on, prev_at, reply, update_to};
 ghost use Rattle.hx_slot.specs.States.{IsPlacedIn};
 ghost use Rattle.hx_replica.specs.Outputs.{tail_version, context_seen, told_of};
 
-use hx_chain::{next, place_number, prev};
+use hx_chain::{next, place_number, prev, region_at};
 use hx_region::RegionMap;
 use hx_types::{
     Actor, Answer, Caller, Config, Exact, Hop, Memory, Message, Post, Posts, RegionId, ServerId,
@@ -71,17 +71,6 @@ fn prev_of(context: &SlotContext, update: &Update, place: u32) -> Hop
     prev(context.config, update, place, context.server)
 }
 
-/// The region of a place.
-#[inline]
-fn region_at(update: &Update, place: u32) -> RegionId
-    ensures { result ≡ region_at update.now.places place }
-{
-    match update.places.get(place as usize) {
-        Some(found) => found.region,
-        None => RegionId(0),
-    }
-}
-
 /// Posts an update to the next replica of its chain; where the chain ends here, its version is one
 /// more of those that end.
 pub fn post_update(
@@ -142,7 +131,7 @@ fn update_post(
         to: Actor::Server(server),
         message: Message::Update {
             epoch: context.config.epoch,
-            region: region_at(update, place),
+            region: region_at(&update.places, place),
             update: update.copy(alloc)?,
         },
     })
@@ -162,25 +151,27 @@ fn ack_post(
         to: Actor::Server(server),
         message: Message::Ack {
             epoch: context.config.epoch,
-            region: region_at(update, place),
+            region: region_at(&update.places, place),
             key: update.key.copy(alloc)?,
             version: update.version,
+            by: context.region,
         },
     })
 }
 
-/// Acknowledges an update to the previous replica of its chain, if there is one.
+/// Acknowledges an update with this place in the region of the context to the previous replica of
+/// its chain, if there is one.
 pub fn post_ack(
     alloc: Global,
     context: &SlotContext,
     update: &Update,
+    place: u32,
     posts: &mut Posts,
 ) -> Result<(), Memory>
-    requires placed { IsPlacedIn context.now.region update.now }
-    requires few { length update.now.places ≤ 17 }
+    requires { place ≡ place_number context.now.region update.now.places }
     ensures { OnOk result (posts.new ≡ posts.old ++ ack_to (context_seen context.now) update.now (prev_at (context_seen context.now) update.now)) }
 {
-    match prev_of(context, update, place_at(context, update)) {
+    match prev_of(context, update, place) {
         Hop::At { server, place } => {
             posts.push(ack_post(alloc, context, update, server, place)?)?;
             Ok(())

@@ -1,8 +1,9 @@
 ghost use Rattle.std.specs.Prelude.{◌≡◌, ◌++◌, [], ◌∷◌, IfOk, OnOk};
+ghost use Rattle.hx_replica.specs.Hearing.{epoch_in};
 ghost use Rattle.hx_replica.specs.Outputs.{room_by};
 ghost use Rattle.hx_replica.specs.declared.outputs.SlotChange.TheVariants.{Open};
 
-use hx_types::{Memory, Message, Post, Posts, Shared, Update, Version};
+use hx_types::{Epoch, Memory, Message, Post, Posts, Shared, Update, Version};
 
 /// How a slot makes its part of a step.
 #[derive(Drop)]
@@ -19,6 +20,21 @@ pub enum SlotChange {
     Acknowledge {
         version: Version,
     },
+}
+
+/// The epoch of which a message to a replica tells its server.
+#[inline]
+pub fn epoch_in(message: &Message) -> Option<Epoch>
+    ensures { result ≡ epoch_in message.now }
+{
+    match message {
+        Message::Call { epoch, .. } => Some(*epoch),
+        Message::Update { epoch, .. } => Some(*epoch),
+        Message::Ack { epoch, .. } => Some(*epoch),
+        Message::Ask { epoch, .. } => Some(*epoch),
+        Message::Snap { epoch, .. } => Some(*epoch),
+        _ => None,
+    }
 }
 
 /// For how many updates a slot needs room where a message comes: an acknowledgement brings none.

@@ -1,6 +1,9 @@
 ghost use Rattle.std.specs.Prelude.{◌≡◌, ◌++◌, [], ◌∷◌, OnOk};
 ghost use Rattle.hx_types.specs.declared.ids.Actor.TheVariants as an_actor;
 ghost use Rattle.hx_types.specs.Words.{post};
+ghost use Rattle.hx_model.specs.ServerSteps.{poll_post};
+ghost use Rattle.hx_replica.specs.Plans.{slot_change};
+ghost use Rattle.hx_replica.specs.Ticking.{standing};
 
 use crate::outputs::SlotChange;
 use crate::replicas::Replica;
@@ -10,12 +13,10 @@ use hx_types::{Actor, Config, Entry, Memory, Message, Post, Posts, ServerId, Sha
 #[derive(Drop)]
 pub enum Change {
     Nothing,
-    /// The server takes part in its epoch no longer.
-    Seal,
     /// The server takes no further step.
     Halt,
-    /// The server adopts a configuration: it isn't sealed any more, and its replicas of the regions
-    /// in which it is listed take their places among these, which are new.
+    /// The server adopts a configuration: its replicas of the regions in which it is listed take
+    /// their places among these, which are new.
     Adopt {
         config: Shared<Config>,
         replicas: Vec<Replica>,
@@ -48,6 +49,32 @@ impl Plan {
     {
         &self.entry
     }
+}
+
+/// What a server changes of which the slot at a place of a replica makes its part; nothing where the
+/// slot has none.
+#[inline]
+pub fn slot_change(replica: usize, place: usize, change: Option<SlotChange>) -> Change
+    ensures { result ≡ slot_change replica place change }
+{
+    match change {
+        Some(change) => Change::Slot {
+            replica,
+            place,
+            change,
+        },
+        None => Change::Nothing,
+    }
+}
+
+/// Asks the coordinator for the newest configuration, where this is the server's own.
+#[cold]
+#[inline(never)]
+pub fn ask_newest(server: ServerId, config: &Config, posts: &mut Posts) -> Result<(), Memory>
+    ensures { OnOk result (posts.new ≡ posts.old ++ poll_post (standing config.now server) ∷ []) }
+{
+    let epoch = config.epoch;
+    post_to_coordinator(server, Message::Poll { epoch }, posts)
 }
 
 /// Posts a message to the coordinator.

@@ -12,31 +12,32 @@ ghost use Rattle.hx_types.specs.Spaces.{IsConfigOf, IsServerOf, IsSpace};
 ghost use Rattle.hx_types.specs.Subspaces.{is_key_region};
 ghost use Rattle.hx_types.specs.Words.{when_some};
 ghost use Rattle.hx_law_folds.specs.Folding.{folded_server};
-ghost use Rattle.hx_model.specs.ServerSteps.{Replica as ReplicaState, ServerState, asked, halting, replica_in_epoch, if_installed, install_at, listed_regions, message_step, replica_of, seal_at, server_at_start, server_step, snapped, state_in, tick_step};
+ghost use Rattle.hx_model.specs.ServerSteps.{Replica as ReplicaState, ServerState, asked, halting, if_installed, install_at, listed_regions, message_step, replica_for, replica_of, server_at_start, server_step, snapped, state_in, tick_step};
 ghost use Rattle.hx_model.specs.Slots.{found_in, new_state};
-ghost use Rattle.hx_replica.specs.Hearing.{IsOfOneSlot, heard, leading};
+ghost use Rattle.hx_replica.specs.Hearing.{IsOfOneSlot, addressed, leading, met_posts, own_step};
 ghost use Rattle.hx_replica.specs.Installing.{IsSnapshot};
 ghost use Rattle.hx_replica.specs.Adopting.{lean_with_config};
-ghost use Rattle.hx_replica.specs.Outputs.{key_in, room_by, room_of};
+ghost use Rattle.hx_replica.specs.Outputs.{key_in, notes_of, posts_of, room_by, room_wanted};
 ghost use Rattle.hx_replica.specs.Named.{known_to};
 ghost use Rattle.hx_replica.specs.Replicas.{KeepAllRooms, KeepRegionRooms, first_replica, new_replica};
 ghost use Rattle.hx_replica.specs.Sound.{IsSoundInput, IsSoundServer};
 ghost use Rattle.hx_store.specs.Stores.{has_slot};
-ghost use Rattle.hx_replica.specs.Plans.{AreRoomsAfter, AtReplica, CanHear, CanMake, CanStep, HasRoomAt, IsChange, IsChangeAt, IsPlanOn, step_at};
+ghost use Rattle.hx_replica.specs.Plans.{AreRoomsAfter, AtReplica, CanHear, CanMake, CanStep, HasRoomAt, IsChange, IsChangeAt, IsPlanOn, slot_change, step_at};
 ghost use Rattle.hx_replica.specs.Servers.{CanTake};
 
 use crate::adopting::post_adoption;
 use crate::contexts::SlotContext;
 use crate::installing::installed;
 use crate::keeping::keep_all;
-use crate::outputs::{SlotChange, room_by};
-use crate::prepared::{Change, Plan, post_to_coordinator};
+use crate::outputs::{SlotChange, epoch_in, room_by};
+use crate::prepared::{Change, Plan, ask_newest, post_to_coordinator, slot_change};
 use crate::replicas::{
     Replica, change_slot, first_replicas, joined_replica, new_replicas, place_of, put_replica,
     sort_orders,
 };
 use crate::slot_steps::step_slot;
-use crate::ticking::{post_ready, tick_all};
+use crate::ticking::{post_ready, post_tick};
+use hx_chain::hears_snap;
 use hx_region::RegionMap;
 use hx_slot::Slot;
 use hx_types::{
@@ -54,7 +55,6 @@ pub struct Server {
     space: Space,
     map: RegionMap,
     config: Shared<Config>,
-    sealed: bool,
     halted: bool,
     replicas: Vec<Replica>,
 }
@@ -67,7 +67,6 @@ impl Drop for Server {
             space: _,
             map: _,
             config: _,
-            sealed: _,
             halted: _,
             replicas: _,
         } = self;
@@ -86,7 +85,8 @@ impl Model for Server {
     ghost invariant = { IsServer };
 }
 
-/// A replica that hears a message, by its place among the server's, and the key of the message.
+/// The replica to whose slot a message goes, by its place among the server's, and the key of the
+/// message.
 #[derive(Drop)]
 struct Addressee<'a> {
     replica: usize,
@@ -137,7 +137,6 @@ impl Server {
             space,
             map: regions,
             config,
-            sealed: false,
             halted: false,
             replicas,
         })
@@ -228,6 +227,44 @@ impl Server {
         ensures state { self.new.state ≡ self.old.state }
     {
         let _ = &self.id;
+        self.meet(message, posts)?;
+        self.answer(alloc, from, message, posts, notes)
+    }
+
+    /// Where a message tells of an epoch above the server's own, the coordinator is asked for the
+    /// newest configuration.
+    #[inline]
+    fn meet(&self, message: &Message, posts: &mut Posts) -> Result<(), Memory>
+        ensures { OnOk result (posts.new ≡ posts.old ++ met_posts self.now.state message.now) }
+    {
+        match epoch_in(message) {
+            Some(epoch) if epoch.0 > self.config.epoch.0 => {
+                ask_newest(self.id, &self.config, posts)
+            }
+            _ => Ok(()),
+        }
+    }
+
+    /// Posts and notes what a message makes but for that, and gives what it changes.
+    #[inline]
+    #[tactic(auto, using(crate::proofs::Roomy::all_same))]
+    fn answer(
+        &mut self,
+        alloc: Global,
+        from: Actor,
+        message: &Message,
+        posts: &mut Posts,
+        notes: &mut Notes,
+    ) -> Result<Change, Memory>
+        requires { CanHear self.old.space self.old.state from message.now }
+        ensures posts { OnOk result (posts.new ≡ posts.old ++ (own_step self.old.space self.old.state from message.now).posts) }
+        ensures notes { OnOk result (notes.new ≡ notes.old ++ (own_step self.old.space self.old.state from message.now).notes) }
+        ensures change { IfOk result (IsChange self.new (own_step self.old.space self.old.state from message.now).state) }
+        ensures rooms { KeepAllRooms self.old.rooms self.new.rooms }
+        ensures space { self.new.space ≡ self.old.space }
+        ensures state { self.new.state ≡ self.old.state }
+    {
+        let _ = &self.id;
         match message {
             Message::Ask {
                 epoch,
@@ -238,15 +275,14 @@ impl Server {
                 self.post_found(alloc, from, *epoch, *number, *region, terms, posts)?;
                 Ok(Change::Nothing)
             }
-            Message::Seal { epoch } => self.seal(*epoch, posts),
             Message::Install { config } => self.install(alloc, config, posts),
             Message::Die => self.halt(posts),
             Message::Snap {
-                epoch,
                 region,
                 snapshot,
                 pending,
-            } => self.join(alloc, *epoch, *region, snapshot, pending, posts),
+                ..
+            } => self.join(alloc, from, *region, snapshot, pending, posts),
             _ => self.take(alloc, from, message, posts, notes),
         }
     }
@@ -294,7 +330,6 @@ impl Server {
     {
         match change {
             Change::Nothing => {}
-            Change::Seal => self.sealed = true,
             Change::Halt => self.halted = true,
             Change::Adopt { config, replicas } => self.adopt(config, replicas),
             Change::Join { number, replica } => put_replica(&mut self.replicas[number], replica),
@@ -327,7 +362,6 @@ impl Server {
             &mut self.replicas,
         );
         self.config = config;
-        self.sealed = false;
     }
 
     /// Whether the server has halted.
@@ -349,7 +383,7 @@ impl Server {
         self.replicas[replica].store.slot(key)
     }
 
-    /// What is pending is sent again; where the server is sealed, it says that instead.
+    /// What is pending is sent again.
     #[inline(never)]
     fn tick(&mut self, alloc: Global, posts: &mut Posts) -> Result<Change, Memory>
         requires { folded_server self.old.state ≡ self.old.state }
@@ -366,12 +400,8 @@ impl Server {
         ensures posts { OnOk result (posts.new ≡ posts.old ++ (tick_step self.old.space self.old.state).posts) }
         ensures stays { self.new ≡ self.old }
     {
-        if self.sealed {
-            let epoch = self.config.epoch;
-            return post_to_coordinator(self.id, Message::Sealed { epoch }, posts);
-        }
         sort_orders(&mut self.replicas);
-        tick_all(
+        post_tick(
             alloc,
             &self.space,
             &self.map,
@@ -392,22 +422,6 @@ impl Server {
     {
         post_to_coordinator(self.id, Message::Gone, posts)?;
         Ok(Change::Halt)
-    }
-
-    /// The server takes part in its epoch no longer, and says so. Another epoch's seal is nothing
-    /// to it.
-    #[cold]
-    #[inline(never)]
-    fn seal(&self, epoch: Epoch, posts: &mut Posts) -> Result<Change, Memory>
-        requires { folded_server self.now.state ≡ self.now.state }
-        ensures posts { OnOk result (posts.new ≡ posts.old ++ (seal_at self.now.state epoch).posts) }
-        ensures change { IfOk result (IsChange self.now (seal_at self.now.state epoch).state) }
-    {
-        if epoch.0 != self.config.epoch.0 {
-            return Ok(Change::Nothing);
-        }
-        post_to_coordinator(self.id, Message::Sealed { epoch }, posts)?;
-        Ok(Change::Seal)
     }
 
     /// The server adopts a configuration of a higher epoch than its own. An older one, or the same,
@@ -444,14 +458,15 @@ impl Server {
         Ok(Change::Adopt { config, replicas })
     }
 
-    /// A replica that isn't installed installs a snapshot with its pending updates. The coordinator
-    /// is told that the replica has joined, now or before, where it is listed as not ready.
+    /// A replica that isn't installed and hears a snapshot installs it with its pending updates. The
+    /// coordinator is told that the replica has joined, now or before, where it is listed as not
+    /// ready. A snapshot that isn't heard is dropped.
     #[cold]
     #[inline(never)]
     fn join(
         &self,
         alloc: Global,
-        epoch: Epoch,
+        from: Actor,
         region: RegionId,
         snapshot: &Snapshot,
         pending: &Updates,
@@ -459,12 +474,15 @@ impl Server {
     ) -> Result<Change, Memory>
         requires bare { folded_server self.now.state ≡ self.now.state }
         requires snapshot { IsSnapshot region snapshot.now pending.now }
-        ensures posts { OnOk result (posts.new ≡ posts.old ++ (snapped self.now.space self.now.state snapshot.now pending.now (replica_in_epoch self.now.state epoch region)).posts) }
-        ensures change { IfOk result (IsChange self.now (snapped self.now.space self.now.state snapshot.now pending.now (replica_in_epoch self.now.state epoch region)).state) }
+        ensures posts { OnOk result (posts.new ≡ posts.old ++ (snapped self.now.space self.now.state from snapshot.now pending.now (replica_for self.now.state region)).posts) }
+        ensures change { IfOk result (IsChange self.now (snapped self.now.space self.now.state from snapshot.now pending.now (replica_for self.now.state region)).state) }
     {
-        let Some(number) = self.replica_in_epoch(epoch, region) else {
+        let Some(number) = self.replica_for(region) else {
             return Ok(Change::Nothing);
         };
+        if !hears_snap(&self.config, region, self.id, from) {
+            return Ok(Change::Nothing);
+        }
         let context = SlotContext {
             space: &self.space,
             map: &self.map,
@@ -498,10 +516,10 @@ impl Server {
         terms: &Terms,
         posts: &mut Posts,
     ) -> Result<(), Memory>
-        ensures posts { OnOk result (posts.new ≡ posts.old ++ (asked self.old.state from epoch number terms.now (if_installed (replica_in_epoch self.old.state epoch region))).posts) }
+        ensures posts { OnOk result (posts.new ≡ posts.old ++ (asked self.old.state from epoch number terms.now (if_installed (replica_for self.old.state region))).posts) }
         ensures stays { self.new ≡ self.old }
     {
-        let Some(place) = self.installed_at(epoch, region) else {
+        let Some(place) = self.installed_at(region) else {
             return Ok(());
         };
         if !self.config.lists_ready(region, self.id) {
@@ -532,7 +550,8 @@ impl Server {
         replica.store.find(alloc, terms, &mut looks)
     }
 
-    /// What the slot makes to which a message goes; where none hears it, nothing moves.
+    /// What the slot makes to which a message goes; where there is none, or its replica doesn't hear
+    /// the message, nothing moves.
     #[tactic(auto, using(crate::proofs::Roomy::all_same))]
     fn take(
         &mut self,
@@ -545,9 +564,9 @@ impl Server {
         requires can { CanHear self.old.space self.old.state from message.now }
         requires bare { folded_server self.old.state ≡ self.old.state }
         requires slot { IsOfOneSlot message.now }
-        ensures posts { OnOk result (posts.new ≡ posts.old ++ (message_step self.old.space self.old.state from message.now).posts) }
-        ensures notes { OnOk result (notes.new ≡ notes.old ++ (message_step self.old.space self.old.state from message.now).notes) }
-        ensures change { IfOk result (IsChange self.new (message_step self.old.space self.old.state from message.now).state) }
+        ensures posts { OnOk result (posts.new ≡ posts.old ++ (own_step self.old.space self.old.state from message.now).posts) }
+        ensures notes { OnOk result (notes.new ≡ notes.old ++ (own_step self.old.space self.old.state from message.now).notes) }
+        ensures change { IfOk result (IsChange self.new (own_step self.old.space self.old.state from message.now).state) }
         ensures rooms { KeepAllRooms self.old.rooms self.new.rooms }
         ensures space { self.new.space ≡ self.old.space }
         ensures state { self.new.state ≡ self.old.state }
@@ -561,39 +580,26 @@ impl Server {
         let Ok(change) = self.step(alloc, &addressee, place, from, message, posts, notes) else {
             return Err(Memory);
         };
-        Ok(Change::Slot {
-            replica: addressee.replica,
-            place,
-            change,
-        })
+        Ok(slot_change(addressee.replica, place, change))
     }
 
-    /// The replica that hears a message on a key, if one does.
+    /// The replica to whose slot a message on a key goes, if there is one.
     #[inline]
     fn addressee_of<'a>(&self, message: &'a Message) -> Option<Addressee<'a>>
-        ensures replica { option_map (λ h. slice_get self.now.state.replicas h.replica) result ≡ option_map Some (heard self.now.space self.now.state message.now) }
+        ensures replica { option_map (λ h. slice_get self.now.state.replicas h.replica) result ≡ option_map Some (addressed self.now.space self.now.state message.now) }
         ensures key { IfSome result (λ h. h.key.now ≡ key_in message.now) }
     {
         match message {
-            Message::Call { epoch, op, .. } => self.leading(*epoch, op),
-            Message::Update {
-                epoch,
-                region,
-                update,
-            } => self.installed(*epoch, *region, &update.key),
-            Message::Ack {
-                epoch,
-                region,
-                key,
-                ..
-            } => self.installed(*epoch, *region, key),
+            Message::Call { op, .. } => self.leading(op),
+            Message::Update { region, update, .. } => self.installed(*region, &update.key),
+            Message::Ack { region, key, .. } => self.installed(*region, key),
             _ => None,
         }
     }
 
     /// The replica of the key of a call, where this server leads its region.
-    fn leading<'a>(&self, epoch: Epoch, op: &'a Op) -> Option<Addressee<'a>>
-        ensures replica { option_map (λ h. slice_get self.now.state.replicas h.replica) result ≡ option_map Some (when_some (key_of op.now) None (leading self.now.space self.now.state epoch)) }
+    fn leading<'a>(&self, op: &'a Op) -> Option<Addressee<'a>>
+        ensures replica { option_map (λ h. slice_get self.now.state.replicas h.replica) result ≡ option_map Some (when_some (key_of op.now) None (leading self.now.space self.now.state)) }
         ensures key { IfSome result (λ h. Some h.key.now ≡ key_of op.now) }
     {
         let key = op.key()?;
@@ -601,26 +607,26 @@ impl Server {
         if !self.config.leads(&self.space, self.id, region) {
             return None;
         }
-        let replica = self.replica_in_epoch(epoch, region)?;
+        let replica = self.replica_for(region)?;
         Some(Addressee { replica, key })
     }
 
     /// The replica of a region, where it is installed.
     #[inline]
-    fn installed<'a>(&self, epoch: Epoch, region: RegionId, key: &'a Text) -> Option<Addressee<'a>>
-        ensures replica { option_map (λ h. slice_get self.now.state.replicas h.replica) result ≡ option_map Some (if_installed (replica_in_epoch self.now.state epoch region)) }
+    fn installed<'a>(&self, region: RegionId, key: &'a Text) -> Option<Addressee<'a>>
+        ensures replica { option_map (λ h. slice_get self.now.state.replicas h.replica) result ≡ option_map Some (if_installed (replica_for self.now.state region)) }
         ensures key { IfSome result (λ h. h.key.now ≡ key.now) }
     {
-        let replica = self.installed_at(epoch, region)?;
+        let replica = self.installed_at(region)?;
         Some(Addressee { replica, key })
     }
 
     /// The place of the replica of a region, where it is installed.
     #[inline]
-    fn installed_at(&self, epoch: Epoch, region: RegionId) -> Option<usize>
-        ensures { option_map (slice_get self.now.state.replicas) result ≡ option_map Some (if_installed (replica_in_epoch self.now.state epoch region)) }
+    fn installed_at(&self, region: RegionId) -> Option<usize>
+        ensures { option_map (slice_get self.now.state.replicas) result ≡ option_map Some (if_installed (replica_for self.now.state region)) }
     {
-        let place = self.replica_in_epoch(epoch, region)?;
+        let place = self.replica_for(region)?;
         if self.replicas[place].installed {
             Some(place)
         } else {
@@ -628,13 +634,13 @@ impl Server {
         }
     }
 
-    /// The place of the replica that hears messages of an epoch for a region: none where the
-    /// server is sealed, the epoch another, or the region lost.
+    /// The place of the replica that takes messages for a region: none where the region is lost in
+    /// the server's configuration.
     #[inline]
-    fn replica_in_epoch(&self, epoch: Epoch, region: RegionId) -> Option<usize>
-        ensures { option_map (slice_get self.now.state.replicas) result ≡ option_map Some (replica_in_epoch self.now.state epoch region) }
+    fn replica_for(&self, region: RegionId) -> Option<usize>
+        ensures { option_map (slice_get self.now.state.replicas) result ≡ option_map Some (replica_for self.now.state region) }
     {
-        if self.sealed || epoch.0 != self.config.epoch.0 || self.config.is_lost(region) {
+        if self.config.is_lost(region) {
             return None;
         }
         place_of(self.replicas.as_slice(), region)
@@ -653,7 +659,8 @@ impl Server {
         replica.store.reserve(alloc, addressee.key, n)
     }
 
-    /// What a message makes of the slot to which it goes.
+    /// What a message makes of the slot to which it goes; nothing where the slot's replica doesn't
+    /// hear it.
     fn step(
         &self,
         alloc: Global,
@@ -663,13 +670,13 @@ impl Server {
         message: &Message,
         posts: &mut Posts,
         notes: &mut Notes,
-    ) -> Result<SlotChange, Memory>
+    ) -> Result<Option<SlotChange>, Memory>
         requires can { CanStep self.now.space self.now.state addressee.now.replica addressee.now.key.now from message.now }
         requires room { HasRoomAt addressee.now.replica addressee.now.key.now (room_by message.now) self.now place }
-        ensures posts { OnOk result (AtReplica self.now addressee.now.replica (λ (r : ReplicaState). posts.new ≡ posts.old ++ (step_at self.now r from message.now).posts)) }
-        ensures notes { OnOk result (AtReplica self.now addressee.now.replica (λ (r : ReplicaState). notes.new ≡ notes.old ++ (step_at self.now r from message.now).notes)) }
+        ensures posts { OnOk result (AtReplica self.now addressee.now.replica (λ (r : ReplicaState). posts.new ≡ posts.old ++ posts_of (step_at self.now r from message.now))) }
+        ensures notes { OnOk result (AtReplica self.now addressee.now.replica (λ (r : ReplicaState). notes.new ≡ notes.old ++ notes_of (step_at self.now r from message.now))) }
         ensures change { IfOk result (IsChangeAt self.now addressee.now.replica from message.now) }
-        ensures room { IfOk result (λ change. room_of change ≤ room_by message.now) }
+        ensures room { IfOk result (λ change. room_wanted change ≤ room_by message.now) }
     {
         let replica = &self.replicas[addressee.replica];
         let context = SlotContext {

@@ -1,29 +1,32 @@
-ghost use Rattle.std.specs.Prelude.{◌≡◌, ◌≤◌, ◌<◌, ◌^◌, ◌++◌, ◌∷◌, [], IfOk, OnOk, true, length};
+ghost use Rattle.std.specs.Prelude.{◌≡◌, ◌≤◌, ◌<◌, ◌^◌, ◌++◌, ◌∷◌, [], IfOk, IfSome, OnOk, true, length};
 ghost use Rattle.std.specs.List.{All};
+ghost use Rattle.std.specs.Option.{option_copied};
 ghost use Rattle.hx_types.specs.Spaces.{IsSpace};
 ghost use Rattle.hx_types.specs.declared.updates.Place.{Place};
 ghost use Rattle.hx_types.specs.declared.outcomes.Decision.TheVariants as a_decision;
 ghost use Rattle.hx_model.specs.Leading.{decide, stuck_of};
 ghost use Rattle.hx_model.specs.Regions.{key_region};
-ghost use Rattle.hx_model.specs.ServerSteps.{ack_step, call_step, decided, get_step, known_to, update_step, waiting_doubt, write_step};
+ghost use Rattle.hx_model.specs.Neighbours.{place_number};
+ghost use Rattle.hx_model.specs.ServerSteps.{ack_step, call_step, decided, get_step, known_to, pending_with, update_step, waiting_doubt, write_step};
 ghost use Rattle.hx_model.specs.Slots.{top_of};
-ghost use Rattle.hx_slot.specs.States.{IsPlacedIn};
+ghost use Rattle.hx_slot.specs.States.{HasFewPlaces, IsPlacedIn};
 ghost use Rattle.hx_replica.specs.declared.outputs.SlotChange.TheVariants.{Open};
-ghost use Rattle.hx_replica.specs.Outputs.{IsComing, IsChangeOf, IsLeading, IsSlotInput, accept_step, key_in, room_by, room_of, session_in, slot_step_of, context_seen};
+ghost use Rattle.hx_replica.specs.Outputs.{IsChangeOf, IsComing, IsLeading, IsMaybeChangeOf, IsSlotInput, accept_step, ack_heard, context_seen, hears_version, key_in, notes_of, posts_of, room_by, room_of, room_wanted, session_in, slot_step_of, update_heard};
 
 use crate::accepting::accepted;
 use crate::contexts::{SlotContext, doubt, place_at, post_ack, reply};
 use crate::outputs::{SlotChange, slot_replies};
 use crate::settling::post_lowest_commits;
-use hx_chain::{decide, stuck};
+use hx_chain::{decide, hears_ack, hears_update, stuck};
 use hx_slot::Slot;
 use hx_types::{
-    Actor, Answer, Caller, Decision, Exact, Memory, Message, Note, Notes, Op, Posts, SessionId,
-    Shared, Update, Version,
+    Actor, Answer, Caller, Decision, Exact, Memory, Message, Note, Notes, Op, Posts, RegionId,
+    SessionId, Shared, Update, Version,
 };
 use std::alloc::Global;
 
-/// What a step makes of the slot to which a message goes.
+/// What a step makes of the slot to which a message goes; nothing where its replica doesn't hear
+/// the message.
 #[inline(always)]
 pub fn step_slot(
     alloc: Global,
@@ -33,23 +36,26 @@ pub fn step_slot(
     message: &Message,
     posts: &mut Posts,
     notes: &mut Notes,
-) -> Result<SlotChange, Memory>
+) -> Result<Option<SlotChange>, Memory>
     requires map { context.now.map.now ≡ context.now.space.now }
     requires space { IsSpace context.now.space.now }
     requires region { slot.now.region ≡ context.now.region }
     requires input { IsSlotInput context.now.space.now context.now.region slot.now.state from message.now }
-    ensures posts { OnOk result (posts.new ≡ posts.old ++ (slot_step_of (context_seen context.now) slot.now.state from message.now).posts) }
-    ensures notes { OnOk result (notes.new ≡ notes.old ++ (slot_step_of (context_seen context.now) slot.now.state from message.now).notes) }
-    ensures change { IfOk result (IsChangeOf context.now.region slot.now.state (key_in message.now) (slot_step_of (context_seen context.now) slot.now.state from message.now)) }
-    ensures room { IfOk result (λ change. room_of change ≤ room_by message.now) }
+    ensures posts { OnOk result (posts.new ≡ posts.old ++ posts_of (slot_step_of (context_seen context.now) slot.now.state from message.now)) }
+    ensures notes { OnOk result (notes.new ≡ notes.old ++ notes_of (slot_step_of (context_seen context.now) slot.now.state from message.now)) }
+    ensures change { IfOk result (IsMaybeChangeOf context.now.region slot.now.state (key_in message.now) (slot_step_of (context_seen context.now) slot.now.state from message.now)) }
+    ensures room { IfOk result (λ change. room_wanted change ≤ room_by message.now) }
 {
     match message {
         Message::Call { number, op, .. } => {
             let caller = caller_of(from, *number);
-            call(alloc, context, slot, caller, op, posts, notes)
+            let change = call(alloc, context, slot, caller, op, posts, notes)?;
+            Ok(Some(change))
         }
-        Message::Update { update, .. } => take(alloc, context, slot, update, posts),
-        Message::Ack { version, .. } => settle(alloc, context, slot, *version, posts),
+        Message::Update { update, .. } => take(alloc, context, slot, from, update, posts),
+        Message::Ack { version, by, .. } => {
+            settle(alloc, context, slot, from, *version, *by, posts)
+        }
         _ => unreachable!(),
     }
 }
@@ -197,30 +203,58 @@ fn assign(
         update: update.copy(alloc)?,
     };
     notes.push(note)?;
-    accept(alloc, context, slot, update, posts)
+    let place = place_at(context, &update);
+    accept(alloc, context, slot, update, place, posts)
 }
 
-/// An update is known, accepted or early.
+/// An update that is heard is known, accepted or early; one that isn't heard is dropped.
 #[inline(always)]
 fn take(
     alloc: Global,
     context: &SlotContext,
     slot: &Slot,
+    from: Actor,
     update: &Shared<Update>,
+    posts: &mut Posts,
+) -> Result<Option<SlotChange>, Memory>
+    requires placed { IsPlacedIn context.now.region update.now }
+    requires few { length update.now.places ≤ 17 }
+    requires after { All (λ (p : Place). p.after.0 < update.now.version.0) update.now.places }
+    requires region { slot.now.region ≡ context.now.region }
+    ensures posts { OnOk result (posts.new ≡ posts.old ++ posts_of (update_heard (context_seen context.now) slot.now.state from update.now)) }
+    ensures change { IfOk result (IsMaybeChangeOf context.now.region slot.now.state update.now.key (update_heard (context_seen context.now) slot.now.state from update.now)) }
+{
+    let place = place_at(context, update);
+    if !hears_update(context.config, update, place, context.server, from) {
+        return Ok(None);
+    }
+    let change = offer(alloc, context, slot, update, place, posts)?;
+    Ok(Some(change))
+}
+
+/// An update with this place in the region of the context is known, accepted or early.
+#[inline(always)]
+fn offer(
+    alloc: Global,
+    context: &SlotContext,
+    slot: &Slot,
+    update: &Shared<Update>,
+    place: u32,
     posts: &mut Posts,
 ) -> Result<SlotChange, Memory>
     requires placed { IsPlacedIn context.now.region update.now }
     requires few { length update.now.places ≤ 17 }
     requires after { All (λ (p : Place). p.after.0 < update.now.version.0) update.now.places }
+    requires place { place ≡ place_number context.now.region update.now.places }
     requires region { slot.now.region ≡ context.now.region }
     ensures posts { OnOk result (posts.new ≡ posts.old ++ (update_step (context_seen context.now) slot.now.state update.now).posts) }
     ensures change { IfOk result (IsChangeOf context.now.region slot.now.state update.now.key (update_step (context_seen context.now) slot.now.state update.now)) }
 {
     if update.version.0 <= slot.top().0 {
-        post_known(alloc, context, slot, update, posts)?;
+        post_known(alloc, context, slot, update, place, posts)?;
         return Ok(SlotChange::Open);
     }
-    accept(alloc, context, slot, update.copy(alloc)?, posts)
+    accept(alloc, context, slot, update.copy(alloc)?, place, posts)
 }
 
 /// A known update is acknowledged again where it is committed.
@@ -229,33 +263,34 @@ fn post_known(
     context: &SlotContext,
     slot: &Slot,
     update: &Update,
+    place: u32,
     posts: &mut Posts,
 ) -> Result<(), Memory>
-    requires placed { IsPlacedIn context.now.region update.now }
-    requires few { length update.now.places ≤ 17 }
+    requires { place ≡ place_number context.now.region update.now.places }
     ensures { OnOk result (posts.new ≡ posts.old ++ known_to (context_seen context.now) slot.now.state update.now) }
 {
     if update.version.0 <= slot.floor().0 {
-        post_ack(alloc, context, update, posts)?;
+        post_ack(alloc, context, update, place, posts)?;
     }
     Ok(())
 }
 
-/// An update above the top is offered to the slot.
+/// An update above the top, with this place in the region of the context, is offered to the slot.
 #[inline(always)]
 fn accept(
     alloc: Global,
     context: &SlotContext,
     slot: &Slot,
     update: Shared<Update>,
+    place: u32,
     posts: &mut Posts,
 ) -> Result<SlotChange, Memory>
     requires coming { IsComing context.now.region slot.now.state update }
+    requires place { place ≡ place_number context.now.region update.places }
     requires region { slot.now.region ≡ context.now.region }
     ensures posts { OnOk result (posts.new ≡ posts.old ++ (accept_step (context_seen context.now) slot.now.state update).posts) }
     ensures change { IfOk result (IsChangeOf context.now.region slot.now.state update.key (accept_step (context_seen context.now) slot.now.state update)) }
 {
-    let place = place_at(context, &update);
     let tail_versions = accepted(alloc, context, slot, &update, place, posts)?;
     Ok(SlotChange::Accept {
         update,
@@ -264,9 +299,33 @@ fn accept(
     })
 }
 
-/// A version is acknowledged, and what can be committed is told of.
+/// An acknowledgement is dropped where its version isn't pending, and where it isn't heard for the
+/// pending update of that version.
 #[inline(always)]
 fn settle(
+    alloc: Global,
+    context: &SlotContext,
+    slot: &Slot,
+    from: Actor,
+    version: Version,
+    by: RegionId,
+    posts: &mut Posts,
+) -> Result<Option<SlotChange>, Memory>
+    requires { slot.now.region ≡ context.now.region }
+    ensures posts { OnOk result (posts.new ≡ posts.old ++ posts_of (ack_heard (context_seen context.now) slot.now.state from version.0 by)) }
+    ensures change { IfOk result (IsMaybeChangeOf context.now.region slot.now.state slot.now.state.base.key (ack_heard (context_seen context.now) slot.now.state from version.0 by)) }
+    ensures room { IfOk result (λ change. room_wanted change ≡ 0) }
+{
+    if !is_heard(context, slot, from, version, by) {
+        return Ok(None);
+    }
+    let change = acknowledge(alloc, context, slot, version, posts)?;
+    Ok(Some(change))
+}
+
+/// A version is acknowledged, and what can be committed is told of.
+#[inline(always)]
+fn acknowledge(
     alloc: Global,
     context: &SlotContext,
     slot: &Slot,
@@ -280,4 +339,40 @@ fn settle(
 {
     post_lowest_commits(alloc, context, slot, slot.would_commit(version), posts)?;
     Ok(SlotChange::Acknowledge { version })
+}
+
+/// Whether a slot hears the acknowledgement of a version: the version is pending, and the sender's
+/// replica of the region stands right after this one in the chain of the version's update.
+#[inline(always)]
+fn is_heard(context: &SlotContext, slot: &Slot, from: Actor, version: Version, by: RegionId) -> bool
+    requires { slot.now.region ≡ context.now.region }
+    ensures { result ≡ hears_version (context_seen context.now) from by (pending_with version.0 slot.now.state) }
+{
+    match pending_with(slot, version) {
+        Some(update) => {
+            let place = place_at(context, update);
+            hears_ack(context.config, update, place, context.server, from, by)
+        }
+        None => false,
+    }
+}
+
+/// The pending update of a version.
+#[inline]
+fn pending_with<'a>(slot: &'a Slot, version: Version) -> Option<&'a Shared<Update>>
+    ensures pending { option_copied result ≡ pending_with version.0 slot.now.state }
+    ensures place { IfSome (option_copied result) (IsPlacedIn slot.now.region) }
+    ensures few { IfSome (option_copied result) HasFewPlaces }
+{
+    for i in 0..slot.pending_count() {
+        match slot.pending(i) {
+            Some(update) => {
+                if update.version.0 == version.0 {
+                    return Some(update);
+                }
+            }
+            None => unreachable!(),
+        }
+    }
+    None
 }

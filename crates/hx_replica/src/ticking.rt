@@ -1,7 +1,7 @@
 ghost use Rattle.std.specs.Prelude.{◌≡◌, ◌++◌, ◌∷◌, [], IfOk, OnOk, Some, true};
 ghost use Rattle.std.specs.List.{All, flat_map};
 ghost use Rattle.hx_types.specs.Spaces.{IsSpace};
-ghost use Rattle.hx_model.specs.ServerSteps.{passed_on, pending_posts, ready_post, replica_tick, snap_posts, snap_to};
+ghost use Rattle.hx_model.specs.ServerSteps.{asking_last, passed_on, pending_posts, ready_post, replica_tick, snap_posts, snap_to};
 ghost use Rattle.hx_model.specs.Slots.{pending_of};
 ghost use Rattle.hx_replica.specs.Outputs.{context_seen};
 ghost use Rattle.hx_replica.specs.Replicas.{AreOrdered, view_of};
@@ -10,6 +10,7 @@ ghost use Rattle.hx_replica.specs.declared.replicas.Replica.{Replica as Held};
 
 use crate::contexts::SlotContext;
 use crate::members::joiner_for;
+use crate::prepared::ask_newest;
 use crate::replicas::Replica;
 use crate::settling::post_pending;
 use hx_region::RegionMap;
@@ -18,8 +19,31 @@ use hx_store::Store;
 use hx_types::{Actor, Config, Memory, Message, Post, Posts, ServerId, Shared, Space};
 use std::alloc::Global;
 
+/// Posts what a server posts on a tick: what every replica sends again, and where that is anything,
+/// the question for the newest configuration.
+pub fn post_tick(
+    alloc: Global,
+    space: &Space,
+    map: &RegionMap,
+    config: &Config,
+    server: ServerId,
+    replicas: &[Replica],
+    posts: &mut Posts,
+) -> Result<(), Memory>
+    requires regions { All (λ (r : Held). r.store.region ≡ r.region) replicas.now }
+    requires ordered { AreOrdered replicas.now }
+    ensures { OnOk result (posts.new ≡ posts.old ++ asking_last (standing config.now server) (flat_map (λ (r : Held). replica_tick space.now (standing config.now server) (view_of r)) replicas.now)) }
+{
+    let before = posts.len();
+    tick_all(alloc, space, map, config, server, replicas, posts)?;
+    if posts.len() == before {
+        return Ok(());
+    }
+    ask_newest(server, config, posts)
+}
+
 /// Posts what every replica sends again on a tick.
-pub fn tick_all(
+fn tick_all(
     alloc: Global,
     space: &Space,
     map: &RegionMap,

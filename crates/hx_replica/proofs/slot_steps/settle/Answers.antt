@@ -1,19 +1,15 @@
-use Rattle.std.proofs.Common.{◌≤◌, ◌++◌, List, ℕ, ap, length, subst, sym, take, ◌∙◌}
-use Rattle.std.specs.List.{flat_map}
-use Rattle.hx_types.specs.declared.messages.Post.{Post}
-use Rattle.hx_model.specs.Slots.{pending_of}
-use Rattle.hx_replica.specs.Outputs.{context_seen, told_of}
-use Rattle.hx_replica.proofs.Acked.{ack_told, ack_within}
+use Rattle.std.proofs.Common.{sym, ◌∙◌}
+use Rattle.hx_replica.proofs.Hearing.{dropped_change, dropped_posts, heard_change, heard_posts}
 use Rattle.hx_replica.proofs.slot_steps.settle.Goals as goal
 
-pub post_lowest_commits-requires-clause-count : goal.post_lowest_commits-requires-clause-count
-post_lowest_commits-requires-clause-count c =
-    subst (λ (n : ℕ). n ≤ length (pending_of c.args.slot.now.state)) (sym c.would_commit.ensures) (ack_within c.args.slot.now.state c.args.version.0)
+pub returns-then-not-is_heard-clause-posts : goal.returns-then-not-is_heard-clause-posts
+returns-then-not-is_heard-clause-posts c = dropped_posts _ _ c.args.posts.now (sym c.is_heard.ensures ∙ c.if-not-is_heard.true)
+
+pub returns-then-not-is_heard-clause-change : goal.returns-then-not-is_heard-clause-change
+returns-then-not-is_heard-clause-change c = dropped_change _ _ _ _ _ (sym c.is_heard.ensures ∙ c.if-not-is_heard.true)
 
 pub returns-clause-posts : goal.returns-clause-posts
-returns-clause-posts c =
-    let context = context_seen c.args.context.now in
-    let us = pending_of c.args.slot.now.state in
-    c.in_ok-post_lowest_commits.ensures
-    ∙ ap (λ (ps : List Post). c.args.posts.now ++ ps)
-    (ap (λ n. flat_map (told_of context) (take n us)) c.would_commit.ensures ∙ ack_told context c.args.slot.now.state c.args.version.0)
+returns-clause-posts c = heard_posts _ _ c.args.posts.now _ (sym c.is_heard.ensures ∙ c.if-not-is_heard.false) c.in_ok-change.ensures.posts
+
+pub returns-clause-change : goal.returns-clause-change
+returns-clause-change c = heard_change _ _ _ _ _ _ (sym c.is_heard.ensures ∙ c.if-not-is_heard.false) c.in_ok-change.ensures.change

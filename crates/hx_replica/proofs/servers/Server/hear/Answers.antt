@@ -1,137 +1,27 @@
-use Rattle.std.proofs.Common.{◌≡◌, ◌++◌, IfOk, OnOk, List, subst, sym}
-use Rattle.hx_types.specs.declared.snapshots.Kept.{Kept}
-use Rattle.hx_types.specs.declared.updates.Update.{Update}
-use Rattle.hx_model.specs.ServerSteps.{message_step, replica_in_epoch, snapped}
-use Rattle.hx_replica.specs.Installing.{IsSnapshot}
-use Rattle.hx_replica.specs.Plans.{IsChange}
-use Rattle.hx_replica.specs.Servers.{ServerValue}
-use Rattle.hx_replica.proofs.Bareness.{bare_seen}
 use Rattle.hx_replica.proofs.Naming.{message_named}
-use Rattle.hx_replica.proofs.Planning.{change_on, notes_on, posts_on}
-use Rattle.hx_replica.proofs.Snapped.{config_taken, snapshot_taken}
+use Rattle.hx_replica.proofs.Planning.{change_met, notes_met, posts_met}
 use Rattle.hx_replica.proofs.Sounding.{message_sound}
 use Rattle.hx_replica.proofs.servers.Server.hear.Goals as goal
 
-pub seal-requires : goal.seal-requires
-seal-requires c = bare_seen c.self.inside c.args.self.now c.self.view_is c.self.invariant
+pub returns-clause-posts : goal.returns-clause-posts
+returns-clause-posts c =
+    posts_met c.args.self.now c.args.from c.args.message.now c.answer.result c.args.posts.now c.meet.new.posts c.answer.new.posts
+    c.in_ok-meet.ensures c.answer.ensures.posts
 
-pub halt-requires : goal.halt-requires
-halt-requires c = bare_seen c.self.inside c.args.self.now c.self.view_is c.self.invariant
+pub returns-clause-notes : goal.returns-clause-notes
+returns-clause-notes c = notes_met c.args.self.now c.args.from c.args.message.now c.answer.result c.args.notes.now c.answer.new.notes c.answer.ensures.notes
 
-pub install-requires-clause-bare : goal.install-requires-clause-bare
-install-requires-clause-bare c = bare_seen c.self.inside c.args.self.now c.self.view_is c.self.invariant
+pub returns-clause-change : goal.returns-clause-change
+returns-clause-change c = change_met c.args.self.now c.answer.new.self c.args.from c.args.message.now c.answer.result c.answer.ensures.change
 
-pub join-requires-clause-bare : goal.join-requires-clause-bare
-join-requires-clause-bare c = bare_seen c.self.inside c.args.self.now c.self.view_is c.self.invariant
+pub returns-in_err-meet-clause-named : goal.returns-in_err-meet-clause-named
+returns-in_err-meet-clause-named c = message_named c.args.self.now c.args.from c.args.message.now c.requires
 
-pub take-requires-clause-bare : goal.take-requires-clause-bare
-take-requires-clause-bare c = bare_seen c.self.inside c.args.self.now c.self.view_is c.self.invariant
+pub returns-in_err-meet-clause-sound : goal.returns-in_err-meet-clause-sound
+returns-in_err-meet-clause-sound c = message_sound c.args.self.now c.args.from c.args.message.now c.requires
 
-pub install-requires-clause-config : goal.install-requires-clause-config
-install-requires-clause-config c = config_taken c.args.self.now c.args.from c.args.message.now c.in-Install.config c.requires c.in-Install.is
+pub returns-clause-named : goal.returns-clause-named
+returns-clause-named c = message_named c.args.self.now c.args.from c.args.message.now c.requires
 
-pub join-requires-clause-snapshot : goal.join-requires-clause-snapshot
-join-requires-clause-snapshot c =
-    subst (λ (snapshot : List Kept). IsSnapshot c.in-Snap.region snapshot c.deref-in-Snap.result.now) (sym c.deref.ensures)
-    (
-    subst (IsSnapshot c.in-Snap.region c.in-Snap.snapshot) (sym c.deref-in-Snap.ensures)
-    (snapshot_taken c.args.self.now c.args.from c.args.message.now c.in-Snap.epoch c.in-Snap.region c.in-Snap.snapshot c.in-Snap.pending c.requires
-    c.in-Snap.is)
-    )
-
-pub returns-in-Seal-clause-posts : goal.returns-in-Seal-clause-posts
-returns-in-Seal-clause-posts c =
-    posts_on c.args.self.now.space c.args.self.now.state c.args.from c.args.message.now _ c.seal.result c.in-Seal.is c.args.posts.now c.seal.new.posts
-    c.seal.ensures.posts
-
-pub returns-in-Seal-clause-notes : goal.returns-in-Seal-clause-notes
-returns-in-Seal-clause-notes c =
-    notes_on c.args.self.now.space c.args.self.now.state c.args.from c.args.message.now _ c.seal.result c.in-Seal.is c.args.notes.now (λ one. one)
-
-pub returns-in-Seal-clause-change : goal.returns-in-Seal-clause-change
-returns-in-Seal-clause-change c = change_on c.args.self.now c.args.from c.args.message.now _ c.seal.result c.in-Seal.is c.seal.ensures.change
-
-pub returns-in-Install-clause-posts : goal.returns-in-Install-clause-posts
-returns-in-Install-clause-posts c =
-    posts_on c.args.self.now.space c.args.self.now.state c.args.from c.args.message.now _ c.install.result c.in-Install.is c.args.posts.now
-    c.install.new.posts c.install.ensures.posts
-
-pub returns-in-Install-clause-notes : goal.returns-in-Install-clause-notes
-returns-in-Install-clause-notes c =
-    notes_on c.args.self.now.space c.args.self.now.state c.args.from c.args.message.now _ c.install.result c.in-Install.is c.args.notes.now (λ one. one)
-
-pub returns-in-Install-clause-change : goal.returns-in-Install-clause-change
-returns-in-Install-clause-change c =
-    let v = c.args.self.now in
-    subst (λ (x : ServerValue). IfOk c.install.result (IsChange x (message_step v.space v.state c.args.from c.args.message.now).state)) (sym c.install.ensures.stays)
-    (change_on v c.args.from c.args.message.now _ c.install.result c.in-Install.is c.install.ensures.change)
-
-pub returns-in-Die-clause-posts : goal.returns-in-Die-clause-posts
-returns-in-Die-clause-posts c =
-    posts_on c.args.self.now.space c.args.self.now.state c.args.from c.args.message.now _ c.halt.result c.in-Die.is c.args.posts.now c.halt.new.posts
-    c.halt.ensures.posts
-
-pub returns-in-Die-clause-notes : goal.returns-in-Die-clause-notes
-returns-in-Die-clause-notes c =
-    notes_on c.args.self.now.space c.args.self.now.state c.args.from c.args.message.now _ c.halt.result c.in-Die.is c.args.notes.now (λ one. one)
-
-pub returns-in-Die-clause-change : goal.returns-in-Die-clause-change
-returns-in-Die-clause-change c = change_on c.args.self.now c.args.from c.args.message.now _ c.halt.result c.in-Die.is c.halt.ensures.change
-
-pub returns-in-Snap-clause-posts : goal.returns-in-Snap-clause-posts
-returns-in-Snap-clause-posts c =
-    let v = c.args.self.now in
-    let Made : List Kept → List Update → Type 0 =
-    λ snapshot pending. OnOk c.join.result (c.join.new.posts ≡ c.args.posts.now ++ (snapped v.space v.state snapshot pending
-    (replica_in_epoch v.state c.in-Snap.epoch c.in-Snap.region)).posts) in
-    posts_on v.space v.state c.args.from c.args.message.now _ c.join.result c.in-Snap.is c.args.posts.now c.join.new.posts
-    (
-    subst (λ (snapshot : List Kept). Made snapshot c.in-Snap.pending) c.deref.ensures
-    (subst (Made c.deref.result.now) c.deref-in-Snap.ensures c.join.ensures.posts)
-    )
-
-pub returns-in-Snap-clause-notes : goal.returns-in-Snap-clause-notes
-returns-in-Snap-clause-notes c =
-    notes_on c.args.self.now.space c.args.self.now.state c.args.from c.args.message.now _ c.join.result c.in-Snap.is c.args.notes.now (λ one. one)
-
-pub returns-in-Snap-clause-change : goal.returns-in-Snap-clause-change
-returns-in-Snap-clause-change c =
-    let v = c.args.self.now in
-    let Made : List Kept → List Update → Type 0 =
-    λ snapshot pending. IfOk c.join.result (IsChange v
-    (snapped v.space v.state snapshot pending (replica_in_epoch v.state c.in-Snap.epoch c.in-Snap.region)).state) in
-    change_on v c.args.from c.args.message.now _ c.join.result c.in-Snap.is
-    (
-    subst (λ (snapshot : List Kept). Made snapshot c.in-Snap.pending) c.deref.ensures
-    (subst (Made c.deref.result.now) c.deref-in-Snap.ensures c.join.ensures.change)
-    )
-
-pub returns-in_err-post_found-in-Ask-clause-named : goal.returns-in_err-post_found-in-Ask-clause-named
-returns-in_err-post_found-in-Ask-clause-named c = message_named c.args.self.now c.args.from c.args.message.now c.requires
-
-pub returns-in_err-post_found-in-Ask-clause-sound : goal.returns-in_err-post_found-in-Ask-clause-sound
-returns-in_err-post_found-in-Ask-clause-sound c = message_sound c.args.self.now c.args.from c.args.message.now c.requires
-
-pub returns-in_ok-post_found-in-Ask-clause-named : goal.returns-in_ok-post_found-in-Ask-clause-named
-returns-in_ok-post_found-in-Ask-clause-named c = message_named c.args.self.now c.args.from c.args.message.now c.requires
-
-pub returns-in_ok-post_found-in-Ask-clause-sound : goal.returns-in_ok-post_found-in-Ask-clause-sound
-returns-in_ok-post_found-in-Ask-clause-sound c = message_sound c.args.self.now c.args.from c.args.message.now c.requires
-
-pub returns-in-Install-clause-named : goal.returns-in-Install-clause-named
-returns-in-Install-clause-named c = message_named c.args.self.now c.args.from c.args.message.now c.requires
-
-pub returns-in-Install-clause-sound : goal.returns-in-Install-clause-sound
-returns-in-Install-clause-sound c = message_sound c.args.self.now c.args.from c.args.message.now c.requires
-
-pub returns-in-Snap-clause-named : goal.returns-in-Snap-clause-named
-returns-in-Snap-clause-named c = message_named c.args.self.now c.args.from c.args.message.now c.requires
-
-pub returns-in-Snap-clause-sound : goal.returns-in-Snap-clause-sound
-returns-in-Snap-clause-sound c = message_sound c.args.self.now c.args.from c.args.message.now c.requires
-
-pub returns-in_default-clause-named : goal.returns-in_default-clause-named
-returns-in_default-clause-named c = message_named c.args.self.now c.args.from c.args.message.now c.requires
-
-pub returns-in_default-clause-sound : goal.returns-in_default-clause-sound
-returns-in_default-clause-sound c = message_sound c.args.self.now c.args.from c.args.message.now c.requires
+pub returns-clause-sound : goal.returns-clause-sound
+returns-clause-sound c = message_sound c.args.self.now c.args.from c.args.message.now c.requires

@@ -1,8 +1,8 @@
-use Rattle.std.proofs.Common.{◌≡◌, ◌++◌, subst, sym, ◌∙◌}
+use Rattle.std.proofs.Common.{◌≡◌, ◌++◌, Option, subst, sym, ◌∙◌}
 use Rattle.std.proofs.lemmas.Result.{IfOk-weaker, on_ok_weaker}
 use Rattle.hx_types.specs.declared.configs.Config.{Config}
 use Rattle.hx_model.specs.ServerSteps.{SlotStep}
-use Rattle.hx_replica.specs.Outputs.{IsChangeOf, key_in, room_by, slot_step_of}
+use Rattle.hx_replica.specs.Outputs.{IsMaybeChangeOf, key_in, notes_of, posts_of, room_by, slot_step_of}
 use Rattle.hx_replica.specs.Replicas.{IsReplicaIn}
 use Rattle.hx_replica.proofs.Changing.{replica_at}
 use Rattle.hx_replica.proofs.Invariant.{asked, made_at, placed_at, slot_state, within}
@@ -49,13 +49,13 @@ returns-clause-posts c =
     let holds : IsReplicaIn i.space y =
     subst (IsReplicaIn i.space) (sym c.index-replica.ensures) (replica_at i.space i.replicas.items n y c.self.invariant.replicas_are.each l) in
     let state = c.slot_at.result.now.state in
-    let step : Config → SlotStep =
+    let step : Config → Option SlotStep =
     λ config. slot_step_of (record { space = i.space; config = config; server = i.id; region = y.region }) state c.args.from c.args.message.now in
     on_ok_weaker c.step_slot.result
-    (λ h. made_at (λ g s t. c.step_slot.new.posts ≡ c.args.posts.now ++ t.posts) i c.args.self.now n key c.args.from c.args.message.now y state
+    (λ h. made_at (λ g s t. c.step_slot.new.posts ≡ c.args.posts.now ++ posts_of t) i c.args.self.now n key c.args.from c.args.message.now y state
     c.self.view_is l c.index-replica.ensures
     (slot_state i y key c.args.place state holds room.is.key_is c.slot_at.ensures.state) c.requires.can.key_is
-    (subst (λ (config : Config). c.step_slot.new.posts ≡ c.args.posts.now ++ (step config).posts) c.deref.ensures h))
+    (subst (λ (config : Config). c.step_slot.new.posts ≡ c.args.posts.now ++ posts_of (step config)) c.deref.ensures h))
     c.step_slot.ensures.posts
 
 pub returns-clause-notes : goal.returns-clause-notes
@@ -69,13 +69,13 @@ returns-clause-notes c =
     let holds : IsReplicaIn i.space y =
     subst (IsReplicaIn i.space) (sym c.index-replica.ensures) (replica_at i.space i.replicas.items n y c.self.invariant.replicas_are.each l) in
     let state = c.slot_at.result.now.state in
-    let step : Config → SlotStep =
+    let step : Config → Option SlotStep =
     λ config. slot_step_of (record { space = i.space; config = config; server = i.id; region = y.region }) state c.args.from c.args.message.now in
     on_ok_weaker c.step_slot.result
-    (λ h. made_at (λ g s t. c.step_slot.new.notes ≡ c.args.notes.now ++ t.notes) i c.args.self.now n key c.args.from c.args.message.now y state
+    (λ h. made_at (λ g s t. c.step_slot.new.notes ≡ c.args.notes.now ++ notes_of t) i c.args.self.now n key c.args.from c.args.message.now y state
     c.self.view_is l c.index-replica.ensures
     (slot_state i y key c.args.place state holds room.is.key_is c.slot_at.ensures.state) c.requires.can.key_is
-    (subst (λ (config : Config). c.step_slot.new.notes ≡ c.args.notes.now ++ (step config).notes) c.deref.ensures h))
+    (subst (λ (config : Config). c.step_slot.new.notes ≡ c.args.notes.now ++ notes_of (step config)) c.deref.ensures h))
     c.step_slot.ensures.notes
 
 pub returns-clause-change : goal.returns-clause-change
@@ -89,11 +89,11 @@ returns-clause-change c =
     let holds : IsReplicaIn i.space y =
     subst (IsReplicaIn i.space) (sym c.index-replica.ensures) (replica_at i.space i.replicas.items n y c.self.invariant.replicas_are.each l) in
     let state = c.slot_at.result.now.state in
-    let step : Config → SlotStep =
+    let step : Config → Option SlotStep =
     λ config. slot_step_of (record { space = i.space; config = config; server = i.id; region = y.region }) state c.args.from c.args.message.now in
     IfOk-weaker c.step_slot.result _ _
-    (λ change h. made_at (λ g s t. IsChangeOf g s (key_in c.args.message.now) t change) i c.args.self.now n key c.args.from c.args.message.now y state
+    (λ change h. made_at (λ g s t. IsMaybeChangeOf g s (key_in c.args.message.now) t change) i c.args.self.now n key c.args.from c.args.message.now y state
     c.self.view_is l c.index-replica.ensures
     (slot_state i y key c.args.place state holds room.is.key_is c.slot_at.ensures.state) c.requires.can.key_is
-    (subst (λ (config : Config). IsChangeOf y.region state (key_in c.args.message.now) (step config) change) c.deref.ensures h))
+    (subst (λ (config : Config). IsMaybeChangeOf y.region state (key_in c.args.message.now) (step config) change) c.deref.ensures h))
     c.step_slot.ensures.change

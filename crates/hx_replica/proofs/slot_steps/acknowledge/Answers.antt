@@ -1,0 +1,19 @@
+use Rattle.std.proofs.Common.{◌≤◌, ◌++◌, List, ℕ, ap, length, subst, sym, take, ◌∙◌}
+use Rattle.std.specs.List.{flat_map}
+use Rattle.hx_types.specs.declared.messages.Post.{Post}
+use Rattle.hx_model.specs.Slots.{pending_of}
+use Rattle.hx_replica.specs.Outputs.{context_seen, told_of}
+use Rattle.hx_replica.proofs.Acked.{ack_told, ack_within}
+use Rattle.hx_replica.proofs.slot_steps.acknowledge.Goals as goal
+
+pub post_lowest_commits-requires-clause-count : goal.post_lowest_commits-requires-clause-count
+post_lowest_commits-requires-clause-count c =
+    subst (λ (n : ℕ). n ≤ length (pending_of c.args.slot.now.state)) (sym c.would_commit.ensures) (ack_within c.args.slot.now.state c.args.version.0)
+
+pub returns-clause-posts : goal.returns-clause-posts
+returns-clause-posts c =
+    let context = context_seen c.args.context.now in
+    let us = pending_of c.args.slot.now.state in
+    c.in_ok-post_lowest_commits.ensures
+    ∙ ap (λ (ps : List Post). c.args.posts.now ++ ps)
+    (ap (λ n. flat_map (told_of context) (take n us)) c.would_commit.ensures ∙ ack_told context c.args.slot.now.state c.args.version.0)
