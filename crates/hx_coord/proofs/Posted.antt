@@ -17,12 +17,12 @@ use Rattle.hx_types.specs.declared.traces.Input.{Input}
 use Rattle.hx_types.specs.declared.ids.Actor.TheVariants.{Coordinator, Server, Session}
 use Rattle.hx_types.specs.declared.traces.Input.TheVariants.{Tick, Halt, Deliver}
 use Rattle.hx_types.specs.Posts.{AnswerUpTo, IsSoundPost}
-use Rattle.hx_types.specs.Spaces.{IsServerOf, IsSpace}
+use Rattle.hx_types.specs.Spaces.{IsSpace}
 use Rattle.hx_types.specs.Words.{IsIn, below, post}
-use Rattle.hx_model.specs.CoordinatorSteps.{CoordinatorState, Newest, Phase, Sealing, Steady, coordinator_at_start, coordinator_step}
+use Rattle.hx_model.specs.CoordinatorSteps.{CoordinatorState, Newest, coordinator_at_start, coordinator_step}
 use Rattle.hx_law_lemmas.proofs.Lemmas.{all-in, all-of, in-flat, in_left, in_right, map-in}
-use Rattle.hx_law_posts.proofs.Lemmas.{answer-up, first-of_space, DoesWell, IsMaybeSound, IsSoundCoordinator, WaitsFor, coordinator-good}
-use Rattle.hx_coord.specs.Coordinators.{CoordinatorUpTo, IsCoordinatorOf, IsInputOf, IsMaybeAnswerOf, IsTaskOf, MaybeAnswerUpTo, actors_of_coordinator, actors_of_task, known_to, servers_waited_for}
+use Rattle.hx_law_posts.proofs.Lemmas.{answer-up, first-of_space, DoesWell, IsMaybeSound, IsSoundCoordinator, coordinator-good}
+use Rattle.hx_coord.specs.Coordinators.{CoordinatorUpTo, IsCoordinatorOf, IsInputOf, IsMaybeAnswerOf, IsTaskOf, MaybeAnswerUpTo, actors_of_coordinator, actors_of_task, known_to}
 use Rattle.hx_types.specs.Posted.{ArePostsOf, IsPostOf, MessageUpTo, NameOnly, NamesOnly, PostsUpTo, actors_of_config, actors_of_input, actors_of_message, servers_among}
 use Rattle.hx_coord.proofs.Making.{IsGood, Knows, KnowsInput, stepped}
 
@@ -35,7 +35,6 @@ starts_of_space space valid sessions = record {
   epoch = omega arith;
   todo = All-nil _;
   newest = All-nil _;
-  waited = All-nil _;
 }
 
 sound_from : (space : Space) (c : CoordinatorState) → (h : IsCoordinatorOf space c) → IsSoundCoordinator space c.sessions h.most c
@@ -43,17 +42,12 @@ sound_from space c h = record {
   config = record { of_space = h.config; epoch = (let e = h.epoch in omega (arith, e)) };
   todo = λ t i. (let a = all-in (IsTaskOf space c.sessions) c.todo t h.todo i in record { session = a.0; fits = a.1 });
   newest = λ x i. maybe x.answer (all-in (λ (n : Newest). IsMaybeAnswerOf space h.most n.answer) c.newest x h.newest i);
-  phase = waits c.phase h.waited;
   sessions_are = refl;
 }
   where
     maybe : (o : Option Answer) → IsMaybeAnswerOf space h.most o → IsMaybeSound space c.sessions h.most o
     maybe None a = tt
     maybe (Some answer) a = (a.0, answer-up h.most (h.most + 1) answer (omega arith) a.1)
-
-    waits : (phase : Phase) → All (IsServerOf space) (servers_waited_for phase) → WaitsFor space phase
-    waits Steady a = tt
-    waits (Sealing waited) a = λ s i. all-in (IsServerOf space) waited s a i
 
 from_sound : (space : Space) (n : ℕ) (c : CoordinatorState) (sessions : ℕ) → IsSoundCoordinator space sessions n c → IsCoordinatorOf space c
 from_sound space n c sessions h = record {
@@ -62,45 +56,41 @@ from_sound space n c sessions h = record {
   epoch = h.config.epoch;
   todo = all-of (IsTaskOf space c.sessions) c.todo (λ t i. (let a = h.todo t i in subst (λ k. IsTaskOf space k t) (sym h.sessions_are) (a.session, a.fits)));
   newest = all-of (λ (x : Newest). IsMaybeAnswerOf space (n + 1) x.answer) c.newest (λ x i. maybe x.answer (h.newest x i));
-  waited = waits c.phase h.phase;
 }
   where
     maybe : (o : Option Answer) → IsMaybeSound space sessions n o → IsMaybeAnswerOf space (n + 1) o
     maybe None a = tt
     maybe (Some answer) a = a
 
-    waits : (phase : Phase) → WaitsFor space phase → All (IsServerOf space) (servers_waited_for phase)
-    waits Steady a = All-nil _
-    waits (Sealing waited) a = all-of (IsServerOf space) waited a
-
 abbrev IsSoundInput : Space → ℕ → ℕ → Input → Type 0
 IsSoundInput space sessions entry Tick = ⊤
 IsSoundInput space sessions entry Halt = ⊤
 IsSoundInput space sessions entry (Deliver id from m) = IsSoundPost space sessions entry (post from Coordinator m)
 
-well : (space : Space) (c : CoordinatorState) → (h : IsCoordinatorOf space c) → (input : Input) → IsInputOf space c.sessions input → DoesWell space c.sessions h.most (coordinator_step c input)
+well : (space : Space) (c : CoordinatorState) → (h : IsCoordinatorOf space c) → (input : Input) → IsInputOf space c.sessions input
+    → DoesWell space c.sessions h.most (coordinator_step c input)
 well space c h input brings = coordinator-good space c.sessions h.most c (record { sound = sound_from space c h; low = h.epoch }) input (sound_input input brings)
   where
-    sound_input : (input : Input) → IsInputOf space c.sessions input → (id : PostId) (from : Actor) (m : Message) → input ≡ Deliver id from m → (j : ℕ) × IsSoundPost space c.sessions j (post from Coordinator m)
+    sound_input : (input : Input) → IsInputOf space c.sessions input → (id : PostId) (from : Actor) (m : Message) → input ≡ Deliver id from m
+        → (j : ℕ) × IsSoundPost space c.sessions j (post from Coordinator m)
     sound_input Tick b id from m e = absurd (cc)
     sound_input Halt b id from m e = absurd (cc)
     sound_input (Deliver i f k) b id from m e = (b.entry, subst (IsSoundInput space c.sessions b.entry) e b.sound)
 
-pub posts_of_space : (space : Space) (c : CoordinatorState) → IsCoordinatorOf space c → (input : Input) → IsInputOf space c.sessions input → ArePostsOf space (coordinator_step c input).posts
+pub posts_of_space : (space : Space) (c : CoordinatorState) → IsCoordinatorOf space c → (input : Input) → IsInputOf space c.sessions input
+    → ArePostsOf space (coordinator_step c input).posts
 posts_of_space space c h input brings =
     all-of (IsPostOf space) (coordinator_step c input).posts
     (λ p i. (let sound = (well space c h input brings).posts p i in record { sessions = c.sessions; most = h.most + 1; to = sound.to; between = sound.between; message = sound.message }))
 
-pub stays_of_space : (space : Space) (c : CoordinatorState) → IsCoordinatorOf space c → (input : Input) → IsInputOf space c.sessions input → IsCoordinatorOf space (coordinator_step c input).state
+pub stays_of_space : (space : Space) (c : CoordinatorState) → IsCoordinatorOf space c → (input : Input) → IsInputOf space c.sessions input
+    → IsCoordinatorOf space (coordinator_step c input).state
 stays_of_space space c h input brings = from_sound space h.most (coordinator_step c input).state c.sessions (well space c h input brings).state
 
 -- ---- actors and epochs
 
--- the four parts of what a coordinator names
+-- the three parts of what a coordinator names
 module _ (c : CoordinatorState) where
-  abbrev waited_part : List Actor
-  waited_part = map (λ (s : ServerId). Server s) (servers_waited_for c.phase)
-
   abbrev todo_part : List Actor
   todo_part = flat_map actors_of_task c.todo
 
@@ -108,28 +98,23 @@ module _ (c : CoordinatorState) where
   sessions_part = map (λ n. Session (record { 0 = n + 1 })) (below c.sessions)
 
   names_config : (a : Actor) → IsIn a (actors_of_config c.config) → IsIn a (actors_of_coordinator c)
-  names_config a i =
-      in_left (actors_of_config c.config ++ waited_part ++ todo_part) sessions_part a (in_left (actors_of_config c.config ++ waited_part) todo_part a (in_left (actors_of_config c.config) waited_part a i))
-
-  names_waited : (a : Actor) → IsIn a waited_part → IsIn a (actors_of_coordinator c)
-  names_waited a i =
-      in_left (actors_of_config c.config ++ waited_part ++ todo_part) sessions_part a (in_left (actors_of_config c.config ++ waited_part) todo_part a (in_right (actors_of_config c.config) waited_part a i))
+  names_config a i = in_left (actors_of_config c.config ++ todo_part) sessions_part a (in_left (actors_of_config c.config) todo_part a i)
 
   names_todo : (a : Actor) → IsIn a todo_part → IsIn a (actors_of_coordinator c)
-  names_todo a i = in_left (actors_of_config c.config ++ waited_part ++ todo_part) sessions_part a (in_right (actors_of_config c.config ++ waited_part) todo_part a i)
+  names_todo a i = in_left (actors_of_config c.config ++ todo_part) sessions_part a (in_right (actors_of_config c.config) todo_part a i)
 
   names_sessions : (a : Actor) → IsIn a sessions_part → IsIn a (actors_of_coordinator c)
-  names_sessions a i = in_right (actors_of_config c.config ++ waited_part ++ todo_part) sessions_part a i
+  names_sessions a i = in_right (actors_of_config c.config ++ todo_part) sessions_part a i
 
 -- a coordinator knows whom it names
-knows : (Known : Actor → Type 0) (most : ℕ) (c : CoordinatorState) → ((a : Actor) → IsIn a (actors_of_coordinator c) → Known a) → CoordinatorUpTo most c → Knows Known most c
+knows : (Known : Actor → Type 0) (most : ℕ) (c : CoordinatorState) → ((a : Actor) → IsIn a (actors_of_coordinator c) → Known a) → CoordinatorUpTo most c
+    → Knows Known most c
 knows Known most c f small = record {
   config = record {
     servers = λ s i. f (Server s) (names_config c (Server s) (in_left (map (λ (x : ServerId). Server x) c.config.servers) (flat_map servers_among c.config.regions) (Server s) (map-in (λ (x : ServerId). Server x) c.config.servers s i)));
     members = λ ms i m j. f (Server m.server) (names_config c (Server m.server) (in_right (map (λ (x : ServerId). Server x) c.config.servers) (flat_map servers_among c.config.regions) (Server m.server)
         (in-flat servers_among c.config.regions ms (Server m.server) i (map-in (λ (x : Member). Server x.server) ms m j))));
   };
-  waited = λ s i. f (Server s) (names_waited c (Server s) (map-in (λ (x : ServerId). Server x) (servers_waited_for c.phase) s i));
   todo = λ t i. record {
     caller = f (Session t.caller.session) (names_todo c (Session t.caller.session) (in-flat actors_of_task c.todo t (Session t.caller.session) i (inl refl)));
     op = λ a j. f a (names_todo c a (in-flat actors_of_task c.todo t a i (inr j)));
@@ -144,7 +129,8 @@ input_known Known most Tick f = tt
 input_known Known most Halt f = tt
 input_known Known most (Deliver id from m) f = (f from (inl refl), λ a i. f a (inr i))
 
-names : (known : List Actor) (to : Actor) (m : Message) → IsIn to known → ((a : Actor) → IsIn a (actors_of_message m) → IsIn a known) → All (λ (a : Actor). IsIn a known) (to ∷ actors_of_message m)
+names : (known : List Actor) (to : Actor) (m : Message) → IsIn to known → ((a : Actor) → IsIn a (actors_of_message m) → IsIn a known)
+    → All (λ (a : Actor). IsIn a known) (to ∷ actors_of_message m)
 names known to m here f = all-of (λ (a : Actor). IsIn a known) (to ∷ actors_of_message m) by
   where
     by : (a : Actor) → IsIn a (to ∷ actors_of_message m) → IsIn a known

@@ -1,31 +1,24 @@
 -- What a step makes of a coordinator, and a step that is ready to be made.
-use Rattle.std.specs.Prelude.{◌≡◌, ℕ, List, [], ◌∷◌, ◌++◌, map, if◌then◌else◌, unwrap_or, Option, None, Some}
+use Rattle.std.specs.Prelude.{◌≡◌, ℕ, List, [], ◌∷◌, ◌++◌, map, unwrap_or, Option, None, Some}
 use Rattle.hx_types.specs.declared.calls.Answer.{Answer}
 use Rattle.hx_types.specs.declared.calls.Caller.{Caller}
-use Rattle.hx_types.specs.declared.calls.Op.{Op}
 use Rattle.hx_types.specs.declared.configs.Config.{Config}
 use Rattle.hx_types.specs.declared.messages.Post.{Post}
 use Rattle.hx_types.specs.declared.ids.ServerId.{ServerId}
+use Rattle.hx_types.specs.declared.calls.Answer.TheVariants as an_answer
+use Rattle.hx_types.specs.declared.calls.Op.TheVariants.{Stop}
 use Rattle.hx_types.specs.declared.messages.Message.TheVariants as a_message
 use Rattle.hx_types.specs.declared.traces.Note.TheVariants as a_note
-use Rattle.hx_types.specs.Words.{server_in, without_server}
-use Rattle.hx_model.specs.CoordinatorSteps.{Answered, CoordinatorState, CoordinatorStep, Issuing, Newest, Phase as PhaseSeen, Sealing, Steady, Task, coordinator_step, newest_answered, outcome, session_posts, to_server, with_newest}
+use Rattle.hx_model.specs.CoordinatorSteps.{Answered, CoordinatorState, CoordinatorStep, Newest, coordinator_step, newest_answered, outcome, session_posts, to_server, with_newest}
 use Rattle.hx_coord.specs.declared.agendas.Agenda.{Agenda}
-use Rattle.hx_coord.specs.declared.agendas.Phase.{Phase}
-use Rattle.hx_coord.specs.declared.agendas.Phase.TheVariants as a_phase
 use Rattle.hx_coord.specs.declared.outputs.StepOutput.{StepOutput}
 use Rattle.hx_coord.specs.declared.prepared.Plan.{Plan}
 use Rattle.hx_coord.specs.Coordinators.{coordinator_entry}
-use Rattle.hx_coord.specs.Tasks.{outcomes}
-
--- the phase as the definitions say it
-abbrev pub phase_seen : Phase → PhaseSeen
-phase_seen a_phase.Steady = Steady
-phase_seen (a_phase.Sealing waited) = Sealing waited
+use Rattle.hx_coord.specs.Outcomes.{outcomes}
 
 -- nothing is to be done
 abbrev pub empty_agenda : ℕ → Agenda
-empty_agenda sessions = record { sessions = sessions; gone = []; todo = []; newest = []; phase = a_phase.Steady; joined = [] }
+empty_agenda sessions = record { sessions = sessions; todo = []; newest = [] }
 
 abbrev pub newest_as : Caller → Option Answer → Newest
 newest_as caller answer = record { session = caller.session; number = caller.number; answer = answer }
@@ -34,47 +27,31 @@ newest_as caller answer = record { session = caller.session; number = caller.num
 abbrev pub numbered : Agenda → Caller → Option Answer → Agenda
 numbered a caller answer = record a { newest = with_newest (newest_as caller answer) a.newest }
 
--- a new call is to be done
-abbrev pub to_do : Agenda → Caller → Op → Agenda
-to_do a caller op =
-    record a { todo = a.todo ++ record { caller = caller; op = op } ∷ []; newest = with_newest (newest_as caller None) a.newest }
-
--- what is kept once a configuration was issued
-abbrev pub agenda_after : Agenda → List Answered → List Task → Agenda
-agenda_after a answered left =
-    record { sessions = a.sessions; gone = []; todo = left; newest = newest_answered answered a.newest; phase = a_phase.Steady; joined = [] }
-
--- the servers waited for without one, where that one is waited for
-abbrev pub waited_without : ServerId → Phase → Option (List ServerId)
-waited_without s a_phase.Steady = None
-waited_without s (a_phase.Sealing waited) = if server_in s waited then Some (without_server s waited) else None
+-- a new stop is to be done
+abbrev pub to_do : Agenda → Caller → ServerId → Agenda
+to_do a caller s =
+    record a { todo = a.todo ++ record { caller = caller; op = Stop s } ∷ []; newest = with_newest (newest_as caller None) a.newest }
 
 -- the coordinator that has this configuration and agenda
 abbrev pub standing : Config → Agenda → CoordinatorState
-standing config a =
-    record {
-      config = config;
-      gone = a.gone;
-      todo = a.todo;
-      newest = a.newest;
-      phase = phase_seen a.phase;
-      joined = a.joined;
-      sessions = a.sessions;
-    }
+standing config a = record { config = config; todo = a.todo; newest = a.newest; sessions = a.sessions }
 
 -- these posts are made, this is kept, and nothing is noted
 abbrev pub told : Agenda → List Post → StepOutput
 told a posts = record { posts = posts; notes = []; config = None; agenda = a }
 
+-- the call that the configuration answers
+abbrev pub done_by : Caller → Config → List Answered
+done_by caller config = record { caller = caller; answer = an_answer.Issued config.epoch } ∷ []
+
 -- what the issue of a configuration posts, notes and changes
-abbrev pub issued_as : Agenda → Issuing → StepOutput
-issued_as a i =
+abbrev pub issued_as : Agenda → Config → List Answered → StepOutput
+issued_as a config answered =
     record {
-      posts =
-          (map (to_server (a_message.Install i.config)) i.config.servers ++ session_posts a.sessions (a_message.Install i.config)) ++ outcomes i.answered;
-      notes = a_note.Issued i.config ∷ [];
-      config = Some i.config;
-      agenda = agenda_after a i.answered i.left;
+      posts = (map (to_server (a_message.Install config)) config.servers ++ session_posts a.sessions (a_message.Install config)) ++ outcomes answered;
+      notes = a_note.Issued config ∷ [];
+      config = Some config;
+      agenda = record a { newest = newest_answered answered a.newest };
     }
 
 -- an answer that is known is told again

@@ -1,19 +1,18 @@
 -- Which inputs the coordinator can take, and its entry for an input.
-use Rattle.std.specs.Prelude.{ℕ, ◌+◌, ◌≤◌, ◌^◌, List, [], ◌∷◌, ◌++◌, map, Option, None, Some, ⊤}
+use Rattle.std.specs.Prelude.{ℕ, ◌+◌, ◌≤◌, ◌^◌, List, ◌∷◌, ◌++◌, map, Option, None, Some, ⊤}
 use Rattle.std.specs.List.{All, flat_map}
 use Rattle.hx_types.specs.declared.calls.Answer.{Answer}
 use Rattle.hx_types.specs.declared.ids.Actor.{Actor}
-use Rattle.hx_types.specs.declared.ids.ServerId.{ServerId}
 use Rattle.hx_types.specs.declared.messages.Message.{Message}
 use Rattle.hx_types.specs.declared.spaces.Space.{Space}
 use Rattle.hx_types.specs.declared.traces.Entry.{Entry}
 use Rattle.hx_types.specs.declared.traces.Input.{Input}
-use Rattle.hx_types.specs.declared.ids.Actor.TheVariants.{Coordinator, Server, Session}
+use Rattle.hx_types.specs.declared.ids.Actor.TheVariants.{Coordinator, Session}
 use Rattle.hx_types.specs.declared.traces.Input.TheVariants.{Tick, Halt, Deliver}
 use Rattle.hx_types.specs.Posts.{AnswerUpTo, IsSessionOf, IsSoundPost}
-use Rattle.hx_types.specs.Spaces.{Fits, IsAnswerOf, IsConfigOf, IsServerOf}
+use Rattle.hx_types.specs.Spaces.{Fits, IsAnswerOf, IsConfigOf}
 use Rattle.hx_types.specs.Words.{below, post}
-use Rattle.hx_model.specs.CoordinatorSteps.{CoordinatorState, Newest, Phase, Sealing, Steady, Task, coordinator_step}
+use Rattle.hx_model.specs.CoordinatorSteps.{CoordinatorState, Newest, Task, coordinator_step}
 use Rattle.hx_model.specs.Runs.{entry_of}
 use Rattle.hx_types.specs.Posted.{actors_of_config, actors_of_input, actors_of_op}
 
@@ -30,10 +29,6 @@ CanTake c (Deliver id from m) = c.config.epoch.0 ≤ 2 ^ 62
 
 -- ---- what a coordinator has of a space
 
-abbrev pub servers_waited_for : Phase → List ServerId
-servers_waited_for Steady = []
-servers_waited_for (Sealing waited) = waited
-
 abbrev pub IsMaybeAnswerOf : Space → ℕ → Option Answer → Type 0
 IsMaybeAnswerOf space most None = ⊤
 IsMaybeAnswerOf space most (Some answer) = IsAnswerOf space answer × AnswerUpTo most answer
@@ -49,7 +44,6 @@ pub record IsCoordinatorOf (space : Space) (c : CoordinatorState) : Type 0 where
   pub epoch : c.config.epoch.0 ≤ most
   pub todo : All (IsTaskOf space c.sessions) c.todo
   pub newest : All (λ (n : Newest). IsMaybeAnswerOf space most n.answer) c.newest
-  pub waited : All (IsServerOf space) (servers_waited_for c.phase)
 
 -- the post is sound for the coordinator's number of sessions, as one of some entry
 pub record IsSoundDelivery (space : Space) (sessions : ℕ) (from : Actor) (m : Message) : Type 0 where
@@ -68,11 +62,10 @@ IsInputOf space sessions (Deliver id from m) = IsSoundDelivery space sessions fr
 abbrev pub actors_of_task : Task → List Actor
 actors_of_task task = Session task.caller.session ∷ actors_of_op task.op
 
--- the actors of the configuration, the servers that are waited for, the actors of the calls that are to be done, and the sessions
+-- the actors of the configuration and of the calls that are to be done, and the sessions
 abbrev pub actors_of_coordinator : CoordinatorState → List Actor
 actors_of_coordinator c =
     actors_of_config c.config
-    ++ map (λ (s : ServerId). Server s) (servers_waited_for c.phase)
     ++ flat_map actors_of_task c.todo
     ++ map (λ n. Session (record { 0 = n + 1 })) (below c.sessions)
 

@@ -1,6 +1,5 @@
 pub mod Coordinators
 pub mod Changes
-pub mod Leaving
 pub mod Numbers
-pub mod Tasks
+pub mod Outcomes
 pub mod Invariant

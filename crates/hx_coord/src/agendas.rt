@@ -1,51 +1,26 @@
 ghost use Rattle.std.specs.Prelude.{◌≡◌, OnOk};
 ghost use Rattle.hx_coord.specs.Changes.{empty_agenda, numbered, to_do};
 
-use crate::numbers::put_newest;
-use crate::tasks::{JoinedList, Newest, NewestList, Task, Tasks};
-use hx_types::{Answer, Caller, Exact, Memory, Op, ServerList};
+use crate::numbers::{Newest, NewestList, put_newest};
+use crate::stops::{Stop, Stops};
+use hx_types::{Answer, Caller, Exact, Memory, ServerId};
 use std::alloc::Global;
-
-/// Whether a coordinator waits for servers to be sealed before it issues the next configuration.
-/// That an epoch is sealed first is this project's choice.
-#[derive(Clone)]
-pub enum Phase {
-    Steady,
-    /// These servers are waited for, in ascending order.
-    Sealing(ServerList),
-}
-
-impl Drop for Phase {
-    fn drop(self) {
-        match self {
-            Self::Steady => {}
-            Self::Sealing(_) => {}
-        }
-    }
-}
 
 /// All that a coordinator keeps beside its configuration.
 #[derive(Clone)]
 pub struct Agenda {
     /// How many sessions there are.
     pub sessions: u32,
-    /// The servers that halted and haven't been taken out, in ascending order.
-    pub gone: ServerList,
-    pub todo: Tasks,
+    pub todo: Stops,
     pub newest: NewestList,
-    pub phase: Phase,
-    pub joined: JoinedList,
 }
 
 impl Drop for Agenda {
     fn drop(self) {
         let Agenda {
             sessions: _,
-            gone: _,
             todo: _,
             newest: _,
-            phase: _,
-            joined: _,
         } = self;
     }
 }
@@ -57,27 +32,9 @@ impl Agenda {
     {
         Agenda {
             sessions,
-            gone: ServerList::new(alloc),
-            todo: Tasks::new(alloc),
+            todo: Stops::new(alloc),
             newest: NewestList::new(alloc),
-            phase: Phase::Steady,
-            joined: JoinedList::new(alloc),
         }
-    }
-
-    /// The newest number of each session, and nothing else of it.
-    pub fn into_newest(self) -> NewestList
-        ensures { result ≡ self.newest }
-    {
-        let Agenda {
-            sessions: _,
-            gone: _,
-            todo: _,
-            newest,
-            phase: _,
-            joined: _,
-        } = self;
-        newest
     }
 }
 
@@ -99,18 +56,12 @@ pub fn record_number(
     )
 }
 
-/// A new call is to be done.
-pub fn put_task(agenda: &mut Agenda, caller: Caller, op: Op) -> Result<(), Memory>
-    ensures { OnOk result (agenda.new ≡ to_do agenda.old caller op) }
+/// A new stop is to be done.
+pub fn put_stop(agenda: &mut Agenda, caller: Caller, server: ServerId) -> Result<(), Memory>
+    ensures { OnOk result (agenda.new ≡ to_do agenda.old caller server) }
 {
     record_number(agenda, caller, None)?;
-    agenda.todo.push(Task { caller, op })
-}
-
-impl Exact for Phase {
-    ghost use Rattle.std.proofs.Common.{rules};
-
-    ghost exact = { Prim.search rules };
+    agenda.todo.push(Stop { caller, server })
 }
 
 impl Exact for Agenda {

@@ -1,19 +1,17 @@
-ghost use Rattle.std.specs.Prelude.{◌≡◌, ◌≤◌, ◌^◌, ◌∷◌, [], not, IfOk};
-ghost use Rattle.hx_types.specs.declared.messages.Message.TheVariants as a_message;
-ghost use Rattle.hx_types.specs.Words.{provided, server_in};
-ghost use Rattle.hx_model.specs.CoordinatorSteps.{Steady, add_step, adds, stop_step, stops, to_server};
-ghost use Rattle.hx_coord.specs.Changes.{IsOutputOf, known_posts, phase_seen, standing, told};
+ghost use Rattle.std.specs.Prelude.{◌≡◌, ◌≤◌, ◌^◌, None, IfOk};
+ghost use Rattle.hx_model.specs.CoordinatorSteps.{add_step, adds, judged, stop_step, stops};
+ghost use Rattle.hx_coord.specs.Changes.{IsOutputOf, done_by, issued_as, known_posts, numbered, standing, told};
 ghost use Rattle.hx_coord.specs.Numbers.{Comes};
 
-use crate::agendas::{Agenda, Phase, put_task};
+use crate::agendas::{Agenda, put_stop, record_number};
+use crate::configs::config_with;
+use crate::issuing::{Answered, AnsweredList, issue};
 use crate::judging::judge;
-use crate::numbers::newest_of;
+use crate::numbers::{NewestList, newest_of};
 use crate::outputs::{StepOutput, answer, no_output, outcome, posting};
 use crate::posting::tell_server;
-use crate::sealing::seal;
 use crate::servers::is_in;
-use crate::tasks::NewestList;
-use hx_types::{Answer, Caller, Config, Exact, Memory, Message, Op, Posts, RegionId, ServerId};
+use hx_types::{Answer, Caller, Config, Exact, Memory, Message, Posts, RegionId, ServerId};
 use std::alloc::Global;
 
 /// How a call stands to the newest number of its session. That a call is known by its number, so
@@ -27,8 +25,8 @@ enum Coming {
     New,
 }
 
-/// A session asks for a server to be taken out. The server is asked to halt, and leaves with the
-/// next configuration once it has; this is the project's choice.
+/// A session asks for a server to be taken out. The server is asked to halt, and leaves once it
+/// has; this is the project's choice.
 #[cold]
 #[inline(never)]
 pub fn stop_server(
@@ -100,7 +98,7 @@ fn answer_again(
     }
 }
 
-/// A new stop: the server is asked to halt, unless it has halted or left already.
+/// A new stop: the server is asked to halt, unless it has left already.
 #[tactic(auto, using(crate::proofs::Steps::stops_out, crate::proofs::Steps::stops_in))]
 fn stop(
     alloc: Global,
@@ -115,25 +113,15 @@ fn stop(
         let epoch = config.epoch;
         return answer(alloc, agenda, caller, Answer::Stopped { epoch });
     }
+    let mut posts = Posts::new(alloc);
+    tell_server(&mut posts, server, Message::Die)?;
     let mut agenda = agenda;
-    let posts = ask_to_halt(alloc, agenda.gone.as_slice(), server)?;
-    put_task(&mut agenda, caller, Op::Stop { server })?;
+    put_stop(&mut agenda, caller, server)?;
     Ok(posting(alloc, agenda, posts))
 }
 
-/// A server is asked to halt, unless it is known to be gone.
-fn ask_to_halt(alloc: Global, gone: &[ServerId], server: ServerId) -> Result<Posts, Memory>
-    ensures { IfOk result (λ posts. posts ≡ provided (not (server_in server gone.now)) (to_server a_message.Die server ∷ [])) }
-{
-    let mut posts = Posts::new(alloc);
-    if !is_in(gone, server) {
-        tell_server(&mut posts, server, Message::Die)?;
-    }
-    Ok(posts)
-}
-
-/// A new add: where nothing is against it the epoch is sealed, unless it is being sealed.
-#[tactic(auto, using(crate::proofs::Steps::adds_later))]
+/// A new add: where nothing is against it a configuration with the joiner is issued.
+#[tactic(auto, using(crate::proofs::Steps::adds_not, crate::proofs::Steps::adds_now))]
 fn add(
     alloc: Global,
     config: &Config,
@@ -143,36 +131,32 @@ fn add(
     region: RegionId,
 ) -> Result<StepOutput, Memory>
     requires { config.now.epoch.0 ≤ 2 ^ 62 }
-    ensures { IfOk result (IsOutputOf config.now (adds (standing config.now agenda) caller server region (phase_seen agenda.phase))) }
-{
-    match agenda.phase {
-        Phase::Steady => add_steady(alloc, config, agenda, caller, server, region),
-        Phase::Sealing(_) => {
-            let mut agenda = agenda;
-            put_task(&mut agenda, caller, Op::Add { server, region })?;
-            Ok(no_output(alloc, agenda))
-        }
-    }
-}
-
-#[tactic(auto, using(crate::proofs::Steps::adds_not, crate::proofs::Steps::adds_now))]
-fn add_steady(
-    alloc: Global,
-    config: &Config,
-    agenda: Agenda,
-    caller: Caller,
-    server: ServerId,
-    region: RegionId,
-) -> Result<StepOutput, Memory>
-    requires { config.now.epoch.0 ≤ 2 ^ 62 }
-    ensures { IfOk result (IsOutputOf config.now (adds (standing config.now agenda) caller server region Steady)) }
+    ensures { IfOk result (IsOutputOf config.now (adds (standing config.now agenda) caller server region (judged config.now server region))) }
 {
     match judge(config, server, region) {
         Some(against) => answer(alloc, agenda, caller, against),
         None => {
-            let mut agenda = agenda;
-            put_task(&mut agenda, caller, Op::Add { server, region })?;
-            seal(alloc, config, agenda)
+            let joined = config_with(alloc, config, server, region)?;
+            issue_for(alloc, agenda, caller, joined)
         }
     }
+}
+
+/// Issues the configuration that does a call, and answers it.
+fn issue_for(
+    alloc: Global,
+    agenda: Agenda,
+    caller: Caller,
+    config: Config,
+) -> Result<StepOutput, Memory>
+    ensures { IfOk result (λ made. made ≡ issued_as (numbered agenda caller None) config (done_by caller config)) }
+{
+    let answer = Answer::Issued {
+        epoch: config.epoch,
+    };
+    let mut answered = AnsweredList::new(alloc);
+    answered.push(Answered { caller, answer })?;
+    let mut agenda = agenda;
+    record_number(&mut agenda, caller, None)?;
+    issue(alloc, agenda, config, answered.as_slice())
 }

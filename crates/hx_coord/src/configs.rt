@@ -1,80 +1,141 @@
-ghost use Rattle.std.specs.Prelude.{◌≡◌, ◌≤◌, ◌^◌, IfOk};
-ghost use Rattle.hx_model.specs.CoordinatorSteps.{is_joined, lists_without};
-ghost use Rattle.hx_coord.specs.Leaving.{members_without, next_config};
+ghost use Rattle.std.specs.Prelude.{◌≡◌, ◌≤◌, ◌^◌, ◌++◌, ◌∷◌, [], false, map, slice_set, IfOk};
+ghost use Rattle.hx_model.specs.CoordinatorSteps.{config_ready, config_with, config_without, members_without, next_config, ready_if};
 
-use crate::servers::{is_in, remaining};
-use crate::tasks::Joined;
-use hx_types::{Config, Epoch, Member, Members, Memory, RegionLists, ServerId};
+use crate::servers::without;
+use hx_types::{
+    Config, Epoch, Exact, Member, Members, Memory, RegionId, RegionLists, ServerId, ServerList,
+};
 use std::alloc::Global;
 
-/// The next configuration before any call is done: the gone servers have left the servers and
-/// each region's list, and joiners that became ready are marked so. That a list closes up where a
-/// server left is chain replication's.
-pub fn next_config(
+/// The next configuration where a server is out: it leaves the servers and each region's list,
+/// which closes up, as chain replication's does.
+pub fn config_without(alloc: Global, config: &Config, server: ServerId) -> Result<Config, Memory>
+    requires { config.now.epoch.0 ≤ 2 ^ 62 }
+    ensures { IfOk result (λ next. next ≡ config_without config.now server) }
+{
+    let servers = without(alloc, config.servers.as_slice(), server)?;
+    let regions = lists_without(alloc, config.regions.as_slice(), server)?;
+    Ok(next_config(config, servers, regions))
+}
+
+/// The next configuration where a server joins a region, at the end of its list.
+pub fn config_with(
     alloc: Global,
     config: &Config,
-    gone: &[ServerId],
-    joined: &[Joined],
+    server: ServerId,
+    region: RegionId,
 ) -> Result<Config, Memory>
     requires { config.now.epoch.0 ≤ 2 ^ 62 }
-    ensures { IfOk result (λ next. next ≡ next_config config.now gone.now joined.now) }
+    ensures { IfOk result (λ next. next ≡ config_with config.now server region) }
 {
-    let servers = remaining(alloc, gone, config.servers.as_slice())?;
-    let regions = lists_without(alloc, config.regions.as_slice(), gone, joined)?;
-    Ok(Config {
+    let members = with_joiner(alloc, config.members(region), server)?;
+    with_members(alloc, config, region, members)
+}
+
+/// The next configuration where a server is ready in a region.
+pub fn config_ready(
+    alloc: Global,
+    config: &Config,
+    server: ServerId,
+    region: RegionId,
+) -> Result<Config, Memory>
+    requires { config.now.epoch.0 ≤ 2 ^ 62 }
+    ensures { IfOk result (λ next. next ≡ config_ready config.now server region) }
+{
+    let members = with_ready(alloc, config.members(region), server)?;
+    with_members(alloc, config, region, members)
+}
+
+/// The configuration of the next epoch with these servers and lists. It takes no memory.
+fn next_config(config: &Config, servers: ServerList, regions: RegionLists) -> Config
+    requires { config.now.epoch.0 ≤ 2 ^ 62 }
+    ensures { result ≡ next_config config.now servers regions }
+{
+    Config {
         epoch: Epoch(config.epoch.0 + 1),
         servers,
         regions,
-    })
+    }
 }
 
-#[tactic(auto, using(crate::proofs::Lists::lists_more))]
+/// The next configuration where a region has these members.
+fn with_members(
+    alloc: Global,
+    config: &Config,
+    region: RegionId,
+    members: Members,
+) -> Result<Config, Memory>
+    requires { config.now.epoch.0 ≤ 2 ^ 62 }
+    ensures { IfOk result (λ next. next ≡ next_config config.now config.now.servers (slice_set config.now.regions region.0 members)) }
+{
+    let servers = config.servers.copy(alloc)?;
+    let mut regions = config.regions.copy(alloc)?;
+    put_members(&mut regions, region, members);
+    Ok(next_config(config, servers, regions))
+}
+
+/// A region has these members. A region that doesn't exist has none.
+fn put_members(regions: &mut RegionLists, region: RegionId, members: Members)
+    ensures { regions.new ≡ slice_set regions.old region.0 members }
+{
+    let place = region.0 as usize;
+    if place < regions.len() {
+        regions.set(place, members);
+    }
+}
+
 fn lists_without(
     alloc: Global,
     regions: &[Members],
-    gone: &[ServerId],
-    joined: &[Joined],
+    server: ServerId,
 ) -> Result<RegionLists, Memory>
-    ensures { IfOk result (λ lists. lists ≡ lists_without gone.now joined.now 0 regions.now) }
+    ensures { IfOk result (λ lists. lists ≡ map (members_without server) regions.now) }
 {
     let mut lists = RegionLists::new(alloc);
-    for (region, members) in regions.iter().enumerate() {
-        let members = members_without(alloc, members.as_slice(), gone, joined, region)?;
-        lists.push(members)?;
+    for members in regions {
+        let left = members_without(alloc, members.as_slice(), server)?;
+        lists.push(left)?;
     }
     Ok(lists)
 }
 
-/// The members of a region without the gone, those that became ready marked so.
-fn members_without(
-    alloc: Global,
-    members: &[Member],
-    gone: &[ServerId],
-    joined: &[Joined],
-    region: usize,
-) -> Result<Members, Memory>
-    ensures { IfOk result (λ left. left ≡ members_without gone.now joined.now region members.now) }
+fn members_without(alloc: Global, members: &[Member], server: ServerId) -> Result<Members, Memory>
+    ensures { IfOk result (λ left. left ≡ members_without server members.now) }
 {
     let mut left = Members::new(alloc);
     for member in members {
-        if !is_in(gone, member.server) {
-            left.push(Member {
-                server: member.server,
-                ready: member.ready || is_joined(joined, region, member.server),
-            })?;
+        if member.server != server {
+            left.push(*member)?;
         }
     }
     Ok(left)
 }
 
-/// Whether a server became ready in a region.
-fn is_joined(joined: &[Joined], region: usize, server: ServerId) -> bool
-    ensures { result ≡ is_joined joined.now region server }
+/// The members and a joiner after them.
+fn with_joiner(alloc: Global, members: &[Member], server: ServerId) -> Result<Members, Memory>
+    ensures { IfOk result (λ after. after ≡ members.now ++ record { server = server; ready = false } ∷ []) }
 {
-    for joiner in joined {
-        if joiner.region.0 as usize == region && joiner.server == server {
-            return true;
-        }
+    let mut after = Members::new(alloc);
+    for member in members {
+        after.push(*member)?;
     }
-    false
+    after.push(Member {
+        server,
+        ready: false,
+    })?;
+    Ok(after)
+}
+
+/// The members, of whom the server is ready.
+fn with_ready(alloc: Global, members: &[Member], server: ServerId) -> Result<Members, Memory>
+    ensures { IfOk result (λ after. after ≡ map (ready_if server) members.now) }
+{
+    let mut after = Members::new(alloc);
+    for member in members {
+        after.push(Member {
+            server: member.server,
+            ready: member.ready || member.server == server,
+        })?;
+    }
+    Ok(after)
 }

@@ -1,9 +1,8 @@
-ghost use Rattle.std.specs.Prelude.{◌≡◌, ◌++◌, ◌∷◌, [], false, slice_set, IfOk, OnOk};
-ghost use Rattle.hx_model.specs.CoordinatorSteps.{appended, judged};
+ghost use Rattle.std.specs.Prelude.{◌≡◌};
+ghost use Rattle.hx_model.specs.CoordinatorSteps.{judged};
 
 use crate::servers::is_in;
-use hx_types::{Answer, Config, Exact, Member, Members, Memory, RegionId, ServerId, any_joining};
-use std::alloc::Global;
+use hx_types::{Answer, Config, RegionId, ServerId, any_joining};
 
 /// Why a server can't be added to a region: nothing where it can.
 ///
@@ -23,43 +22,5 @@ pub fn judge(config: &Config, server: ServerId, region: RegionId) -> Option<Answ
         Some(Answer::Joining { epoch })
     } else {
         None
-    }
-}
-
-/// A server joins a region, at the end of its list.
-pub fn append(
-    alloc: Global,
-    config: &mut Config,
-    server: ServerId,
-    region: RegionId,
-) -> Result<(), Memory>
-    ensures { OnOk result (config.new ≡ appended config.old server region) }
-{
-    let members = with_joiner(alloc, config.members(region), server)?;
-    put_members(config, region, members);
-    Ok(())
-}
-
-/// The members and a joiner after them.
-fn with_joiner(alloc: Global, members: &[Member], server: ServerId) -> Result<Members, Memory>
-    ensures { IfOk result (λ after. after ≡ members.now ++ record { server = server; ready = false } ∷ []) }
-{
-    let mut after = Members::new(alloc);
-    for member in members {
-        after.push(*member)?;
-    }
-    after.push(Member {
-        server,
-        ready: false,
-    })?;
-    Ok(after)
-}
-
-fn put_members(config: &mut Config, region: RegionId, members: Members)
-    ensures { config.new ≡ record config.old { regions = slice_set config.old.regions region.0 members } }
-{
-    let place = region.0 as usize;
-    if place < config.regions.len() {
-        config.regions.set(place, members);
     }
 }

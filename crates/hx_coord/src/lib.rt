@@ -1,7 +1,8 @@
 //! The coordinator: it issues numbered configurations, and its step for each input.
 //!
 //! A [`Coordinator`] takes servers out and adds replicas, one configuration after the other, as
-//! HyperDex's does. That memory suffices no contract says: a test shows it.
+//! HyperDex's does. Each has one change and is issued at once, whatever configurations the servers
+//! have by then. That memory suffices no contract says: a test shows it.
 #![tactic(auto)]
 
 mod agendas;
@@ -15,9 +16,8 @@ mod numbers;
 mod outputs;
 mod posting;
 mod prepared;
-mod sealing;
 mod servers;
-mod tasks;
+mod stops;
 mod turns;
 
 pub use coordinators::Coordinator;

@@ -1,11 +1,40 @@
-ghost use Rattle.std.specs.Prelude.{◌≡◌, false, IfNone, IfSome, OnOk};
+ghost use Rattle.std.specs.Prelude.{◌≡◌, false, IfNone, IfOk, IfSome, OnOk};
 ghost use Rattle.std.specs.List.{list_any};
 ghost use Rattle.std.specs.Option.{option_copied};
 ghost use Rattle.hx_model.specs.CoordinatorSteps.{is_newest_call, newest_of, with_newest};
 ghost use Rattle.hx_coord.specs.Numbers.{IsPlaceOf, is_of_session};
 
-use crate::tasks::{Newest, NewestList};
-use hx_types::{Caller, Memory, SessionId};
+use hx_types::{Answer, Caller, Exact, Memory, Sequence, SessionId};
+use std::alloc::AllocError;
+use std::marker::Model;
+
+/// The newest number of a session, and what its call was answered, if it was.
+pub struct Newest {
+    pub session: SessionId,
+    pub number: u32,
+    pub answer: Option<Answer>,
+}
+
+impl Drop for Newest {
+    fn drop(self) {
+        let Newest {
+            session: _,
+            number: _,
+            answer: _,
+        } = self;
+    }
+}
+
+impl Model for Newest {
+    ghost use Rattle.hx_model.specs.CoordinatorSteps.{Newest as NewestValue};
+
+    ghost Value = { NewestValue };
+
+    ghost view = { λ n. record { session = n.session; number = n.number; answer = n.answer } };
+}
+
+/// One of each session.
+pub type NewestList = Sequence<Newest>;
 
 /// The newest number of a session, if it has called.
 #[tactic(auto, using(crate::proofs::Lists::newest_at, crate::proofs::Lists::newest_nowhere))]
@@ -53,4 +82,27 @@ fn place_of(newest: &[Newest], session: SessionId) -> Option<usize>
         }
     }
     None
+}
+
+impl Clone for Newest {
+    ghost is_clone = { λ x y. y ≡ x };
+
+    fn clone(&self) -> Result<Newest, AllocError> {
+        let answer = clone_of(&self.answer)?;
+        Ok(Newest {
+            session: self.session,
+            number: self.number,
+            answer,
+        })
+    }
+}
+
+impl Exact for Newest {
+    ghost exact = { λ x y e. e };
+}
+
+fn clone_of<T: Exact>(value: &T) -> Result<T, AllocError>
+    ensures { IfOk result (λ clone. clone ≡ value.now) }
+{
+    value.clone()
 }

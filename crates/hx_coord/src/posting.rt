@@ -1,12 +1,11 @@
-ghost use Rattle.std.specs.Prelude.{◌≡◌, ◌++◌, ◌∷◌, [], OnOk, IfOk, map};
+ghost use Rattle.std.specs.Prelude.{◌≡◌, ◌++◌, ◌∷◌, [], map, OnOk, IfOk};
 ghost use Rattle.hx_types.specs.declared.messages.Message.TheVariants as a_message;
 ghost use Rattle.hx_model.specs.CoordinatorSteps.{outcome, session_posts, to_server};
-ghost use Rattle.hx_coord.specs.Tasks.{outcomes};
+ghost use Rattle.hx_coord.specs.Outcomes.{outcomes};
 
 use crate::issuing::Answered;
 use hx_types::{
-    Actor, Answer, Caller, Config, Epoch, Exact, Memory, Message, Post, Posts, ServerId, SessionId,
-    Shared,
+    Actor, Answer, Caller, Config, Exact, Memory, Message, Post, Posts, ServerId, SessionId, Shared,
 };
 use std::alloc::Global;
 
@@ -38,17 +37,6 @@ pub fn tell_outcome(
             answer: answer.copy(alloc)?,
         },
     })
-}
-
-/// Each of these servers is asked to take no more part in an epoch.
-pub fn seals(alloc: Global, epoch: Epoch, servers: &[ServerId]) -> Result<Posts, Memory>
-    ensures { IfOk result (λ posts. posts ≡ map (to_server (a_message.Seal epoch)) servers.now) }
-{
-    let mut posts = Posts::new(alloc);
-    for server in servers {
-        tell_server(&mut posts, *server, Message::Seal { epoch })?;
-    }
-    Ok(posts)
 }
 
 /// Each server of a configuration hears it, and then each session.

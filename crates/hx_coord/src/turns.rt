@@ -1,58 +1,78 @@
-ghost use Rattle.std.specs.Prelude.{◌≡◌, ◌++◌, not, IfOk, OnOk};
-ghost use Rattle.hx_types.specs.declared.ids.ServerId.{ServerId as ServerNumber};
-ghost use Rattle.hx_types.specs.Words.{server_in};
-ghost use Rattle.hx_model.specs.CoordinatorSteps.{coordinator_tick, die_posts};
-ghost use Rattle.hx_coord.specs.Changes.{IsOutputOf, phase_seen, standing};
+ghost use Rattle.std.specs.Prelude.{◌≡◌, ◌++◌, true, map, IfOk, OnOk};
+ghost use Rattle.std.specs.List.{flat_map};
+ghost use Rattle.hx_types.specs.declared.configs.Member.{Member as Listed};
+ghost use Rattle.hx_types.specs.Configs.{any_ready};
+ghost use Rattle.hx_model.specs.CoordinatorSteps.{Task, coordinator_tick, die_for, join_posts, last_ready_pair};
+ghost use Rattle.hx_coord.specs.Changes.{IsOutputOf, standing};
 
-use crate::agendas::{Agenda, Phase};
+use crate::agendas::Agenda;
 use crate::outputs::{StepOutput, posting};
-use crate::posting::{seals, tell_server};
-use crate::servers::is_in;
-use crate::tasks::Task;
-use hx_types::{Config, Memory, Message, Op, Posts, ServerId};
+use crate::posting::tell_server;
+use crate::stops::Stop;
+use hx_types::{Config, Exact, Member, Memory, Message, Posts, Shared, any_joining, any_ready};
 use std::alloc::Global;
 
 /// The coordinator's turn: what it waits for is asked for again.
 #[tactic(auto, using(crate::proofs::Steps::tick_made))]
 #[inline(never)]
-pub fn tick(alloc: Global, config: &Config, agenda: Agenda) -> Result<StepOutput, Memory>
-    ensures { IfOk result (IsOutputOf config.now (coordinator_tick (standing config.now agenda) (phase_seen agenda.phase))) }
+pub fn tick(alloc: Global, config: &Shared<Config>, agenda: Agenda) -> Result<StepOutput, Memory>
+    ensures { IfOk result (IsOutputOf config.now (coordinator_tick (standing config.now agenda))) }
 {
-    let posts = asked_again(alloc, config, &agenda)?;
+    let mut posts = Posts::new(alloc);
+    ask_to_die(&mut posts, agenda.todo.as_slice())?;
+    install_joiners(alloc, &mut posts, config)?;
     Ok(posting(alloc, agenda, posts))
 }
 
-/// What is asked for again: the servers waited for are to be sealed, and those that a call stops
-/// to halt, unless they are known to be gone.
-fn asked_again(alloc: Global, config: &Config, agenda: &Agenda) -> Result<Posts, Memory>
-    ensures { IfOk result (λ posts. posts ≡ (coordinator_tick (standing config.now agenda.now) (phase_seen agenda.now.phase)).posts) }
+/// The server of each stop is asked to halt, in order.
+fn ask_to_die(posts: &mut Posts, todo: &[Stop]) -> Result<(), Memory>
+    ensures { OnOk result (posts.new ≡ posts.old ++ flat_map (λ (t : Task). die_for t.op) todo.now) }
 {
-    let todo = agenda.todo.as_slice();
-    match &agenda.phase {
-        Phase::Steady => {
-            let mut posts = Posts::new(alloc);
-            ask_to_die(&mut posts, &[], todo)?;
-            Ok(posts)
-        }
-        Phase::Sealing(waited) => {
-            let mut posts = seals(alloc, config.epoch, waited.as_slice())?;
-            ask_to_die(&mut posts, agenda.gone.as_slice(), todo)?;
-            Ok(posts)
-        }
+    for stop in todo {
+        tell_server(posts, stop.server, Message::Die)?;
     }
+    Ok(())
 }
 
-/// The server of each stop is asked to halt, in order, but for those left out.
-fn ask_to_die(posts: &mut Posts, left_out: &[ServerId], todo: &[Task]) -> Result<(), Memory>
-    ensures { OnOk result (posts.new ≡ posts.old ++ die_posts (λ (s : ServerNumber). not (server_in s left_out.now)) todo.now) }
+/// In each region with a joiner the sender and the joiner hear the configuration, so that the one
+/// sends its replica and the other takes it.
+fn install_joiners(alloc: Global, posts: &mut Posts, config: &Shared<Config>) -> Result<(), Memory>
+    ensures { OnOk result (posts.new ≡ posts.old ++ flat_map (join_posts config.now) config.now.regions) }
 {
-    for task in todo {
-        match &task.op {
-            Op::Stop { server } if !is_in(left_out, *server) => {
-                tell_server(posts, *server, Message::Die)?;
-            }
-            _ => {}
+    for members in config.regions.as_slice() {
+        install_joiner(alloc, posts, config, members.as_slice())?;
+    }
+    Ok(())
+}
+
+fn install_joiner(
+    alloc: Global,
+    posts: &mut Posts,
+    config: &Shared<Config>,
+    members: &[Member],
+) -> Result<(), Memory>
+    ensures { OnOk result (posts.new ≡ posts.old ++ join_posts config.now members.now) }
+{
+    if any_ready(members) && any_joining(members) {
+        for member in last_ready_pair(members) {
+            let config = config.copy(alloc)?;
+            tell_server(posts, member.server, Message::Install { config })?;
         }
     }
     Ok(())
+}
+
+/// The last ready member, and the one after it where there is one.
+fn last_ready_pair(members: &[Member]) -> &[Member]
+    requires { any_ready members.now ≡ true }
+    ensures { map (λ (m : Listed). m.server) result.now ≡ last_ready_pair members.now }
+{
+    let mut rest = members;
+    'members: while let Some((_, after)) = rest.split_first() {
+        if !any_ready(after) {
+            break;
+        }
+        rest = after;
+    }
+    &rest[..rest.len().min(2)]
 }

@@ -9,15 +9,17 @@ use Rattle.hx_coord.proofs.calls.stop_server.Goals as goal
 
 pub returns-in-Old : goal.returns-in-Old
 returns-in-Old c =
-    called c.args.config.now c.args.agenda c.args.caller (stops (standing c.args.config.now c.args.agenda) c.args.caller c.args.server) Old c.no_output.result
+    let new = stops (standing c.args.config.now c.args.agenda) c.args.caller c.args.server in
+    called c.args.config.now c.args.agenda c.args.caller new Old c.no_output.result
     (subst (Comes c.args.agenda.newest c.args.caller) c.in-Old.is c.in_ok-compare_number.ensures)
     (rested_made c.args.config.now c.args.agenda c.no_output.result c.no_output.ensures)
 
 pub returns-in-Again : goal.returns-in-Again
 returns-in-Again c =
+    let new = stops (standing c.args.config.now c.args.agenda) c.args.caller c.args.server in
     IfOk-weaker c.answer_again.result _ _
     (
-    λ made e. called c.args.config.now c.args.agenda c.args.caller (stops (standing c.args.config.now c.args.agenda) c.args.caller c.args.server) (Again c.in-Again.known) made
+    λ made e. called c.args.config.now c.args.agenda c.args.caller new (Again c.in-Again.known) made
     (subst (Comes c.args.agenda.newest c.args.caller) c.in-Again.is c.in_ok-compare_number.ensures)
     (again_made c.args.config.now c.args.agenda c.args.caller c.in-Again.known made e)
     )
@@ -25,9 +27,10 @@ returns-in-Again c =
 
 pub returns-in-New : goal.returns-in-New
 returns-in-New c =
+    let new = stops (standing c.args.config.now c.args.agenda) c.args.caller c.args.server in
     IfOk-weaker c.stop.result _ _
     (
-    λ made h. called c.args.config.now c.args.agenda c.args.caller (stops (standing c.args.config.now c.args.agenda) c.args.caller c.args.server) New made
+    λ made h. called c.args.config.now c.args.agenda c.args.caller new New made
     (subst (Comes c.args.agenda.newest c.args.caller) c.in-New.is c.in_ok-compare_number.ensures)
     h
     )

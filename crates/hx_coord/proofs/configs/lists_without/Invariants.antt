@@ -1,6 +1,6 @@
-use Rattle.std.proofs.Common.{◌≡◌, take}
-use Rattle.hx_model.specs.CoordinatorSteps.{lists_without}
+use Rattle.std.proofs.Common.{◌≡◌, map, take}
+use Rattle.hx_model.specs.CoordinatorSteps.{members_without}
 use Rattle.hx_coord.proofs.configs.lists_without.Given as goal
 
-abbrev pub invariant-loop-region : goal.invariant-loop-region
-invariant-loop-region l = l.lists ≡ lists_without l.gone l.joined 0 (take l.region l.regions)
+abbrev pub invariant-loop-members : goal.invariant-loop-members
+invariant-loop-members l = l.lists ≡ map (members_without l.server) (take l.members-index l.regions)

@@ -1,5 +1,5 @@
 use Rattle.std.proofs.Common.{◌≡◌, ◌++◌, take}
-use Rattle.hx_coord.specs.Tasks.{outcomes}
+use Rattle.hx_coord.specs.Outcomes.{outcomes}
 use Rattle.hx_coord.proofs.posting.tell_outcomes.Given as goal
 
 abbrev pub invariant-loop-each : goal.invariant-loop-each

@@ -1,8 +1,7 @@
-use Rattle.std.proofs.Common.{◌≡◌, ◌++◌, not, take}
-use Rattle.hx_types.specs.declared.ids.ServerId.{ServerId}
-use Rattle.hx_types.specs.Words.{server_in}
-use Rattle.hx_model.specs.CoordinatorSteps.{die_posts}
+use Rattle.std.proofs.Common.{◌≡◌, ◌++◌, take}
+use Rattle.std.specs.List.{flat_map}
+use Rattle.hx_model.specs.CoordinatorSteps.{Task, die_for}
 use Rattle.hx_coord.proofs.turns.ask_to_die.Given as goal
 
-abbrev pub invariant-loop-task : goal.invariant-loop-task
-invariant-loop-task l = l.posts ≡ l.initial.posts ++ die_posts (λ (s : ServerId). not (server_in s l.left_out)) (take l.task-index l.todo)
+abbrev pub invariant-loop-stop : goal.invariant-loop-stop
+invariant-loop-stop l = l.posts ≡ l.initial.posts ++ flat_map (λ (t : Task). die_for t.op) (take l.stop-index l.todo)
