@@ -20,7 +20,7 @@ use Rattle.hx_types.specs.Words.{when_some}
 use Rattle.hx_types.specs.declared.outcomes.Planned.{Planned}
 use Rattle.hx_types.specs.declared.outcomes.Planned.TheVariants as a_plan
 use Rattle.hx_types.specs.Configs.{is_lost}
-use Rattle.hx_model.specs.CoordinatorSteps.{coordinator_tick, CoordinatorState, Phase, Sealing, Steady}
+use Rattle.hx_model.specs.CoordinatorSteps.{coordinator_tick, CoordinatorState}
 use Rattle.hx_model.specs.Runs.{coordinator_of, entry_of, has_halted, made_of, does_something, server_of, session_of}
 use Rattle.hx_model.specs.Schedule.{is_idle}
 use Rattle.hx_model.specs.ServerSteps.{server_step, tick_step, unmoved, ServerState, ServerStep}
@@ -42,9 +42,8 @@ some-both : {A B : Type 0} (P : B → Type 0) (o : Option A) (y : B) (f : A → 
 some-both P None y f h k = h
 some-both P (Some x) y f h k = k x refl
 
-coordinator-quiet : (c : CoordinatorState) (phase : Phase) → IsQuiet (coordinator_tick c phase).notes
-coordinator-quiet c Steady = refl
-coordinator-quiet c (Sealing waited) = refl
+coordinator-quiet : (c : CoordinatorState) → IsQuiet (coordinator_tick c).notes
+coordinator-quiet c = refl
 
 server-quiet : (space : Space) (s : ServerState) → IsQuiet (server_step space s Tick).notes
 server-quiet space s = cond_both s.halted (unmoved s) (tick_step space s) (λ (step : ServerStep). IsQuiet step.notes) (λ t. refl) (λ t. refl)
@@ -99,7 +98,7 @@ session-begins space s idle =
     (λ t. subst (λ o. list_any is_began (when_some o (staying s) (begin space s)).notes ≡ true) (sym call.1) refl)
 
 quiet : (script : Script) (own : List Entry) (a : Actor) → is_idle_actor script own a ≡ false → IsQuiet (made_of script own a Tick).notes
-quiet script own Coordinator e = coordinator-quiet (coordinator_of script own) (coordinator_of script own).phase
+quiet script own Coordinator e = coordinator-quiet (coordinator_of script own)
 quiet script own (Server s) e = server-quiet script.space (server_of script s own)
 quiet script own (Session u) e = session-quiet script.space (session_of script u own) e
 

@@ -21,11 +21,11 @@ use std::collections::VecDeque;
 use std::sync::Wait;
 
 /// An envelope for a post that the seat's actor made.
-fn seal(clock: &Clock, seat: &mut Seat, id: PostId, post: Post) -> Envelope
+fn enclose(clock: &Clock, seat: &mut Seat, id: PostId, post: Post) -> Envelope
     requires seat { seat.old.clock ≡ clock.now }
     requires made { (x : Stamped) × Carries seat.old.view x × Posted x id post }
     ensures seat { seat.new ≡ seat.old }
-    ensures sealed { (mailed_of result ≡ mailed id post) × (result.pass.clock ≡ clock.now) }
+    ensures enclosed { (mailed_of result ≡ mailed id post) × (result.pass.clock ≡ clock.now) }
 {
     let pass = clock.tell(seat, id);
     Envelope { id, post, pass }
@@ -94,9 +94,9 @@ fn put_twice<R: Wait>(
     ensures capacity { (deque_capacity kept.new ≡ deque_capacity kept.old) × (deque_len kept.new ≤ deque_len kept.old + 2) }
 {
     let Copies { first, second } = copies;
-    let envelope = seal(clock, seat, id, first);
+    let envelope = enclose(clock, seat, id, first);
     put_or_keep(rt, script, clock, boxes, out, kept, envelope);
-    let again = seal(clock, seat, id, second);
+    let again = enclose(clock, seat, id, second);
     put_or_keep(rt, script, clock, boxes, out, kept, again);
 }
 
@@ -130,7 +130,7 @@ fn put_times<R: Wait>(
     match choice {
         Choice::Lose => drop(copies),
         Choice::Deliver => {
-            let envelope = seal(clock, seat, id, first_of(copies));
+            let envelope = enclose(clock, seat, id, first_of(copies));
             put_or_keep(rt, script, clock, boxes, out, kept, envelope);
         }
         Choice::Twice => put_twice(rt, script, clock, boxes, out, kept, seat, id, copies),

@@ -103,21 +103,21 @@ two_rows = refl
 -- two servers are stopped
 stops :
     report_text model.two_stops_script model.two_stops_trace (listed_a model.two_stops_script model.two_stops_trace) [] false
-    ≡ codes "report 1\n" ++ space_books ++ codes "call u1.1 begin 1 end 15 stop 3 -> issued epoch 2\ncall u1.2 begin 16 end 27 stop 4 -> issued epoch 3\ncall u1.3 begin 28 end 32 put \"a\" genre=\"b\" year=1999 -> refused region 6 epoch 3\ncall u1.4 begin 33 end 35 get \"a\" -> notfound version 1\nhistory \"a\"\nitem 1 u1.4 notfound absent\nepoch 1 servers 1,2,3,4 lost -\nepoch 2 servers 1,2,4 lost -\nepoch 3 servers 1,2 lost 2,6\nend\n"
+    ≡ codes "report 1\n" ++ space_books ++ codes "call u1.1 begin 1 end 9 stop 3 -> issued epoch 2\ncall u1.2 begin 10 end 17 stop 4 -> issued epoch 3\ncall u1.3 begin 18 end 22 put \"a\" genre=\"b\" year=1999 -> refused region 6 epoch 3\ncall u1.4 begin 23 end 25 get \"a\" -> notfound version 1\nhistory \"a\"\nitem 1 u1.4 notfound absent\nepoch 1 servers 1,2,3,4 lost -\nepoch 2 servers 1,2,4 lost -\nepoch 3 servers 1,2 lost 2,6\nend\n"
 unfolding digits add_text axes_text axis_text bounds_text cput_text int_line key_line named_text next_axis_text op_text quoted range_text servers_line space_line space_text string_line subspace_line tolerate_line value_text answer_lines called_text caller_text end_text epoch_line epochs_text found_line head_text history_lines in_epoch_line item_line item_text lost_text maybe_answer_lines next_number_text note_lines numbers_text object_text record_lines region_line report_text row_line rows_lines servers_text span_text state_text trace_text drivers_text version_line version_text word_of
 stops = refl
 
 -- a put is in doubt
 in_doubt :
     report_text model.doubt_script model.doubt_trace (listed_a model.doubt_script model.doubt_trace) [] false
-    ≡ codes "report 1\n" ++ space_books ++ codes "call u1.1 begin 1 end - put \"a\" genre=\"b\" year=1999 -> doubt region 6 epoch 2\nhistory \"a\"\nitem 1 u1.1 done present genre=\"b\" year=1999\nepoch 1 servers 1,2,3,4 lost -\nepoch 2 servers 1,2 lost 2,6\nend\n"
+    ≡ codes "report 1\n" ++ space_books ++ codes "call u1.1 begin 1 end - put \"a\" genre=\"b\" year=1999 -> doubt region 6 epoch 3\nhistory \"a\"\nitem 1 u1.1 done present genre=\"b\" year=1999\nepoch 1 servers 1,2,3,4 lost -\nepoch 2 servers 1,2,4 lost -\nepoch 3 servers 1,2 lost 2,6\nend\n"
 unfolding digits add_text axes_text axis_text bounds_text cput_text int_line key_line named_text next_axis_text op_text quoted range_text servers_line space_line space_text string_line subspace_line tolerate_line value_text answer_lines called_text caller_text end_text epoch_line epochs_text found_line head_text history_lines in_epoch_line item_line item_text lost_text maybe_answer_lines next_number_text note_lines numbers_text object_text record_lines region_line report_text row_line rows_lines servers_text span_text state_text trace_text drivers_text version_line version_text word_of
 in_doubt = refl
 
 -- a server joins a region
 joined :
     report_text model.joiner_script model.joiner_trace (listed_a model.joiner_script model.joiner_trace) [] false
-    ≡ codes "report 1\n" ++ space_books ++ codes "call u1.1 begin 1 end 13 put \"a\" genre=\"b\" year=1999 -> done version 1\ncall u1.2 begin 14 end 34 add 3 0 -> issued epoch 2\ncall u2.1 begin 26 end 35 add 3 0 -> joining epoch 2\nhistory \"a\"\nitem 1 u1.1 done present genre=\"b\" year=1999\nepoch 1 servers 1,2,3,4 lost -\nepoch 2 servers 1,2,3,4 lost -\nepoch 3 servers 1,2,3,4 lost -\nend\n"
+    ≡ codes "report 1\n" ++ space_books ++ codes "call u1.1 begin 1 end 13 put \"a\" genre=\"b\" year=1999 -> done version 1\ncall u1.2 begin 14 end 26 add 3 0 -> issued epoch 2\ncall u2.1 begin 18 end 27 add 3 0 -> joining epoch 2\nhistory \"a\"\nitem 1 u1.1 done present genre=\"b\" year=1999\nepoch 1 servers 1,2,3,4 lost -\nepoch 2 servers 1,2,3,4 lost -\nepoch 3 servers 1,2,3,4 lost -\nend\n"
 unfolding digits add_text axes_text axis_text bounds_text cput_text int_line key_line named_text next_axis_text op_text quoted range_text servers_line space_line space_text string_line subspace_line tolerate_line value_text answer_lines called_text caller_text end_text epoch_line epochs_text found_line head_text history_lines in_epoch_line item_line item_text lost_text maybe_answer_lines next_number_text note_lines numbers_text object_text record_lines region_line report_text row_line rows_lines servers_text span_text state_text trace_text drivers_text version_line version_text word_of
 joined = refl
 

@@ -39,24 +39,10 @@ use Rattle.hx_world.proofs.Tallies.{few_in_all}
 
 -- a sound message's updates come after lower versions
 sound_fits : (b : Bounds) (m : Message) → IsSoundMessage b m → MessageFits m
-sound_fits b (a_message.Call epoch number op) h = tt
-sound_fits b (a_message.Reply number version answer) h = tt
 sound_fits b (a_message.Update epoch g u) h = h.2.of_space.after
-sound_fits b (a_message.Ack epoch g key version) h = tt
-sound_fits b (a_message.Ask epoch number g terms) h = tt
-sound_fits b (a_message.Found epoch number g rows) h = tt
-sound_fits b (a_message.Seal epoch) h = tt
-sound_fits b (a_message.Sealed epoch) h = tt
-sound_fits b (a_message.Install config) h = tt
-sound_fits b a_message.Die h = tt
-sound_fits b a_message.Gone h = tt
-sound_fits b (a_message.StopServer number s) h = tt
-sound_fits b (a_message.AddReplica number s g) h = tt
-sound_fits b (a_message.Outcome number answer) h = tt
 sound_fits b (a_message.Snap epoch g snapshot pending) h =
     recursion_from_All IsAfter pending (All-weaker (λ (u : Update). IsSoundUpdate b u × IsTrue (has_place_in g u.places)) IsAfter (λ u k. k.0.of_space.after) pending h.4)
-sound_fits b (a_message.Ready epoch g) h = tt
-sound_fits b (a_message.Poll epoch) h = tt
+sound_fits b other h = tt
 
 -- the slots of a server without their past have no higher versions
 all_in : {A : Type 0} (P : A → Type 0) (xs : List A) (x : A) → AllByRecursion P xs → IsIn x xs → P x
