@@ -1,5 +1,6 @@
-# The leader of a key halts while an update of its is under way. The next server of the region leads it
-# from then on; the update that had come to it survives, and so does the order of both writes.
+# The leader of a key halts with an update that no other server has heard of. The next server of the
+# region leads the key at once, in a new configuration, and gives the same version to another put.
+# The first one is sent anew and done after it, and the update that comes late isn't heard.
 hx 1
 space books
 key name 2
@@ -33,17 +34,10 @@ steps
   tick u1
   deliver 14.0                  # server 1 gives the second put version 2
   halt s1                       # and halts, before any other has heard of it
-  tick u2
-  deliver 16.0                  # the coordinator hears that server 1 is gone, and seals the epoch
-  deliver 18.0
-  deliver 18.1
-  deliver 18.2
-  deliver 19.0
-  deliver 20.0
-  deliver 21.0                  # all others are sealed: epoch 2 is issued
-  deliver 24.0
-  deliver 24.1
-  deliver 24.2
-  deliver 24.4
-  deliver 28.0                  # server 2 leads now, and gives version 2 to the put of session 2
-  deliver 15.0                  # the lost update of epoch 1 is heard no more; its session sends it anew
+  tick u2                       # session 2 calls server 1 in vain
+  deliver 16.0                  # the coordinator hears that server 1 has halted: epoch 2 at once
+  deliver 18.0                  # server 2 adopts it, and leads the key
+  deliver 18.4                  # session 2 adopts it, and sends its put again, to server 2
+  deliver 20.0                  # server 2 gives version 2 to that put
+  deliver 15.0                  # the update of server 1 comes late and isn't heard: by the
+                                # configuration of server 2 nobody stands before it

@@ -1,6 +1,6 @@
-# A replica is added to a region of two servers. The last ready one sends it what is committed and what
-# is pending; once it has installed that, the next configuration has it ready. A second add meanwhile is
-# told that one is joining.
+# A replica is added to a region of two servers. The last ready one sends it what is committed and
+# what is pending; once it has installed that, the next configuration has it ready. A second add
+# meanwhile is told that one is joining.
 hx 1
 space books
 key name 2
@@ -34,19 +34,11 @@ steps
   deliver 11.0
   deliver 12.0
   tick u1
-  deliver 14.0                  # the add is heard, and the epoch sealed
+  deliver 14.0                  # the add is heard: epoch 2 at once, with server 3 joining region 0
   deliver 15.0
-  deliver 15.1
-  deliver 15.2
-  deliver 15.3
-  deliver 16.0
-  deliver 17.0
-  deliver 18.0
-  deliver 19.0                  # epoch 2 is issued, with server 3 joining region 0
-  deliver 23.0
-  deliver 23.1                  # server 2 sends its snapshot
+  deliver 15.1                  # server 2, the last ready one, adopts it and sends its snapshot
   tick u2
-  deliver 26.0
-  deliver 23.2
-  deliver 25.0                  # server 3 installs it, and says that it is ready
-  deliver 25.0                  # a second time: it says so again
+  deliver 18.0                  # the second add: one is joining already
+  deliver 15.2                  # server 3 adopts epoch 2, with nothing installed in region 0
+  deliver 17.0                  # it installs the snapshot, and says that it is ready
+  deliver 17.0                  # a second time: it says so again, and nothing comes of that

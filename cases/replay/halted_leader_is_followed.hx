@@ -34,14 +34,6 @@ halt s1
 tick u2
 deliver 16.0
 deliver 18.0
-deliver 18.1
-deliver 18.2
-deliver 19.0
+deliver 18.4
 deliver 20.0
-deliver 21.0
-deliver 24.0
-deliver 24.1
-deliver 24.2
-deliver 24.4
-deliver 28.0
 deliver 15.0

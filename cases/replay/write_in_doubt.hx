@@ -1,4 +1,4 @@
-# The put is on its way when both replicas of region 6 halt.
+# The put is on its way when both replicas of region 6 halt, and a configuration is issued for each.
 hx 1
 space books
 key name 2

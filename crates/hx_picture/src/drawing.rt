@@ -1,6 +1,6 @@
 use crate::errors::PictureError;
 use crate::labels::{Family, label_of};
-use crate::layout::{across, down, height, width};
+use crate::layout::{across, column, down, height, width};
 use crate::runs::{Post, PostName, Run, Taken};
 use crate::svg::push_text;
 use std::alloc::{AllocError, Global};
@@ -101,57 +101,91 @@ fn legend(svg: &mut String) -> Result<(), AllocError> {
     Ok(())
 }
 
-/// A band for each configuration, from the entry that issues it to the next such entry.
+/// The configurations: the first one's band behind all, the name of each later one at the entry that
+/// issues it, and for each actor a band from the entry at which it adopts one. So it shows who works
+/// in which epoch side by side with others.
 fn epochs(svg: &mut String, run: &Run) -> Result<(), AllocError> {
-    let mut from = 1_usize;
-    let mut epoch = "1";
-    let mut number = 1_usize;
+    let wide = width(run.actors.names().len());
+    band(svg, run, 1, 1, (0, wide))?;
+    name_of_epoch(svg, wide, 1, 1)?;
+    let mut newest = 1_u64;
     for post in &run.posts {
-        let Some(next) = issued_by(post) else {
-            continue;
-        };
-        if next != epoch {
-            band(svg, run, epoch, number, from, post.name.entry)?;
-            from = post.name.entry;
-            epoch = next;
-            number = number.saturating_add(1);
+        let epoch = brought_by(post).unwrap_or(0);
+        if epoch > newest {
+            name_of_epoch(svg, wide, epoch, post.name.entry)?;
+            newest = epoch;
         }
     }
-    let end = run.entries.len().saturating_add(1);
-    band(svg, run, epoch, number, from, end)
+    for (line, name) in run.actors.names().iter().enumerate() {
+        adopted(svg, run, line, name)?;
+    }
+    Ok(())
+}
+
+/// The bands of an actor: one from each entry that gives it a configuration of a higher epoch.
+fn adopted(svg: &mut String, run: &Run, line: usize, name: &str) -> Result<(), AllocError> {
+    let mut own = 1_u64;
+    for (place, entry) in run.entries.iter().enumerate() {
+        if entry.actor != name {
+            continue;
+        }
+        let number = place.saturating_add(1);
+        let epoch = given_at(run, number, entry.taken);
+        if epoch > own {
+            band(svg, run, epoch, number, column(line))?;
+            own = epoch;
+        }
+    }
+    Ok(())
+}
+
+/// The highest epoch of the configurations that an entry takes or issues, or 0.
+fn given_at(run: &Run, number: usize, taken: Taken) -> u64 {
+    let mut given = 0_u64;
+    for post in &run.posts {
+        if post.name.entry == number || taken == Taken::Delivered(post.name) {
+            given = given.max(brought_by(post).unwrap_or(0));
+        }
+    }
+    given
 }
 
 /// The epoch of the configuration that a post brings.
-fn issued_by<'a>(post: &Post<'a>) -> Option<&'a str> {
+fn brought_by(post: &Post) -> Option<u64> {
     if post.kind != "install" {
         return None;
     }
-    post.fields.strip_prefix("epoch ")
+    post.fields.strip_prefix("epoch ")?.parse::<u64>().ok()
 }
 
-/// The band of one configuration, every second one shaded.
+/// The band of one configuration from an entry down, between two edges; every second one is shaded.
 fn band(
     svg: &mut String,
     run: &Run,
-    epoch: &str,
-    number: usize,
+    epoch: u64,
     from: usize,
-    end: usize,
+    edges: (usize, usize),
 ) -> Result<(), AllocError> {
+    let (left, right) = edges;
     let top = down(from).saturating_sub(12);
-    let high = down(end).saturating_sub(12).saturating_sub(top);
-    let wide = width(run.actors.names().len());
-    let color = if number % 2 == 0 {
-        "#f3f0e6"
-    } else {
-        "#f7f9fb"
-    };
+    let end = down(run.entries.len().saturating_add(1)).saturating_sub(12);
+    let (wide, high) = (right.saturating_sub(left), end.saturating_sub(top));
+    let color = if epoch % 2 == 0 { "#f3f0e6" } else { "#f7f9fb" };
     write!(
         svg,
-        "<rect x=\"0\" y=\"{top}\" width=\"{wide}\" height=\"{high}\" fill=\"{color}\"/>\n"
-    )?;
+        "<rect x=\"{left}\" y=\"{top}\" width=\"{wide}\" height=\"{high}\" fill=\"{color}\"/>\n"
+    )
+}
+
+/// The name of an epoch, on the right at an entry.
+fn name_of_epoch(
+    svg: &mut String,
+    wide: usize,
+    epoch: u64,
+    entry: usize,
+) -> Result<(), AllocError> {
     let right = wide.saturating_sub(12);
-    let base = down(from).saturating_add(4);
+    let base = down(entry).saturating_add(4);
     write!(
         svg,
         "<text x=\"{right}\" y=\"{base}\" text-anchor=\"end\" fill=\"#8a8f98\">epoch {epoch}</text>\n"

@@ -18,6 +18,13 @@ pub fn across(line: usize) -> usize {
     LEFT.saturating_add(line.saturating_mul(COLUMN))
 }
 
+/// The left and the right edge of what stands round an actor's line.
+pub fn column(line: usize) -> (usize, usize) {
+    let half = COLUMN / 2;
+    let middle = across(line);
+    (middle.saturating_sub(half), middle.saturating_add(half))
+}
+
 /// How far down an entry stands; entry 1 is the first.
 pub fn down(entry: usize) -> usize {
     TOP.saturating_add(entry.saturating_mul(ROW))
