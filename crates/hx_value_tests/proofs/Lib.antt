@@ -2,3 +2,5 @@ pub mod CauseRows
 mod Stepped
 mod SnapshotRun
 mod SnapshotRows
+mod OverlapRun
+mod OverlapRows

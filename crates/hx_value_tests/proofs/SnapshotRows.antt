@@ -10,7 +10,7 @@ use Rattle.hx_model.specs.Holders.{IsPrefix, snap_state}
 use Rattle.hx_model.specs.Runs.{coordinator_of}
 use Rattle.hx_model.specs.ServerSteps.{Replica}
 use Rattle.hx_model.specs.Slots.{KeyState, has_place, top_of}
-use Rattle.hx_model.proofs.Lemmas.{caller, first_update, key_slot, put_color, red, region, replica, second_update, server, shop, the_key, version}
+use Rattle.hx_model.proofs.Lemmas.{caller, epoch, first_update, key_slot, put_color, red, region, replica, second_update, server, shop, the_key, version}
 use Rattle.hx_law_chains.specs.Chains.{InOrder, IsComing, IsHeld, IsUp, StandsEarlier}
 use Rattle.hx_law_chains.proofs.Lemmas.{runs_answer_committed, runs_keep_order, runs_send_parts}
 use Rattle.hx_value_tests.proofs.SnapshotRun.{its_empty, its_line, its_post, its_red_replica, its_reply, its_run, its_script, its_sender, pending, red_kept, red_slot, script, sent_slot, snapshot, trace}
@@ -33,6 +33,7 @@ its_held = refl
 is_coming : IsComing script trace the_key (region 0) (server 3) held
 is_coming = record {
   from = Server (server 2);
+  epoch = epoch 2;
   snapshot = snapshot;
   pending = pending;
   posted = its_post;
@@ -48,7 +49,7 @@ is_held = inr is_coming
 -- ---- by the law on snapshots: it holds of each key the region's part of the line up to some version
 
 its_parts : (key : List ℕ) → IsPrefix (region 0) (line_of key trace) (snap_state shop (region 0) key snapshot pending)
-its_parts = runs_send_parts script its_script trace its_run (Server (server 2)) (region 0) (server 3) snapshot pending its_post refl refl not_up
+its_parts = runs_send_parts script its_script trace its_run (Server (server 2)) (epoch 2) (region 0) (server 3) snapshot pending its_post refl refl not_up
 
 its_part : IsPrefix (region 0) (second_update ∷ first_update ∷ []) held
 its_part = subst (λ (line : List Update). IsPrefix (region 0) line held) its_line (its_parts the_key)
@@ -63,10 +64,10 @@ not_without_red = λ p. absurd (let e : length (second_update ∷ first_update �
 -- ---- by the law on the order of chains
 
 sent_is_held : IsHeld script trace the_key (region 0) (server 2) sent_slot
-sent_is_held = inl (replica 0 (sent_slot ∷ []), record { server = refl; running = refl; installed = its_sender }, refl)
+sent_is_held = inl (replica 0 (sent_slot ∷ []), inl (record { server = refl; running = refl; installed = its_sender }), refl)
 
 red_is_held : IsHeld script trace the_key (region 1) (server 2) red_slot
-red_is_held = inl (replica 1 (red_slot ∷ []), record { server = refl; running = refl; installed = its_red_replica }, refl)
+red_is_held = inl (replica 1 (red_slot ∷ []), inl (record { server = refl; running = refl; installed = its_red_replica }), refl)
 
 red_stands : IsIn first_update (line_of the_key trace)
 red_stands = inr (inl refl)

@@ -1,10 +1,9 @@
 -- A run with a snapshot under way to a joiner, computed: of the two updates of a key one is committed and one pending where the snapshot is made.
 use Rattle.std.specs.Prelude.{◌≢◌, ◌<◌, ◌≤◌, ℕ, List, [], ◌∷◌, length, codes, None, Some}
-use Rattle.std.proofs.Common.{◌≡◌, true, refl, sym, subst, arith}
+use Rattle.std.proofs.Common.{◌≡◌, true, refl, arith}
 use Rattle.std.proofs.lemmas.List.Elements.{All-from_recursion}
 use Rattle.std.specs.List.{All}
 use Rattle.hx_types.specs.declared.calls.Op.{Op}
-use Rattle.hx_types.specs.declared.ids.Epoch.{Epoch}
 use Rattle.hx_types.specs.declared.messages.Post.{Post}
 use Rattle.hx_types.specs.declared.snapshots.Kept.{Kept}
 use Rattle.hx_types.specs.declared.spaces.Attribute.{Attribute}
@@ -37,10 +36,10 @@ use Rattle.hx_value_tests.proofs.Stepped.{go_on, stepped_run}
 abbrev pub script : Script
 script = record { space = shop; sessions = (put_color red ∷ []) ∷ (put_color blue ∷ []) ∷ (Add (server 3) (region 0) ∷ []) ∷ []; steps = [] }
 
-abbrev call_by : ℕ → Step
+abbrev pub call_by : ℕ → Step
 call_by u = a_step.Tick (Session (session u))
 
-abbrev deliver : ℕ → ℕ → Step
+abbrev pub deliver : ℕ → ℕ → Step
 deliver entry place = a_step.Deliver (record { entry = entry; place = place })
 
 -- the first put goes down its chain and up again, and is answered; the second is taken by both replicas of the key's region
@@ -49,11 +48,9 @@ puts =
     call_by 1 ∷ deliver 1 0 ∷ deliver 2 0 ∷ deliver 3 0 ∷ deliver 4 0 ∷ deliver 5 0 ∷ deliver 6 0 ∷ deliver 7 0
     ∷ call_by 2 ∷ deliver 9 0 ∷ deliver 10 0 ∷ []
 
--- all servers are sealed, and server 3, the joiner, and then server 2, the last that is ready, adopt the configuration of epoch 2
+-- server 3, the joiner, and then server 2, the last that is ready, adopt the configuration of epoch 2
 abbrev adds : List Step
-adds =
-    call_by 3 ∷ deliver 12 0 ∷ deliver 13 0 ∷ deliver 13 1 ∷ deliver 13 2 ∷ deliver 14 0 ∷ deliver 15 0 ∷ deliver 16 0
-    ∷ deliver 19 2 ∷ deliver 19 1 ∷ []
+adds = call_by 3 ∷ deliver 12 0 ∷ deliver 13 2 ∷ deliver 13 1 ∷ []
 
 abbrev pub written : List Entry
 written = stepped script [] puts
@@ -61,12 +58,12 @@ written = stepped script [] puts
 abbrev pub trace : List Entry
 trace = stepped script written adds
 
-its_length : length trace ≡ 21
+its_length : length trace ≡ 15
 its_length = refl
 
 -- ---- it is a run of a valid script
 
-colors_fit : (color : List ℕ) → length color ≤ 1 → AssignsFit shop (record { attribute = 1; value = a_value.Text color } ∷ [])
+pub colors_fit : (color : List ℕ) → length color ≤ 1 → AssignsFit shop (record { attribute = 1; value = a_value.Text color } ∷ [])
 colors_fit color l = record {
   each = All-from_recursion (AssignFits shop) (record { attribute = 1; value = a_value.Text color } ∷ []) ((omega arith, omega (arith, l)), tt);
   once = (All-from_recursion (λ m. m ≢ 1) [] tt, tt);
@@ -75,7 +72,7 @@ colors_fit color l = record {
 a_name : (name : List ℕ) → is_word name ≡ true → length name ≤ 32 → name ≢ codes "if" → name ≢ codes "set" → IsName name
 a_name name w l a b = record { word = w; short = omega (arith, l); not_if = a; not_set = b }
 
-its_space : IsSpace shop
+pub its_space : IsSpace shop
 its_space = record {
   name = a_name shop.name refl (omega arith) (λ p. cc) (λ p. cc);
   key_name = a_name shop.key_name refl (omega arith) (λ p. cc) (λ p. cc);
@@ -152,14 +149,14 @@ its_epoch : (coordinator_of script trace).config.epoch ≡ epoch 2
 its_epoch = refl
 
 -- server 2 has sent it to server 3
-abbrev sent_in : Epoch → Post
-sent_in e = post (Server (server 2)) (Server (server 3)) (a_message.Snap e (region 0) snapshot pending)
+abbrev sent : Post
+sent = post (Server (server 2)) (Server (server 3)) (a_message.Snap (epoch 2) (region 0) snapshot pending)
 
-it_is_sent : post_named (record { entry = 21; place = 0 }) trace ≡ Some (sent_in (epoch 2))
+it_is_sent : post_named (record { entry = 15; place = 0 }) trace ≡ Some sent
 it_is_sent = refl
 
-pub its_post : IsIn (post (Server (server 2)) (Server (server 3)) (a_message.Snap (coordinator_of script trace).config.epoch (region 0) snapshot pending)) (posts_of trace)
-its_post = subst (λ (e : Epoch). IsIn (sent_in e) (posts_of trace)) (sym its_epoch) (arrived (record { entry = 21; place = 0 }) trace (sent_in (epoch 2)) it_is_sent)
+pub its_post : IsIn sent (posts_of trace)
+its_post = arrived (record { entry = 15; place = 0 }) trace sent it_is_sent
 
 -- whose replica isn't installed
 its_joiner : replica_of (region 0) (server_of script (server 3) trace).replicas ≡ Some (not_installed 0)
