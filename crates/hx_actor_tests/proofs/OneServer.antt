@@ -111,5 +111,5 @@ sent m b message = record {
   small = small_at_start small first;
 }
 
-pub can_seal : (input : Input) → input ≡ from_coordinator (a_message.Seal (record { 0 = 1 })) → Takes input
-can_seal input g = subst Takes (sym g) (sent (a_message.Seal (record { 0 = 1 })) refl (omega arith))
+pub can_die : (input : Input) → input ≡ from_coordinator a_message.Die → Takes input
+can_die input g = subst Takes (sym g) (sent a_message.Die refl tt)

@@ -17,10 +17,8 @@ enum Taken {
     Add,
     /// Its own turn.
     Turn,
-    /// Server 3 has halted.
-    Gone,
-    /// A server takes no more part in epoch 1.
-    Sealed(u32),
+    /// A server has halted.
+    Gone(u32),
     /// Server 3, a joiner, is ready in region 0.
     Ready,
 }
@@ -54,11 +52,7 @@ fn input(taken: Taken) -> Input
                 },
             )
         }
-        Taken::Gone => (Actor::Server(third), Message::Gone),
-        Taken::Sealed(server) => {
-            let epoch = Epoch(1);
-            (Actor::Server(ServerId(server)), Message::Sealed { epoch })
-        }
+        Taken::Gone(server) => (Actor::Server(ServerId(server)), Message::Gone),
         Taken::Ready => {
             let epoch = Epoch(2);
             (Actor::Server(third), Message::Ready { epoch, region })
@@ -96,31 +90,44 @@ fn left_after(rt: &impl Abort, alloc: Global, story: &[Step]) -> (usize, u64) {
     (config.servers.len(), config.epoch.0)
 }
 
-/// It asks server 3 to halt, and on its turn again; then three servers are to be sealed.
+/// It asks server 3 to halt, and on its turn again. Once that has halted the next configuration is
+/// issued to three servers and the session, and the stop answered; that it halted is told once.
 #[test]
 fn a_stop_takes_a_server_out(rt: HostRuntime) {
     let story = [
-        (Taken::Stop, Some(1), None),
-        (Taken::Turn, Some(1), None),
-        (Taken::Gone, Some(3), None),
-        (Taken::Sealed(1), None, None),
-        (Taken::Sealed(2), None, None),
-        (Taken::Sealed(4), Some(5), Some(1)),
+        (Taken::Stop, Some(1), Some(0)),
+        (Taken::Turn, Some(1), Some(0)),
+        (Taken::Gone(3), Some(5), Some(1)),
+        (Taken::Gone(3), Some(0), Some(0)),
+        (Taken::Turn, Some(0), Some(0)),
     ];
     assert_eq!(rt; left_after(&rt, rt.alloc(), &story), (3, 2));
 }
 
-/// Four servers are to be sealed; the last makes a configuration with a joiner, and the joiner that
-/// is ready another sealing.
+/// The configuration with a joiner is issued at once to four servers and the session, and the add
+/// answered. On its turn the coordinator sends it again to the last ready member and the joiner. Once
+/// that is ready the next configuration is issued; that it is ready is told once.
 #[test]
 fn an_add_takes_a_joiner_in(rt: HostRuntime) {
     let story = [
-        (Taken::Add, Some(4), None),
-        (Taken::Sealed(1), None, None),
-        (Taken::Sealed(2), None, None),
-        (Taken::Sealed(3), None, None),
-        (Taken::Sealed(4), Some(6), Some(1)),
-        (Taken::Ready, Some(4), None),
+        (Taken::Add, Some(6), Some(1)),
+        (Taken::Turn, Some(2), Some(0)),
+        (Taken::Ready, Some(5), Some(1)),
+        (Taken::Ready, Some(0), Some(0)),
+        (Taken::Turn, Some(0), Some(0)),
     ];
-    assert_eq!(rt; left_after(&rt, rt.alloc(), &story), (4, 2));
+    assert_eq!(rt; left_after(&rt, rt.alloc(), &story), (4, 3));
+}
+
+/// Each configuration has one change. Server 2 halts while server 3 is to be taken out: the one
+/// without server 2 doesn't answer the stop, the next one, without server 3 too, does.
+#[test]
+fn each_configuration_has_one_change(rt: HostRuntime) {
+    let story = [
+        (Taken::Stop, Some(1), Some(0)),
+        (Taken::Gone(2), Some(4), Some(1)),
+        (Taken::Turn, Some(1), Some(0)),
+        (Taken::Gone(3), Some(4), Some(1)),
+    ];
+    assert_eq!(rt; left_after(&rt, rt.alloc(), &story), (2, 3));
 }

@@ -95,9 +95,9 @@ fn made_of(rt: &impl Abort, alloc: Global, input: Input) -> (usize, usize, bool)
     step(rt, alloc, &mut server, input)
 }
 
-/// A put of the epoch is assigned a version, and answered at once, since its chain is one replica
-/// long; one of another epoch is not. A ready member answers a search. Nothing is pending, so nothing
-/// is sent again. A halt and a seal are told.
+/// A put is assigned a version, and answered at once, since its chain is one replica long. So is one
+/// of a higher epoch; the coordinator is asked for that first. A ready member answers a search.
+/// Nothing is pending, so nothing is sent again. That it halts is told.
 #[test]
 fn a_server_takes_each_input(rt: HostRuntime) {
     let now = put(&rt, rt.alloc(), 1);
@@ -108,15 +108,14 @@ fn a_server_takes_each_input(rt: HostRuntime) {
     let searched = made_of(&rt, rt.alloc(), search);
     let turn = made_of(&rt, rt.alloc(), Input::Tick);
     let halted = made_of(&rt, rt.alloc(), Input::Halt);
-    let seal = from_coordinator(Message::Seal { epoch: Epoch(1) });
-    let sealed = made_of(&rt, rt.alloc(), seal);
+    let told = made_of(&rt, rt.alloc(), from_coordinator(Message::Die));
     for (name, made, wanted) in [
         ("a put", put_now, (1, 1, false)),
-        ("a put of another epoch", put_later, (0, 0, false)),
+        ("a put of a higher epoch", put_later, (2, 1, false)),
         ("a search", searched, (1, 0, false)),
         ("a turn", turn, (0, 0, false)),
         ("a halt", halted, (1, 0, true)),
-        ("a seal", sealed, (1, 0, false)),
+        ("a server that is told to halt", told, (1, 0, true)),
     ] {
         assert!(rt; made == wanted, "{name}");
     }

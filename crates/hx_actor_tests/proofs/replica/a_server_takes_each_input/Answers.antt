@@ -1,6 +1,6 @@
 -- The server at the start can take each of these inputs.
 use Rattle.std.proofs.Common.{arith}
-use Rattle.hx_actor_tests.proofs.OneServer.{can_ask, can_halt, can_put, can_seal, can_tick}
+use Rattle.hx_actor_tests.proofs.OneServer.{can_ask, can_die, can_halt, can_put, can_tick}
 use Rattle.hx_actor_tests.proofs.replica.a_server_takes_each_input.Goals as goal
 
 pub made_of-put_now-requires : goal.made_of-put_now-requires
@@ -18,5 +18,5 @@ made_of-turn-requires g c = can_tick
 pub made_of-halted-requires : goal.made_of-halted-requires
 made_of-halted-requires g c = can_halt
 
-pub made_of-sealed-requires : goal.made_of-sealed-requires
-made_of-sealed-requires g c = can_seal c.from_coordinator-seal.result c.from_coordinator-seal.ensures
+pub made_of-told-requires : goal.made_of-told-requires
+made_of-told-requires g c = can_die c.from_coordinator.result c.from_coordinator.ensures
