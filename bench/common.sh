@@ -1,10 +1,12 @@
 # What the benchmarks share: the proved program, a folder for their files, and how a run is timed.
-# Each benchmark reads this file first.
+# Each benchmark reads this file first; one that is told of another program sets `program` before.
 top=$(cd "$(dirname "${BASH_SOURCE[0]}")/.." && pwd)
 work=$(mktemp -d)
 trap 'rm -rf "$work"' EXIT
-"$top/hx" prove || exit 1
-program=$top/crates/hx_tool/out/hx_tool
+if [ -z "${program:-}" ]; then
+  "$top/hx" prove || exit 1
+  program=$top/crates/hx_tool/out/hx_tool
+fi
 
 # seconds COMMAND FILE: the best of three runs of the command on the file; what the last one wrote is
 # in $work/written
