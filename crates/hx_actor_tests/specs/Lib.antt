@@ -1,3 +1,2 @@
 pub mod SmallSpace
 pub mod Books
-pub mod Chained
