@@ -7,6 +7,8 @@ mod chain;
 #[cfg(test)]
 mod coord;
 #[cfg(test)]
+mod hearing;
+#[cfg(test)]
 mod index;
 #[cfg(test)]
 mod leader;
