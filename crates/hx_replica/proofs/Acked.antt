@@ -64,12 +64,14 @@ has_number v u = u.version.0 == v
 -- it is this one
 pub found_at : (v : ℕ) (us : List Update) (i : ℕ) (u : Update) → slice_get us i ≡ Some u → has_number v u ≡ true
     → find (has_number v) (drop i us) ≡ find (has_number v) us → Some u ≡ find (has_number v) us
-found_at v us i u at is before = sym (cond-true (has_number v u) (Some u) (find (has_number v) (drop (i + 1) us)) is) ∙ sym (ap (find (has_number v)) (drop_at us i u at)) ∙ before
+found_at v us i u at is before =
+    sym (cond-true (has_number v u) (Some u) (find (has_number v) (drop (i + 1) us)) is) ∙ sym (ap (find (has_number v)) (drop_at us i u at)) ∙ before
 
 -- it isn't this one
 pub found_later : (v : ℕ) (us : List Update) (i : ℕ) (u : Update) → slice_get us i ≡ Some u → has_number v u ≡ false
     → find (has_number v) (drop i us) ≡ find (has_number v) us → find (has_number v) (drop (i + 1) us) ≡ find (has_number v) us
-found_later v us i u at out before = sym (cond-false (has_number v u) (Some u) (find (has_number v) (drop (i + 1) us)) out) ∙ sym (ap (find (has_number v)) (drop_at us i u at)) ∙ before
+found_later v us i u at out before =
+    sym (cond-false (has_number v u) (Some u) (find (has_number v) (drop (i + 1) us)) out) ∙ sym (ap (find (has_number v)) (drop_at us i u at)) ∙ before
 
 -- there is none
 pub found_none : (v : ℕ) (us : List Update) (i : ℕ) → length us ≤ i → find (has_number v) (drop i us) ≡ find (has_number v) us → None ≡ find (has_number v) us

@@ -125,7 +125,8 @@ AreMarked v = (place : ℕ) (r : Replica) → slice_get v.state.replicas place �
 
 -- the replica to which a message goes can step
 pub can_step : (v : ServerValue) (from : Actor) (m : Message) (place : ℕ) (key : List ℕ) → AreMarked v → CanHear v.space v.state from m
-    → Some (slice_get v.state.replicas place) ≡ option_map (λ (r : Replica). Some r) (addressed v.space v.state m) → key ≡ key_in m → CanStep v.space v.state place key from m
+    → Some (slice_get v.state.replicas place) ≡ option_map (λ (r : Replica). Some r) (addressed v.space v.state m) → key ≡ key_in m
+    → CanStep v.space v.state place key from m
 can_step v from m place key marked hears at k =
     let now = hears.can in
     let there = found_there v.state.replicas place (addressed v.space v.state m) at in

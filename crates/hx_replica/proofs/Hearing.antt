@@ -68,7 +68,11 @@ pub record IsLed (space : Space) (s : ServerState) (key : List ℕ) (r : Replica
 pub led : (space : Space) (s : ServerState) (key : List ℕ) (r : Replica) → leading space s key ≡ Some r → IsLed space s key r
 led space s key r e =
     let both = if_some (leads space s.config s.id (key_region space key)) (replica_for s (key_region space key)) r e in
-    record { leads_it = both.0; takes = both.1; region = found_region (key_region space key) s.replicas r (replica_for_found s (key_region space key) r both.1) }
+    record {
+      leads_it = both.0;
+      takes = both.1;
+      region = found_region (key_region space key) s.replicas r (replica_for_found s (key_region space key) r both.1);
+    }
 
 -- the step of one slot, as the server's; nothing moves where there is none
 abbrev pub slot_or_nothing : ServerState → Replica → KeyState → Option SlotStep → ServerStep
@@ -84,7 +88,8 @@ slot_notes s r state None = refl
 slot_notes s r state (Some step) = refl
 
 called_there : (space : Space) (s : ServerState) (caller : Caller) (op : Op) (o : Option (List ℕ)) (r : Replica) → when_some o None (leading space s) ≡ Some r
-    → called space s caller op o ≡ at_slot s r (state_in space r (when_some o [] (λ k. k))) (call_step (context_of space s r.region) (state_in space r (when_some o [] (λ k. k))) caller op)
+    → called space s caller op o ≡ at_slot s r (state_in space r (when_some o [] (λ k. k)))
+    (call_step (context_of space s r.region) (state_in space r (when_some o [] (λ k. k))) caller op)
 called_there space s caller op None r e = absurd cc
 called_there space s caller op (Some key) r e =
     let l = led space s key r e in
@@ -98,18 +103,21 @@ not_led space s caller op key (Some r) is e =
     let region = found_region (key_region space key) s.replicas r (replica_for_found s (key_region space key) r is) in
     cond-false (leads space s.config s.id r.region) _ (unmoved s) (ap (leads space s.config s.id) region ∙ if_none (leads space s.config s.id (key_region space key)) r e)
 
-called_nowhere : (space : Space) (s : ServerState) (caller : Caller) (op : Op) (o : Option (List ℕ)) → when_some o None (leading space s) ≡ None → called space s caller op o ≡ unmoved s
+called_nowhere : (space : Space) (s : ServerState) (caller : Caller) (op : Op) (o : Option (List ℕ)) → when_some o None (leading space s) ≡ None
+    → called space s caller op o ≡ unmoved s
 called_nowhere space s caller op None e = refl
 called_nowhere space s caller op (Some key) e = not_led space s caller op key (replica_for s (key_region space key)) refl e
 
 -- what isn't heard is dropped
-heard_or_dropped : (s : ServerState) (r : Replica) (state : KeyState) (step : SlotStep) (b : Bool) → cond b (at_slot s r state step) (unmoved s) ≡ slot_or_nothing s r state (some_if b step)
+heard_or_dropped : (s : ServerState) (r : Replica) (state : KeyState) (step : SlotStep) (b : Bool)
+    → cond b (at_slot s r state step) (unmoved s) ≡ slot_or_nothing s r state (some_if b step)
 heard_or_dropped s r state step true = refl
 heard_or_dropped s r state step false = refl
 
 module _ (space : Space) (s : ServerState) (from : Actor) (r : Replica) where
   updated_there : (u : Update) → updated space s from u (Some r)
-      ≡ slot_or_nothing s r (state_in space r u.key) (some_if (hears_update s.config u (place_number r.region u.places) s.id from) (update_step (context_of space s r.region) (state_in space r u.key) u))
+      ≡ slot_or_nothing s r (state_in space r u.key)
+      (some_if (hears_update s.config u (place_number r.region u.places) s.id from) (update_step (context_of space s r.region) (state_in space r u.key) u))
   updated_there u =
       heard_or_dropped s r (state_in space r u.key) (update_step (context_of space s r.region) (state_in space r u.key) u)
       (hears_update s.config u (place_number r.region u.places) s.id from)
@@ -121,8 +129,10 @@ module _ (space : Space) (s : ServerState) (from : Actor) (r : Replica) where
       heard_or_dropped s r state (ack_step (context_of space s r.region) state v) (hears_ack s.config u (place_number r.region u.places) s.id from by)
 
 -- the step of one slot
-pub message_there : (space : Space) (s : ServerState) (from to : Actor) (m : Message) (r : Replica) → goes_between from to m ≡ true → addressed space s m ≡ Some r
-    → own_step space s from m ≡ slot_or_nothing s r (state_in space r (key_in m)) (slot_step_of (context_of space s r.region) (state_in space r (key_in m)) from m)
+pub message_there : (space : Space) (s : ServerState) (from to : Actor) (m : Message) (r : Replica) → goes_between from to m ≡ true
+    → addressed space s m ≡ Some r
+    → own_step space s from m ≡ slot_or_nothing s r (state_in space r (key_in m))
+    (slot_step_of (context_of space s r.region) (state_in space r (key_in m)) from m)
 message_there space s Coordinator to (a_message.Call epoch number op) r b e = absurd (false≢true b)
 message_there space s (Server x) to (a_message.Call epoch number op) r b e = absurd (false≢true b)
 message_there space s (Session u) to (a_message.Call epoch number op) r b e = called_there space s (record { session = u; number = number }) op (key_of op) r e
@@ -132,7 +142,8 @@ message_there space s from to (a_message.Ack epoch g key version by) r b e =
 message_there space s from to other r b e = absurd cc
 
 -- nothing moves
-pub message_nowhere : (space : Space) (s : ServerState) (from : Actor) (m : Message) → IsOfOneSlot m → addressed space s m ≡ None → own_step space s from m ≡ unmoved s
+pub message_nowhere : (space : Space) (s : ServerState) (from : Actor) (m : Message) → IsOfOneSlot m → addressed space s m ≡ None
+    → own_step space s from m ≡ unmoved s
 message_nowhere space s (Session u) (a_message.Call epoch number op) h e = called_nowhere space s (record { session = u; number = number }) op (key_of op) e
 message_nowhere space s from (a_message.Call epoch number op) h e = refl
 message_nowhere space s from (a_message.Update epoch g u) h e = ap (updated space s from u) e
@@ -144,7 +155,8 @@ message_nowhere space s from (a_message.Snap epoch g snapshot pending) h e = abs
 message_nowhere space s from other h e = refl
 
 -- what a message makes beside asking for the newest configuration
-pub met_first : (space : Space) (s : ServerState) (from : Actor) (m : Message) → (message_step space s from m).posts ≡ met_posts s m ++ (own_step space s from m).posts
+pub met_first : (space : Space) (s : ServerState) (from : Actor) (m : Message)
+    → (message_step space s from m).posts ≡ met_posts s m ++ (own_step space s from m).posts
 met_first space s from (a_message.Call epoch number op) = refl
 met_first space s from (a_message.Update epoch g u) = refl
 met_first space s from (a_message.Ack epoch g key version by) = refl
@@ -189,7 +201,8 @@ heard_change false step g s key change e h = absurd (false≢true e)
 
 -- whether an update is heard, by the number of its place
 pub heard_there : (config : Config) (g : RegionId) (s : ServerId) (from : Actor) (u a b : Update) (place : ℕ) (found answer : Bool) → a ≡ u → b ≡ u
-    → place ≡ place_number g a.places → found ≡ hears_update config b place s from → found ≡ answer → hears_update config u (place_number g u.places) s from ≡ answer
+    → place ≡ place_number g a.places → found ≡ hears_update config b place s from → found ≡ answer
+    → hears_update config u (place_number g u.places) s from ≡ answer
 heard_there config g s from u a b place found answer first second at is so =
     ap (λ (n : ℕ). hears_update config u n s from) (sym (at ∙ ap (λ (x : Update). place_number g x.places) first))
     ∙ ap (λ (x : Update). hears_update config x place s from) (sym second) ∙ sym is ∙ so

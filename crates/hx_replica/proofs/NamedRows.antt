@@ -97,7 +97,8 @@ module _ (Known : Actor → Type 0) where
         (λ e. stays s)
         (
         λ (r : Replica) e. cond_both (leads space s.config s.id r.region) _ (unmoved s) IsGoodStep
-        (λ t. call-good Known (context_of space s r.region) knows.members (state_in space r key) (slot-known r (taking-in (key_region space key) r e) key) caller known op)
+        (λ t. call-good Known (context_of space s r.region) knows.members (state_in space r key)
+        (slot-known r (taking-in (key_region space key) r e) key) caller known op)
         (λ t. stays s)
         )
 
@@ -105,21 +106,24 @@ module _ (Known : Actor → Type 0) where
     called_by-good (Session u) known number op = called-good (record { session = u; number = number }) known op (key_of op)
     called_by-good other known number op = stays s
 
-    updated-good : (from : Actor) (u : Update) → Known (Session u.caller.session) → (o : Option Replica) → ((r : Replica) → o ≡ Some r → IsIn r s.replicas) → IsGoodStep (updated space s from u o)
+    updated-good : (from : Actor) (u : Update) → Known (Session u.caller.session) → (o : Option Replica)
+        → ((r : Replica) → o ≡ Some r → IsIn r s.replicas) → IsGoodStep (updated space s from u o)
     updated-good from u known None f = stays s
     updated-good from u known (Some r) f =
         cond_both (hears_update s.config u (place_number r.region u.places) s.id from) _ (unmoved s) IsGoodStep
         (λ t. update-good Known (context_of space s r.region) knows.members (state_in space r u.key) (slot-known r (f r refl) u.key) u known)
         (λ t. stays s)
 
-    acked_of-good : (from : Actor) (by : RegionId) (r : Replica) (state : KeyState) → KnowsSlot Known state → (v : ℕ) (o : Option Update) → IsGoodStep (acked_of space s from by r state v o)
+    acked_of-good : (from : Actor) (by : RegionId) (r : Replica) (state : KeyState) → KnowsSlot Known state → (v : ℕ) (o : Option Update)
+        → IsGoodStep (acked_of space s from by r state v o)
     acked_of-good from by r state known v None = stays s
     acked_of-good from by r state known v (Some u) =
         cond_both (hears_ack s.config u (place_number r.region u.places) s.id from by) _ (unmoved s) IsGoodStep
         (λ t. ack-good Known (context_of space s r.region) knows.members state known v)
         (λ t. stays s)
 
-    acked-good : (from : Actor) (key : List ℕ) (v : ℕ) (by : RegionId) (o : Option Replica) → ((r : Replica) → o ≡ Some r → IsIn r s.replicas) → IsGoodStep (acked space s from key v by o)
+    acked-good : (from : Actor) (key : List ℕ) (v : ℕ) (by : RegionId) (o : Option Replica) → ((r : Replica) → o ≡ Some r → IsIn r s.replicas)
+        → IsGoodStep (acked space s from key v by o)
     acked-good from key v by None f = stays s
     acked-good from key v by (Some r) f = acked_of-good from by r (state_in space r key) (slot-known r (f r refl) key) v (pending_with v (state_in space r key))
 
@@ -143,7 +147,8 @@ module _ (Known : Actor → Type 0) where
     halt-good : IsGoodStep (halting s)
     halt-good = tells-coordinator s knows a_message.Gone (λ a i. absurd i)
 
-    snapped-good : (from : Actor) (snapshot : List Kept) (pending : List Update) (epoch : Epoch) (g : RegionId) → KnowsMessage (a_message.Snap epoch g snapshot pending) → (o : Option Replica) → IsGoodStep (snapped space s from snapshot pending o)
+    snapped-good : (from : Actor) (snapshot : List Kept) (pending : List Update) (epoch : Epoch) (g : RegionId)
+        → KnowsMessage (a_message.Snap epoch g snapshot pending) → (o : Option Replica) → IsGoodStep (snapped space s from snapshot pending o)
     snapped-good from snapshot pending epoch g names None = stays s
     snapped-good from snapshot pending epoch g names (Some r) =
         cond_both (not (hears_snap s.config r.region s.id from)) (unmoved s) _ IsGoodStep
@@ -205,7 +210,8 @@ module _ (Known : Actor → Type 0) where
         meeting-good epoch (acked space s from key version.0 by (if_installed (replica_for s g)))
         (acked-good from key version.0 by (if_installed (replica_for s g)) (installed-in g))
     message-good from known (a_message.Ask epoch number g terms) names =
-        meeting-good epoch (asked s from epoch number terms (if_installed (replica_for s g))) (asked-good from known epoch number terms (if_installed (replica_for s g)))
+        meeting-good epoch (asked s from epoch number terms (if_installed (replica_for s g)))
+        (asked-good from known epoch number terms (if_installed (replica_for s g)))
     message-good from known (a_message.Install config) names = install-good config names
     message-good from known a_message.Die names = halt-good
     message-good from known (a_message.Snap epoch g snapshot pending) names =

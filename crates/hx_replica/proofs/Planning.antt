@@ -20,7 +20,7 @@ use Rattle.hx_types.specs.declared.traces.Note.{Note}
 use Rattle.hx_types.specs.declared.traces.Input.TheVariants.{Deliver}
 use Rattle.hx_types.specs.declared.ids.Actor.TheVariants.{Server}
 use Rattle.hx_model.specs.Hearing.{hears_snap}
-use Rattle.hx_model.specs.ServerSteps.{Replica, ServerState, ServerStep, SlotStep, asked, at_slot, if_installed, input_step, message_step, replica_for, server_step, snapped, state_in, unmoved, with_slot}
+use Rattle.hx_model.specs.ServerSteps.{Replica, ServerState, ServerStep, SlotStep, asked, if_installed, input_step, message_step, replica_for, server_step, snapped, state_in, unmoved, with_slot}
 use Rattle.hx_model.specs.Slots.{KeyState, Move, moved_all}
 use Rattle.hx_store.specs.Stores.{Room}
 use Rattle.hx_law_folds.specs.Folding.{folded, folded_server}
@@ -30,7 +30,7 @@ use Rattle.hx_replica.specs.declared.outputs.SlotChange.{SlotChange}
 use Rattle.hx_replica.specs.declared.prepared.Change.{Change}
 use Rattle.hx_replica.specs.declared.prepared.Plan.{Plan}
 use Rattle.hx_replica.specs.Hearing.{IsOfOneSlot, addressed, met_posts, own_step}
-use Rattle.hx_replica.specs.Outputs.{HasRoomFor, IsChangeOf, IsMaybeChangeOf, key_in, moves_by, notes_of, posts_of, room_of, room_wanted, stepped}
+use Rattle.hx_replica.specs.Outputs.{HasRoomFor, IsMaybeChangeOf, key_in, moves_by, notes_of, posts_of, room_of, room_wanted, stepped}
 use Rattle.hx_replica.specs.Plans.{AtReplica, CanHear, CanStep, HasRoomAt, IsChange, IsChangeAt, IsPlanOn, slot_change, step_at}
 use Rattle.hx_replica.specs.Servers.{CanTake, ServerValue}
 use Rattle.hx_replica.proofs.Hearing.{message_nowhere, message_there, met_first, own_notes, own_state, slot_notes, slot_or_nothing, slot_posts}
@@ -97,11 +97,13 @@ module _ (v : ServerValue) (from : Actor) (m : Message) (number : ℕ) (hears : 
 
   moved_posts : (old new : List Post) → AtReplica v number (λ (x : Replica). new ≡ old ++ posts_of (step_at v x from m))
       → new ≡ old ++ (own_step v.space v.state from m).posts
-  moved_posts old new is = is r at.at_place ∙ ap (λ (ps : List Post). old ++ ps) (slot_posts v.state r s (step_at v r from m) ∙ ap (λ (t : ServerStep). t.posts) (sym step_is))
+  moved_posts old new is =
+      is r at.at_place ∙ ap (λ (ps : List Post). old ++ ps) (slot_posts v.state r s (step_at v r from m) ∙ ap (λ (t : ServerStep). t.posts) (sym step_is))
 
   moved_notes : (old new : List Note) → AtReplica v number (λ (x : Replica). new ≡ old ++ notes_of (step_at v x from m))
       → new ≡ old ++ (own_step v.space v.state from m).notes
-  moved_notes old new is = is r at.at_place ∙ ap (λ (ns : List Note). old ++ ns) (slot_notes v.state r s (step_at v r from m) ∙ ap (λ (t : ServerStep). t.notes) (sym step_is))
+  moved_notes old new is =
+      is r at.at_place ∙ ap (λ (ns : List Note). old ++ ns) (slot_notes v.state r s (step_at v r from m) ∙ ap (λ (t : ServerStep). t.notes) (sym step_is))
 
   -- the slot's step, if there is one
   slot_moved : (n place : ℕ) (key : List ℕ) (change : Option SlotChange) → folded_server v.state ≡ v.state → (o : Option SlotStep)
@@ -252,7 +254,8 @@ module _ (v : ServerValue) (from : Actor) (m : Message) {T E : Type 0} (r : Resu
       ∙ ap (λ (ps : List Post). old ++ ps) (sym (met_first v.space v.state from m))
       )
 
-  pub notes_met : (old new : List Note) → OnOk r (new ≡ old ++ (own_step v.space v.state from m).notes) → OnOk r (new ≡ old ++ (message_step v.space v.state from m).notes)
+  pub notes_met : (old new : List Note) → OnOk r (new ≡ old ++ (own_step v.space v.state from m).notes)
+      → OnOk r (new ≡ old ++ (message_step v.space v.state from m).notes)
   notes_met old new = subst (λ (ns : List Note). OnOk r (new ≡ old ++ ns)) (sym (own_notes v.space v.state from m))
 
 pub change_met : {E : Type 0} (v after : ServerValue) (from : Actor) (m : Message) (r : Result Change E)

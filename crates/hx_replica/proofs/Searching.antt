@@ -29,7 +29,8 @@ module _ (i : Inside) (v : ServerValue) (from : Actor) (epoch : Epoch) (number :
   there = found_there v.state.replicas place (if_installed (replica_for v.state g)) at
 
   region : there.replica.region ≡ g
-  region = found_region g v.state.replicas there.replica (replica_for_found v.state g there.replica (installed_some (replica_for v.state g) there.replica there.is))
+  region =
+      found_region g v.state.replicas there.replica (replica_for_found v.state g there.replica (installed_some (replica_for v.state g) there.replica there.is))
 
   abbrev answer : ServerState → RegionId → RegionId → List KeyState → List Post
   answer s h k states = provided (lists_ready s.config h s.id) (post (Server s.id) from (a_message.Found epoch number h (found_in k terms states)) ∷ [])
@@ -46,7 +47,8 @@ module _ (i : Inside) (v : ServerValue) (from : Actor) (epoch : Epoch) (number :
 
   -- it is one
   pub ready : (rows : List Row) → IsSomeAnd (slice_get v.state.replicas place) (λ (r : ReplicaState). rows ≡ found_in r.region terms r.states) → lists_ready i.config g i.id ≡ true
-      → (asked v.state from epoch number terms (if_installed (replica_for v.state g))).posts ≡ post (Server i.id) from (a_message.Found epoch number g rows) ∷ []
+      → (asked v.state from epoch number terms (if_installed (replica_for v.state g))).posts
+      ≡ post (Server i.id) from (a_message.Found epoch number g rows) ∷ []
   ready rows is listed =
       let here : rows ≡ found_in there.replica.region terms there.replica.states = subst (λ (o : Option ReplicaState). IsSomeAnd o (λ (r : ReplicaState). rows ≡ found_in r.region terms r.states)) there.at_place is in
       posts_are

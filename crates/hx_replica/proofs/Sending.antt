@@ -35,7 +35,8 @@ asked_same s (p ∷ rest) = refl
 pub ticked : (space : Space) (s : ServerState) (rs : List Replica) → s.replicas ≡ views_of rs
     → asking_last (standing s.config s.id) (flat_map (λ (r : Replica). replica_tick space (standing s.config s.id) (view_of r)) rs) ≡ (tick_step space s).posts
 ticked space s rs is =
-    ap (asking_last (standing s.config s.id)) (ticks space s rs ∙ ap (flat_map (replica_tick space s)) (sym is)) ∙ asked_same s (flat_map (replica_tick space s) s.replicas)
+    ap (asking_last (standing s.config s.id)) (ticks space s rs ∙ ap (flat_map (replica_tick space s)) (sym is))
+    ∙ asked_same s (flat_map (replica_tick space s) s.replicas)
 
 -- where anything was posted the newest configuration is asked for last
 pub asks_last : (s : ServerState) (old ps new : List Post) → new ≡ old ++ ps → (length new ≡ length old → ⊥) → new ++ poll_post s ∷ [] ≡ old ++ asking_last s ps

@@ -95,7 +95,8 @@ pub record IsTakenBy (v : ServerValue) (g : RegionId) (number : ℕ) (y : Replic
   pub region : y.region ≡ g
 
 pub taken_by : (i : Inside) (g : RegionId) (number : ℕ) (y : Replica) → y ≡ get_or i.replicas.items number y
-    → Some (slice_get (value_of i).state.replicas number) ≡ option_map (λ (r : ReplicaState). Some r) (replica_for (value_of i).state g) → IsTakenBy (value_of i) g number y
+    → Some (slice_get (value_of i).state.replicas number) ≡ option_map (λ (r : ReplicaState). Some r) (replica_for (value_of i).state g)
+    → IsTakenBy (value_of i) g number y
 taken_by i g number y is at =
     let s : ServerState = (value_of i).state in
     let there = found_there s.replicas number (replica_for s g) at in
@@ -111,7 +112,8 @@ folded_marked g b [] h = tt
 folded_marked g b (s ∷ rest) h = (h.0, folded_marked g b rest h.1)
 
 -- whether the server hears it, by its parts
-pub unheard : (i : Inside) (v : ServerValue) (from : Actor) (g : RegionId) → value_of i ≡ v → hears_snap i.config g i.id from ≡ false → hears_snap v.state.config g v.state.id from ≡ false
+pub unheard : (i : Inside) (v : ServerValue) (from : Actor) (g : RegionId) → value_of i ≡ v → hears_snap i.config g i.id from ≡ false
+    → hears_snap v.state.config g v.state.id from ≡ false
 unheard i v from g seen out = ap (λ (x : ServerValue). hears_snap x.state.config g x.state.id from) (sym seen) ∙ out
 
 module _ (v : ServerValue) (from : Actor) (g : RegionId) (snapshot : List Kept) (pending : List Update) where
@@ -125,7 +127,8 @@ module _ (v : ServerValue) (from : Actor) (g : RegionId) (snapshot : List Kept) 
   pub unheard_step : hears_snap s.config g s.id from ≡ false → step ≡ unmoved s
   unheard_step out = by (replica_for s g) (replica_for_found s g)
     where
-      by : (o : Option ReplicaState) → ((r : ReplicaState) → o ≡ Some r → replica_of g s.replicas ≡ Some r) → snapped v.space s from snapshot pending o ≡ unmoved s
+      by : (o : Option ReplicaState) → ((r : ReplicaState) → o ≡ Some r → replica_of g s.replicas ≡ Some r)
+          → snapped v.space s from snapshot pending o ≡ unmoved s
       by None f = refl
       by (Some r) f =
           cond-true _ (unmoved s) _
@@ -133,7 +136,8 @@ module _ (v : ServerValue) (from : Actor) (g : RegionId) (snapshot : List Kept) 
 
   module _ (number : ℕ) (y : Replica) (taken : IsTakenBy v g number y) (hears : hears_snap s.config g s.id from ≡ true) where
     -- it is heard
-    heard_step : step ≡ cond y.installed (saying s (ready_post s y.region)) (with_slots s (view_of y) (installed_slots (context_of v.space s y.region) snapshot pending))
+    heard_step : step ≡ cond y.installed (saying s (ready_post s y.region))
+        (with_slots s (view_of y) (installed_slots (context_of v.space s y.region) snapshot pending))
     heard_step =
         ap (snapped v.space s from snapshot pending) taken.takes
         ∙ cond-false _ (unmoved s) _ (ap not (ap (λ (h : RegionId). hears_snap s.config h s.id from) taken.region ∙ hears))

@@ -103,5 +103,11 @@ pub first_state : (space : Space) (s : ServerId) (config : Config) (rs : List Re
     → record { id = s; config = config; halted = false; replicas = views_of rs } ≡ server_at_start space s
 first_state space s config rs c r =
     let with_views : List ReplicaState → ServerState = λ views. record { id = s; config = config; halted = false; replicas = views } in
-    let at_start : Config → ServerState = λ k. record { id = s; config = k; halted = false; replicas = map (λ (g : RegionId). record { region = g; installed = true; states = [] }) (listed_regions k s) } in
+    let at_start : Config → ServerState =
+    λ k. record {
+      id = s;
+      config = k;
+      halted = false;
+      replicas = map (λ (g : RegionId). record { region = g; installed = true; states = [] }) (listed_regions k s);
+    } in
     ap with_views (ap views_of r ∙ first_views space (listed_regions config s)) ∙ ap at_start c

@@ -1,7 +1,7 @@
 use Rattle.std.proofs.Common.{ap, sym, ◌∙◌, arith}
 use Rattle.std.proofs.lemmas.Bool.{eq-eqb, ne_eqb}
 use Rattle.hx_model.specs.Slots.{pending_of}
-use Rattle.hx_replica.proofs.Acked.{found_at, found_later, found_none, has_number}
+use Rattle.hx_replica.proofs.Acked.{found_at, found_later, has_number}
 use Rattle.hx_replica.proofs.Walking.{none_within}
 use Rattle.hx_replica.proofs.slot_steps.pending_with.Goals as goal
 
@@ -11,7 +11,8 @@ returns-then-deref-version-clause-pending c =
     (ap (has_number c.args.version.0) (sym c.deref.ensures) ∙ eq-eqb c.deref.result.now.version.0 c.args.version.0 c.if-deref-version.true) c.loop-i.invariant
 
 pub unreachable-requires : goal.unreachable-requires
-unreachable-requires c = none_within (pending_of c.args.slot.now.state) c.loop-i.i c.in-None.ensures.pending (omega (arith, c.loop-i-test.true, c.pending_count-i-end.ensures))
+unreachable-requires c =
+    none_within (pending_of c.args.slot.now.state) c.loop-i.i c.in-None.ensures.pending (omega (arith, c.loop-i-test.true, c.pending_count-i-end.ensures))
 
 pub loop-i-preserved : goal.loop-i-preserved
 loop-i-preserved c =

@@ -1,4 +1,4 @@
-use Rattle.std.proofs.Common.{ap, sym, ◌∙◌}
+use Rattle.std.proofs.Common.{sym, ◌∙◌}
 use Rattle.std.proofs.lemmas.Result.{on_ok_weaker}
 use Rattle.hx_replica.specs.Ticking.{standing}
 use Rattle.hx_replica.proofs.Sending.{asks_last, asks_not}

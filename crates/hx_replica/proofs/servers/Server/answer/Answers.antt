@@ -47,7 +47,8 @@ returns-in-Install-clause-notes c =
 pub returns-in-Install-clause-change : goal.returns-in-Install-clause-change
 returns-in-Install-clause-change c =
     let v = c.args.self.now in
-    subst (λ (x : ServerValue). IfOk c.install.result (IsChange x (own_step v.space v.state c.args.from c.args.message.now).state)) (sym c.install.ensures.stays)
+    subst (λ (x : ServerValue). IfOk c.install.result (IsChange x (own_step v.space v.state c.args.from c.args.message.now).state))
+    (sym c.install.ensures.stays)
     (change_on v c.args.from c.args.message.now _ c.install.result c.in-Install.is c.install.ensures.change)
 
 pub returns-in-Die-clause-posts : goal.returns-in-Die-clause-posts

@@ -17,7 +17,8 @@ use Rattle.hx_replica.proofs.servers.Server.send_again.Goals as goal
 pub returns-clause-posts : goal.returns-clause-posts
 returns-clause-posts c =
     let i = c.self.inside in
-    let all = λ (k : Config) (rs : List Replica). asking_last (standing k i.id) (flat_map (λ (r : Replica). replica_tick i.space (standing k i.id) (view_of r)) rs) in
+    let all = λ (k : Config) (rs : List Replica). asking_last (standing k i.id)
+    (flat_map (λ (r : Replica). replica_tick i.space (standing k i.id) (view_of r)) rs) in
     on_ok_weaker c.post_tick.result
     (
     λ e. subst (λ (v : ServerValue). c.post_tick.new.posts ≡ c.args.posts.now ++ (tick_step v.space v.state).posts) c.self.view_is
