@@ -126,7 +126,7 @@ unfolding message_text
 message_ok (a_message.Call epoch number op) = two_ok (codes "call") (codes "epoch") (codes "number") epoch.0 number refl refl refl
 message_ok (a_message.Reply number version answer) = two_ok (codes "reply") (codes "number") (codes "version") number version.0 refl refl refl
 message_ok (a_message.Update epoch region update) = three_ok (codes "update") (codes "epoch") (codes "region") (codes "version") epoch.0 region.0 update.version.0 refl refl refl refl
-message_ok (a_message.Ack epoch region key version by) =
+message_ok (a_message.Ack epoch region by key version) =
     three_ok (codes "ack") (codes "epoch") (codes "region") (codes "version") epoch.0 region.0 version.0 refl refl refl refl
 message_ok (a_message.Ask epoch number region terms) = three_ok (codes "ask") (codes "epoch") (codes "number") (codes "region") epoch.0 number region.0 refl refl refl refl
 message_ok (a_message.Found epoch number region rows) = three_ok (codes "found") (codes "epoch") (codes "number") (codes "region") epoch.0 number region.0 refl refl refl refl

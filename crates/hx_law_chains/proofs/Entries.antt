@@ -211,7 +211,7 @@ module _ (e : Scene) (asks : Asked) (valid : IsSpace e.script.space) (o : Ordere
 
   -- ---- an acknowledgement
   ack-fine : (from : Actor) (epoch : Epoch) (g : RegionId) (key : List ℕ) (n : Version) (by : RegionId)
-      → Valid e.script (world e) from (Server i) (a_message.Ack epoch g key n by)
+      → Valid e.script (world e) from (Server i) (a_message.Ack epoch g by key n)
       → (o : Option Replica) → if_installed (replica_for st0 g) ≡ o → Fine (acked e.script.space st0 from key n.0 by o)
   ack-fine from epoch g key n by v None z = still
   ack-fine from epoch g key n by v (Some r) z =
@@ -240,7 +240,7 @@ module _ (e : Scene) (asks : Asked) (valid : IsSpace e.script.space) (o : Ordere
           → Fine (at_slot st r (state_in e.script.space r key) (ack_step (context_of e.script.space st r.region) (state_in e.script.space r key) n.0))
       heard h installed u f x place from_is hop_is region =
           let a = subst (λ (y : RegionId). AckOk e.script (world e) key x by y i n.0) (sym h.region)
-          (subst (λ (a : Actor). Valid e.script (world e) a (Server i) (a_message.Ack epoch g key n by)) from_is v) in
+          (subst (λ (a : Actor). Valid e.script (world e) a (Server i) (a_message.Ack epoch g by key n)) from_is v) in
           let q = one h installed u f a.update a.stands a.version in
           ack-served e asks valid o ok i here (e.servers i).replicas same r h.found installed x by key n.0 a place
           (subst (λ (y : Update). next_of st.config y.places (place_number r.region y.places) i ≡ At x place) q hop_is)
@@ -344,7 +344,7 @@ module _ (e : Scene) (asks : Asked) (valid : IsSpace e.script.space) (o : Ordere
       (called-fine from epoch number op v (λ u z. a u epoch number op z refl))
   message-fine from (a_message.Update epoch g u) j v s a b = met epoch (updated e.script.space st0 from u (if_installed (replica_for st0 g)))
       (update-fine from epoch g u v (if_installed (replica_for st0 g)) refl)
-  message-fine from (a_message.Ack epoch g key n by) j v s a b =
+  message-fine from (a_message.Ack epoch g by key n) j v s a b =
       met epoch (acked e.script.space st0 from key n.0 by (if_installed (replica_for st0 g)))
       (ack-fine from epoch g key n by v (if_installed (replica_for st0 g)) refl)
   message-fine from (a_message.Ask epoch number g terms) j v s a b =

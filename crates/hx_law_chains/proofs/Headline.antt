@@ -315,11 +315,11 @@ module _ (script : Script) (valid : IsScript script) (t0 : List Entry) (run : Is
       by (Server x) h k = update-stands x g s u h
       by Coordinator h k = absurd k
       by (Session y) h k = absurd k
-  post-stands from s (a_message.Ack epoch g key version region) = by from
+  post-stands from s (a_message.Ack epoch g region key version) = by from
     where
-      by : (from : Actor) → Valid script (at script t0) from (Server s) (a_message.Ack epoch g key version region)
+      by : (from : Actor) → Valid script (at script t0) from (Server s) (a_message.Ack epoch g region key version)
           → Says (λ y. server_of script y t0) (IsKnown script t0) (coordinator_of script t0).config from (Server s)
-          (a_message.Ack epoch g key version region) → AckStands script t0 from region g s key version
+          (a_message.Ack epoch g region key version) → AckStands script t0 from region g s key version
       by (Server x) h k = ack-stands x region g s key version h
       by Coordinator h k = absurd k
       by (Session y) h k = absurd k

@@ -367,7 +367,7 @@ valid_up script w w' send ack tell from to (a_message.Reply number v a) h = at_s
 valid_up script w w' send ack tell from to (a_message.Update e g u) h =
     at_server-map from (λ x. at_server to (λ s. UpdateOk script w u.key x g s u)) (λ x. at_server to (λ s. UpdateOk script w' u.key x g s u))
     (λ x k. at_server-map to (λ s. UpdateOk script w u.key x g s u) (λ s. UpdateOk script w' u.key x g s u) (λ s. send u.key x g s u) k) h
-valid_up script w w' send ack tell from to (a_message.Ack e g key v by) h =
+valid_up script w w' send ack tell from to (a_message.Ack e g by key v) h =
     at_server-map from (λ x. at_server to (λ s. AckOk script w key x by g s v.0)) (λ x. at_server to (λ s. AckOk script w' key x by g s v.0))
     (λ x k. at_server-map to (λ s. AckOk script w key x by g s v.0) (λ s. AckOk script w' key x by g s v.0) (λ s. ack key x by g s v.0) k) h
 valid_up script w w' send ack tell from to (a_message.Ask epoch number g terms) h = tt

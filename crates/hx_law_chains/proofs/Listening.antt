@@ -31,7 +31,7 @@ hears space s st same from (a_message.Update epoch g u) = elim (update-taken spa
       (sym (taken-region st g r (installed-is (replica_for st g) r e).0)) ∙ h)
   | inr d ↦ inr d
 ]
-hears space s st same from (a_message.Ack epoch g key v region) = elim (ack-taken space st from epoch g key v region) [
+hears space s st same from (a_message.Ack epoch g region key v) = elim (ack-taken space st from epoch g key v region) [
   | inl (r, e, (u, p, h)) ↦ inl (
     r,
     u,

@@ -51,7 +51,7 @@ use Rattle.hx_law_lemmas.proofs.Lemmas.{in-append, in-flat_map, in-map, in-provi
 abbrev pub OfServer : (RegionId → List Kept → List Update → Type 0) → Message → Type 0
 OfServer Sent (a_message.Reply number version answer) = ⊤
 OfServer Sent (a_message.Update epoch g u) = ⊤
-OfServer Sent (a_message.Ack epoch g key version by) = ⊤
+OfServer Sent (a_message.Ack epoch g by key version) = ⊤
 OfServer Sent (a_message.Found epoch number g rows) = ⊤
 OfServer Sent a_message.Gone = ⊤
 OfServer Sent (a_message.Snap epoch g snapshot pending) = Sent g snapshot pending
@@ -107,7 +107,7 @@ module _ (Sent : RegionId → List Kept → List Update → Type 0) where
   -- an acknowledgement
   acks : (context : SlotContext) (u : Update) (hop : Hop) → AllOf (ack_to context u hop)
   acks context u (At s place) =
-      one (post (Server context.server) (Server s) (a_message.Ack context.config.epoch (region_at u.places place) u.key u.version context.region)) tt
+      one (post (Server context.server) (Server s) (a_message.Ack context.config.epoch (region_at u.places place) context.region u.key u.version)) tt
   acks context u other = none
 
   -- what is told of a commit
@@ -375,7 +375,7 @@ module _ (Sent : RegionId → List Kept → List Update → Type 0) where
       → ((g : RegionId) → MaySend (record { region = g; installed = false; states = [] })) → (from : Actor) (m : Message) → Plain (message_step space s from m)
   messages space s may new from (a_message.Call epoch number op) = meets s epoch _ (calls space s from number op)
   messages space s may new from (a_message.Update epoch g u) = meets s epoch _ (updates space s from u (if_installed (replica_for s g)))
-  messages space s may new from (a_message.Ack epoch g key version by) =
+  messages space s may new from (a_message.Ack epoch g by key version) =
       meets s epoch _ (acknowledges space s from key version.0 by (if_installed (replica_for s g)))
   messages space s may new from (a_message.Ask epoch number g terms) = meets s epoch _ (asks s from epoch number terms (if_installed (replica_for s g)))
   messages space s may new from (a_message.Install config) = installs space s config may new

@@ -79,7 +79,7 @@ snapshot-taken space s from epoch g snapshot pending = by (replica_for s g) refl
 pub ack-taken : (space : Space) (s : ServerState) (from : Actor) (epoch : Epoch) (g : RegionId) (key : List ℕ) (v : Version) (by : RegionId)
     → ((r : Replica) × (if_installed (replica_for s g) ≡ Some r)
     × ((u : Update) × (pending_with v.0 (state_in space r key) ≡ Some u) × (hears_ack s.config u (place_number r.region u.places) s.id from by ≡ true)))
-    ⊎ Drops s epoch (message_step space s from (a_message.Ack epoch g key v by))
+    ⊎ Drops s epoch (message_step space s from (a_message.Ack epoch g by key v))
 ack-taken space s from epoch g key v by = at (if_installed (replica_for s g)) refl
   where
     at : (o : Option Replica) → if_installed (replica_for s g) ≡ o

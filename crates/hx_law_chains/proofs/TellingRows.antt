@@ -507,7 +507,7 @@ module _ (e : Scene) (valid : IsSpace e.script.space) (o : Ordered (world e)) (o
   message-fine from (a_message.Update epoch g u) j v s =
       meeting-fine epoch (updated e.script.space st0 from u (if_installed (replica_for st0 g)))
       (update-fine from epoch g u v (if_installed (replica_for st0 g)) refl)
-  message-fine from (a_message.Ack epoch g key version by) j v s =
+  message-fine from (a_message.Ack epoch g by key version) j v s =
       meeting-fine epoch (acked e.script.space st0 from key version.0 by (if_installed (replica_for st0 g)))
       (acked-fine from g key version.0 by (if_installed (replica_for st0 g)) refl)
   message-fine from (a_message.Ask epoch number g terms) j v s =

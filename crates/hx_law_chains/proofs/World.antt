@@ -272,7 +272,7 @@ module _ (script : Script) (w : World) where
   Valid from to (a_message.Call epoch number op) = at_session from (λ u. call_of script (record { session = u; number = number }) ≡ Some op)
   Valid from to (a_message.Reply number version answer) = at_session to (ReplyOk number version answer)
   Valid from to (a_message.Update epoch g u) = at_server from (λ x. at_server to (λ s. UpdateOk script w u.key x g s u))
-  Valid from to (a_message.Ack epoch g key version by) = at_server from (λ x. at_server to (λ s. AckOk script w key x by g s version.0))
+  Valid from to (a_message.Ack epoch g by key version) = at_server from (λ x. at_server to (λ s. AckOk script w key x by g s version.0))
   Valid from to other = ⊤
 
   -- what holds of all keys and posts

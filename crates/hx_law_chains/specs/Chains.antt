@@ -200,7 +200,7 @@ pub record AckStands (script : Script) (trace : List Entry) (from : Actor) (by g
 -- what is said of a post to a server
 abbrev pub PostStands : Script → List Entry → Actor → ServerId → Message → Type 0
 PostStands script trace from s (a_message.Update epoch g u) = UpdateStands script trace from g s u
-PostStands script trace from s (a_message.Ack epoch g key version by) = AckStands script trace from by g s key version
+PostStands script trace from s (a_message.Ack epoch g by key version) = AckStands script trace from by g s key version
 PostStands script trace from s other = ⊤
 
 -- in every run all updates and acknowledgements under way stand so
@@ -220,7 +220,7 @@ pub record IsDropped (before after : ServerState) (epoch : Epoch) (posts : List 
 abbrev pub HearsNeighbour : Space → ServerId → ServerState → ServerState → List Post → Actor → Message → Type 0
 HearsNeighbour space s before after posts from (a_message.Update epoch g u) =
     (hears_update before.config u (place_number g u.places) s from ≡ true) ⊎ IsDropped before after epoch posts
-HearsNeighbour space s before after posts from (a_message.Ack epoch g key v by) =
+HearsNeighbour space s before after posts from (a_message.Ack epoch g by key v) =
     ((r : Replica) × (u : Update) × (if_installed (replica_for before g) ≡ Some r) × (pending_with v.0 (state_in space r key) ≡ Some u)
     × (hears_ack before.config u (place_number g u.places) s from by ≡ true))
     ⊎ IsDropped before after epoch posts

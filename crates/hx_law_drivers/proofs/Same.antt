@@ -280,7 +280,7 @@ abbrev message_code : Message → MessageCode
 message_code (a_message.Call e n o) = inl (e, (n, o))
 message_code (a_message.Reply n v a) = inr (inl (n, (v, a)))
 message_code (a_message.Update e g u) = inr (inr (inl (e, (g, u))))
-message_code (a_message.Ack e g k v b) = inr (inr (inr (inl (e, (g, (k, (v, b)))))))
+message_code (a_message.Ack e g b k v) = inr (inr (inr (inl (e, (g, (k, (v, b)))))))
 message_code (a_message.Ask e n g ts) = inr (inr (inr (inr (inl (e, (n, (g, ts)))))))
 message_code (a_message.Found e n g rows) = inr (inr (inr (inr (inr (inl (e, (n, (g, rows))))))))
 message_code (a_message.Seal e) = inr (inr (inr (inr (inr (inr (inl e))))))
@@ -299,7 +299,7 @@ abbrev message_of : MessageCode → Message
 message_of (inl t) = a_message.Call t.0 t.1.0 t.1.1
 message_of (inr (inl t)) = a_message.Reply t.0 t.1.0 t.1.1
 message_of (inr (inr (inl t))) = a_message.Update t.0 t.1.0 t.1.1
-message_of (inr (inr (inr (inl t)))) = a_message.Ack t.0 t.1.0 t.1.1.0 t.1.1.1.0 t.1.1.1.1
+message_of (inr (inr (inr (inl t)))) = a_message.Ack t.0 t.1.0 t.1.1.1.1 t.1.1.0 t.1.1.1.0
 message_of (inr (inr (inr (inr (inl t))))) = a_message.Ask t.0 t.1.0 t.1.1.0 t.1.1.1
 message_of (inr (inr (inr (inr (inr (inl t)))))) = a_message.Found t.0 t.1.0 t.1.1.0 t.1.1.1
 message_of (inr (inr (inr (inr (inr (inr (inl e))))))) = a_message.Seal e

@@ -22,7 +22,7 @@ pub controls-says : (S : ServerId → ServerState) (known : Config → Type 0) (
 controls-says S known c k from to (a_message.Install config) h = subst known (sym h) k
 controls-says S known c k from to a_message.Gone h = absurd h
 controls-says S known c k from to (a_message.Update epoch g u) h = absurd h
-controls-says S known c k from to (a_message.Ack epoch g key version region) h = absurd h
+controls-says S known c k from to (a_message.Ack epoch g region key version) h = absurd h
 controls-says S known c k from to (a_message.Snap epoch g snapshot pending) h = absurd h
 controls-says S known c k from to (a_message.Ready epoch g) h = absurd h
 controls-says S known c k from to other h = tt

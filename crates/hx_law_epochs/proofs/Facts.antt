@@ -51,7 +51,7 @@ module _ (S : ServerId → ServerState) (known : Config → Type 0) where
   Says newest from to (a_message.Snap epoch g snapshot pending) =
       FromServer from (λ s. NoLater newest (S s) epoch × FromServer to (SendsSnapshot known (S s) epoch g s))
   Says newest from to (a_message.Update epoch g u) = FromServer from (λ s. NoLater newest (S s) epoch)
-  Says newest from to (a_message.Ack epoch g key version by) = FromServer from (λ s. NoLater newest (S s) epoch)
+  Says newest from to (a_message.Ack epoch g by key version) = FromServer from (λ s. NoLater newest (S s) epoch)
   Says newest from to other = ⊤
 
 -- what every run keeps of epochs: of the known configurations, of which each has grown out of those before, of the servers and of the posts

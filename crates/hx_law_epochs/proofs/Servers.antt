@@ -59,7 +59,7 @@ pub record Adopts (s : ServerId) (config : Config) (before after : ServerState) 
 -- what a post of a server says of it when it is posted
 abbrev pub Tells : ServerId → ServerState → Actor → Message → Type 0
 Tells s st to (a_message.Update epoch g u) = epoch ≡ st.config.epoch
-Tells s st to (a_message.Ack epoch g key version by) = epoch ≡ st.config.epoch
+Tells s st to (a_message.Ack epoch g by key version) = epoch ≡ st.config.epoch
 Tells s st to (a_message.Reply number version answer) = ⊤
 Tells s st to (a_message.Found epoch number g rows) = ⊤
 Tells s st to (a_message.Poll epoch) = epoch.0 ≤ st.config.epoch.0
@@ -71,7 +71,7 @@ Tells s st to other = ⊥
 -- what a slot's post says
 pub slot-tells : (s : ServerId) (st : ServerState) (c : Config) (to : Actor) (m : Message) → c ≡ st.config → SlotSays c m → Tells s st to m
 slot-tells s st c to (a_message.Update epoch g u) e h = h ∙ ap (λ (x : Config). x.epoch) e
-slot-tells s st c to (a_message.Ack epoch g key version by) e h = h ∙ ap (λ (x : Config). x.epoch) e
+slot-tells s st c to (a_message.Ack epoch g by key version) e h = h ∙ ap (λ (x : Config). x.epoch) e
 slot-tells s st c to (a_message.Reply number version answer) e h = tt
 slot-tells s st c to other e h = absurd h
 
@@ -372,7 +372,7 @@ message-does : (space : Space) (s : ServerId) (st : ServerState) → Shaped s st
 message-does space s st shaped l May from (a_message.Call epoch number op) f = meets space s st shaped May epoch (called_by space st from number op) (called-does space s st shaped May l from number op)
 message-does space s st shaped l May from (a_message.Update epoch g u) f =
     meets space s st shaped May epoch (updated space st from u (if_installed (replica_for st g))) (updated-does space s st shaped May from g u)
-message-does space s st shaped l May from (a_message.Ack epoch g key version by) f =
+message-does space s st shaped l May from (a_message.Ack epoch g by key version) f =
     meets space s st shaped May epoch (acked space st from key version.0 by (if_installed (replica_for st g))) (acked-does space s st shaped May from g key version.0 by)
 message-does space s st shaped l May from (a_message.Ask epoch number g terms) f =
     meets space s st shaped May epoch (asked st from epoch number terms (if_installed (replica_for st g))) (asked-does space s st shaped May from epoch number g terms)

@@ -161,7 +161,7 @@ module _ (Real : ServerId → Type 0) (S : ServerId → ServerState) (known : Co
     older-after from to (a_message.Ready epoch g) h = of-sender from (λ j st. NoLater c st epoch × Installed st g) (installed-after epoch g) h
     older-after from to (a_message.Snap epoch g snapshot pending) h = of-sender from (Sends to epoch g) (sends-after to epoch g) h
     older-after from to (a_message.Update epoch g u) h = of-sender from (λ j st. NoLater c st epoch) (later-after epoch) h
-    older-after from to (a_message.Ack epoch g key version by) h = of-sender from (λ j st. NoLater c st epoch) (later-after epoch) h
+    older-after from to (a_message.Ack epoch g by key version) h = of-sender from (λ j st. NoLater c st epoch) (later-after epoch) h
     older-after from to other h = tt
 
     -- a message of the own epoch is of no later one
@@ -171,7 +171,7 @@ module _ (Real : ServerId → Type 0) (S : ServerId → ServerState) (known : Co
     -- each new one, of the state that the server has now
     own-says : (T : ServerId → ServerState) → T i ≡ step.state → (to : Actor) (m : Message) → Tells i step.state to m → Says T known c (Server i) to m
     own-says T e to (a_message.Update epoch g u) h = subst (λ (st : ServerState). NoLater c st epoch) (sym e) (own-epoch epoch h)
-    own-says T e to (a_message.Ack epoch g key version by) h = subst (λ (st : ServerState). NoLater c st epoch) (sym e) (own-epoch epoch h)
+    own-says T e to (a_message.Ack epoch g by key version) h = subst (λ (st : ServerState). NoLater c st epoch) (sym e) (own-epoch epoch h)
     own-says T e to (a_message.Reply number version answer) h = tt
     own-says T e to (a_message.Found epoch number g rows) h = tt
     own-says T e to (a_message.Poll epoch) h = tt

@@ -29,7 +29,7 @@ use Rattle.hx_law_lemmas.proofs.Lemmas.{in-append, in-flat_map, in-map, in-provi
 -- a message between replicas is of this epoch, and others are replies
 abbrev pub SlotSays : Config → Message → Type 0
 SlotSays c (a_message.Update epoch g u) = epoch ≡ c.epoch
-SlotSays c (a_message.Ack epoch g key version by) = epoch ≡ c.epoch
+SlotSays c (a_message.Ack epoch g by key version) = epoch ≡ c.epoch
 SlotSays c (a_message.Reply number version answer) = ⊤
 SlotSays c other = ⊥
 

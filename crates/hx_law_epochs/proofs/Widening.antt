@@ -72,7 +72,7 @@ module _ (S : ServerId → ServerState) (known after : Config → Type 0) (c n :
   says-still from to a_message.Gone h = h
   says-still from to (a_message.Install config) h = w.still config h
   says-still from to (a_message.Update epoch g u) h = from-map from (λ s. NoLater c (S s) epoch) (λ s. NoLater n (S s) epoch) (later-still epoch) h
-  says-still from to (a_message.Ack epoch g key version by) h = from-map from (λ s. NoLater c (S s) epoch) (λ s. NoLater n (S s) epoch) (later-still epoch) h
+  says-still from to (a_message.Ack epoch g by key version) h = from-map from (λ s. NoLater c (S s) epoch) (λ s. NoLater n (S s) epoch) (later-still epoch) h
   says-still from to (a_message.Ready epoch g) h =
       from-map from (And c epoch (λ s. Installed (S s) g)) (And n epoch (λ s. Installed (S s) g)) (λ s l. (later-still epoch s l.0, l.1)) h
   says-still from to (a_message.Snap epoch g snapshot pending) h =

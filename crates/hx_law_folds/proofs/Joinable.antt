@@ -279,7 +279,7 @@ module _ (space : Space) (s : ServerState) (h : IsJoinableServer space s) where
   message-stays : (from : Actor) (m : Message) → MessageJoins m → IsJoinableServer space (message_step space s from m).state
   message-stays from (a_message.Call epoch number op) f = called_by-stays space s h from number op
   message-stays from (a_message.Update epoch g u) f = updated-stays space s h from u f g (if_installed (replica_for s g)) (taking_installed space s h g)
-  message-stays from (a_message.Ack epoch g key version region) f =
+  message-stays from (a_message.Ack epoch g region key version) f =
       acked-stays space s h from key version.0 region g (if_installed (replica_for s g)) (taking_installed space s h g)
   message-stays from (a_message.Ask epoch number g terms) f = asked-stays space s h from epoch number terms (if_installed (replica_for s g))
   message-stays from (a_message.Install config) f = install-stays config

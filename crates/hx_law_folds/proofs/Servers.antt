@@ -372,7 +372,7 @@ message-folds space s h from (a_message.Update epoch g u) f =
     ap (λ (o : Option Replica). folded_step (updated space (folded_server s) from u o)) (installed_for-folded s g)
     ∙ updated-folds space s from u f g (if_installed (replica_for s g)) (taking_installed space s h g)
     )
-message-folds space s h from (a_message.Ack epoch g key version region) f =
+message-folds space s h from (a_message.Ack epoch g region key version) f =
     meeting-folds s epoch _ _
     (
     ap (λ (o : Option Replica). folded_step (acked space (folded_server s) from key version.0 region o)) (installed_for-folded s g)

@@ -51,7 +51,7 @@ module _ (space : Space) (sessions n : ℕ) (s : ServerId) (st : ServerState) (r
       updated-good space sessions n s st relies from g u (received space sessions k n (omega (arith, l, less)) g u h.message.2 h.message.3)
       (if_installed (replica_for st g)) (λ r e. installed-found st g r e)
       )
-  message-good k l from (a_message.Ack epoch g key version by) h =
+  message-good k l from (a_message.Ack epoch g by key version) h =
       meeting-good space sessions n s st relies epoch _
       (acked-good space sessions n s st relies from g key h.message.3 version.0 by (if_installed (replica_for st g)) (λ r e. installed-found st g r e))
   message-good k l from (a_message.Ask epoch number g terms) h =

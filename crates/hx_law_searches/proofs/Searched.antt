@@ -151,7 +151,7 @@ module _ (script : Script) (facts : Facts script) (older : List Entry) (x : Entr
           shown to epoch number g rows s (had.tells (post to (Server i) (a_message.Ask epoch number g s.terms)) (arrived s.id older (post to (Server i) (a_message.Ask epoch number g s.terms)) (subst (MayTake older (Server i)) s.input may)))
       says from to (a_message.Reply number version answer) j h = tt
       says from to (a_message.Update epoch g u) j h = tt
-      says from to (a_message.Ack epoch g key version by) j h = tt
+      says from to (a_message.Ack epoch g by key version) j h = tt
       says from to (a_message.Poll epoch) j h = tt
       says from to a_message.Gone j h = tt
       says from to (a_message.Snap epoch g snapshot pending) j h = tt

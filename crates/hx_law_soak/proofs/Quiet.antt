@@ -95,7 +95,7 @@ module _ (space : Space) (s : ServerState) (up : s.halted ≡ false) where
       by (Some r) =
           cond_both (hears_update s.config u (place_number r.region u.places) s.id from)
           (at_slot s r (state_in space r u.key) (update_step (context_of space s r.region) (state_in space r u.key) u)) (unmoved s) Up (λ t. up) (λ t. up)
-  up-message from (a_message.Ack epoch g key version region) c = by (if_installed (replica_for s g))
+  up-message from (a_message.Ack epoch g region key version) c = by (if_installed (replica_for s g))
     where
       pending : (r : Replica) (o : Option Update) → Up (acked_of space s from region r (state_in space r key) version.0 o)
       pending r None = up

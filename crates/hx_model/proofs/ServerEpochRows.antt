@@ -106,7 +106,7 @@ installed_at_the_end :
     step (high_joiner (not_installed 2)) (from_server 1 (a_message.Snap (epoch 2) (region 2) (high_kept ∷ []) (second_update ∷ [])))
     ≡ stepping (high_joiner (replica 2 (other_slot (second_update ∷ []) 2 [] [] ∷ high_base ∷ [])))
     (
-    between 2 1 (a_message.Ack (epoch 2) (region 2) the_key (version 2) (region 2))
+    between 2 1 (a_message.Ack (epoch 2) (region 2) (region 2) the_key (version 2))
     ∷ to_coordinator 2 (a_message.Ready (epoch 2) (region 2))
     ∷ []
     )
@@ -436,7 +436,7 @@ shorter = configured 3 (1 ∷ 2 ∷ []) ((ready 1 ∷ ready 2 ∷ []) ∷ (ready
 commits_at_the_end :
     step (running 2 whole (replica 0 [] ∷ replica 1 (other_slot (first_update ∷ []) 0 [] [] ∷ []) ∷ [])) (installs shorter)
     ≡ stepping (running 2 shorter (replica 0 [] ∷ replica 1 (other_slot (first_update ∷ []) 1 [] [] ∷ []) ∷ []))
-    (between 2 2 (a_message.Ack (epoch 3) (region 0) the_key (version 1) (region 1)) ∷ [])
+    (between 2 2 (a_message.Ack (epoch 3) (region 0) (region 1) the_key (version 1)) ∷ [])
 commits_at_the_end = refl
 
 -- the new leader of a chain of one replica answers

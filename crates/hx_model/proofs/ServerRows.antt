@@ -67,7 +67,7 @@ abbrev update_of : ℕ → ℕ → Input
 update_of s e = from_server s (a_message.Update (epoch e) (region 0) first_update)
 
 abbrev ack_of : ℕ → ℕ → ℕ → Input
-ack_of s by e = from_server s (a_message.Ack (epoch e) (region 0) the_key (version 1) (region by))
+ack_of s by e = from_server s (a_message.Ack (epoch e) (region 0) (region by) the_key (version 1))
 
 abbrev question_of : ℕ → Input
 question_of e = from_session 1 (a_message.Ask (epoch e) 1 (region 0) [])
@@ -417,7 +417,7 @@ accepted_and_sent = refl
 accepted_and_committed :
     step (running 3 whole (replica 1 [] ∷ replica 2 [] ∷ [])) (updates 2 1 first_update)
     ≡ stepping (running 3 whole (replica 1 (other_slot (first_update ∷ []) 1 [] [] ∷ []) ∷ replica 2 [] ∷ []))
-    (between 3 2 (a_message.Ack (epoch 2) (region 1) the_key (version 1) (region 1)) ∷ [])
+    (between 3 2 (a_message.Ack (epoch 2) (region 1) (region 1) the_key (version 1)) ∷ [])
 accepted_and_committed = refl
 
 -- what came early follows, in order; what goes on is sent before what ends is acknowledged
@@ -426,7 +426,7 @@ accepted_with_early :
     ≡ stepping (third (other_slot (second_update ∷ first_update ∷ []) 1 [] []) bare)
     (
     between 3 3 (a_message.Update (epoch 2) (region 2) second_update)
-    ∷ between 3 2 (a_message.Ack (epoch 2) (region 1) the_key (version 1) (region 1))
+    ∷ between 3 2 (a_message.Ack (epoch 2) (region 1) (region 1) the_key (version 1))
     ∷ []
     )
 accepted_with_early = refl
@@ -451,7 +451,7 @@ accepted_and_blocked = refl
 
 known_and_committed :
     step (second (key_slot (first_update ∷ []) 1 [] []) bare) (updates 1 0 first_update)
-    ≡ stepping (second (key_slot (first_update ∷ []) 1 [] []) bare) (between 2 1 (a_message.Ack (epoch 2) (region 0) the_key (version 1) (region 0)) ∷ [])
+    ≡ stepping (second (key_slot (first_update ∷ []) 1 [] []) bare) (between 2 1 (a_message.Ack (epoch 2) (region 0) (region 0) the_key (version 1)) ∷ [])
 known_and_committed = refl
 
 known_and_pending :
@@ -462,7 +462,7 @@ known_and_pending = refl
 -- a base makes a version known too
 known_by_the_snapshot :
     step (running 2 whole (replica 0 (based ∷ []) ∷ [])) (updates 1 0 first_update)
-    ≡ stepping (running 2 whole (replica 0 (based ∷ []) ∷ [])) (between 2 1 (a_message.Ack (epoch 2) (region 0) the_key (version 1) (region 0)) ∷ [])
+    ≡ stepping (running 2 whole (replica 0 (based ∷ []) ∷ [])) (between 2 1 (a_message.Ack (epoch 2) (region 0) (region 0) the_key (version 1)) ∷ [])
 known_by_the_snapshot = refl
 
 too_early :
@@ -525,11 +525,11 @@ stranger_of_a_higher_epoch = refl
 -- ---- Ack
 
 abbrev acks : ℕ → ℕ → ℕ → ℕ → Input
-acks s by g v = from_server s (a_message.Ack (epoch 2) (region g) the_key (version v) (region by))
+acks s by g v = from_server s (a_message.Ack (epoch 2) (region g) (region by) the_key (version v))
 
 committed_and_told :
     step (second (key_slot (first_update ∷ []) 0 [] []) bare) (acks 2 1 0 1)
-    ≡ stepping (second (key_slot (first_update ∷ []) 1 [] []) bare) (between 2 1 (a_message.Ack (epoch 2) (region 0) the_key (version 1) (region 0)) ∷ [])
+    ≡ stepping (second (key_slot (first_update ∷ []) 1 [] []) bare) (between 2 1 (a_message.Ack (epoch 2) (region 0) (region 0) the_key (version 1)) ∷ [])
 committed_and_told = refl
 
 committed_and_answered :
@@ -540,7 +540,7 @@ committed_and_answered = refl
 -- from one place to the region of the place before
 committed_across_places :
     step (second fresh (other_slot (first_update ∷ []) 0 [] [])) (acks 3 1 1 1)
-    ≡ stepping (second fresh (other_slot (first_update ∷ []) 1 [] [])) (between 2 2 (a_message.Ack (epoch 2) (region 0) the_key (version 1) (region 1)) ∷ [])
+    ≡ stepping (second fresh (other_slot (first_update ∷ []) 1 [] [])) (between 2 2 (a_message.Ack (epoch 2) (region 0) (region 1) the_key (version 1)) ∷ [])
 committed_across_places = refl
 
 committed_behind_a_lost_region :
@@ -606,11 +606,11 @@ ack_from_a_lost_region : step before_lost (acks 1 2 1 2) ≡ ignoring before_los
 ack_from_a_lost_region = refl
 
 ack_of_no_server :
-    step pending_leader (from_session 2 (a_message.Ack (epoch 2) (region 0) the_key (version 1) (region 0))) ≡ ignoring pending_leader
+    step pending_leader (from_session 2 (a_message.Ack (epoch 2) (region 0) (region 0) the_key (version 1))) ≡ ignoring pending_leader
 ack_of_no_server = refl
 
 unheard_acks_of_a_higher_epoch :
-    map (step pending_leader) (ack_of 3 0 3 ∷ ack_of 2 1 3 ∷ from_server 2 (a_message.Ack (epoch 3) (region 0) the_key (version 5) (region 0)) ∷ [])
+    map (step pending_leader) (ack_of 3 0 3 ∷ ack_of 2 1 3 ∷ from_server 2 (a_message.Ack (epoch 3) (region 0) (region 0) the_key (version 5)) ∷ [])
     ≡ stepping pending_leader (polls 1) ∷ stepping pending_leader (polls 1) ∷ stepping pending_leader (polls 1) ∷ []
 unheard_acks_of_a_higher_epoch = refl
 

@@ -286,7 +286,7 @@ others_do_nothing :
     Halt
     ∷ from_session 1 (a_message.Call (epoch 2) 1 (Get the_key))
     ∷ from_server 1 (a_message.Update (epoch 2) (region 0) first_update)
-    ∷ from_server 1 (a_message.Ack (epoch 2) (region 0) the_key (version 1) (region 0))
+    ∷ from_server 1 (a_message.Ack (epoch 2) (region 0) (region 0) the_key (version 1))
     ∷ from_session 1 (a_message.Ask (epoch 2) 1 (region 0) [])
     ∷ from_coordinator (a_message.Seal (epoch 2))
     ∷ from_server 1 (a_message.Sealed (epoch 2))

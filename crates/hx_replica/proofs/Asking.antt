@@ -116,7 +116,7 @@ slot_input space s from (a_message.Update epoch g u) r sound small e marked =
     let is : r.region ≡ g = found_region g s.replicas r (replica_for_found s g r (installed_some (replica_for s g) r e)) in
     let m = sound.sound.message in
     (subst (λ (x : RegionId). IsPlacedIn x u) (sym is) (placed g u.places m.3), m.2.of_space.few, m.2.of_space.after)
-slot_input space s from (a_message.Ack epoch g key version by) r sound small e marked = state_key (is_key_region space r.region) key r.states
+slot_input space s from (a_message.Ack epoch g by key version) r sound small e marked = state_key (is_key_region space r.region) key r.states
 slot_input space s from other r sound small e marked = absurd cc
 
 -- the slots of each replica keep marks at a key region

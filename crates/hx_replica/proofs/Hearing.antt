@@ -127,7 +127,7 @@ message_there space s Coordinator to (a_message.Call epoch number op) r b e = ab
 message_there space s (Server x) to (a_message.Call epoch number op) r b e = absurd (false≢true b)
 message_there space s (Session u) to (a_message.Call epoch number op) r b e = called_there space s (record { session = u; number = number }) op (key_of op) r e
 message_there space s from to (a_message.Update epoch g u) r b e = ap (updated space s from u) e ∙ updated_there space s from r u
-message_there space s from to (a_message.Ack epoch g key version by) r b e =
+message_there space s from to (a_message.Ack epoch g by key version) r b e =
     ap (acked space s from key version.0 by) e ∙ acked_there space s from r by (state_in space r key) version.0 (pending_with version.0 (state_in space r key))
 message_there space s from to other r b e = absurd cc
 
@@ -136,7 +136,7 @@ pub message_nowhere : (space : Space) (s : ServerState) (from : Actor) (m : Mess
 message_nowhere space s (Session u) (a_message.Call epoch number op) h e = called_nowhere space s (record { session = u; number = number }) op (key_of op) e
 message_nowhere space s from (a_message.Call epoch number op) h e = refl
 message_nowhere space s from (a_message.Update epoch g u) h e = ap (updated space s from u) e
-message_nowhere space s from (a_message.Ack epoch g key version by) h e = ap (acked space s from key version.0 by) e
+message_nowhere space s from (a_message.Ack epoch g by key version) h e = ap (acked space s from key version.0 by) e
 message_nowhere space s from (a_message.Ask epoch number g terms) h e = absurd h
 message_nowhere space s from (a_message.Install config) h e = absurd h
 message_nowhere space s from a_message.Die h e = absurd h
@@ -147,7 +147,7 @@ message_nowhere space s from other h e = refl
 pub met_first : (space : Space) (s : ServerState) (from : Actor) (m : Message) → (message_step space s from m).posts ≡ met_posts s m ++ (own_step space s from m).posts
 met_first space s from (a_message.Call epoch number op) = refl
 met_first space s from (a_message.Update epoch g u) = refl
-met_first space s from (a_message.Ack epoch g key version by) = refl
+met_first space s from (a_message.Ack epoch g by key version) = refl
 met_first space s from (a_message.Ask epoch number g terms) = refl
 met_first space s from (a_message.Snap epoch g snapshot pending) = refl
 met_first space s from other = refl
@@ -155,7 +155,7 @@ met_first space s from other = refl
 pub own_notes : (space : Space) (s : ServerState) (from : Actor) (m : Message) → (message_step space s from m).notes ≡ (own_step space s from m).notes
 own_notes space s from (a_message.Call epoch number op) = refl
 own_notes space s from (a_message.Update epoch g u) = refl
-own_notes space s from (a_message.Ack epoch g key version by) = refl
+own_notes space s from (a_message.Ack epoch g by key version) = refl
 own_notes space s from (a_message.Ask epoch number g terms) = refl
 own_notes space s from (a_message.Snap epoch g snapshot pending) = refl
 own_notes space s from other = refl
@@ -163,7 +163,7 @@ own_notes space s from other = refl
 pub own_state : (space : Space) (s : ServerState) (from : Actor) (m : Message) → (message_step space s from m).state ≡ (own_step space s from m).state
 own_state space s from (a_message.Call epoch number op) = refl
 own_state space s from (a_message.Update epoch g u) = refl
-own_state space s from (a_message.Ack epoch g key version by) = refl
+own_state space s from (a_message.Ack epoch g by key version) = refl
 own_state space s from (a_message.Ask epoch number g terms) = refl
 own_state space s from (a_message.Snap epoch g snapshot pending) = refl
 own_state space s from other = refl

@@ -201,7 +201,7 @@ module _ (Known : Actor → Type 0) where
     message-good from known (a_message.Update epoch g u) names =
         meeting-good epoch (updated space s from u (if_installed (replica_for s g)))
         (updated-good from u (names (Session u.caller.session) (inl refl)) (if_installed (replica_for s g)) (installed-in g))
-    message-good from known (a_message.Ack epoch g key version by) names =
+    message-good from known (a_message.Ack epoch g by key version) names =
         meeting-good epoch (acked space s from key version.0 by (if_installed (replica_for s g)))
         (acked-good from key version.0 by (if_installed (replica_for s g)) (installed-in g))
     message-good from known (a_message.Ask epoch number g terms) names =

@@ -20,14 +20,14 @@ leading space s key = if leads space s.config s.id (key_region space key) then r
 abbrev pub addressed : Space → ServerState → Message → Option Replica
 addressed space s (a_message.Call epoch number op) = when_some (key_of op) None (leading space s)
 addressed space s (a_message.Update epoch g u) = if_installed (replica_for s g)
-addressed space s (a_message.Ack epoch g key version by) = if_installed (replica_for s g)
+addressed space s (a_message.Ack epoch g by key version) = if_installed (replica_for s g)
 addressed space s other = None
 
 -- the epoch of which a message to a replica tells its server
 abbrev pub epoch_in : Message → Option Epoch
 epoch_in (a_message.Call epoch number op) = Some epoch
 epoch_in (a_message.Update epoch g u) = Some epoch
-epoch_in (a_message.Ack epoch g key version by) = Some epoch
+epoch_in (a_message.Ack epoch g by key version) = Some epoch
 epoch_in (a_message.Ask epoch number g terms) = Some epoch
 epoch_in (a_message.Snap epoch g snapshot pending) = Some epoch
 epoch_in other = None
@@ -40,7 +40,7 @@ met_posts s m = when_some (epoch_in m) [] (λ (epoch : Epoch). provided (nat_lt 
 abbrev pub own_step : Space → ServerState → Actor → Message → ServerStep
 own_step space s from (a_message.Call epoch number op) = called_by space s from number op
 own_step space s from (a_message.Update epoch g u) = updated space s from u (if_installed (replica_for s g))
-own_step space s from (a_message.Ack epoch g key version by) = acked space s from key version.0 by (if_installed (replica_for s g))
+own_step space s from (a_message.Ack epoch g by key version) = acked space s from key version.0 by (if_installed (replica_for s g))
 own_step space s from (a_message.Ask epoch number g terms) = asked s from epoch number terms (if_installed (replica_for s g))
 own_step space s from (a_message.Snap epoch g snapshot pending) = snapped space s from snapshot pending (replica_for s g)
 own_step space s from other = message_step space s from other

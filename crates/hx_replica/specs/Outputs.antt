@@ -77,7 +77,7 @@ room_wanted (Some change) = room_of change
 
 -- for how many updates the step of a message needs room: an acknowledgement brings none
 abbrev pub room_by : Message → ℕ
-room_by (a_message.Ack epoch g key version by) = 0
+room_by (a_message.Ack epoch g by key version) = 0
 room_by other = 1
 
 -- the place in a store is the key's, with room for n more updates at its slot
@@ -104,7 +104,7 @@ session_in (Session u) = u
 abbrev pub key_in : Message → List ℕ
 key_in (a_message.Call epoch number op) = when_some (key_of op) [] (λ k. k)
 key_in (a_message.Update epoch g u) = u.key
-key_in (a_message.Ack epoch g key version by) = key
+key_in (a_message.Ack epoch g by key version) = key
 key_in other = []
 
 -- the step of an update that is heard
@@ -124,7 +124,7 @@ ack_heard context s from v by = some_if (hears_version context from by (pending_
 abbrev pub slot_step_of : ModelContext → KeyState → Actor → Message → Option SlotStep
 slot_step_of context s from (a_message.Call epoch number op) = Some (call_step context s (record { session = session_in from; number = number }) op)
 slot_step_of context s from (a_message.Update epoch g u) = update_heard context s from u
-slot_step_of context s from (a_message.Ack epoch g key version by) = ack_heard context s from version.0 by
+slot_step_of context s from (a_message.Ack epoch g by key version) = ack_heard context s from version.0 by
 slot_step_of context s from other = None
 
 -- what is posted and noted of a slot's step, if there is one
@@ -200,5 +200,5 @@ IsSlotInput space g s from (a_message.Call epoch number op) =
     IsSessionActor from × IsSome (key_of op) × IsLeading space g s × (s.base.key ≡ key_in (a_message.Call epoch number op))
 IsSlotInput space g s from (a_message.Update epoch h u) =
     IsPlacedIn g u × (length u.places ≤ 17) × All (λ (p : Place). p.after.0 < u.version.0) u.places
-IsSlotInput space g s from (a_message.Ack epoch h key version by) = s.base.key ≡ key
+IsSlotInput space g s from (a_message.Ack epoch h by key version) = s.base.key ≡ key
 IsSlotInput space g s from other = ⊥

@@ -152,9 +152,9 @@ fn ack_post(
         message: Message::Ack {
             epoch: context.config.epoch,
             region: region_at(&update.places, place),
+            by: context.region,
             key: update.key.copy(alloc)?,
             version: update.version,
-            by: context.region,
         },
     })
 }

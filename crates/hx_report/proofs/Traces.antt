@@ -54,7 +54,7 @@ each_message :
     message_text (a_message.Call (record { 0 = 1 }) 2 (Get (codes "a")))
     ∷ message_text (a_message.Reply 2 (record { 0 = 3 }) an_answer.Done)
     ∷ message_text (a_message.Update (record { 0 = 1 }) (record { 0 = 0 }) third)
-    ∷ message_text (a_message.Ack (record { 0 = 1 }) (record { 0 = 5 }) (codes "a") (record { 0 = 3 }) (record { 0 = 0 }))
+    ∷ message_text (a_message.Ack (record { 0 = 1 }) (record { 0 = 5 }) (record { 0 = 0 }) (codes "a") (record { 0 = 3 }))
     ∷ message_text (a_message.Ask (record { 0 = 1 }) 2 (record { 0 = 5 }) [])
     ∷ message_text (a_message.Found (record { 0 = 1 }) 2 (record { 0 = 5 }) [])
     ∷ []

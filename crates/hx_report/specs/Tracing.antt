@@ -35,7 +35,7 @@ message_text (a_message.Call epoch number op) = codes "call" ++ field_text (code
 message_text (a_message.Reply number version answer) = codes "reply" ++ field_text (codes "number") number ++ field_text (codes "version") version.0
 message_text (a_message.Update epoch region update) =
     codes "update" ++ field_text (codes "epoch") epoch.0 ++ field_text (codes "region") region.0 ++ field_text (codes "version") update.version.0
-message_text (a_message.Ack epoch region key version by) =
+message_text (a_message.Ack epoch region by key version) =
     codes "ack" ++ field_text (codes "epoch") epoch.0 ++ field_text (codes "region") region.0 ++ field_text (codes "version") version.0
 message_text (a_message.Ask epoch number region terms) =
     codes "ask" ++ field_text (codes "epoch") epoch.0 ++ field_text (codes "number") number ++ field_text (codes "region") region.0

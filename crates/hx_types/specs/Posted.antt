@@ -59,7 +59,7 @@ abbrev pub actors_of_message : Message → List Actor
 actors_of_message (a_message.Call epoch number op) = actors_of_op op
 actors_of_message (a_message.Reply number version answer) = []
 actors_of_message (a_message.Update epoch region update) = Session update.caller.session ∷ []
-actors_of_message (a_message.Ack epoch region key version by) = []
+actors_of_message (a_message.Ack epoch region by key version) = []
 actors_of_message (a_message.Ask epoch number region terms) = []
 actors_of_message (a_message.Found epoch number region rows) = []
 actors_of_message (a_message.Seal epoch) = []
@@ -109,7 +109,7 @@ abbrev pub MessageUpTo : ℕ → Message → Type 0
 MessageUpTo most (a_message.Call epoch number op) = epoch.0 ≤ most
 MessageUpTo most (a_message.Reply number version answer) = (version.0 ≤ most) × AnswerUpTo most answer
 MessageUpTo most (a_message.Update epoch region update) = (epoch.0 ≤ most) × UpdateUpTo most update
-MessageUpTo most (a_message.Ack epoch region key version by) = (epoch.0 ≤ most) × (version.0 ≤ most)
+MessageUpTo most (a_message.Ack epoch region by key version) = (epoch.0 ≤ most) × (version.0 ≤ most)
 MessageUpTo most (a_message.Ask epoch number region terms) = epoch.0 ≤ most
 MessageUpTo most (a_message.Found epoch number region rows) = (epoch.0 ≤ most) × All (λ (r : Row). r.version.0 ≤ most) rows
 MessageUpTo most (a_message.Seal epoch) = epoch.0 ≤ most

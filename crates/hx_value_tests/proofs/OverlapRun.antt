@@ -134,7 +134,7 @@ its_update = arrived (record { entry = 11; place = 0 }) trace (post (Server (ser
 
 -- that red is committed, to server 1
 abbrev pub ack : Message
-ack = a_message.Ack (epoch 1) (region 0) the_key (version 1) (region 0)
+ack = a_message.Ack (epoch 1) (region 0) (region 0) the_key (version 1)
 
 ack_is_sent : post_named (record { entry = 7; place = 0 }) trace ≡ Some (post (Server (server 2)) (Server (server 1)) ack)
 ack_is_sent = refl

@@ -7,7 +7,7 @@ use std::process::Abort;
 #[test]
 fn messages_are_small(rt: HostRuntime) {
     let sizes = (size_of::<Message>(), size_of::<Post>(), size_of::<Entry>());
-    assert!(rt; sizes.0 <= 56 && sizes.1 <= 72 && sizes.2 <= 144);
+    assert!(rt; sizes.0 <= 48 && sizes.1 <= 64 && sizes.2 <= 136);
 }
 
 #[test]
